@@ -8,7 +8,6 @@ ghost use Rattle.kalah_cli.specs.Ends.{ended_by};
 use crate::failure::Failure;
 use crate::solver::new_solver;
 use crate::status::ExitStatus;
-use crate::tips::say;
 use kalah_jobs::{AskFault, Question, Sink, answer_lines};
 use std::alloc::Global;
 use std::io;
@@ -63,7 +62,7 @@ pub(crate) fn run_ask<I: Read + Drop, O: Sink, E: Write>(
         return Err(Failure::OutOfMemory);
     };
     if is_typed {
-        say(&[HINT], err);
+        let _ = err.write_all(HINT.as_bytes());
     }
     ended(answer_lines(&mut input, question, &mut solver, out))
 }

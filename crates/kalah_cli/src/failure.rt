@@ -4,13 +4,14 @@ ghost use Rattle.kalah_cli.specs.Ends.{ended_by};
 ghost use Rattle.kalah_cli.specs.Failure.{failure_of};
 
 use crate::files::ReadFault;
+use crate::help;
 use crate::status::ExitStatus;
-use crate::tips::{Messages, say, write_failure_tip, write_line_tip};
-use kalah_jobs::{LineFault, Sink};
+use crate::tips::write_tip;
+use kalah_jobs::Sink;
 use kalah_run::RunFault;
 use std::io::Write;
 
-/// Why the program failed, except for mistakes in its arguments.
+/// Why the program failed, except for arguments that the command line refuses.
 #[derive(Clone, Copy)]
 pub(crate) enum Failure<'a> {
     /// The name of a file has a line feed in it.
@@ -27,63 +28,54 @@ pub(crate) enum Failure<'a> {
     StandardInput,
     /// A write to the standard output failed.
     Write,
+    /// Options exclude each other.
+    Conflict,
+    /// An argument is not UTF-8.
+    NotText,
 }
 
 impl Failure<'_> {
-    /// Reports the failure on `err`, and returns the exit status. If the report can't be written, it is dropped.
-    pub(crate) fn report<E: Write>(self, err: &mut E) -> ExitStatus
-        ensures { result ≡ ExitStatus.Failed }
-    {
-        let words = match self {
+    /// Writes the message of the failure. What can't be written is dropped.
+    pub(crate) fn report<E: Write>(self, err: &mut E) {
+        let words: &[u8] = match self {
             Failure::Unreadable(name, _) => {
-                say(&["kalah: cannot read ", name, "\n"], err);
-                return ExitStatus::Failed;
+                let _ = write!(err, "kalah: cannot read {name}");
+                b"\n"
             }
             Failure::Unmoved(house) => {
-                let _ = writeln!(err, "kalah: house {house} can't be moved");
-                return ExitStatus::Failed;
+                let _ = write!(err, "kalah: house {house}");
+                b" can't be moved\n"
             }
-            Failure::LineFeed => "kalah: line feed in a file name\n",
-            Failure::TooManyFiles => "kalah: too many files\n",
-            Failure::TooManyLines => "kalah: too many lines\n",
-            Failure::OutOfMemory => "kalah: out of memory\n",
-            Failure::NoWorker => "kalah: no worker could be started\n",
-            Failure::StandardInput => "kalah: cannot read standard input\n",
-            Failure::Write => "kalah: write failed\n",
+            Failure::LineFeed => b"kalah: line feed in a file name\n",
+            Failure::TooManyFiles => b"kalah: too many files\n",
+            Failure::TooManyLines => b"kalah: too many lines\n",
+            Failure::OutOfMemory => b"kalah: out of memory\n",
+            Failure::NoWorker => b"kalah: no worker could be started\n",
+            Failure::StandardInput => b"kalah: cannot read standard input\n",
+            Failure::Write => b"kalah: write failed\n",
+            Failure::NotText => b"kalah: a word is not UTF-8\n",
+            Failure::Conflict => help::CONFLICT,
         };
-        say(&[words], err);
-        ExitStatus::Failed
+        let _ = err.write_all(words);
     }
 }
 
 /// Returns the exit status of a run that ended so. If it failed, it reports the failure on `err`, with its tip.
 pub(crate) fn report_end<E: Write>(
     ended: Result<ExitStatus, Failure<'_>>,
-    err: &mut Messages<'_, E>,
+    with_tips: bool,
+    err: &mut E,
 ) -> ExitStatus
     ensures { result ≡ ended_by ended.entry }
 {
     match ended {
         Ok(status) => status,
         Err(failure) => {
-            let status = failure.report(err.writer);
-            write_failure_tip(failure, err);
-            status
+            failure.report(err);
+            write_tip(failure, with_tips, err);
+            ExitStatus::Failed
         }
     }
-}
-
-/// Reports on `err` why a line can't be read, with a tip, and returns the exit status. If the report can't be written, it is dropped.
-pub(crate) fn report_fault<E: Write>(
-    fault: LineFault,
-    line: &str,
-    err: &mut Messages<'_, E>,
-) -> ExitStatus
-    ensures { result ≡ ExitStatus.LineFaults }
-{
-    say(&["fault ", fault.word(), "\n"], err.writer);
-    write_line_tip(line, fault, err);
-    ExitStatus::LineFaults
 }
 
 /// Returns `Clean` if the output has not failed. Otherwise fails with `Write`.

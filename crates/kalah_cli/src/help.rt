@@ -203,7 +203,7 @@ a line for each house that may be moved, or one line, in order:
 );
 
 /// The error for options of `ask` that exclude each other.
-pub(crate) const CONFLICT: &str = "\
+pub(crate) const CONFLICT: &[u8] = b"\
 error: the argument '--steps' cannot be used with '--values' or '--table <N>'
 
 Usage: kalah ask [OPTIONS]
@@ -212,5 +212,5 @@ For more information, try '--help'.
 ";
 
 /// What is added to the error for arguments that seem to be one position without quotes.
-pub(crate) const QUOTES: &str =
-    "\n  tip: a position is one argument, so put it in quotes: '1,1/0 1,1/0'\n";
+pub(crate) const QUOTES: &[u8] =
+    b"\n  tip: a position is one argument, so put it in quotes: '1,1/0 1,1/0'\n";

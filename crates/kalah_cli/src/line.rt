@@ -6,13 +6,13 @@ ghost use Rattle.kalah_cli.specs.Request.{IsCommandInRange, command_asks};
 ghost use Rattle.kalah_cli.specs.Runs.{Does};
 
 use crate::count::write_count;
-use crate::failure::{Failure, report_fault, status_of_sink};
+use crate::failure::{Failure, status_of_sink};
 use crate::moves::write_moves;
 use crate::play::run_play;
 use crate::request::LineCommand;
 use crate::show::run_show;
 use crate::status::ExitStatus;
-use crate::tips::Messages;
+use crate::tips::report_fault;
 use kalah_jobs::{Sink, read_line};
 use kalah_rules::Board;
 use std::alloc::Global;
@@ -54,19 +54,22 @@ pub(crate) fn run_line<O: Sink, E: Write>(
     alloc: Global,
     line: &str,
     command: &LineCommand,
+    with_tips: bool,
     out: &mut O,
-    err: &mut Messages<'_, E>,
+    err: &mut E,
 ) -> Result<ExitStatus, Failure<'static>>
     requires range { IsCommandInRange command.now }
     requires sink { O.has_failed out.old ≡ false }
     ensures { Does O.written O.has_failed O.is_handed_on out.old out.new (ended_by result) (command_asks command.now line.now) }
 {
-    let board = match read_line(line.as_bytes()) {
-        Ok(board) => board,
-        Err(fault) => return Ok(report_fault(fault, line, err)),
-    };
-    match print(alloc, command, &board, out) {
-        Ok(()) => status_of_sink(out),
-        Err(failure) => Err(failure),
+    match read_line(line.as_bytes()) {
+        Ok(board) => match print(alloc, command, &board, out) {
+            Ok(()) => status_of_sink(out),
+            Err(failure) => Err(failure),
+        },
+        Err(fault) => {
+            report_fault(fault, line, with_tips, err);
+            Ok(ExitStatus::LineFaults)
+        }
     }
 }

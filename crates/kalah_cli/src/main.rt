@@ -35,35 +35,37 @@ use status::ExitStatus;
 use std::io::{BufWriter, ErrorKind};
 use std::process::ExitCode;
 use std::{env, io};
-use tips::say;
 
 // Returns the arguments. The first is the program's name.
-fn words_of(rt: &HostRuntime) -> io::Result<Vec<String>> {
-    Ok(env::args(rt)?.collect(rt.alloc())?)
+fn words_of(rt: &HostRuntime) -> Result<Vec<String>, Failure<'static>> {
+    match env::args(rt) {
+        Ok(words) => words.collect(rt.alloc()).or(Err(Failure::OutOfMemory)),
+        Err(error) => match error.kind() {
+            ErrorKind::OutOfMemory => Err(Failure::OutOfMemory),
+            _ => Err(Failure::NotText),
+        },
+    }
 }
 
 fn main(rt: HostRuntime) -> ExitCode {
     let mut err = rt.stderr();
-    let status = match words_of(&rt) {
-        // There is not even the program's name: it ends without a message.
-        Ok(words) if words.is_empty() => ExitStatus::Failed,
-        Ok(words) => match BufWriter::new(rt.alloc(), Fused::new(io::writer(&rt))) {
-            Ok(out) => run_words(
-                &rt,
-                rt.alloc(),
-                words,
-                &mut PromptStream::new(out),
-                &mut err,
-            ),
-            Err(_) => Failure::OutOfMemory.report(&mut err),
-        },
-        Err(error) if error.kind() == ErrorKind::OutOfMemory => {
-            Failure::OutOfMemory.report(&mut err)
+    let failure = match words_of(&rt) {
+        Ok(words) => {
+            if words.is_empty() {
+                // There is not even the program's name: it ends without a message.
+                return ExitCode::from(ExitStatus::Failed.code());
+            }
+            match BufWriter::new(rt.alloc(), Fused::new(io::writer(&rt))) {
+                Ok(out) => {
+                    let mut out = PromptStream::new(out);
+                    let status = run_words(&rt, rt.alloc(), words, &mut out, &mut err);
+                    return ExitCode::from(status.code());
+                }
+                Err(_) => Failure::OutOfMemory,
+            }
         }
-        Err(_) => {
-            say(&["kalah: a word is not UTF-8\n"], &mut err);
-            ExitStatus::Failed
-        }
+        Err(failure) => failure,
     };
-    ExitCode::from(status.code())
+    failure.report(&mut err);
+    ExitCode::from(ExitStatus::Failed.code())
 }

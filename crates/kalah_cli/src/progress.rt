@@ -4,7 +4,7 @@ use kalah_jobs::FileText;
 use kalah_run::Watch;
 use std::io::Write;
 use std::rt::Clock;
-use std::time::Instant;
+use std::time::Duration;
 
 /// Shows how many lines of a batch are answered, and how long the others will take at that rate. It writes one line for each per cent.
 /// On a terminal without the answers it rewrites one line ten times as often. Text that standard error does not accept is dropped.
@@ -16,11 +16,11 @@ pub(crate) struct Progress<'a, R, E> {
     lines: u64,
     // Whether one line is rewritten.
     in_place: bool,
-    begun: Option<Instant>,
+    // The time by the monotonic clock when the batch began, or the greatest one if the clock failed.
+    begun: Duration,
     answered: u64,
-    // The number of answered lines that was shown last, and that at which the text is shown again.
+    // The number of answered lines that was shown last.
     shown: u64,
-    next: u64,
 }
 
 // Returns how many lines the files have together.
@@ -42,10 +42,12 @@ fn share(answered: u64, lines: u64, parts: u64) -> u64 {
 
 // Returns a time in the largest unit that it has two or more of, rounded down.
 fn in_units(seconds: u64) -> (u64, &'static str) {
-    match seconds {
-        0..=119 => (seconds, "s"),
-        120..=7199 => (seconds / 60, "min"),
-        _ => (seconds / 3600, "h"),
+    if seconds < 120 {
+        (seconds, "s")
+    } else if seconds < 7200 {
+        (seconds / 60, "min")
+    } else {
+        (seconds / 3600, "h")
     }
 }
 
@@ -62,10 +64,9 @@ impl<'a, R: Clock + Terminal, E: Write> Progress<'a, R, E> {
             err,
             lines: if is_shown { count_lines(files) } else { 0 },
             in_place: is_shown && rt.shows_errors() && !rt.shows_answers(),
-            begun: Instant::now(rt).ok(),
+            begun: rt.monotonic().unwrap_or(Duration::MAX),
             answered: 0,
             shown: 0,
-            next: u64::MAX,
         };
         if is_shown {
             progress.show();
@@ -84,47 +85,37 @@ impl<'a, R: Clock + Terminal, E: Write> Progress<'a, R, E> {
     fn show(&mut self) {
         let (answered, lines) = (self.answered, self.lines);
         self.shown = answered;
-        self.next = self.next_after(answered);
-        // What is left of an earlier and longer text is erased.
-        let (begin, end) = if self.in_place {
-            ("\r", "\x1b[K")
-        } else {
-            ("", "\n")
-        };
+        if self.in_place {
+            let _ = self.err.write_all(b"\r");
+        }
         let per_cent = share(answered, lines, 100);
-        let _ = write!(
-            self.err,
-            "{begin}kalah: {answered} of {lines} lines, {per_cent} %"
-        );
+        let _ = write!(self.err, "kalah: {answered} of {lines} lines, {per_cent} %");
         if let Some(seconds) = self.seconds_left() {
             let (count, unit) = in_units(seconds);
             let _ = write!(self.err, ", {count} {unit} left");
         }
-        let _ = self.err.write_all(end.as_bytes());
+        // On one line, what is left of an earlier and longer text is erased.
+        let end: &[u8] = if self.in_place { b"\x1b[K" } else { b"\n" };
+        let _ = self.err.write_all(end);
     }
 
     // Returns how long the other lines take at the rate so far, if that is known.
     fn seconds_left(&self) -> Option<u64> {
-        let time = self.begun?.elapsed(self.rt).ok()?;
+        let now = self.rt.monotonic().unwrap_or(Duration::ZERO);
+        let time = now.saturating_sub(self.begun);
         let left = self.lines.saturating_sub(self.answered);
         match time.as_secs().saturating_mul(left) {
             0 => None,
             seconds => seconds.checked_div(self.answered),
         }
     }
-
-    // Returns the number of answered lines at which the text is shown again.
-    fn next_after(&self, answered: u64) -> u64 {
-        let parts = if self.in_place { 1000 } else { 100 };
-        let part = share(answered, self.lines, parts).saturating_add(1);
-        self.lines.saturating_mul(part).div_ceil(parts)
-    }
 }
 
 impl<R: Clock + Terminal, E: Write> Watch for Progress<'_, R, E> {
     fn accepts(&mut self) {
         self.answered = self.answered.saturating_add(1);
-        if self.answered >= self.next {
+        let parts = if self.in_place { 1000 } else { 100 };
+        if share(self.answered, self.lines, parts) > share(self.shown, self.lines, parts) {
             self.show();
         }
     }

@@ -12,17 +12,16 @@ ghost use Rattle.kalah_cli.specs.Runs.{Does, DoesWhatIsAsked, IsOfNoInput, Moves
 
 use crate::ask::run_ask;
 use crate::failure::{Failure, report_end, status_of_sink};
-use crate::help;
 use crate::line::run_line;
 use crate::request::{Request, parse};
 use crate::solve_files::run_files;
 use crate::status::ExitStatus;
 use crate::terminal::Terminal;
-use crate::tips::{Messages, say, tip_for_arguments, write_position_tip, write_tip};
+use crate::tips::advise;
 use crate::version::VERSION_LINE;
 use clap::Error;
 use clap::error::ErrorKind;
-use kalah_jobs::{Sink, flush_unless_failed, read_line, write_unless_failed};
+use kalah_jobs::{Sink, flush_unless_failed, write_unless_failed};
 use std::alloc::Global;
 use std::io::{Input, Write};
 use std::rt::{Clock, Files};
@@ -43,54 +42,14 @@ fn print_text<O: Sink>(text: &str, out: &mut O) -> Result<ExitStatus, Failure<'s
     status_of_sink(out)
 }
 
-// Returns whether these arguments seem to give `moves`, `play`, `show` or `count` a position without quotes: two adjacent ones each have
-// a slash.
-fn lacks_quotes(words: &[String]) -> bool {
-    let Some(subcommand) = words.get(1) else {
-        return false;
-    };
-    if !["moves", "play", "show", "count"].contains(&subcommand.as_str()) {
-        return false;
-    }
-    let mut has_slash = false;
-    for word in words {
-        let had_slash = has_slash;
-        has_slash = word.contains('/');
-        if had_slash && has_slash {
-            return true;
-        }
-    }
-    false
-}
-
-// Writes on `err`, after arguments that are refused with this text, that a position needs quotes if they lack them, or else a tip.
-fn advise<E: Write>(words: &[String], text: &str, err: &mut Messages<'_, E>) {
-    if lacks_quotes(words) {
-        say(&[help::QUOTES], err.writer);
-        return;
-    }
-    if !err.on_terminal {
-        return;
-    }
-    match words.get(1) {
-        Some(first) if read_line(first.as_bytes()).is_ok() => {
-            say(&["\n"], err.writer);
-            write_position_tip(first.as_str(), err.writer);
-        }
-        _ => if let Some(tip) = tip_for_arguments(text) {
-            say(&["\n"], err.writer);
-            write_tip(tip, err);
-        },
-    }
-}
-
 // Reports a parse that made no request: help or the version on `out`, a mistake in the arguments on `err`.
 fn refuse<O: Sink, E: Write>(
     alloc: Global,
     words: &[String],
     error: &Error,
+    with_tips: bool,
     out: &mut O,
-    err: &mut Messages<'_, E>,
+    err: &mut E,
 ) -> Result<ExitStatus, Failure<'static>>
     requires { O.has_failed out.old ≡ false }
     ensures mistake { kind_of error.now ≢ DisplayHelp → kind_of error.now ≢ DisplayVersion
@@ -111,8 +70,8 @@ fn refuse<O: Sink, E: Write>(
         ErrorKind::DisplayVersion => print_text(VERSION_LINE, out),
         ErrorKind::OutOfMemory => Err(Failure::OutOfMemory),
         _ => {
-            say(&[text.as_str()], err.writer);
-            advise(words, text.as_str(), err);
+            let _ = err.write_all(text.as_bytes());
+            advise(words, text.as_str(), with_tips, err);
             Ok(ExitStatus::Failed)
         }
     }
@@ -123,16 +82,17 @@ fn run_request<'a, R: Files + Input + Clock + Terminal + Threads + Wait + Sync, 
     rt: &R,
     alloc: Global,
     request: &Request<'a>,
+    with_tips: bool,
     out: &mut O,
-    err: &mut Messages<'_, E>,
+    err: &mut E,
 ) -> Result<ExitStatus, Failure<'a>>
     requires range { IsInRange request.now }
     requires sink { O.has_failed out.old ≡ false }
     ensures { Does O.written O.has_failed O.is_handed_on out.old out.new (ended_by result) (request_asks request.now) }
 {
     match request {
-        Request::Line { line, command } => run_line(alloc, line, command, out, err),
-        Request::Files(files) => run_files(rt, alloc, files, out, err.writer),
+        Request::Line { line, command } => run_line(alloc, line, command, with_tips, out, err),
+        Request::Files(files) => run_files(rt, alloc, files, out, err),
         Request::Ask { question, table } => {
             run_ask(
                 alloc,
@@ -141,13 +101,10 @@ fn run_request<'a, R: Files + Input + Clock + Terminal + Threads + Wait + Sync, 
                 *question,
                 *table,
                 out,
-                err.writer,
+                err,
             )
         }
-        Request::Conflict => {
-            say(&[help::CONFLICT], err.writer);
-            Ok(ExitStatus::Failed)
-        }
+        Request::Conflict => Err(Failure::Conflict),
     }
 }
 
@@ -188,16 +145,16 @@ pub fn run_words<R: Files + Input + Clock + Terminal + Threads + Wait + Sync, O:
     // If it did not, all that was written is flushed.
     ensures handed_on { result ≢ ExitStatus.Failed → O.is_handed_on out.old ≡ true → O.is_handed_on out.new ≡ true }
 {
-    let mut err = Messages {
-        writer: err,
-        on_terminal: rt.shows_errors(),
-    };
+    let with_tips = rt.shows_errors(); // Tips go only to a terminal.
     match parse(alloc, words.as_slice()) {
-        Ok(request) => report_end(run_request(rt, alloc, &request, out, &mut err), &mut err),
-        Err(error) => report_end(
-            refuse(alloc, words.as_slice(), &error, out, &mut err),
-            &mut err,
-        ),
+        Ok(request) => {
+            let ended = run_request(rt, alloc, &request, with_tips, out, err);
+            report_end(ended, with_tips, err)
+        }
+        Err(error) => {
+            let ended = refuse(alloc, words.as_slice(), &error, with_tips, out, err);
+            report_end(ended, with_tips, err)
+        }
     }
 }
 

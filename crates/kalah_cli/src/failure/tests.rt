@@ -1,7 +1,6 @@
 use super::{Failure, report_end};
 use crate::files::ReadFault;
 use crate::status::ExitStatus;
-use crate::tips::Messages;
 
 #[test]
 fn each_failure_is_said_in_its_words(rt: HostRuntime) {
@@ -28,11 +27,7 @@ fn each_failure_is_said_in_its_words(rt: HostRuntime) {
         (Failure::Write, "write failed"),
     ] {
         let mut err = Vec::<u8>::new(rt.alloc());
-        let mut messages = Messages {
-            writer: &mut err,
-            on_terminal: false,
-        };
-        assert!(rt; report_end(Err(failure), &mut messages) == ExitStatus::Failed);
+        assert!(rt; report_end(Err(failure), false, &mut err) == ExitStatus::Failed);
         let said = format!(in rt.alloc(); "kalah: {text}\n").expect(&rt, "no memory");
         assert!(rt; err.as_slice() == said.as_bytes(), "{text}");
     }

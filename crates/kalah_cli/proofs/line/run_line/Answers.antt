@@ -15,4 +15,4 @@ returns-in-Err-print g c =
 pub returns-in-Err : goal.returns-in-Err
 returns-in-Err g c =
     line_unread _ _ _ c.args.command.now c.as_bytes.ensures.value (λ p reads. let other = c.in-Err.ensures.every p reads in cc)
-    c.report_fault.ensures c.requires.sink
+    refl c.requires.sink

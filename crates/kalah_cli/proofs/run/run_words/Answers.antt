@@ -25,10 +25,10 @@ is_asked g c a taken = taken_once (texts_of c.args.words.items) (request_asks c.
 
 -- which is done
 does : (g : Over) (c : After-drop-words g) (a : Asked) → request_asks c.in-Ok.request ≡ a
-    → Does g.O.Sink.written g.O.Sink.has_failed g.O.Sink.is_handed_on c.args.out.now c.run_request.new.out c.report_end.result a
+    → Does g.O.Sink.written g.O.Sink.has_failed g.O.Sink.is_handed_on c.args.out.now c.run_request-ended.new.out c.report_end.result a
 does g c a is =
-    subst (Does g.O.Sink.written g.O.Sink.has_failed g.O.Sink.is_handed_on c.args.out.now c.run_request.new.out c.report_end.result) is
-    (rw c.report_end.ensures c.run_request.ensures)
+    subst (Does g.O.Sink.written g.O.Sink.has_failed g.O.Sink.is_handed_on c.args.out.now c.run_request-ended.new.out c.report_end.result) is
+    (rw c.report_end.ensures c.run_request-ended.ensures)
 
 pub returns-in-Ok-clause-accepted : goal.returns-in-Ok-clause-accepted
 returns-in-Ok-clause-accepted g c = λ a taken. inl (does g c a (is_asked g c a taken))
@@ -68,7 +68,7 @@ returns-in-Ok-clause-handed_on g c = run_hands_on _ _ _ c.requires.sink _ (does 
 -- ---- the parse failed
 
 pub returns-clause-unchanged : goal.returns-clause-unchanged
-returns-clause-unchanged g c = λ none failed. c.refuse.ensures.unchanged (sym c.report_end-in-Err.ensures ∙ failed)
+returns-clause-unchanged g c = λ none failed. c.refuse-ended.ensures.unchanged (sym c.report_end-in-Err.ensures ∙ failed)
 
 -- the error has a kind of the arguments' fault
 has_kind : (g : Over) (c : After-drop-words-2 g) → HasKind (fault_of kalah_app (texts_of c.args.words.items)) c.in-Err.error
@@ -80,13 +80,13 @@ no_help : (g : Over) (c : After-drop-words-2 g) → AsksNot DisplayHelp (texts_o
 no_help g c = no_request DisplayHelp (texts_of c.args.words.items) c.in-Err.error (λ e. cc) (has_kind g c)
 
 without_output : (g : Over) (c : After-drop-words-2 g) → AsksNot DisplayHelp (texts_of c.args.words.items)
-    → AsksNot DisplayVersion (texts_of c.args.words.items) → FailsWithoutOutput c.args.out.now c.refuse.new.out c.report_end-in-Err.result
-without_output g c help version = rw c.report_end-in-Err.ensures (c.refuse.ensures.mistake (no_help g c help)
+    → AsksNot DisplayVersion (texts_of c.args.words.items) → FailsWithoutOutput c.args.out.now c.refuse-ended.new.out c.report_end-in-Err.result
+without_output g c help version = rw c.report_end-in-Err.ensures (c.refuse-ended.ensures.mistake (no_help g c help)
     (no_request DisplayVersion (texts_of c.args.words.items) c.in-Err.error (λ e. cc) (has_kind g c) version))
 
 -- as arguments that are accepted are not
 failed : (g : Over) (c : After-drop-words-2 g) (a : Asked) → IsTakenAs (texts_of c.args.words.items) a
-    → FailsWithoutOutput c.args.out.now c.refuse.new.out c.report_end-in-Err.result
+    → FailsWithoutOutput c.args.out.now c.refuse-ended.new.out c.report_end-in-Err.result
 failed g c a taken = without_output g c (subst (IsAmong DisplayHelp) taken.0) (subst (IsAmong DisplayVersion) taken.0)
 
 pub returns-clause-accepted : goal.returns-clause-accepted
@@ -101,8 +101,8 @@ returns-clause-best_play g c = plays_best
 pub returns-clause-refused : goal.returns-clause-refused
 returns-clause-refused g c = record {
   usage = λ faulty. without_output g c;
-  version = λ faulty help clean. c.refuse.ensures.version (no_help g c help) (sym c.report_end-in-Err.ensures ∙ clean);
-  no_line = λ faulty line. c.refuse.ensures.no_line (sym c.report_end-in-Err.ensures ∙ line);
+  version = λ faulty help clean. c.refuse-ended.ensures.version (no_help g c help) (sym c.report_end-in-Err.ensures ∙ clean);
+  no_line = λ faulty line. c.refuse-ended.ensures.no_line (sym c.report_end-in-Err.ensures ∙ line);
 }
 
 pub returns-clause-stopped : goal.returns-clause-stopped
