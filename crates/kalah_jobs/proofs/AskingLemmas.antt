@@ -360,7 +360,7 @@ pub fine_is_no_fault : {A E : Type 0} {all_read : Bool} {fault : E} → IsErrOf 
 fine_is_no_fault is = absurd (cc)
 
 -- all lines so far are answered
-pub answered_so_far : (asking : Asking) (question : Question) (before now old new : Option (List ℕ)) (line : List ℕ) (all_read : Bool)
+pub answered_so_far : {asking : Asking} {question : Question} {before now old new : Option (List ℕ)} {line : List ℕ} {all_read : Bool}
     → asking ≡ record { question = question; before = before; old = old } → Underway question before now old new line all_read
     → AreAnswered asking now new
-answered_so_far asking question before now old new line all_read is u = rw is (cut_off u (Keeps-refl now) (Keeps-refl new))
+answered_so_far {now = now} {new = new} is u = rw is (cut_off u (Keeps-refl now) (Keeps-refl new))

@@ -75,12 +75,12 @@ pub blanks_are_text : (n : ℕ) → IsUtf8 (replicate n space)
 blanks_are_text n = IsUtf8-from_ascii (replicate n space) (blanks_are_ascii n)
 
 -- blanks were put in front of a text that the bytes end with
-pub blanks_before : (bytes part old : List ℕ) (start n : ℕ) → length bytes ≡ 128 → start ≤ 128 → drop start bytes ≡ old
+pub blanks_before : (bytes : List ℕ) {part old : List ℕ} (start n : ℕ) → length bytes ≡ 128 → start ≤ 128 → drop start bytes ≡ old
     → n + length old ≤ 128
     → part ≡ replicate (length (take (start - (start - n)) (drop (start - n) bytes))) space
     → drop (start - n) (take (start - n) bytes ++ (part ++ drop (start - (start - n)) (drop (start - n) bytes)))
     ≡ replicate n space ++ old
-blanks_before bytes part old start n many low is room blank =
+blanks_before bytes start n many low is room blank =
     let back : start - (start - n) ≡ n = omega (arith, length-drop start bytes, ap length is) in
     let end : start - n + n ≡ start = omega (arith, back) in
     let blanks : length (take n (drop (start - n) bytes)) ≡ n = length-take-le n _ (omega (arith, length-drop (start - n) bytes)) in
@@ -316,10 +316,10 @@ read_back v z fits is =
     ap (λ x. to_z w32 (of_z w32 x)) (is ∙ to_z-of_z w16 v fits) ∙ to_z-of_z w32 v (omega (arith, ints, fits))
 
 -- an answer that begins with its margin
-pub from_margin : (answer : Answer) (margin : ℤ) (rest old text all : List ℕ) → SFits w32 margin
+pub from_margin : (answer : Answer) (margin : ℤ) (rest old : List ℕ) {text all : List ℕ} → SFits w32 margin
     → answer_words answer ≡ signed_decimal margin ++ rest
     → text ≡ rest ++ old → all ≡ signed_decimal (to_z w32 (of_z w32 margin)) ++ text → all ≡ answer_words answer ++ old
-from_margin answer margin rest old text all fits words is last = rw (last, is, words, to_z-of_z w32 margin fits) (simp append_assoc)
+from_margin answer margin rest old fits words is last = rw (last, is, words, to_z-of_z w32 margin fits) (simp append_assoc)
 
 module _ (values : List MoveValue) (i : ℕ) (v : MoveValue) (is : slice_get values i ≡ Some v) where
   pub last_value : i + 1 ≡ length values → values_words (drop i values) ≡ value_words v
@@ -328,11 +328,12 @@ module _ (values : List MoveValue) (i : ℕ) (v : MoveValue) (is : slice_get val
   pub value_before : i + 1 < length values → values_words (drop i values) ≡ value_words v ++ space ∷ values_words (drop (i + 1) values)
   value_before within = rw (items_from values i v is, drop_more values (i + 1) v within) refl
 
--- a side with the number at place j, which is i, from those after it
-pub side_before : (numbers : List ℕ) (store i j n : ℕ) (old others text all : List ℕ) → j ≡ i → i + 1 < length numbers
-    → n ≡ get_or numbers j 0 → others ≡ side_text (drop (i + 1) numbers) store ++ old → text ≡ comma ∷ others → all ≡ decimal n ++ text
-    → all ≡ side_text (drop i numbers) store ++ old
-side_before numbers store i j n old others text all same within is after next last =
+-- a side with the number at place i from those after it
+pub side_before : (numbers : List ℕ) (store i : ℕ) {n : ℕ} (old : List ℕ) {others text all : List ℕ} → i + 1 < length numbers
+    → n ≡ get_or numbers (i + 1 - 1) 0 → others ≡ side_text (drop (i + 1) numbers) store ++ old → text ≡ comma ∷ others
+    → all ≡ decimal n ++ text → all ≡ side_text (drop i numbers) store ++ old
+side_before numbers store i old within is after next last =
+    let same : i + 1 - 1 ≡ i = omega arith in
     rw (last, next, after, drop_more numbers i 0 (omega arith), drop_more numbers (i + 1) 0 within, is, same) (simp append_assoc)
 
 pub length-houses_of : (player : Player) (p : Position) → IsWithinLimits p → length (houses_of player p) ≡ side_length p
@@ -411,11 +412,11 @@ module _ (v z : ℤ) (end len : ℕ) (old text : List ℕ) (small : IsSmallMargi
 -- ---- one value more
 
 -- the column of a value before those after it
-pub column_before : (filled : ℕ) (v : MoveValue) (vs : List MoveValue) (old row cell after : List ℕ) →
+pub column_before : (filled : ℕ) (v : MoveValue) (vs : List MoveValue) (old : List ℕ) {row cell after : List ℕ} →
     row ≡ value_columns (v.house + 1) vs ++ old
     → cell ≡ value_cell v.value ++ row → after ≡ empty_columns (v.house - filled) ++ cell →
     after ≡ value_columns filled (v ∷ vs) ++ old
-column_before filled v vs old row cell after is next e = e ∙ simp (next, is, append_assoc)
+column_before filled v vs old is next e = e ∙ simp (next, is, append_assoc)
 
 -- what is known of the value at place i, and of those after it
 pub next_value : (filled : ℕ) (values : List MoveValue) (i : ℕ) (v : MoveValue) → slice_get values i ≡ Some v →

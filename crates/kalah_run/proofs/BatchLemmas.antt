@@ -95,27 +95,27 @@ pub given_none : (begun : Option (List ℕ)) (failed : Bool) → WasGivenSince b
 given_none begun failed = record { start = start_none begun []; whole = λ sound. Appends-nil begun }
 
 -- it is given more, and takes a prefix of it, or all if it has not failed then
-pub given_on : (begun out more : Option (List ℕ)) (failed fails : Bool) (bs cs : List ℕ) → WasGivenSince begun out failed bs
+pub given_on : {begun out more : Option (List ℕ)} {failed fails : Bool} (bs cs : List ℕ) → WasGivenSince begun out failed bs
     → failed ≡ false
     → AppendsStart out more cs → (fails ≡ false → Appends out more cs) → WasGivenSince begun more fails (bs ++ cs)
-given_on begun out more failed fails bs cs given sound start all = record {
+given_on {begun} {out} {more} bs cs given sound start all = record {
   start = start_then begun out more (bs ++ cs) bs cs refl (given.whole sound) start;
   whole = λ still. Appends-trans begun out more bs cs (given.whole sound) (all still);
 }
 
 -- it has failed, and what more there is is not written
-pub given_off : (begun out : Option (List ℕ)) (failed : Bool) (bs cs : List ℕ) → WasGivenSince begun out failed bs → failed ≡ true
+pub given_off : {begun out : Option (List ℕ)} {failed : Bool} (bs cs : List ℕ) → WasGivenSince begun out failed bs → failed ≡ true
     → WasGivenSince begun out failed (bs ++ cs)
-given_off begun out failed bs cs given broken = record {
+given_off {begun} {out} bs cs given broken = record {
   start = start_longer begun out bs cs given.start;
   whole = λ sound. absurd (let both : true ≡ false = sym broken ∙ sound in cc);
 }
 
 -- what it holds is flushed
-pub given_kept : (begun out more : Option (List ℕ)) (failed fails : Bool) (bs : List ℕ) → WasGivenSince begun out failed bs
+pub given_kept : {begun out more : Option (List ℕ)} {failed fails : Bool} {bs : List ℕ} → WasGivenSince begun out failed bs
     → Keeps out more
     → (fails ≡ false → failed ≡ false) → WasGivenSince begun more fails bs
-given_kept begun out more failed fails bs given keeps was_sound = record {
+given_kept {begun} {out} {more} {bs = bs} given keeps was_sound = record {
   start = start_kept begun out more bs given.start keeps;
   whole = λ sound. Appends-kept begun out more bs (given.whole (was_sound sound)) keeps;
 }
@@ -268,7 +268,7 @@ module _ {text : ℕ → Taken → List ℕ} {jobs : List (List Entry)} {past : 
   pub progress_failed : failed ≡ true → WasGivenSince begun out failed (text_of_jobs text jobs)
   progress_failed broken =
       let all = written_first text jobs f (state_of files f).taken in
-      subst (λ (l : List ℕ). WasGivenSince begun out failed l) all.1 (given_off begun out failed _ all.0 progress.written broken)
+      subst (λ (l : List ℕ). WasGivenSince begun out failed l) all.1 (given_off _ all.0 progress.written broken)
 
   -- Each job was offered once, and the current file, if there is one, has not ended.
   module _ (each : AreJobsInSomeOrder jobs past) (waits : f < length files → HasEnded (state_of files f) → ⊥) where
@@ -299,13 +299,14 @@ text_of_taken files f file name taken low at is =
     (get_or-map (λ (x : NamedBytes). x.name) files f file [] low ∙ sym (ap (λ (x : NamedBytes). x.name) at) ∙ sym is)
 
 -- an output advances with the state of what is under way
-pub written_on : (files : List NamedBytes) (jobs : List (List Entry)) (past : List Job) (begun out more : Option (List ℕ))
-    (failed fails : Bool)
-    (r after : OrderedOutput) → after.files.now ≡ r.files.now → after.jobs.now ≡ r.jobs.now
+pub written_on : {files : List NamedBytes} {jobs : List (List Entry)} {past : List Job} {begun out more : Option (List ℕ)}
+    {failed fails : Bool}
+    {r after : OrderedOutput} → HasWritten files jobs past begun out failed r → after.files.now ≡ r.files.now
+    → after.jobs.now ≡ r.jobs.now
     → (IsUnderWay (text_of r.files.now) r.jobs.now past r.collector r.current begun out failed
     → IsUnderWay (text_of r.files.now) r.jobs.now past after.collector after.current begun more fails)
-    → HasWritten files jobs past begun out failed r → HasWritten files jobs past begun more fails after
-written_on files jobs past begun out more failed fails r after same_files same_jobs on is =
+    → HasWritten files jobs past begun more fails after
+written_on is same_files same_jobs on =
     record {
       of_files = same_files ∙ is.of_files;
       of_jobs = same_jobs ∙ is.of_jobs;
@@ -314,17 +315,17 @@ written_on files jobs past begun out more failed fails r after same_files same_j
     }
 
 -- an output stays written if what was written is flushed
-pub still_written : (files : List NamedBytes) (jobs : List (List Entry)) (past : List Job) (begun out later : Option (List ℕ))
-    (failed fails : Bool) (r : OrderedOutput) → Keeps out later → (fails ≡ false → failed ≡ false)
+pub still_written : {files : List NamedBytes} {jobs : List (List Entry)} {past : List Job} {begun out later : Option (List ℕ)}
+    {failed fails : Bool} {r : OrderedOutput} → Keeps out later → (fails ≡ false → failed ≡ false)
     → HasWritten files jobs past begun out failed r → HasWritten files jobs past begun later fails r
-still_written files jobs past begun out later failed fails r keeps sound is = record {
+still_written keeps sound is = record {
   of_files = is.of_files;
   of_jobs = is.of_jobs;
   progress = record {
     kept = is.progress.kept;
     before = is.progress.before;
     later = is.progress.later;
-    written = given_kept begun out later failed fails _ is.progress.written keeps sound;
+    written = given_kept is.progress.written keeps sound;
   };
 }
 
@@ -353,10 +354,11 @@ last_first : (workers workers' : List Worker) (w : Worker) → workers' ≡ work
 last_first workers workers' w is = ap (λ (l : List Worker). reverse l) is ∙ reverse-append workers (w ∷ [])
 
 -- the last of what waits is given to one worker more
-pub one_given : {X : Type 0} (f : Worker → X) (workers workers' : List Worker) (w : Worker) (waiting rest all : List X) (x : X)
+pub one_given : {X : Type 0} (f : Worker → X) (workers : List Worker) {workers' : List Worker} {w : Worker} {waiting all : List X}
+    (rest : List X) {x : X}
     → workers' ≡ workers ++ w ∷ [] → f w ≡ x → waiting ≡ rest ++ x ∷ []
     → waiting ++ map f (reverse workers) ≡ all → rest ++ map f (reverse workers') ≡ all
-one_given {X} f workers workers' w waiting rest all x is its took so_far =
+one_given {X} f workers {workers'} {w} rest {x} is its took so_far =
     ap (λ (l : List Worker). rest ++ map f l) (last_first workers workers' w is)
     ∙ ap (λ (y : X). rest ++ y ∷ map f (reverse workers)) its
     ∙ sym (append_assoc rest (x ∷ []) (map f (reverse workers)))
@@ -440,13 +442,13 @@ sent_in_order shared (x ∷ xs) (suc w) at_work within = sent_in_order shared xs
 
 -- Each number below the count of those drawn stands in the rows once, the pairs that were got and those left inside account for what was
 -- sent, and as many were got as there are jobs: so each job was got once.
-pub each_job_got : {G : Type 0} {knows : G → ℕ → Bool} (shared : SharedWork G) (workers : List Worker) (count drawn : ℕ)
+pub each_job_got : {G : Type 0} {knows : G → ℕ → Bool} (shared : SharedWork G) (workers : List Worker) {count drawn : ℕ}
     (got rest : List (ℕ × Job))
     → AreAtWork knows shared workers
     → length workers ≡ count → DealsEachOnce (job_count shared.jobs.now) drawn (drawn_rows (passes_of workers))
     → Accounts count (sent_by (puts_of workers)) (got ++ rest) → length got ≡ job_count shared.jobs.now
     → AreJobsInSomeOrder shared.jobs.now (outcomes_in got)
-each_job_got shared workers count drawn got rest at_work as_many deals accounts all =
+each_job_got shared workers {count} {drawn} got rest at_work as_many deals accounts all =
     let jobs = shared.jobs.now in
     let rows = drawn_numbers (drawn_rows (passes_of workers)) in
     let row_count : length rows ≡ length workers = length-drawn_numbers (passes_of workers)
@@ -504,11 +506,11 @@ some_spent (w ∷ ws) some spent =
     )
 
 -- Each worker has run, and the rest is solved: all jobs were drawn, and the gate knows them.
-pub each_job_known : {G : Type 0} {knows : G → ℕ → Bool} (shared : SharedWork G) (before after : List Worker) (drawn : ℕ)
+pub each_job_known : {G : Type 0} {knows : G → ℕ → Bool} {shared : SharedWork G} {before after : List Worker} {drawn : ℕ}
     → HaveRun knows shared before after → shared.rest ≡ Solve → 0 < length before
     → DealsEachOnce (job_count shared.jobs.now) drawn (drawn_rows (passes_of after))
     → (job : ℕ) → job < job_count shared.jobs.now → knows shared.gate.now job ≡ true
-each_job_known {knows = knows} shared before after drawn run solve some deals job low =
+each_job_known {knows = knows} {shared} {before} {after} {drawn} run solve some deals job low =
     let Known : ℕ → Type 0 = λ n. knows shared.gate.now n ≡ true in
     let spent = λ (k : ℕ) (w : Worker) (within : k < length after).
     (run.each k w (let many = run.as_many in omega arith)).spent solve in
@@ -528,13 +530,14 @@ unfolding text_of
 texts_are_output files jobs = refl
 
 -- What an output has written in the end, once it is flushed: all that is to be written, if each job was accepted once or the rest is left.
-pub given_whole : (rest : Rest) (output r : OrderedOutput) (past : List Job) (begun out later : Option (List ℕ)) (failed fails : Bool)
+pub given_whole : {rest : Rest} (output : OrderedOutput) {r : OrderedOutput} {past : List Job} {begun out later : Option (List ℕ)}
+    {failed fails : Bool}
     → Keeps out later → (fails ≡ false → failed ≡ false)
     → HasWritten output.files.now output.jobs.now past begun out failed r × Waits r
     → AreJobsInSomeOrder output.jobs.now past ⊎ IsLeft rest fails → WasGivenSince begun later fails (whole_output output)
-given_whole rest output r past begun out later failed fails keeps sound written known =
+given_whole {rest} output {r} {past} {begun} {later = later} {fails = fails} keeps sound written known =
     let files = output.files.now in
-    let so_far = still_written files output.jobs.now past begun out later failed fails r keeps sound written.0 in
+    let so_far = still_written keeps sound written.0 in
     let is : text_of_jobs (text_of files) r.jobs.now ≡ whole_output output =
     ap (λ l. text_of_jobs (text_of files) l) so_far.of_jobs ∙ texts_are_output files output.jobs.now in
     subst (λ l. WasGivenSince begun later fails l) is

@@ -457,11 +457,11 @@ reclaims plan seat v other w is pass =
 -- ==== What the last word and the closing seat determine of the rows
 
 -- if the closing seat has a row for each pass, these rows are lawful, and the closed table's word counts them
-pub ends : {S : Type 0} (plan : DeskPlan) (seat : ℕ) (v : DeskView) (rows : List DrawnRow) (ws : List ℕ) (xs : List S) (word : ℕ)
+pub ends : {S : Type 0} (plan : DeskPlan) (seat : ℕ) {v : DeskView} {rows : List DrawnRow} (ws : List ℕ) (xs : List S) {word : ℕ}
     → v ≡ Closing rows → Final {S = S} (Seen (IsKept plan) seat v) ws xs → length rows ≡ plan.passes
     → get_elem? ws 0 ≡ some word
     → (word ≡ drawn_in rows + spent_in rows) × AreLawful plan.total rows
-ends {S} plan seat v rows ws xs word is last whole found =
+ends {S} plan seat {rows = rows} ws xs {word} is last whole found =
     let s = last.0 in
     let kept = last.1.0 in
     let all : all_rows s.views ≡ rows = has_all s.views seat rows (last.1.1 ∙ ap some is) (whole ∙ sym kept.passes) in

@@ -129,10 +129,10 @@ first_set : (views : List QueueView) (place : ℕ) (w : QueueView) → place ≡
 first_set views place w is some_view = ap (λ n. get_elem? (set views n w) 0) is ∙ set_here views 0 w some_view
 
 -- the rule, from what each view fits, how many views there are, and which is the first
-lawful : {pairs : List (ℕ × Job)} {items : List Job} {passes : ℕ} {views : List QueueView} (taken inside : List (ℕ × Job))
-    (closed made : ℕ) (known : List (List Job)) → outcomes_in inside ≡ items → taken ++ inside ≡ pairs → length views ≡ passes
+lawful : {pairs taken : List (ℕ × Job)} {items : List Job} {passes made : ℕ} {known : List (List Job)} {views : List QueueView}
+    (inside : List (ℕ × Job)) (closed : ℕ) → outcomes_in inside ≡ items → taken ++ inside ≡ pairs → length views ≡ passes
     → get_elem? views 0 ≡ some (Getting made taken known) → Each (Fits pairs taken closed passes) views → IsLawful items views
-lawful {views = views} taken inside closed made known held e size first h = record {
+lawful {taken = taken} {made = made} {known = known} inside closed held e size first h = record {
   taken = taken;
   inside = inside;
   closed = closed;
@@ -154,52 +154,80 @@ begins =
       ended_known = refl;
       accounts = accounts_none;
     } in
-    lawful [] [] 0 0 [] refl refl refl refl (each_more (Fits [] [] 0 1) [] first_view (λ j u e. absurd (some-ne-none u (sym e))) fits)
+    lawful [] 0 refl refl refl refl (each_more (Fits [] [] 0 1) [] first_view (λ j u e. absurd (some-ne-none u (sym e))) fits)
+
+-- ---- the views of a lawful queue
+
+module _ {items : List Job} {views : List QueueView} (h : IsLawful items views) where
+  -- the pairs that were taken out, followed by those inside
+  abbrev pairs : List (ℕ × Job)
+  pairs = h.taken ++ h.inside
+
+  -- the pass to get is the first
+  getting_first : (place : ℕ) {made : ℕ} {got : List (ℕ × Job)} {known : List (List Job)}
+      → get_elem? views place ≡ some (Getting made got known) → place ≡ 0
+  getting_first place {made} {got} {known} at =
+      let fit : FitsGet pairs h.taken h.closed (length views) place made got known = h.fits place _ at in
+      fit.foremost
+
+  -- the views of the other passes fit the pairs with one more, of a worker that has not ended
+  fits_more : {place : ℕ} (x : ℕ × Job) → place ≡ suc x.0 → place < length views → h.closed ≤ x.0
+      → (j : ℕ) (u : QueueView) → j ≢ place → get_elem? views j ≡ some u
+      → Fits (pairs ++ x ∷ []) h.taken h.closed (length views) j u
+  fits_more x place_is within running j (Putting number sent) other at =
+      let fit : FitsPut pairs h.closed j number sent = h.fits j _ at in
+      let ne : x.0 ≢ number = (λ q. other (fit.place_is ∙ (ap suc (sym q) ∙ sym place_is))) in
+      record { place_is = fit.place_is; running = fit.running; all_sent = fit.all_sent ∙ sym (of_same number pairs x ne) }
+  fits_more x place_is within running j (Getting made got known) other at =
+      let fit : FitsGet pairs h.taken h.closed (length views) j made got known = h.fits j _ at in
+      record {
+        foremost = fit.foremost;
+        count = fit.count;
+        all_got = fit.all_got;
+        ended_known = fit.ended_known;
+        accounts = accounts_pair made known pairs x (omega arith) (omega arith) fit.accounts;
+      }
+  fits_more x place_is within running j Ended other at = tt
+
+  -- the view of another pass states nothing of what was taken out, nor of how many passes there are
+  fits_others : {place : ℕ} (taken : List (ℕ × Job)) (passes : ℕ) → place ≡ 0
+      → (j : ℕ) (u : QueueView) → j ≢ place → get_elem? views j ≡ some u → Fits pairs taken h.closed passes j u
+  fits_others taken passes foremost j (Putting number sent) other at = h.fits j _ at
+  fits_others taken passes foremost j (Getting made got known) other at = absurd (other (getting_first j at ∙ sym foremost))
+  fits_others taken passes foremost j Ended other at = tt
+
+  -- the views of the other passes fit if one worker more has ended
+  fits_ended : {place ended : ℕ} → place ≡ 0 → ended ≡ suc h.closed
+      → (j : ℕ) (u : QueueView) → j ≢ place → get_elem? views j ≡ some u → j ≢ ended
+      → Fits pairs h.taken (h.closed + 1) (length views) j u
+  fits_ended foremost is j (Putting number sent) other at apart =
+      let fit : FitsPut pairs h.closed j number sent = h.fits j _ at in
+      let ne : number ≢ h.closed = (λ q. apart (fit.place_is ∙ (ap suc q ∙ sym is))) in
+      record { place_is = fit.place_is; running = omega arith; all_sent = fit.all_sent }
+  fits_ended foremost is j (Getting made got known) other at apart = absurd (other (getting_first j at ∙ sym foremost))
+  fits_ended foremost is j Ended other at apart = tt
 
 -- ---- a worker puts an outcome
 
--- the views of the other passes fit the pairs with one more, of a worker that has not ended
-fits_more : (pairs taken : List (ℕ × Job)) (closed passes place : ℕ) (x : ℕ × Job) → place ≡ suc x.0 → place < passes
-    → closed ≤ x.0
-    → (j : ℕ) (u : QueueView) → j ≢ place → Fits pairs taken closed passes j u
-    → Fits (pairs ++ x ∷ []) taken closed passes j u
-fits_more pairs taken closed passes place x place_is within running j (Putting number sent) other h =
-    let ne : x.0 ≢ number = (λ q. other (h.place_is ∙ (ap suc (sym q) ∙ sym place_is))) in
-    record { place_is = h.place_is; running = h.running; all_sent = h.all_sent ∙ sym (of_same number pairs x ne) }
-fits_more pairs taken closed passes place x place_is within running j (Getting made got known) other h =
-    let count : passes ≡ suc made = h.count in
-    let ended : length known ≡ closed = h.ended_known in
-    record {
-      foremost = h.foremost;
-      count = count;
-      all_got = h.all_got;
-      ended_known = ended;
-      accounts = accounts_pair made known pairs x (omega arith) (omega arith) h.accounts;
-    }
-fits_more pairs taken closed passes place x place_is within running j Ended other h = tt
-
-pub puts : (n place : ℕ) (v : QueueView) (x : Job) (number : ℕ) (sent : List Job) → v ≡ Putting number sent
+pub puts : (n place : ℕ) {v : QueueView} (x : Job) {number : ℕ} {sent : List Job} → v ≡ Putting number sent
     → Pushes IsLawful n place v x (λ w. w ≡ after_put v x)
-puts n place v x number sent e = rw e (λ items views room h at.
+puts n place x {number} {sent} e = rw e (λ items views room h at.
     let pair : ℕ × Job = (number, x) in
-    let pairs : List (ℕ × Job) = h.taken ++ h.inside in
     let w : QueueView = Putting number (sent ++ x ∷ []) in
-    let mine : FitsPut pairs h.closed place number sent = h.fits place (Putting number sent) at in
-    let fits : FitsPut (pairs ++ pair ∷ []) h.closed place number (sent ++ x ∷ []) =
+    let mine : FitsPut (pairs h) h.closed place number sent = h.fits place (Putting number sent) at in
+    let fits : FitsPut (pairs h ++ pair ∷ []) h.closed place number (sent ++ x ∷ []) =
     record {
       place_is = mine.place_is;
       running = mine.running;
-      all_sent = ap (λ (l : List Job). l ++ x ∷ []) mine.all_sent ∙ sym (of_more number pairs pair refl);
+      all_sent = ap (λ (l : List Job). l ++ x ∷ []) mine.all_sent ∙ sym (of_more number (pairs h) pair refl);
     } in
     let within : place < length views = in_views views place (Putting number sent) at in
-    let all : Each (Fits (pairs ++ pair ∷ []) h.taken h.closed (length views)) (set views place w) =
-    each_set (Fits (pairs ++ pair ∷ []) h.taken h.closed (length views)) views place w fits
-    (λ j u other e. fits_more pairs h.taken h.closed (length views) place pair mine.place_is within mine.running j u other
-    (h.fits j u e)) in
+    let all = each_set (Fits (pairs h ++ pair ∷ []) h.taken h.closed (length views)) views place w fits
+    (fits_more h pair mine.place_is within mine.running) in
     let place_is : place ≡ suc number = mine.place_is in
     let first = set_else views place 0 w (λ q. omega arith) ∙ h.getter in (
       w,
-      lawful h.taken (h.inside ++ pair ∷ []) h.closed h.made h.known
+      lawful (h.inside ++ pair ∷ []) h.closed
           (map-append (λ (p : ℕ × Job). p.1) h.inside (pair ∷ []) ∙ ap (λ (l : List Job). l ++ x ∷ []) h.held)
           (sym (append_assoc h.taken h.inside (pair ∷ []))) (length-set views place w) first all,
       refl,
@@ -207,30 +235,21 @@ puts n place v x number sent e = rw e (λ items views room h at.
 
 -- ---- the oldest outcome is got
 
--- the view of another pass states nothing of what was taken out
-fits_taken : (pairs taken after : List (ℕ × Job)) (closed passes place : ℕ) → place ≡ 0
-    → (j : ℕ) (u : QueueView) → j ≢ place → Fits pairs taken closed passes j u → Fits pairs after closed passes j u
-fits_taken pairs taken after closed passes place foremost j (Putting number sent) other h = h
-fits_taken pairs taken after closed passes place foremost j (Getting made got known) other h = absurd (other (h.foremost ∙ sym foremost))
-fits_taken pairs taken after closed passes place foremost j Ended other h = tt
-
 -- the oldest outcome is that of the first pair inside
 oldest : (x : Job) (items : List Job) (inside : List (ℕ × Job)) → outcomes_in inside ≡ x ∷ items
     → (worker : ℕ) × (rest : List (ℕ × Job)) × (inside ≡ (worker, x) ∷ rest) × (outcomes_in rest ≡ items)
 oldest x items [] held = absurd (cc)
 oldest x items (p ∷ ps) held = let is : p.1 ≡ x = cc in (p.0, ps, ap (λ (o : Job). (p.0, o) ∷ ps) is, cc)
 
-pub gets : (place : ℕ) (v : QueueView) (made : ℕ) (got : List (ℕ × Job)) (known : List (List Job)) → v ≡ Getting made got known
+pub gets : (place : ℕ) {v : QueueView} {made : ℕ} {got : List (ℕ × Job)} {known : List (List Job)} → v ≡ Getting made got known
     → Pops IsLawful place v (IsGot v)
-gets place v made got known e = rw e (λ x items views h at.
+gets place {made = made} {got} {known} e = rw e (λ x items views h at.
     let first = oldest x items h.inside h.held in
     let pair : ℕ × Job = (first.0, x) in
-    let pairs : List (ℕ × Job) = h.taken ++ pair ∷ first.1 in
     let after : List (ℕ × Job) = h.taken ++ pair ∷ [] in
     let w : QueueView = Getting made (got ++ pair ∷ []) known in
-    let fitted : Each (Fits pairs h.taken h.closed (length views)) views = rw first.2 at h.fits in
-    let mine : FitsGet pairs h.taken h.closed (length views) place made got known = fitted place (Getting made got known) at in
-    let fits : FitsGet pairs after h.closed (length views) place made (got ++ pair ∷ []) known =
+    let mine : FitsGet (pairs h) h.taken h.closed (length views) place made got known = h.fits place (Getting made got known) at in
+    let fits : FitsGet (pairs h) after h.closed (length views) place made (got ++ pair ∷ []) known =
     record {
       foremost = mine.foremost;
       count = mine.count;
@@ -238,129 +257,105 @@ gets place v made got known e = rw e (λ x items views h at.
       ended_known = mine.ended_known;
       accounts = mine.accounts;
     } in
-    let all : Each (Fits pairs after h.closed (length views)) (set views place w) =
-    each_set (Fits pairs after h.closed (length views)) views place w fits
-    (λ j u other e. fits_taken pairs h.taken after h.closed (length views) place mine.foremost j u other (fitted j u e)) in
+    let all = each_set (Fits (pairs h) after h.closed (length views)) views place w fits
+    (fits_others h after (length views) mine.foremost) in
     let got_now : Getting made (got ++ pair ∷ []) known ≡ Getting made after known =
     ap (λ (l : List (ℕ × Job)). Getting made (l ++ pair ∷ []) known) mine.all_got in (
       w,
-      lawful after first.1 h.closed made known first.3 (append_assoc h.taken (pair ∷ []) first.1) (length-set views place w)
+      lawful first.1 h.closed first.3 (append_assoc h.taken (pair ∷ []) first.1 ∙ ap (λ l. h.taken ++ l) (sym first.2))
+          (length-set views place w)
           (first_set views place w mine.foremost (in_views views 0 _ h.getter) ∙ ap some got_now) all,
-      (first.0, next_below made h.taken pair first.1 mine.accounts.below, refl),
+      (first.0, next_below made h.taken pair first.1 (rw first.2 at mine.accounts.below), refl),
     ))
 
 -- ---- a pass is made for the next worker
 
--- the views of the other passes fit if there is a pass more
-fits_made : (pairs taken : List (ℕ × Job)) (closed passes after place : ℕ) → place ≡ 0
-    → (j : ℕ) (u : QueueView) → j ≢ place → Fits pairs taken closed passes j u → Fits pairs taken closed after j u
-fits_made pairs taken closed passes after place foremost j (Putting number sent) other h = h
-fits_made pairs taken closed passes after place foremost j (Getting made got known) other h = absurd (other (h.foremost ∙ sym foremost))
-fits_made pairs taken closed passes after place foremost j Ended other h = tt
-
-pub forks : (place : ℕ) (v : QueueView) (made : ℕ) (got : List (ℕ × Job)) → v ≡ Getting made got []
+pub forks : (place : ℕ) {v : QueueView} {made : ℕ} {got : List (ℕ × Job)} → v ≡ Getting made got []
     → Forks IsLawful place v (after_making_one v) (one_made v)
-forks place v made got e = rw e (λ items views h at.
-    let pairs : List (ℕ × Job) = h.taken ++ h.inside in
-    let mine : FitsGet pairs h.taken h.closed (length views) place made got [] = h.fits place (Getting made got []) at in
+forks place {made = made} {got} e = rw e (λ items views h at.
+    let mine : FitsGet (pairs h) h.taken h.closed (length views) place made got [] = h.fits place (Getting made got []) at in
     let count : length views ≡ suc made = mine.count in
     let ended : 0 ≡ h.closed = mine.ended_known in
     let left : QueueView = Getting (made + 1) got [] in
     let vs : List QueueView = set views place left in
     let same : length vs ≡ length views = length-set views place left in
-    let F : ℕ → QueueView → Type 0 = Fits pairs h.taken h.closed (made + 2) in
-    let fits : FitsGet pairs h.taken h.closed (made + 2) place (made + 1) got [] =
+    let F : ℕ → QueueView → Type 0 = Fits (pairs h) h.taken h.closed (made + 2) in
+    let fits : FitsGet (pairs h) h.taken h.closed (made + 2) place (made + 1) got [] =
     record {
       foremost = mine.foremost;
       count = omega arith;
       all_got = mine.all_got;
       ended_known = ended;
-      accounts = accounts_worker made [] pairs mine.accounts;
+      accounts = accounts_worker made [] (pairs h) mine.accounts;
     } in
-    let old : Each F vs =
-    each_set F views place left fits
-    (λ j u other e. fits_made pairs h.taken h.closed (length views) (made + 2) place mine.foremost j u other (h.fits j u e)) in
-    let fresh : FitsPut pairs h.closed (length vs) made [] =
-    record { place_is = omega arith; running = omega arith; all_sent = sym (of_none made made pairs mine.accounts.below (omega arith)) } in
+    let old = each_set F views place left fits (fits_others h h.taken (made + 2) mine.foremost) in
+    let fresh : FitsPut (pairs h) h.closed (length vs) made [] =
+    record { place_is = omega arith; running = omega arith; all_sent = sym (of_none made made _ mine.accounts.below (omega arith)) } in
     let longer : length (vs ++ Putting made [] ∷ []) ≡ length vs + 1 = length_push vs (Putting made []) in
     let got_now : left ≡ Getting (made + 1) h.taken [] = ap (λ (l : List (ℕ × Job)). Getting (made + 1) l []) mine.all_got in
     let first = at_longer vs (Putting made [] ∷ []) 0 _
     (first_set views place left mine.foremost (in_views views 0 _ h.getter) ∙ ap some got_now) in
-    lawful h.taken h.inside h.closed (made + 1) [] h.held refl (omega arith) first
+    lawful h.inside h.closed h.held refl (omega arith) first
     (each_more F vs (Putting made []) old fresh))
 
 -- ---- a worker's pass is reclaimed
 
--- the views of the other passes fit if one worker more has ended
-fits_ended : (pairs taken : List (ℕ × Job)) (closed passes place ended : ℕ) → place ≡ 0 → ended ≡ suc closed
-    → (j : ℕ) (u : QueueView) → j ≢ place → j ≢ ended → Fits pairs taken closed passes j u
-    → Fits pairs taken (closed + 1) passes j u
-fits_ended pairs taken closed passes place ended foremost is j (Putting number sent) other apart h =
-    let place_is : j ≡ suc number = h.place_is in
-    let running : closed ≤ number = h.running in
-    let ne : number ≢ closed = (λ q. apart (place_is ∙ (ap suc q ∙ sym is))) in
-    record { place_is = place_is; running = omega arith; all_sent = h.all_sent }
-fits_ended pairs taken closed passes place ended foremost is j (Getting made got known) other apart h =
-    absurd (other (h.foremost ∙ sym foremost))
-fits_ended pairs taken closed passes place ended foremost is j Ended other apart h = tt
-
-pub merges : (place : ℕ) (v : QueueView) (other : ℕ) (u : QueueView) (made : ℕ) (got : List (ℕ × Job)) (known : List (List Job))
-    (number : ℕ) (sent : List Job)
+pub merges : (place other : ℕ) {v u : QueueView} {made : ℕ} {got : List (ℕ × Job)} {known : List (List Job)} {number : ℕ}
+    {sent : List Job}
     → v ≡ Getting made got known → u ≡ Putting number sent → number ≡ length known
     → Merges IsLawful place v other u (after_reclaiming_sent v u) Ended
-merges place v other u made got known number sent e e' is = rw e (rw (e' ∙ ap (λ (n : ℕ). Putting n sent) is) (λ items views h at
+merges place other {made = made} {got} {known} {sent = sent} e e' is = rw e (rw (e' ∙ ap (λ (n : ℕ). Putting n sent) is) (λ items views h at
     two at_other.
     let both : QueueView = Getting made got (known ++ sent ∷ []) in
     let theirs : QueueView = Putting (length known) sent in
-    let pairs : List (ℕ × Job) = h.taken ++ h.inside in
-    let mine : FitsGet pairs h.taken h.closed (length views) place made got known = h.fits place (Getting made got known) at in
+    let mine : FitsGet (pairs h) h.taken h.closed (length views) place made got known = h.fits place (Getting made got known) at in
     let ended : length known ≡ h.closed = mine.ended_known in
     let vs : List QueueView = set views place both in
-    let their_fit : FitsPut pairs h.closed other (length known) sent =
+    let their_fit : FitsPut (pairs h) h.closed other (length known) sent =
     h.fits other theirs (was_there views place other both theirs two at_other) in
     let last : other ≡ suc h.closed = their_fit.place_is ∙ ap suc ended in
     let longer : length (known ++ sent ∷ []) ≡ length known + 1 = length_push known sent in
-    let fits : FitsGet pairs h.taken (h.closed + 1) (length views) place made got (known ++ sent ∷ []) =
+    let fits : FitsGet (pairs h) h.taken (h.closed + 1) (length views) place made got (known ++ sent ∷ []) =
     record {
       foremost = mine.foremost;
       count = mine.count;
       all_got = mine.all_got;
       ended_known = omega arith;
-      accounts = accounts_known made known pairs sent their_fit.all_sent mine.accounts;
+      accounts = accounts_known made known (pairs h) sent their_fit.all_sent mine.accounts;
     } in
-    let F : ℕ → QueueView → Type 0 = Fits pairs h.taken (h.closed + 1) (length views) in
+    let F : ℕ → QueueView → Type 0 = Fits (pairs h) h.taken (h.closed + 1) (length views) in
     let Apart : ℕ → QueueView → Type 0 = λ j u. j ≢ other → F j u in
-    let apart : Each Apart vs = each_set Apart views place both (λ _. fits)
-    (λ j u away e ne. fits_ended pairs h.taken h.closed (length views) place other mine.foremost last j u away ne (h.fits j u e)) in
+    let apart = each_set Apart views place both (λ _. fits) (fits_ended h mine.foremost last) in
     let done : Each F (set vs other Ended) = each_set F vs other Ended tt (λ j u ne e. apart j u e ne) in
     let got_now : both ≡ Getting made h.taken (known ++ sent ∷ []) =
     ap (λ (l : List (ℕ × Job)). Getting made l (known ++ sent ∷ [])) mine.all_got in
     let first = set_else vs other 0 Ended (λ q. omega arith)
     ∙ first_set views place both mine.foremost (in_views views 0 _ h.getter) ∙ ap some got_now in
-    lawful h.taken h.inside (h.closed + 1) made (known ++ sent ∷ []) h.held refl
+    lawful h.inside (h.closed + 1) h.held refl
     (length-set vs other Ended ∙ length-set views place both) first done))
 
 -- ---- what the pass to get learns of the queue
 
-pub tells : (place : ℕ) (v : QueueView) (made : ℕ) (got : List (ℕ × Job)) (known : List (List Job)) → v ≡ Getting made got known
+pub tells : (place : ℕ) {v : QueueView} {made : ℕ} {got : List (ℕ × Job)} {known : List (List Job)} → v ≡ Getting made got known
     → Learns IsLawful place v (Tells v)
-tells place v made got known e = rw e (λ items views h at.
-    let mine : FitsGet (h.taken ++ h.inside) h.taken h.closed (length views) place made got known =
+tells place {made = made} {got} {known} e = rw e (λ items views h at.
+    let mine : FitsGet (pairs h) h.taken h.closed (length views) place made got known =
     h.fits place (Getting made got known) at in
     (h.inside, h.held, subst (λ (g : List (ℕ × Job)). Accounts made known (g ++ h.inside)) (sym mine.all_got) mine.accounts))
 
 -- the pass to get has reclaimed one pass more
-pub reclaimed : (v u after : QueueView) (made : ℕ) (got : List (ℕ × Job)) (known : List (List Job)) (number : ℕ) (sent : List Job)
+pub reclaimed : {v u after : QueueView} {made : ℕ} {got : List (ℕ × Job)} {known : List (List Job)} {number : ℕ} {sent : List Job}
     → v ≡ Getting made got known → u ≡ Putting number sent → after ≡ after_reclaiming_sent v u
     → after ≡ Getting made got (known ++ sent ∷ [])
-reclaimed v u after made got known number sent getting putting is = is ∙ λ i. after_reclaiming_sent (getting i) (putting i)
+reclaimed getting putting is = is ∙ λ i. after_reclaiming_sent (getting i) (putting i)
 
 -- once it has reclaimed all, it learns what all workers have sent
-pub whole_when_reclaimed : (v : QueueView) (made left : ℕ) (got : List (ℕ × Job)) (known rest all : List (List Job))
+pub whole_when_reclaimed : {v : QueueView} {made left : ℕ} {got : List (ℕ × Job)} {known all : List (List Job)}
+    (rest : List (List Job))
     → v ≡ Getting made got known → length rest ≡ 0 → known ++ rest ≡ all → Held left (Tells v)
     → (inside : List (ℕ × Job)) × (length inside ≡ left) × Accounts made all (got ++ inside)
-whole_when_reclaimed v made left got known (x ∷ xs) all getting none whole held = absurd (omega arith)
-whole_when_reclaimed v made left got known [] all getting none whole held =
+whole_when_reclaimed (x ∷ xs) getting none whole held = absurd (omega arith)
+whole_when_reclaimed {made = made} {got = got} {known} [] getting none whole held =
     let told : Tells (Getting made got known) held.0 = subst (λ (u : QueueView). Tells u held.0) getting held.2 in (
       told.0,
       sym (length-map told.0 (λ (p : ℕ × Job). p.1)) ∙ ap (λ (l : List Job). length l) told.1 ∙ held.1,
@@ -371,8 +366,7 @@ whole_when_reclaimed v made left got known [] all getting none whole held =
 
 pub queue_is_lawful : (items : List Job) (views : List QueueView) → IsLawful items views → IsWholeAndInOrder items views
 queue_is_lawful items views h =
-    let pairs : List (ℕ × Job) = h.taken ++ h.inside in
-    let first : FitsGet pairs h.taken h.closed (length views) 0 h.made h.taken h.known =
+    let first : FitsGet (pairs h) h.taken h.closed (length views) 0 h.made h.taken h.known =
     h.fits 0 (Getting h.made h.taken h.known) h.getter in
     let count : length views ≡ suc h.made = first.count in
     record {
@@ -382,12 +376,10 @@ queue_is_lawful items views h =
       ended = h.known;
       held = h.held;
       gets = h.getter;
-      no_other_gets = λ place others them lists at.
-          let fits : FitsGet pairs h.taken h.closed (length views) place others them lists = h.fits place (Getting others them lists) at in
-          fits.foremost;
+      no_other_gets = λ place others them lists at. getting_first h place at;
       below = first.accounts.below;
       running = λ place worker sent at.
-          let fits : FitsPut pairs h.closed place worker sent = h.fits place (Putting worker sent) at in
+          let fits : FitsPut (pairs h) h.closed place worker sent = h.fits place (Putting worker sent) at in
           let place_is : place ≡ suc worker = fits.place_is in
           let within : place < length views = in_views views place (Putting worker sent) at in
           (omega arith, sym fits.all_sent);

@@ -350,10 +350,10 @@ pub low_more : (bar most bound new : ℕ) → (bar ≤ most → most ≡ 0) → 
 low_more bar most bound new low short is enough = omega arith
 
 -- what is left of all is bounded by what the bound leaves
-pub bound_left : (bar all seeds gained number bound : ℕ) → all ≡ gained + seeds → number ≤ seeds → gained < bar
+pub bound_left : {bar number bound : ℕ} (all seeds gained : ℕ) → all ≡ gained + seeds → number ≤ seeds → gained < bar
     → bar ≤ all →
     IsSoftBound (all - bar + 1) number bound → IsSoftBound bar (gained + (seeds - number)) (all - bound)
-bound_left bar all seeds gained number bound is few low high b = omega arith
+bound_left all seeds gained is few low high b = omega arith
 
 -- a house with seeds may be moved, if the game goes on
 pub filled_legal : (a : Rows) (h : ℕ) → is_over (bare a) ≡ false → 1 ≤ h → h ≤ length a.own → 0 < seeds a.own h →
@@ -407,10 +407,10 @@ pub record AreTurns (a : Rows) (priorities : List ℕ) (turns : List Rows) : Typ
   pub each : (k : ℕ) → 0 < get_or priorities k 0 → (d : Rows) → IsTurnOf a (k + 1) (get_or priorities k 0) (get_or turns k d)
 
 -- one house more
-turns_more : (a : Rows) (h : ℕ) (priorities : List ℕ) (turns : List Rows) (v : ℕ) (b : Rows) → AreTurns a priorities turns →
+turns_more : {a b : Rows} {h v : ℕ} {priorities : List ℕ} {turns : List Rows} → AreTurns a priorities turns →
     length turns ≡ 6 → 1 ≤ h → h ≤ 6 → IsTurnOf a h v b →
     AreTurns a (slice_set priorities (h - 1) v) (slice_set turns (h - 1) b)
-turns_more a h priorities turns v b are places low last is =
+turns_more are places low last is =
     grind (arith, length-set, cases_eq, get_or-set_same, get_or-set_other)
 
 -- one that waits no more
@@ -448,7 +448,7 @@ module _ (a : Rows) (most marks h : ℕ) (priorities : List ℕ) (turns : List R
   pub played_more : (v : ℕ) (b : Rows) → 0 < v → IsTurnOf a h v b →
       ArePlayed a most (marks - 32 ^ (h - 1)) (slice_set priorities (h - 1) v) (slice_set turns (h - 1) b)
   played_more v b some turn = let inside : h - 1 < length _ = omega arith in record {
-    waiting = turns_more _ _ _ _ _ _ is.waiting is.places last.first last.last turn;
+    waiting = turns_more is.waiting is.places last.first last.last turn;
     places = length-set turns _ b ∙ is.places;
     others = λ i may gone none apart. elim (cases_eq i h) [
       | inl same ↦
@@ -547,10 +547,10 @@ again_none a most marks marked h may ends gone = absurd (
     let some = (marked _).1 (omega arith, subst (EndsInStore a) at ends) in
     omega arith)
 
-pub again_fewer : (a : Rows) (most marks h bound new : ℕ) → AreAgain a most marks → IsLastMark marks h → WinsAtMost a bound h →
-    new ≡ max most bound →
+pub again_fewer : (a : Rows) (most : ℕ) {marks h : ℕ} (bound : ℕ) {new : ℕ} → AreAgain a most marks → IsLastMark marks h
+    → WinsAtMost a bound h → new ≡ max most bound →
     AreAgain a new (marks - 32 ^ (h - 1))
-again_fewer a most marks h bound new are last takes new_is i may ends gone = elim (cases_eq i h) [
+again_fewer a most {marks} {h} bound are last takes new_is i may ends gone = elim (cases_eq i h) [
   | inl same ↦ rw same (omega arith)
   | inr other ↦
       let first = (legal_holds (bare a) i may).first in
@@ -577,19 +577,18 @@ turn_at {a} {most} {priorities} {turns} {priority} w untried found some =
     record { place = omega arith; priority = rw same here; turn = rw same turn }
 
 -- before any was tried, but those that end in the store
-pub untried_first : (a : Rows) (bar again others : ℕ) (priorities : List ℕ) (turns : List Rows) (new : ℕ)
-    → length priorities ≡ 8 →
+pub untried_first : {a : Rows} {bar others new : ℕ} {priorities : List ℕ} {turns : List Rows} (again : ℕ) → length priorities ≡ 8 →
     AreWaiting a bar others priorities turns → ((h : ℕ) → Contains (legal_houses (bare a)) h → EndsInStore a h
     → WinsAtMost a again h) →
     others < bar → new ≡ max again others → AreUntried a new priorities turns
-untried_first a bar again others priorities turns new cells are ends short new_is = grind arith
+untried_first again cells are ends short new_is = grind arith
 
 -- one move more was tried
-pub untried_fewer : (a : Rows) (most : ℕ) (priorities : List ℕ) (turns : List Rows) (at bound new : ℕ)
+pub untried_fewer : {a : Rows} {most new : ℕ} {priorities : List ℕ} {turns : List Rows} (at bound : ℕ)
     → AreUntried a most priorities turns →
     at < 6 → WinsAtMost a bound (at + 1) → new ≡ max most bound → AreUntried a new (slice_set priorities at 0) turns
-untried_fewer a most priorities turns at bound new is place takes new_is = record {
-  waiting = turns_fewer a _ turns at is.waiting place;
+untried_fewer {a} {priorities = priorities} at bound is place takes new_is = record {
+  waiting = turns_fewer a _ _ at is.waiting place;
   tried = λ h has none. elim (cases_eq (h - 1) at) [
     | inl same ↦
         let first = (legal_holds (bare a) h has).first in

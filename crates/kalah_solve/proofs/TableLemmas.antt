@@ -611,12 +611,12 @@ same_placed : (n : ℕ) (a b : Rows) → 1024 ≤ n → IsWithinHouses a → IsW
 same_placed n a b enough ha hb rest place = grind (arith, same_key, same_unmixed, key_fits, place_same)
 
 -- after more is kept
-pub bounds_more : (places : List Place) (a : Rows) (number at : ℕ) (p : Place) → AreEnough (length places) → StoreBounds places
+pub bounds_more : (places : List Place) {a : Rows} {number at : ℕ} {p : Place} → AreEnough (length places) → StoreBounds places
     → IsWithinHouses a →
     number ≡ mixed (key_of a) → at ≡ place_among (length places) number → at < length places
     → stored_rest p ≡ left_open number →
     IsWithinPlace p (won a) → StoreBounds (slice_set places at p)
-bounds_more places a number at p enough before within is place inside rest known b number_b d within_b is_b inside_b rest_b =
+bounds_more places enough before within is place inside rest known b number_b d within_b is_b inside_b rest_b =
     grind (arith, length-set, cases_eq, get_or-set_same, same_placed, get_or-set_other)
 
 -- places that all hold what is known of all houses

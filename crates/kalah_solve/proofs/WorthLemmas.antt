@@ -346,22 +346,22 @@ greatest_shift : (f g : ℕ → ℤ) (d : ℤ) (xs : List ℕ) → 0 < length xs
 greatest_shift f g d [] some same = absurd (omega arith)
 greatest_shift f g d (x ∷ xs) some same = rw (same x, map_shift f g d xs same) (fold_shift d (g x) (map g xs))
 
--- a move with each of its three ends shifted
-shift_by_step : (over more : Bool) (f v u f' v' u' : ℤ) (a b : ℕ) → f ≡ f' +ℤ (pos a -ℤ pos b)
-    → v ≡ v' +ℤ (pos a -ℤ pos b) →
-    u ≡ u' +ℤ (pos b -ℤ pos a) →
-    (if over then f else (if more then v else neg_ℤ u)) ≡ (if over then f' else (if more then v' else neg_ℤ u')) +ℤ
-    (pos a -ℤ pos b)
-shift_by_step true more f v u f' v' u' a b one two three = one
-shift_by_step false true f v u f' v' u' a b one two three = two
-shift_by_step false false f v u f' v' u' a b one two three = omega (arith, ints)
+-- one of two shifted numbers
+shift_either : (first : Bool) (d : ℤ) {x y : ℤ} (x' y' : ℤ) → x ≡ x' +ℤ d → y ≡ y' +ℤ d
+    → (if first then x else y) ≡ (if first then x' else y') +ℤ d
+shift_either true d x' y' one two = one
+shift_either false d x' y' one two = two
+
+-- the other player's value is shifted the other way
+shift_turned : (a b : ℕ) (u' : ℤ) {u : ℤ} → u ≡ u' +ℤ (pos b -ℤ pos a) → neg_ℤ u ≡ neg_ℤ u' +ℤ (pos a -ℤ pos b)
+shift_turned a b u' is = omega (arith, ints)
 
 -- a value by a worth that stores shift is shifted
 value_with_more : (v w : Position → ℤ) (a b : ℕ) (p : Position) (h : ℕ) →
     v (with_more a b (after p h)) ≡ w (after p h) +ℤ (pos a -ℤ pos b) →
     v (with_more b a (swapped (after p h))) ≡ w (swapped (after p h)) +ℤ (pos b -ℤ pos a) →
     value_by v (with_more a b p) h ≡ value_by w p h +ℤ (pos a -ℤ pos b)
-value_with_more v w a b p h again turn = grind (arith, after_with_more, shift_by_step, final_with_more)
+value_with_more v w a b p h again turn = grind (arith, after_with_more, shift_either, shift_turned, final_with_more)
 
 -- with no move left the worth is the final margin
 worth_zero : (p : Position) → worth_within zero p ≡ final_margin p

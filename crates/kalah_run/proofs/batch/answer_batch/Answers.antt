@@ -24,7 +24,7 @@ returns-clause-answers g c =
     let jobs = c.in_ok-jobs.ensures in
     let end = c.flush_and_count.ensures in
     answered g.W.Sink.written g.W.Sink.has_failed g.W.Sink.is_handed_on c.args.request.now.question jobs.value jobs.too_many_files
-    jobs.too_many_lines _ (given_kept _ (g.W.Sink.written c.if-total-gt0.out) _ (g.W.Sink.has_failed c.if-total-gt0.out) _ _
+    jobs.too_many_lines _ (given_kept {out = g.W.Sink.written c.if-total-gt0.out} {failed = g.W.Sink.has_failed c.if-total-gt0.out}
     (elim c.if-total-gt0.branch [
       | then-total-gt0+in_ok-open+in_ok-run w ↦
           let asked = w.in_ok-open.ensures.asked in

@@ -7,6 +7,6 @@ pub returns-clause-side : goal.returns-clause-side
 returns-clause-side t c =
     let player = c.args.player in
     let board = c.args.board.now in
-    side_before (houses_of player board) (store_of player board) c.args.i _ _ _ _ _ _ (omega arith)
+    side_before (houses_of player board) (store_of player board) c.args.i _
     (omega (arith, length-houses_of player board c.m-m.ensures.limits)) c.seeds-seeds.ensures c.prepend_side.ensures.side
     c.prepend-2.ensures.piece c.prepend_byte-2.ensures.number

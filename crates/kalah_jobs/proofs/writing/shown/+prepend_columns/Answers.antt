@@ -26,7 +26,7 @@ pub returns-clause-row : goal.returns-clause-row
 returns-clause-row t c =
     let value = c.get-value.result in
     let old = c.args.text.now in
-    column_before c.args.filled value (drop (c.args.i + 1) c.args.values.now) old _ _ _ c.prepend_columns.ensures.row
+    column_before c.args.filled value (drop (c.args.i + 1) c.args.values.now) old c.prepend_columns.ensures.row
     c.prepend_value_cell.ensures.cell
     (c.prepend_blanks.ensures.blanks ∙ ap (λ n. empty_columns n ++ c.prepend_value_cell.new.text) c.from.ensures)
     ∙ ap (λ values. value_columns c.args.filled values ++ old) (sym (items_from c.args.values.now c.args.i value c.get-value.ensures))

@@ -49,7 +49,7 @@ loop-preserved g c =
           × Waits c.write-in-loop.new.self)
           (sym (ap (λ (l : List (ℕ × Job)). outcomes_in l) more
           ∙ map-append (λ (p : ℕ × Job). p.1) c.loop.receiver.pass.got ((worker, outcome) ∷ [])))
-          (let so_far = still_written _ _ _ _ _ _ _ _ _ next.keeps next.sound c.loop.invariant.progress.0 in
+          (let so_far = still_written next.keeps next.sound c.loop.invariant.progress.0 in
           c.write-in-loop.ensures _ _ _ _ (record {
             of_files = so_far.of_files;
             of_jobs = so_far.of_jobs;
@@ -67,18 +67,18 @@ returns-clause-collected g c =
             queue = c.loop.invariant.queue;
             workers = c.loop.invariant.workers;
             all_got = inl (omega (arith, c.loop.invariant.all, w.loop-test.false, c.total-total.ensures.lines));
-            given = given_whole _ c.args.output _ _ _ _ _ _ _ (rw (← w.out-is) flushed.keeps)
+            given = given_whole c.args.output (rw (← w.out-is) flushed.keeps)
                 (λ still. rw (← w.out-is) (flushed.sound still)) c.loop.invariant.progress;
           })
       | then-loop-test+in-None+in-None-flush_and_get w ↦
           let left = w.in-None-flush_and_get.ensures in
           let before = c.loop.invariant.progress in
-          let so_far = still_written _ _ _ _ _ _ _ _ _ left.keeps left.sound before.0 in
+          let so_far = still_written left.keeps left.sound before.0 in
           rw (w.receiver-is, left.got ∙ w.in-None.ensures.got) (record {
             queue = c.loop.invariant.queue;
             workers = c.loop.invariant.workers;
             all_got = inr (left.left.0, grind (arith, flushed.sound, left.left.1, w.out-is));
-            given = given_whole _ c.args.output _ _ _ _ _ _ _ (rw (← w.out-is) flushed.keeps)
+            given = given_whole c.args.output (rw (← w.out-is) flushed.keeps)
                 (λ still. rw (← w.out-is) (flushed.sound still)) (so_far, before.1);
           })
     ])

@@ -23,8 +23,7 @@ last : (c : goal.After-drop-rest)
     × AreLawful c.self.inside.total (drawn_rows c.args.passes.items)
 last c =
     let all = length-map c.args.passes.items (λ p. p.row) ∙ c.requires.all ∙ sym (ap (λ d. d.passes) c.self.view_is) in
-    let e = ends c.self.inside.table.shared.key _ _ (drawn_rows c.args.passes.items) _ _ _
-    (closed c) c.close_with-closed.ensures.values.2 all c.word-word.ensures in
+    let e = ends c.self.inside.table.shared.key _ _ _ (closed c) c.close_with-closed.ensures.values.2 all c.word-word.ensures in
     (e.0, subst (λ (t : ℕ). AreLawful t (drawn_rows c.args.passes.items)) c.self.invariant.2 e.1)
 
 pub returns-clause-deals : goal.returns-clause-deals

@@ -11,16 +11,16 @@ pub absorb-requires-clause-rule : goal.absorb-requires-clause-rule
 absorb-requires-clause-rule g c =
     let step : into_iter_items c.loop-put.put-iterator ≡ c.in-Some.put ∷ into_iter_items c.next.new.self = c.in-Some.ensures.steps.0 in
     let passes = rw step at c.loop-put.invariant.passes in
-    merges _ _ _ _ _ _ _ _ _ c.loop-put.invariant.getting c.put.invariant.1 (ap (λ p. p.number) c.put.view_is ∙ passes.1)
+    merges _ _ c.loop-put.invariant.getting c.put.invariant.1 (ap (λ p. p.number) c.put.view_is ∙ passes.1)
 
 pub len_as-left-requires-clause-rule : goal.len_as-left-requires-clause-rule
-len_as-left-requires-clause-rule g c = tells _ _ _ _ _ c.loop-put.invariant.getting
+len_as-left-requires-clause-rule g c = tells _ c.loop-put.invariant.getting
 
 pub returns-clause-whole : goal.returns-clause-whole
 returns-clause-whole g c =
     let so_far = c.loop-put.invariant in
     let rest = c.loop-put.put-iterator in
-    whole_when_reclaimed _ _ _ _ _ (sent_by (into_iter_items rest)) _ so_far.getting
+    whole_when_reclaimed (sent_by (into_iter_items rest)) so_far.getting
     (omega (arith, c.in-None.ensures.steps.0, (into_iter_deque rest).ok.0, length-map (into_iter_items rest) (λ (p : PutState). p.sent)))
     so_far.known c.len_as-left.ensures.rule.1
 
@@ -33,7 +33,7 @@ loop-put-preserved g c =
     let rest = into_iter_items c.next.new.self in
     let step : into_iter_items c.loop-put.put-iterator ≡ put ∷ rest = c.in-Some.ensures.steps.0 in
     let passes = rw step at so_far.passes in
-    let now = reclaimed _ _ _ _ _ _ _ put.sent so_far.getting
+    let now = reclaimed so_far.getting
     (c.put.invariant.1 ∙ ap (λ p. Putting p.number p.sent) c.put.view_is) c.absorb.ensures.rule in
     let more = ap known_in now in
     record {

@@ -8,7 +8,7 @@ pub ruled-requires-clause-rule : goal.ruled-requires-clause-rule
 ruled-requires-clause-rule c = begins
 
 pub another-theirs-requires-clause-rule : goal.another-theirs-requires-clause-rule
-another-theirs-requires-clause-rule c = forks _ _ _ _ c.loop.invariant.made
+another-theirs-requires-clause-rule c = forks _ c.loop.invariant.made
 
 pub loop-preserved : goal.loop-preserved
 loop-preserved c =

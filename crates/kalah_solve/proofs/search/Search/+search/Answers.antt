@@ -51,9 +51,8 @@ bound_turn-overflow_sub-result g t c =
 pub bound_turn-returns-else-all-bar : goal.bound_turn-returns-else-all-bar
 bound_turn-returns-else-all-bar g t c =
     let few = (won_of_houses c.requires.on.limits).few in
-    bound_left c.args.bar (c.args.gained + c.seeds.result) _ c.args.gained (won c.args.next) c.bound.result
-    (omega arith) few
-    c.if-bar-gained.false c.if-all-bar.false c.bound.ensures
+    bound_left (c.args.gained + c.seeds.result) _ c.args.gained (omega arith) few c.if-bar-gained.false c.if-all-bar.false
+    c.bound.ensures
 
 pub explore-bounds-priorities-at : goal.explore-bounds-priorities-at
 explore-bounds-priorities-at g t c = omega (arith, (c.loop-priority.invariant.next c.loop-priority-test.true).place)
@@ -105,8 +104,8 @@ explore-loop-priority-preserved g t c =
     let here = before.next c.loop-priority-test.true in
     let takes = turn_at_most _ _ (here.turn c.index-turns-at.result)
     (rw (c.seeds-seeds.ensures.seeds, c.seeds.ensures.seeds) at c.bound_turn-bound.ensures) c.if-bar-bound.false in
-    let untried = untried_fewer c.args.houses.now c.loop-priority.most c.loop-priority.priorities c.others_waiting-others.new.turns
-    (c.loop-priority.priority % 8) c.bound_turn-bound.result _ before.untried here.place takes c.max-most-in-loop-priority.ensures in
+    let untried = untried_fewer (c.loop-priority.priority % 8) c.bound_turn-bound.result before.untried here.place takes
+    c.max-most-in-loop-priority.ensures in
     record {
       low = omega arith;
       highest = c.highest-priority-in-loop-priority.ensures.highest;
@@ -198,7 +197,7 @@ bound_again-loop-left-preserved g t c =
       low = low_more _ _ _ _ before.low c.if-bar-bound.false new_is;
       may = moves_fewer before.may last;
       ends = each_fewer (EndsInStore a) marks h last before.ends;
-      tried = again_fewer _ _ _ h c.bound_step-bound.result c.max-most.result before.tried last takes new_is;
+      tried = again_fewer _ _ c.bound_step-bound.result before.tried last takes new_is;
     })
 
 pub bound_again-loop-left-smaller : goal.bound_again-loop-left-smaller
@@ -286,7 +285,7 @@ explore-loop-priority-init g t c =
     let others = c.others_waiting-others.ensures in
     let most_is : c.max-most.result ≡ max c.bound_again-again.result c.others_waiting-others.result =
     search (rules, c.max-most.ensures) in
-    let untried = untried_first c.args.houses.now c.args.bar _ _ _ _ c.max-most.result (search rules) others
+    let untried = untried_first _ (search rules) others
     (c.bound_again-again.ensures.upper c.if-bar-again.false) c.if-bar-others.false most_is in
     record {
       low = omega arith;

@@ -5,7 +5,7 @@ use Rattle.kalah_jobs.proofs.writing.stack_text.StackText.prepend_blanks.Goals a
 
 pub returns-clause-blanks : goal.returns-clause-blanks
 returns-clause-blanks c =
-    blanks_before c.self.inside.bytes c.fill.new.self _ c.self.inside.start c.args.n c.self.invariant.0 c.self.invariant.1 c.self.view_is
+    blanks_before c.self.inside.bytes c.self.inside.start c.args.n c.self.invariant.0 c.self.invariant.1 c.self.view_is
     c.requires (c.fill.ensures.after (λ y is. is))
 
 pub returns-clause-longer : goal.returns-clause-longer

@@ -84,7 +84,7 @@ each_got g c all =
     ∙ sym (run.collected.workers ∙ ap (λ (p : GetState). p.workers) (c.new-receiver.ensures ∙ ready.get)) in
     let rest = c.close-2.ensures.whole in
     let accounts = rw c.take_apart.ensures.puts at rest.2 in
-    rw ready.jobs (each_job_got c.args.self.shared c.in_ok-workers.workers.items get.workers c.close.result.drawn get.got rest.0
+    rw ready.jobs (each_job_got c.args.self.shared c.in_ok-workers.workers.items get.got rest.0
     (run_at_work _ _ _ run.all_ran) as_many (dealt g c) accounts (all ∙ ap job_count ready.jobs))
 
 pub returns-clause-given : goal.returns-clause-given
@@ -94,5 +94,4 @@ returns-clause-given g c =
 
 pub returns-clause-solved : goal.returns-clause-solved
 returns-clause-solved g c = λ solve job low.
-    each_job_known c.args.self.shared c.args.self.workers.items c.in_ok-workers.workers.items c.close.result.drawn
-    c.in_ok-workers.ensures.ended.all_ran solve c.requires.some (dealt g c) job low
+    each_job_known c.in_ok-workers.ensures.ended.all_ran solve c.requires.some (dealt g c) job low

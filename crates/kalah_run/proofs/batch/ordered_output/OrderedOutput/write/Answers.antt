@@ -18,23 +18,21 @@ loop-self-preserved-then-not-failed g c = record {
       let low : r.current < length r.files.now = omega (arith, c.loop-self-test.true, c.files.ensures.is, r.as_many) in
       let text = text_of_taken r.files.now r.current c.index-files-f.result c.as_str.result.now c.in-Some.taken low c.index-files-f.is
       (c.as_str.ensures.value ∙ ap (λ (x : NamedBytes). x.name) c.file.view_is) in
-      written_on files jobs past begun _ _ _ _ r _ refl refl
+      written_on (c.loop-self.invariant.progress files jobs past begun so_far) refl refl
       (λ progress. wrote_line progress c.take.new.self c.in-Some.taken
       (g.W.Sink.written c.write_answer.new.out) (g.W.Sink.has_failed c.write_answer.new.out) c.in-Some.ensures.takes
       (λ given was. subst (λ (l : List ℕ). WasGivenSince begun (g.W.Sink.written c.write_answer.new.out)
       (g.W.Sink.has_failed c.write_answer.new.out) (given ++ l))
-      (sym text) (given_on begun _ _ _ _ given _ was (sym c.failed.ensures ∙ c.if-not-failed.true) wrote.start
-      (whole_where_sound _ c.write_answer.result _ wrote.fails.0 wrote.adds))))
-      (c.loop-self.invariant.progress files jobs past begun so_far);
+      (sym text) (given_on given _ was (sym c.failed.ensures ∙ c.if-not-failed.true) wrote.start
+      (whole_where_sound _ c.write_answer.result _ wrote.fails.0 wrote.adds))));
 }
 
 pub loop-self-preserved-else-not-failed : goal.loop-self-preserved-else-not-failed
 loop-self-preserved-else-not-failed g c = record {
   progress = λ files jobs past begun so_far.
-      written_on files jobs past begun _ _ _ _ c.loop-self.self _ refl refl
+      written_on (c.loop-self.invariant.progress files jobs past begun so_far) refl refl
       (λ progress. wrote_line progress c.take.new.self c.in-Some.taken _ _ c.in-Some.ensures.takes
-      (λ given was. given_off begun _ _ given _ was (sym c.failed.ensures ∙ c.if-not-failed.false)))
-      (c.loop-self.invariant.progress files jobs past begun so_far);
+      (λ given was. given_off given _ was (sym c.failed.ensures ∙ c.if-not-failed.false)));
 }
 
 pub loop-self-preserved : goal.loop-self-preserved
@@ -42,18 +40,16 @@ loop-self-preserved g c = record {
   progress = λ files jobs past begun so_far.
       let ended = c.if-ended.ensures.0 refl in
       let nothing = c.in_default.ensures.takes in
-      written_on files jobs past begun _ _ _ _ c.loop-self.self _ refl refl
+      written_on (c.loop-self.invariant.progress files jobs past begun so_far) refl refl
       (λ progress. wrote_file (wrote_nothing progress c.take.new.self nothing) ended.0 ended.1
       (subst (λ (s : List FileState). front (state_of s c.loop-self.self.current) ≤ (state_of s c.loop-self.self.current).taken)
-      (sym nothing.unchanged) nothing.none_ready))
-      (c.loop-self.invariant.progress files jobs past begun so_far);
+      (sym nothing.unchanged) nothing.none_ready));
 }
 
 pub returns-else-ended : goal.returns-else-ended
 returns-else-ended g c = λ files jobs past begun so_far. (
-  written_on files jobs past begun _ _ _ _ c.loop-self.self _ refl refl
-      (λ progress. wrote_nothing progress c.take.new.self c.in_default.ensures.takes)
-      (c.loop-self.invariant.progress files jobs past begun so_far),
+  written_on (c.loop-self.invariant.progress files jobs past begun so_far) refl refl
+      (λ progress. wrote_nothing progress c.take.new.self c.in_default.ensures.takes),
   search rules,
 )
 

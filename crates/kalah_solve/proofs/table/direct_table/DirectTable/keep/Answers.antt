@@ -22,7 +22,7 @@ invariant_of-self g c =
       most = rw c.of-stored.ensures.most c.requires.most;
     } in (
       rw count c.self.invariant.0,
-      bounds_more _ _ _ _ _ c.self.invariant.0 c.self.invariant.1
+      bounds_more _ c.self.invariant.0 c.self.invariant.1
           mixed.ensures.limits mixed.ensures.mixed (rw length_is at at.ensures.place) (omega arith)
           (c.of-stored.ensures.rest ∙ c.rest_of.ensures.rest) known,
     )
