@@ -64,7 +64,7 @@ fn play<O: Sink>(
 
 // Returns the house that the game should begin with, if it may not be moved.
 fn unmoved_house(board: &Board, first: Option<u8>) -> Option<u8>
-    ensures some { IfSome result (λ h. MayBegin first board.now → ⊥) }
+    ensures some { IfSome result (λ h. (first ≡ Some h) × (MayBegin first board.now → ⊥)) }
     ensures none { IfNone result (MayBegin first board.now) }
 {
     match first {
