@@ -5,7 +5,7 @@ ghost use Rattle.clap.specs.Values.{kind_of};
 ghost use Rattle.clap.specs.declared.error.kind.ErrorKind.TheVariants.{DisplayHelp, DisplayVersion};
 ghost use Rattle.kalah_jobs.specs.declared.files.question.Question.{Question};
 ghost use Rattle.kalah_cli.specs.Ask.{StopsBetweenLines};
-ghost use Rattle.kalah_cli.specs.Ends.{FailsWithoutOutput, ended_by};
+ghost use Rattle.kalah_cli.specs.Ends.{FailsWithoutOutput, IsPrinted, ended_by};
 ghost use Rattle.kalah_cli.specs.Play.{PlaysBestGames};
 ghost use Rattle.kalah_cli.specs.Request.{Asked, IsInRange, IsTakenAs, ask, request_asks, texts_of};
 ghost use Rattle.kalah_cli.specs.Runs.{Does, DoesWhatIsAsked, IsOfNoInput, MovesByItsWords, RefusesArguments, version_line};
@@ -28,18 +28,13 @@ use std::rt::{Clock, Files};
 use std::sync::Wait;
 use std::thread::Threads;
 
-// Writes the requested help or version.
-fn print_text<O: Sink>(text: &str, out: &mut O) -> Result<ExitStatus, Failure<'static>>
-    requires { O.has_failed out.old ≡ false }
-    ensures failed { O.has_failed out.new ≡ true ↔ ended_by result ≡ ExitStatus.Failed }
-    ensures no_line { ended_by result ≢ ExitStatus.LineFaults }
-    ensures shown { ended_by result ≡ ExitStatus.Clean
-        → Appends (O.written out.old) (O.written out.new) text.now }
-    ensures handed_on { ended_by result ≢ ExitStatus.Failed → O.is_handed_on out.new ≡ true }
+// Writes the requested help or version, and flushes.
+#[tactic(auto, using(crate::proofs::RunLemmas::printed_flushed))]
+fn print_text<O: Sink>(text: &str, out: &mut O)
+    ensures { IsPrinted O.written O.has_failed O.is_handed_on out.old out.new text.now }
 {
     write_unless_failed(out, text.as_bytes());
     flush_unless_failed(out);
-    status_of_sink(out)
 }
 
 // Reports a parse that made no request: help or the version on `out`, a mistake in the arguments on `err`.
@@ -68,13 +63,14 @@ fn refuse<O: Sink, E: Write>(
     match error.kind() {
         ErrorKind::DisplayHelp => print_text(text.as_str(), out),
         ErrorKind::DisplayVersion => print_text(VERSION_LINE, out),
-        ErrorKind::OutOfMemory => Err(Failure::OutOfMemory),
+        ErrorKind::OutOfMemory => return Err(Failure::OutOfMemory),
         _ => {
             let _ = err.write_all(text.as_bytes());
             advise(words, text.as_str(), with_tips, err);
-            Ok(ExitStatus::Failed)
+            return Ok(ExitStatus::Failed);
         }
     }
+    status_of_sink(out)
 }
 
 // Carries out the request.

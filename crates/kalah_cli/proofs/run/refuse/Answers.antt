@@ -1,4 +1,15 @@
+use Rattle.std.proofs.Common.{subst, sym}
+use Rattle.std.proofs.lemmas.Bool.{false_from_ne_true}
+use Rattle.kalah_cli.specs.Ends.{IsPrinted}
+use Rattle.kalah_cli.specs.Runs.{version_line}
+use Rattle.kalah_cli.proofs.run.refuse.Goals.{in-DisplayHelp, in-DisplayVersion}
 use Rattle.kalah_cli.proofs.run.refuse.Goals as goal
 
-pub returns-in-DisplayVersion-clause-version : goal.returns-in-DisplayVersion-clause-version
-returns-in-DisplayVersion-clause-version g c = λ help. c.print_text-in-DisplayVersion.ensures.shown
+pub returns-clause-version : goal.returns-clause-version
+returns-clause-version g c = λ help clean. elim c.match-kind.branch [
+  | in-DisplayHelp w ↦ absurd (help (sym w.in-DisplayHelp.ensures))
+  | in-DisplayVersion w ↦
+      let printed = subst (λ o. IsPrinted g.O.Sink.written g.O.Sink.has_failed g.O.Sink.is_handed_on c.args.out.now o version_line)
+      (sym w.out-is) w.print_text-in-DisplayVersion.ensures in
+      (printed.given.whole (false_from_ne_true _ (λ failed. let bad = c.status_of_sink.ensures.failed.0 failed in cc))).1
+]
