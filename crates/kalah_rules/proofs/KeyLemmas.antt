@@ -362,13 +362,13 @@ rows_of_key a k rule h e bit =
     same_rows_of (rw (says.side, says.own_cells) (take-padded _)) other_shown (rule_bit-same _ _ (omega arith))
 
 -- the parts of a key make the key
-key_from_parts : (k side : ℕ) (own other : List ℕ) (rule : Rule) → number_of own + 2 ^ 30 * (k / 2 ^ 30) ≡ k →
+key_from_parts : {k side : ℕ} {own other : List ℕ} (rule : Rule) → number_of own + 2 ^ 30 * (k / 2 ^ 30) ≡ k →
     number_of other + 2 ^ 30 * (k / 2 ^ 30 / 2 ^ 30) ≡ k / 2 ^ 30 →
     padded (take side own) ≡ own → padded (take side other) ≡ other → length (take side own) ≡ side
     → side ≡ k / 2 ^ 60 % 8 →
     rule_bit rule ≡ k / 2 ^ 63 →
     key_of (rows_from side own other rule) ≡ k
-key_from_parts k side own other rule own_is other_is own_padded other_padded long side_is bit = omega (arith, number_of-shown)
+key_from_parts rule own_is other_is own_padded other_padded long side_is bit = omega (arith, number_of-shown)
 
 -- the key of the houses that a key holds
 pub key_of_rows : {k : ℕ} (rule : Rule) → IsKey k → rule_bit rule ≡ k / 2 ^ 63 →
@@ -447,9 +447,9 @@ pub record IsRead (xs : List ℕ) (k number : ℕ) : Type 0 where
   pub small : number < 2 ^ 30
 
 -- one house more is read
-pub read_more : (xs : List ℕ) (m passed number x : ℕ) → length xs ≤ 6 → sum xs ≤ 31 → m ≡ length xs → passed < m →
+pub read_more : {xs : List ℕ} {number x : ℕ} (m passed : ℕ) → length xs ≤ 6 → sum xs ≤ 31 → m ≡ length xs → passed < m →
     IsRead xs (m - passed) number → x ≡ get_or xs (m - passed - 1) 0 → IsRead xs (m - (passed + 1)) (32 * number + x)
-read_more xs m passed number x few sum_few long more is at =
+read_more {xs} {number} {x} m passed few sum_few long more is at =
     let k = m - (passed + 1) in
     let at_k : m - passed - 1 ≡ k = omega arith in
     let over : m - passed ≡ k + 1 = omega arith in
@@ -526,14 +526,13 @@ module _ {count number seeds : ℕ} (x : ℕ) (row : IsPackedRow count number se
 -- ---- two rows
 
 -- the key of two rows and a rule
-pub packed_rows : (own other : List ℕ) (rule : Rule) (own_number other_number m bit seeds : ℕ) →
+pub packed_rows : {own other : List ℕ} {rule : Rule} {own_number other_number m bit seeds : ℕ} →
     IsWithinHouses (record { own = own; other = other; rule = rule }) →
     own_number ≡ number_of own → other_number ≡ number_of other → m ≡ length own → bit ≡ rule_bit rule
     → seeds ≡ sum own + sum other →
     IsPacked (own_number + 2 ^ 30 * other_number + 2 ^ 60 * (m + 8 * bit)) seeds
     × (rows_at (own_number + 2 ^ 30 * other_number + 2 ^ 60 * (m + 8 * bit)) ≡ record { own = own; other = other; rule = rule })
-packed_rows own other rule own_number other_number m bit seeds within own_is other_is m_is bit_is seeds_are =
-    packed_as _ _ _ within (omega arith) seeds_are
+packed_rows within own_is other_is m_is bit_is seeds_are = packed_as _ _ _ within (omega arith) seeds_are
 
 -- ==== Houses from six cells a row
 
@@ -542,12 +541,12 @@ sum-shown : (m : ℕ) (cells : List ℕ) → padded (take m cells) ≡ cells →
 sum-shown m cells same = grind (arith, sum-padded)
 
 -- the key that is made of the cells is that of their houses
-pub packed_new : {m : ℕ} {own other : List ℕ} (rule : Rule) (own_number other_number bit seeds : ℕ) → length own ≡ 6 →
+pub packed_new : {m : ℕ} {own other : List ℕ} (rule : Rule) {own_number other_number bit seeds : ℕ} → length own ≡ 6 →
     length other ≡ 6 → CanBeHouses m own other →
     own_number ≡ number_of own → other_number ≡ number_of other → bit ≡ rule_bit rule → seeds ≡ sum own + sum other →
     IsPacked (own_number + 2 ^ 30 * other_number + 2 ^ 60 * (m + 8 * bit)) seeds
     × (rows_at (own_number + 2 ^ 30 * other_number + 2 ^ 60 * (m + 8 * bit)) ≡ rows_from m own other rule)
-packed_new {m} {own} {other} rule own_number other_number bit seeds own_long other_long can own_is other_is bit_is seeds_are =
+packed_new {m} {own} {other} rule own_long other_long can own_is other_is bit_is seeds_are =
     let own_shown = length-take-le m own (omega arith) in
     let other_shown = length-take-le m other (omega arith) in
     let own_padded = padded_from_zeros m _ own_long can.at_most_six can.own_past in

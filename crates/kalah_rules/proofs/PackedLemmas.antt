@@ -42,11 +42,11 @@ unfolding sow
 sow_rule p h k = refl
 
 -- rows from which houses are taken
-taken_off : (rows x y own other own_new other_new : ℕ) → rows % 2 ^ 30 ≡ own → rows / 2 ^ 30 ≡ other →
+taken_off : (rows x y : ℕ) {own other own_new other_new : ℕ} → rows % 2 ^ 30 ≡ own → rows / 2 ^ 30 ≡ other →
     own_new + x ≡ own → other_new + y ≡ other →
     (x ≤ rows) × (2 ^ 30 * y ≤ rows - x) × ((rows - x - 2 ^ 30 * y) % 2 ^ 30 ≡ own_new)
     × ((rows - x - 2 ^ 30 * y) / 2 ^ 30 ≡ other_new)
-taken_off rows x y own other own_new other_new own_is other_is less other_less = omega arith
+taken_off rows x y own_is other_is less other_less = omega arith
 
 -- what is caught of rows: the last seed, if it is alone in its house, and the seeds across, as the rule says
 abbrev pub Caught : Rule → RowNumbers → ℕ → ℕ → ℕ → ℕ → ℕ → Type 0
@@ -202,10 +202,10 @@ module _ (a : Rows) (h : ℕ) (w : IsWithinHouses a) (holds : HoldsSeeds (bare a
       ∙ read_seeds _ _ (omega arith) (omega (arith, few)))
 
   -- all that a capture does to the rows, read and written by bits
-  capture_shows : (r : RowNumbers) (i house seed across last taken : ℕ) → IsPackedPosition r q → 1 ≤ i → i ≤ length a.own →
+  capture_shows : {r : RowNumbers} {i house seed across last taken : ℕ} → IsPackedPosition r q → 1 ≤ i → i ≤ length a.own →
       IsLastHouse (length a.own) i house seed across → Caught a.rule r house seed across last taken →
       LeavesRows r seed across last taken (captured q (Some i))
-  capture_shows r i house seed across last taken shows low high at told =
+  capture_shows {r} {i} {house} {seed} {across} {last} {taken} shows low high at told =
       let j = opposite q i in
       let side = sown_keeps.side in
       let other_side = sown_keeps.other_side in
@@ -234,7 +234,7 @@ module _ (a : Rows) (h : ℕ) (w : IsWithinHouses a) (holds : HoldsSeeds (bare a
             let x : last * seed ≡ 32 ^ (i - 1) = rw (both.0, at.seed) (omega arith) in
             let y : taken * 2 ^ across % 2 ^ 64 ≡ 2 ^ 30 * (32 ^ (j - 1) * seeds q.other j) =
             rw (both.1, opposite_is, pow_other (j - 1)) (moved_far _ _ far (omega arith)) in
-            let off = taken_off r.rows (32 ^ (i - 1)) (32 ^ (j - 1) * seeds q.other j) _ _ _ _ shows.own shows.other (omega arith) (omega arith) in
+            let off = taken_off r.rows (32 ^ (i - 1)) (32 ^ (j - 1) * seeds q.other j) shows.own shows.other (omega arith) (omega arith) in
             record {
               here = rw x off.0;
               across = rw (x, y) off.1;
@@ -347,8 +347,7 @@ move_leaves {a} {h} {s} {r} {rule} {last} {taken} w holds sowing shows same caug
           rw (no.seed, no.across)
           (none_caught a.rule r last taken (rw (no.house, no.seed, no.across) at told) (after_past _ h holds r past shows))
       | inr own ↦
-          let leaves = capture_shows a h w holds r place _ s.last_seed _ last _ shows (omega arith) own
-          (sowing.own own) told in
+          let leaves = capture_shows a h w holds shows (omega arith) own (sowing.own own) told in
           record {
             here = leaves.here;
             across = leaves.across;

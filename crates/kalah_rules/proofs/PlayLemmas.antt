@@ -52,16 +52,16 @@ pub fall_all : (w w0 c m h : ℕ) → h ≤ m → 0 < c → w + c * (m + 1 - h) 
 fall_all w w0 c m h high some falls = grind arith
 
 -- one seed more that comes no farther than d
-pub fall_step : (w w' a b k d e : ℕ) → w + a ≤ b + k * d → w' ≡ w + e → e ≤ d → w' + a ≤ b + (k + 1) * d
-fall_step w w' a b k d e before more near = omega arith
+pub fall_step : (w a b k d e : ℕ) {w' : ℕ} → w + a ≤ b + k * d → w' ≡ w + e → e ≤ d → w' + a ≤ b + (k + 1) * d
+fall_step w a b k d e before more near = omega arith
 
 -- a house that is emptied
 pub set_less : (xs : List ℕ) (k : ℕ) → sum (slice_set xs k 0) + slice_index xs k ≡ sum xs
 set_less xs k = grind (arith, sum_by-set, set_past, get_or_past)
 
 -- no seed is farther from the store than its row is long
-pub distance_step : (t fx r n x s sxs : ℕ) → t ≡ fx + r → fx ≤ x * n → r ≤ n * s → sxs ≡ x + s → t ≤ n * sxs
-distance_step t fx r n x s sxs whole first rest sum_is = rw sum_is (omega arith)
+pub distance_step : (fx r n x s : ℕ) {t sxs : ℕ} → t ≡ fx + r → fx ≤ x * n → r ≤ n * s → sxs ≡ x + s → t ≤ n * sxs
+distance_step fx r n x s whole first rest sum_is = rw sum_is (omega arith)
 
 pub slice_index_more : (x : ℕ) (xs : List ℕ) (a j : ℕ) → a + 1 ≤ j
     → slice_index (x ∷ xs) (j - a) ≡ slice_index xs (j - (a + 1))
@@ -74,7 +74,7 @@ distance_range_le (x ∷ xs) a n w near =
     let f : ℕ → ℕ = λ i. slice_index (x ∷ xs) _ * w i in
     let start : a - a ≡ 0 = omega arith in
     let rest = sum_range_same f _ _ (length xs) (λ j j_low. ap (λ k. k * w j) (slice_index_more _ _ _ _ j_low)) in
-    distance_step _ _ _ n x _ _ (sum_by-cons f a (range_with_len _ (length xs))) (rw start (mul-le x _ x n (omega arith) (omega arith)))
+    distance_step _ _ n x _ (sum_by-cons f a (range_with_len _ (length xs))) (rw start (mul-le x _ x n (omega arith) (omega arith)))
     (rw rest (distance_range_le xs _ n w (omega arith))) (sum_by-cons _ x xs)
 
 pub add_rows : (m a b u v : ℕ) → u ≤ m * a → v ≤ m * b → u + v ≤ m * (a + b)
@@ -511,7 +511,7 @@ module _ (p : Position) (h : ℕ) (holds : HoldsSeeds p h) (same : length p.othe
   pub way_falls : (k : ℕ) → k + h ≤ side_length p →
       distance_to_stores (sow p h k) + seeds p.own h * (side_length p + 1 - h) ≤ distance_to_stores p + k * (side_length p - h)
   way_falls zero near = grind (arith, sow_none, row_distance-set)
-  way_falls (suc k) near = rw (← add-one k) (fall_step _ _ _ _ _ _ _ (way_falls k (omega arith))
+  way_falls (suc k) near = rw (← add-one k) (fall_step _ _ _ _ _ _ (way_falls k (omega arith))
       (way_more k (omega arith)) omega arith)
 
   -- all seeds fall before the store

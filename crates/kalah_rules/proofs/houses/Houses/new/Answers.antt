@@ -12,8 +12,7 @@ key_made c = c.number_of.result + 2 ^ 30 * c.number_of-2.result + 2 ^ 60 * (c.ar
 
 packed : (c : After-rule_number) → IsPacked (key_made c) c.saturating_add-seeds.result
     × (rows_at (key_made c) ≡ rows_from c.args.m c.args.own c.args.other c.args.rule)
-packed c = packed_new _ _ _ _
-    _ (search rules) (search rules)
+packed c = packed_new _ (search rules) (search rules)
     (record {
       some_house = omega arith;
       at_most_six = omega arith;

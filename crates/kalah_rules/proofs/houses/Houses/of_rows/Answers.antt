@@ -4,13 +4,11 @@ use Rattle.kalah_rules.proofs.houses.Houses.of_rows.Goals as goal
 
 pub invariant_of-result : goal.invariant_of-result
 invariant_of-result c =
-    (packed_rows _ _ _ _ _ _ _ _
-    (record { some_house = omega arith; at_most_six = omega arith; same_side = omega arith; few_seeds = omega arith })
+    (packed_rows (record { some_house = omega arith; at_most_six = omega arith; same_side = omega arith; few_seeds = omega arith })
     c.number.ensures.value c.number-2.ensures.value c.len-m.ensures.is c.rule_number.ensures.value (omega arith)).0
 
 pub returns-clause-value : goal.returns-clause-value
 returns-clause-value c =
-    (packed_rows c.args.own.now c.args.other.now c.args.rule c.number.result c.number-2.result c.len-m.result c.rule_number.result
-    (c.seeds.result + c.seeds-2.result)
+    (packed_rows {seeds = c.seeds.result + c.seeds-2.result}
     (record { some_house = omega arith; at_most_six = omega arith; same_side = omega arith; few_seeds = omega arith })
     c.number.ensures.value c.number-2.ensures.value c.len-m.ensures.is c.rule_number.ensures.value (omega arith)).1
