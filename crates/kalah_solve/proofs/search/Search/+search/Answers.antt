@@ -2,7 +2,6 @@ use Rattle.std.proofs.Common.{arith, rules, refl, sym, ◌∙◌, ◌≡◌, ◌
 use Rattle.std.proofs.lemmas.List.Sums.{sum_by-set}
 use Rattle.kalah_rules.specs.declared.step.HousesStep.TheVariants.{Turn}
 use Rattle.kalah_solve.specs.Solver.StepWorth.{GoesOn}
-use Rattle.kalah_solve.specs.Bounds.Won.{won}
 use Rattle.kalah_solve.specs.Search.Tried.{EndsInStore, WinsAtMost}
 use Rattle.kalah_solve.proofs.SearchLemmas.{cell_none, marks_fall, move_enough, turn_enough, turn_at_most, turn_of, turn_keeps, turn_at, bound_up_to, bound_left, low_more, played_none, played_more, played_bound, ending_legal, marked_legal, moves_fewer, last_legal, each_fewer, each_last, again_none, again_fewer, untried_first, untried_fewer, none_untried}
 use Rattle.kalah_solve.proofs.WorthLemmas.{goes_on, leads_by, step_falls}
