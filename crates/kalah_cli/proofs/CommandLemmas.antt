@@ -12,12 +12,13 @@ use Rattle.kalah_cli.specs.Command.{IsReadBy, argument_rule}
 use Rattle.kalah_cli.specs.declared.subcommands.Argument.{Argument}
 
 -- one argument more
-pub argument_added : (start : App) (arguments : List Argument) (i : ℕ) (argument : Argument) (arg : Arg) (old new : Command)
+pub argument_added : (start : App) (arguments : List Argument) (i : ℕ) (argument : Argument) {arg : Arg} {old new : Command}
     → i < length arguments → IsReadBy (argument_rule (get_or arguments i argument)) arg
     → app_of old ≡ fold (λ app a. with_rule app (argument_rule a)) start (take i arguments) → AddsArg old arg new
     → app_of new ≡ fold (λ app a. with_rule app (argument_rule a)) start (take (i + 1) arguments)
-argument_added start arguments i argument arg old new within read so_far adds =
-    adds.shape read.1 ∙ ap (with_rule (app_of old)) read.0 ∙ ap (λ app. with_rule app (argument_rule (get_or arguments i argument))) so_far
+argument_added start arguments i argument {old = old} within read so_far adds =
+    adds.shape read.1 ∙ ap (with_rule (app_of old)) read.0
+    ∙ ap (λ app. with_rule app (argument_rule (get_or arguments i argument))) so_far
     ∙ sym (fold_more (λ app a. with_rule app (argument_rule a)) start arguments i argument within)
 
 -- one subcommand more
@@ -25,7 +26,8 @@ pub subcommand_made : {X : Type 0} (app : X → App) (xs : List X) (i : ℕ) (x 
     → i < length xs → app_of made ≡ app (get_or xs i x) → map app_of commands ≡ map app (take i xs)
     → map app_of (commands ++ made ∷ []) ≡ map app (take (i + 1) xs)
 subcommand_made app xs i x commands made within is so_far =
-    map-append app_of commands (made ∷ []) ∙ ap (λ apps. apps ++ app_of made ∷ []) so_far ∙ ap (λ a. map app (take i xs) ++ a ∷ []) is
+    map-append app_of commands (made ∷ []) ∙ ap (λ apps. apps ++ app_of made ∷ []) so_far
+    ∙ ap (λ a. map app (take i xs) ++ a ∷ []) is
     ∙ sym (map_more app xs i x within)
 
 -- the app with these subcommands
@@ -47,6 +49,7 @@ all_added (command ∷ commands) old new plain adds =
 
 -- and commands that are those of the table
 pub made_of : (start : App) (subs : List App) (commands : List Command) (old new : Command) → map app_of commands ≡ subs
-    → are_plain subs ≡ true → app_of old ≡ start → AddsInTurn AddsSubcommand old commands new → app_of new ≡ with_all start subs
+    → are_plain subs ≡ true → app_of old ≡ start → AddsInTurn AddsSubcommand old commands new
+    → app_of new ≡ with_all start subs
 made_of start subs commands old new made plain is adds =
     all_added commands old new (ap are_plain made ∙ plain) adds ∙ ap (with_all (app_of old)) made ∙ ap (λ app. with_all app subs) is

@@ -347,11 +347,11 @@ abbrev pub columns : (ℕ → ℕ) → ℕ → ℕ → List ℕ
 columns f from n = flat_map (λ column. cell (f column)) (range_with_len from n)
 
 -- one more column in front of those that stand there
-pub columns_before : (f : ℕ → ℕ) (m column n : ℕ) (old before after : List ℕ) → n ≡ f column → 0 < column →
+pub columns_before : (f : ℕ → ℕ) (m column : ℕ) {n : ℕ} (old : List ℕ) {before after : List ℕ} → n ≡ f column → 0 < column →
     column ≤ m →
     before ≡ columns f (column + 1) (m - column) ++ old → after ≡ cell n ++ before →
     after ≡ columns f (column - 1 + 1) (m - (column - 1)) ++ old
-columns_before f m column n old before after is low high so_far e =
+columns_before f m column old is low high so_far e =
     let place : column - 1 + 1 ≡ column = omega arith in
     let count : m - (column - 1) ≡ suc (m - column) = omega arith in
     rw (place, count) (e ∙ simp (is, so_far, append_assoc))

@@ -3,5 +3,5 @@ use Rattle.kalah_cli.proofs.command.command_of.Goals as goal
 
 pub loop-argument-preserved : goal.loop-argument-preserved
 loop-argument-preserved c =
-    argument_added _ c.args.subcommand.now.arguments.now c.loop-argument.argument-index _ c.arg_of.result c.loop-argument.command
-    c.in_ok-command.command c.loop-argument-test.true c.arg_of.ensures c.loop-argument.invariant c.in_ok-command.ensures
+    argument_added _ c.args.subcommand.now.arguments.now c.loop-argument.argument-index _ c.loop-argument-test.true c.arg_of.ensures
+    c.loop-argument.invariant c.in_ok-command.ensures

@@ -10,10 +10,8 @@ loop-column-preserved c =
     let so_far = c.loop-column.invariant in
     record {
       within = omega (arith, so_far.within);
-      houses = columns_before (seeds_in c.args.player c.args.board.now) (side_length c.args.board.now) c.loop-column.column c.seeds.result
-          c.args.text.now
-          c.loop-column.text c.prepend_cell.new.text (c.seeds.ensures
-          ∙ ap (seeds (houses_of c.args.player c.args.board.now)) c.house_in.ensures.house)
+      houses = columns_before (seeds_in c.args.player c.args.board.now) (side_length c.args.board.now) c.loop-column.column
+          c.args.text.now (c.seeds.ensures ∙ ap (seeds (houses_of c.args.player c.args.board.now)) c.house_in.ensures.house)
           c.loop-column-test.true so_far.within so_far.houses c.prepend_cell.ensures.cell;
       longer = omega (arith, so_far.longer, c.prepend_cell.ensures.longer, c.loop-column-test.true);
     }
