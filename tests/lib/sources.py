@@ -75,7 +75,8 @@ def interface_differs():
 
 
 def promises_differ():
-    """Each row of the table names functions, types or files, and then clauses there, laws, or definitions."""
+    """Each row of the table names functions, types or files, and then clauses there, laws, or definitions. A clause is an `ensures`, or a
+    `requires` where the row says that it is required."""
     files = {path: path.read_text() for path in (TOP / "crates").glob("*/src/**/*.rt") if "tests" not in path.parts}
     laws = "\n".join(text for path, text in files.items() if path.name in ("laws.rt", "limits.rt"))
     specs = "\n".join(path.read_text() for path in (TOP / "crates").glob("*/specs/**/*.antt"))
@@ -88,8 +89,8 @@ def promises_differ():
             if not there:
                 return f"{PROMISES}: {promise}: there is no {place}"
             code += "\n".join(there)
-        for name in re.findall(r"`(\w+)`", carried):
-            if not (re.search(rf"\b(requires|ensures) {name} ", code) or re.search(rf"\bfn {name}\b", laws) or re.search(rf"\bpub (record )?{name}\b", specs)):
+        for name, required in re.findall(r"`(\w+)`( \(required\))?", carried):
+            if not (re.search(rf"\b{'requires' if required else 'ensures'} {name} ", code) or re.search(rf"\bfn {name}\b", laws) or re.search(rf"\bpub (record )?{name}\b", specs)):
                 return f"{PROMISES}: {promise}: there is no {name}"
     return None if rows else f"{PROMISES}: no promise"
 
