@@ -21,7 +21,7 @@ _kalah() {
             ;;
         argument)
             local boards='--boards[draw each position below its line]'
-            local workers='--workers=[solve up to N lines in parallel, 1 to 64]:workers: '
+            local workers='--workers=[answer up to N lines in parallel, 1 to 64]:workers: '
             local progress='--progress[show on standard error how many lines are answered]'
             local table='--table=[use tables of N entries, 1 to 1048576]:entries: '
             case $line[1] in

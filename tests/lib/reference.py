@@ -222,13 +222,6 @@ def asked(subcommand, data):
     return Run(b"".join(words + b"\n" for words in said), b"", int(any(words.startswith(b"fault") for words in said)))
 
 
-def unread(name):
-    """A file that can't be read. If its name is a position, it may be meant as one."""
-    run = failed(b"cannot read " + name)
-    tip = b"" if isinstance(read(name), str) else b"  tip: for a position, use `kalah show '%b'`, or `kalah ask`\n" % name
-    return run._replace(err=run.err + tip)
-
-
 def answers(subcommand, files):
     """`kalah solve FILE..`, `kalah values FILE..` or `kalah steps FILE..`, of pairs of a name and the bytes there, which are None
     where they can't be read."""
@@ -236,7 +229,7 @@ def answers(subcommand, files):
         return failed(b"line feed in a file name")
     for name, data in files:
         if data is None or len(data) > MOST_BYTES_OF_A_FILE:
-            return unread(name)
+            return failed(b"cannot read " + name)
     if len(files) > MOST_FILES:
         return failed(b"too many files")
     batch = [(name, lines_of(data)) for name, data in files]

@@ -5,8 +5,9 @@
        REFUSE_FILES=3-3     the third call that opens or reads a file
        REFUSE_THREADS=1-    the first thread and each later one
        REFUSE_WRITES=2-2    the second write to the standard output alone
-       REFUSE_TOLD=FILE     a line for each call that failed, refused here or not: `memory`, `thread`, `file` and its path, or `write` and
-                            how many bytes the writes before it took; and at the end one with the bytes of memory that were requested
+       INTERRUPT_READS=1-1  the first read of the standard input, as if a signal had come
+       REFUSE_TOLD=FILE     a line for each call that failed, refused here or not: `memory`, `thread`, `file` and its path, `write` and
+                            how many bytes the writes before it took, or `interrupt`; and at the end one with the bytes of memory that were requested
 
    The functions behind malloc and its kin are called by the C library's own names, so that no look-up is needed; what starts
    a thread is looked up once, at the start. */
@@ -32,7 +33,7 @@ struct calls {
     unsigned long first, last;
 };
 
-static struct calls requests, reads, threads, writes;
+static struct calls requests, reads, threads, writes, interrupts;
 static atomic_ulong taken, requested;
 static int (*start)(pthread_t *, const pthread_attr_t *, void *(*)(void *), void *);
 static const char *told;
@@ -50,6 +51,7 @@ __attribute__((constructor)) static void begin(void) {
     read_range(&reads, getenv("REFUSE_FILES"));
     read_range(&threads, getenv("REFUSE_THREADS"));
     read_range(&writes, getenv("REFUSE_WRITES"));
+    read_range(&interrupts, getenv("INTERRUPT_READS"));
     *(void **)&start = dlsym(RTLD_NEXT, "pthread_create");
     atomic_store(&requests.made, 0);
 }
@@ -121,6 +123,11 @@ int open(const char *path, int flags, ...) {
 
 ssize_t read(int file, void *to, size_t count) {
     char link[32], path[PATH_MAX] = "";
+    if (file == STDIN_FILENO && refuses_next(&interrupts)) {
+        tell("interrupt", "");
+        errno = EINTR;
+        return -1;
+    }
     snprintf(link, sizeof link, "/proc/self/fd/%d", file);
     if (readlink(link, path, sizeof path - 1) < 0) path[0] = 0;
     errno = EIO;

@@ -91,25 +91,43 @@ def mistake(what, usage=None):
 # Words that are refused, what is said of them, and the tip that follows on a terminal, if there is one.
 POSITION = "1,1/0 1,1/0"
 FORM = "the form is `1,1/0 1,1/0`; numbers are 0 to 99, without a zero before them"
-QUOTES = "\n  tip: a position is one argument, so put it in quotes: '1,1/0 1,1/0'\n"
+QUOTES = "a position is one argument, so put it in quotes: '1,1/0 1,1/0'"
+DEPTH_FIRST = "DEPTH comes first, as in `kalah count 3 '1,1/0 1,1/0'`"
+NO_POSITION = "it is no position; for a file of positions, use `kalah solve FILE`"
 MISSING = "the following required arguments were not provided:\n"
-AS_VALUE = "unexpected argument '--{0}' found\n\n  tip: to pass '--{0}' as a value, use '-- --{0}'"
+EXCESS = "unexpected argument '{0}' found"
+AS_VALUE = EXCESS + "\n\n  tip: to pass '{0}' as a value, use '-- {0}'"
+FILES = "{0} [OPTIONS] <FILE>..."
+
+
+def as_value(words, usage, tip):
+    """Returns a row of TIPS for words with an option that the command line takes for a value, the second of them."""
+    return words, mistake(AS_VALUE.format(words[1]), usage), tip
+
+
 TIPS = [
-    *((["solve", name], f"kalah: cannot read {name}\n", "there is no such file") for name in ("b", "", "a/b", "a b", "1/0")),
+    *((["solve", name], f"kalah: cannot read {name}\n", "there is no such file") for name in ("b", "", "a/b", "a b", "1,0")),
+    *(
+        ([name, "1,1/0", "1,1/0"], "kalah: cannot read 1,1/0\n", "for a position, use `kalah show '1,1/0 1,1/0'`, in quotes, or `kalah ask`")
+        for name in SUBCOMMANDS
+    ),
     (["values", "a", "folder"], "kalah: cannot read folder\n", "it is a folder; name the files in it"),
     (["steps", "locked"], "kalah: cannot read locked\n", "you have no permission to read it"),
     (["solve", "large"], "kalah: cannot read large\n", "it has more than 67108864 bytes; `kalah ask` has no limit, or split it (docs/LARGE.md)"),
     *((["steps", name], f"kalah: cannot read {name}\n", "it can't be opened, or a read failed") for name in ("/proc/self/mem", "n" * 256)),
     (["values", "-"], "kalah: cannot read -\n", "for standard input, use /dev/stdin"),
-    (["solve", POSITION], reference.unread(POSITION.encode()).err.decode(), None),
+    (["solve", POSITION], f"kalah: cannot read {POSITION}\n", f"for a position, use `kalah show '{POSITION}'`, or `kalah ask`"),
     (["solve", *["a"] * 257], "kalah: too many files\n", "at most 256 files a run; give them to several runs (docs/LARGE.md)"),
     (["values", "lines"], "kalah: too many lines\n", "at most 1000000 lines a run; `kalah ask` has no limit, or split the files (docs/LARGE.md)"),
     (["steps", "a\n"], "kalah: line feed in a file name\n", None),
     (["play", "--first=3", POSITION], "kalah: house 3 can't be moved\n", None),
-    (["moves", "4,4,4,4,4,4/0 4,4,4,4,4,4/0"], "fault seeds\n", "48 seeds in houses; at most 31 are solved"),
-    (["play", "--first=1", "99,99/98 0,10/97 e"], "fault seeds\n", "208 seeds in houses; at most 31 are solved"),
-    *((["show", line], "fault shape\n", "one space between the sides, as in `1,1/0 1,1/0`") for line in ("1,1/0,1,1/0", "x")),
-    *((["count", "0", line], "fault shape\n", FORM) for line in ("1 1", "01/0 1/0", "1/0  1/0", "1/0 1/0 x")),
+    (["moves", "4,4,4,4,4,4/0 4,4,4,4,4,4/0"], "fault seeds\n", "48 seeds in houses; at most 31 are accepted"),
+    (["play", "--first=1", "99,99/98 0,10/97 e"], "fault seeds\n", "208 seeds in houses; at most 31 are accepted"),
+    (["show", "1,1/0,1,1/0"], "fault shape\n", "one space between the sides, as in `1,1/0 1,1/0`"),
+    (["moves", "1,1/0  1,1/0"], "fault shape\n", "exactly one space between the sides, as in `1,1/0 1,1/0`"),
+    (["play", "1,1/0 1,1/0 E"], "fault shape\n", "the empty-capture rule is a small ` e` at the end, as in `1,1/0 1,1/0 e`"),
+    *((["count", "0", line], "fault shape\n", NO_POSITION) for line in ("x", "p.txt", "a/p.txt")),
+    *((["count", "0", line], "fault shape\n", FORM) for line in ("1 1", "01/0 1/0", "1/0 1/0 x")),
     (["show", "--plain", ""], "fault empty\n", FORM),
     (["play", "--boards", "1/0 1,1/0"], "fault houses\n", "each side has the same number of houses, 1 to 6"),
     (["moves", "--boards", "x" * 81], "fault long\n", "a line has at most 80 bytes"),
@@ -117,38 +135,77 @@ TIPS = [
         ([name], mistake(f"{MISSING}  <FILE>...", f"{name} <FILE>..."), "for standard input, use /dev/stdin, as in `kalah solve /dev/stdin`")
         for name in SUBCOMMANDS
     ),
-    (["moves"], mistake(f"{MISSING}  <LINE>", "moves <LINE>"), None),
+    *(([name], mistake(f"{MISSING}  <LINE>", f"{name} <LINE>"), f"as in `kalah {name} '{POSITION}'`") for name in ("moves", "play", "show")),
+    (["count"], mistake(f"{MISSING}  <DEPTH>\n  <LINE>", "count <DEPTH> <LINE>"), DEPTH_FIRST),
+    (["count", "3"], mistake(f"{MISSING}  <LINE>", "count <DEPTH> <LINE>"), DEPTH_FIRST),
     ([POSITION], mistake(f"unrecognized subcommand '{POSITION}'", "<COMMAND>"), f"for a position, use `kalah show '{POSITION}'`, or `kalah ask`"),
-    (["help", "solve"], mistake("unrecognized subcommand 'help'", "<COMMAND>"), "use `kalah --help`"),
-    (["best"], mistake("unrecognized subcommand 'best'", "<COMMAND>"), None),
+    (["1,1/0", "1,1/0"], mistake("unrecognized subcommand '1,1/0'", "<COMMAND>"), QUOTES),
+    (["p.txt"], mistake("unrecognized subcommand 'p.txt'", "<COMMAND>"), "for a file of positions, use `kalah solve p.txt`"),
+    (["help", "solve"], mistake("unrecognized subcommand 'help'", "<COMMAND>"), "use `kalah solve --help`"),
+    (["help"], mistake("unrecognized subcommand 'help'", "<COMMAND>"), "use `kalah --help`"),
+    (["version"], mistake("unrecognized subcommand 'version'", "<COMMAND>"), "use `kalah --version`"),
+    (["-v"], mistake(EXCESS.format("-v"), "<COMMAND>"), "use `kalah --version`"),
+    (["perft", "3", POSITION], mistake("unrecognized subcommand 'perft'", "<COMMAND>"), "use `kalah count DEPTH LINE`"),
+    (["best", POSITION], mistake("unrecognized subcommand 'best'", "<COMMAND>"), "use `kalah show LINE`, or `kalah solve FILE`"),
+    (["go"], mistake("unrecognized subcommand 'go'", "<COMMAND>"), None),
     (
         ["ask", "--steps", POSITION],
-        mistake(f"unexpected argument '{POSITION}' found", "ask [OPTIONS]"),
+        mistake(EXCESS.format(POSITION), "ask [OPTIONS]"),
         f"`kalah ask` reads standard input; for one position, use `kalah show '{POSITION}'`",
     ),
-    (["ask", "a"], mistake("unexpected argument 'a' found", "ask [OPTIONS]"), None),
+    (["ask", "p.txt"], mistake(EXCESS.format("p.txt"), "ask [OPTIONS]"), "`kalah ask` reads standard input: use `kalah ask < p.txt`"),
+    (["ask", "--best"], mistake(EXCESS.format("--best"), "ask [OPTIONS]"), None),
     (["ask", "--values", "--steps"], CONFLICT + FOR_MORE, None),
-    (
-        ["count", POSITION, "3"],
-        mistake(f"invalid value '{POSITION}' for '<DEPTH>': invalid digit found in string"),
-        "DEPTH comes first, as in `kalah count 3 '1,1/0 1,1/0'`",
-    ),
+    (["count", POSITION, "3"], mistake(f"invalid value '{POSITION}' for '<DEPTH>': invalid digit found in string"), DEPTH_FIRST),
+    as_value(["count", "--depth", "3", POSITION], "count <DEPTH> <LINE>", DEPTH_FIRST),
     (["count", "21", POSITION], mistake("invalid value '21' for '<DEPTH>': 21 is not in 0..=20"), None),
+    (["play", POSITION, "1"], mistake(EXCESS.format("1"), "play [OPTIONS] <LINE>"), "for the first move, use `--first 1`"),
+    *(
+        ([*words, "a"], mistake(f"invalid value 'a' for '{name}': invalid digit found in string"), tip)
+        for words, name, tip in (
+            (["solve", "--workers"], "--workers <N>", "N is a number from 1 to 64"),
+            (["ask", "--table"], "--table <N>", "N is a number from 1 to 1048576"),
+            (["play", "--first"], "--first <H>", "H is a house from 1 to 6"),
+        )
+    ),
     (
         ["solve", "--values", "a"],
-        mistake("unexpected argument '--values' found\n\n  tip: a similar argument exists: '--table'", "solve --table <N> <FILE>..."),
+        mistake(f"{EXCESS.format('--values')}\n\n  tip: a similar argument exists: '--table'", "solve --table <N> <FILE>..."),
         "use `kalah values FILE`",
     ),
-    (["steps", "--values", "a"], mistake(AS_VALUE.format("values"), "steps [OPTIONS] <FILE>..."), "use `kalah values FILE`"),
-    *(([name, "--steps", "a"], mistake(AS_VALUE.format("steps"), f"{name} [OPTIONS] <FILE>..."), "use `kalah steps FILE`") for name in SEARCHING),
-    (["show", "--boards", POSITION], mistake(AS_VALUE.format("boards"), "show [OPTIONS] <LINE>"), None),
-    (["moves", "1,1/0", "1,1/0"], mistake("unexpected argument '1,1/0' found", "moves [OPTIONS] <LINE>") + QUOTES, None),
-    (["count", "1,1/0", "1,1/0", "3"], mistake("invalid value '1,1/0' for '<DEPTH>': invalid digit found in string") + QUOTES, None),
+    as_value(["steps", "--values", "a"], FILES.format("steps"), "use `kalah values FILE`"),
+    *(as_value([name, "--steps", "a"], FILES.format(name), "use `kalah steps FILE`") for name in SEARCHING),
+    *(as_value(["solve", option, "4", "a"], FILES.format("solve"), "use `--workers N`") for option in ("-w", "-j", "--jobs", "--threads")),
+    as_value(["values", "--json", "a"], FILES.format("values"), "`python3 -m kalah table --json FILE` prints JSON"),
+    as_value(["show", "--boards", POSITION], "show [OPTIONS] <LINE>", "`kalah show` draws the board without it"),
+    (["show", POSITION, "e"], mistake(EXCESS.format("e"), "show [OPTIONS] <LINE>"), "` e` stands inside the quotes, as in '1,1/0 1,1/0 e'"),
+    *(
+        ([*words, "1,1/0", "1,1/0"], mistake(EXCESS.format("1,1/0"), usage), QUOTES)
+        for words, usage in (
+            (["moves"], "moves [OPTIONS] <LINE>"),
+            (["moves", "--boards"], "moves --boards <LINE>"),
+            (["show"], "show [OPTIONS] <LINE>"),
+            (["count", "2"], "count <DEPTH> <LINE>"),
+        )
+    ),
+    (["count", "1,1/0", "1,1/0", "3"], mistake("invalid value '1,1/0' for '<DEPTH>': invalid digit found in string"), QUOTES),
+    (["solve", "a/b", "c/d", "--board"], mistake(AS_VALUE.format("--board"), FILES.format("solve")), None),
+]
+
+# Names and arguments with control characters, as pairs of what is typed and what a terminal shows.
+HIDDEN = [("a\x1b]0;b\a", r"a\033]0;b\007"), ("\x7f\r\t", r"\177\015\011"), ("é\x9b2J", r"é\302\2332J")]
+
+# Files that begin with a byte order mark, and the tip for each.
+UTF_16 = "a file is UTF-16; convert it, as in `iconv -f UTF-16 -t UTF-8 FILE | kalah ask`"
+MARKS = [
+    ("1/0 1/0\n".encode("utf-8-sig"), "a file begins with a byte order mark, which is no part of a position"),
+    *(("\ufeff1/0 1/0\n".encode(form), UTF_16) for form in ("utf-16-le", "utf-16-be")),
 ]
 
 PROGRAM_NAMES = ["kalah", "./kalah", "/bin/kalah", "k l", "é", "-", "--help"]
 
-# The names that a subcommand is given which answers files, and the size of the file `a`, which is all there is.
+# The names that a subcommand is given which answers files, and the size of the file `a`, which is all there is. Its last line is one
+# that is read.
 LIMITS = [
     (["a"] * 256 + ["./a"], 8),
     (["a"] * 398 + ["b"], 8),
@@ -224,17 +281,20 @@ FEW_LINES = [1, 2, 3, 7]
 # any.
 PROGRESS = list(product(["pipe", "terminal", "file", "/dev/full", "closed"], ["none", "quick", "any"]))
 
+# The standard streams that are terminals in a run that shows its progress.
+TERMINALS = [("stdout", "stderr"), ("stdin", "stderr"), ("stdin", "stdout")]
+
 # The subcommands that search with one table, after how many ticks of the clock it is measured, and the kB that the largest one takes then,
 # at least, beside one with a single entry.
-ONE_SEARCH = ["ask", "play", "show"]
+ONE_SEARCH = ["ask", "play", "show", "solve", "values"]
 SEARCHED = 20
 FILLED = 7_000
 
 # A line that is answered at once.
 QUICK = b"1/0 1/0\n"
 
-# Where lines stand that go out together.
-FEW_WRITES = ["file", "standard input"]
+# Runs whose lines go out together, and the share of the lines that the writes may be.
+FEW_WRITES = [(["solve", "--workers=1", "a"], 4), (["solve", "--workers=2", "a"], 4), (["ask"], 50)]
 
 # The address space of runs, in kB: of one with few lines, and of one with as many workers and as large tables as there may be. Each needs
 # about half of that or less. And the most that the second may have in memory at once, in kB, if its lines are quick.
@@ -303,6 +363,12 @@ def two_ends(place):
     reader = os.open(name, os.O_RDONLY)
     os.remove(name)
     return reader, writer
+
+
+def in_seconds(left):
+    """Returns the seconds of a time left as progress shows it."""
+    _, count, unit, _ = left.split()
+    return int(count) * {"s": 1, "min": 60, "h": 3600}[unit]
 
 
 def read_all(reader):
@@ -387,10 +453,11 @@ def fill(pipe, data, process):
 
 
 class Trials(AskTrials):
-    """Trials of a program. Each draws arguments and files, runs the program and compares the result."""
+    """Trials of a program, of these kinds or of all. Each draws arguments and files, runs the program and compares the result."""
 
-    def __init__(self, program, seed, folder):
+    def __init__(self, program, seed, folder, kinds=()):
         self.program, self.folder, self.files = program, folder, folder / "files"
+        self.kinds = [kind for kind, times in KINDS.items() for _ in range(times) if kind in (kinds or KINDS)]
         self.drawn = Drawn(seed)
         self.stored = stored_lines()
         self.runs = self.lines = 0
@@ -398,7 +465,7 @@ class Trials(AskTrials):
 
     def make_one(self):
         """Makes one trial of a random kind."""
-        self.kind = self.drawn.card("kinds", [kind for kind, times in KINDS.items() for _ in range(times)])
+        self.kind = self.drawn.card("kinds", self.kinds)
         getattr(self, self.kind)()
 
     def put(self, files):
@@ -479,7 +546,7 @@ class Trials(AskTrials):
 
     def limits(self):
         names, size = self.drawn.card("limits", LIMITS)
-        there = {"a": b"0" * size}
+        there = {"a": b"\n1/0 1/0".rjust(size, b"0")}
         self.answer([(name, there.get(os.path.normpath(name))) for name in names])
 
     def a_pipe_as_file(self):
@@ -742,16 +809,40 @@ class Trials(AskTrials):
             self.compare(want, got)
             return
         reader, writer = two_ends(place)
+        begun = time.monotonic()
         with tempfile.TemporaryFile() as out, self.start(words, stdout=out, stderr=writer) as process:
             os.close(writer)
             if place == "file":
                 process.wait(PATIENCE)
             shown = read_all(reader)
             process.wait(PATIENCE)
+            took = time.monotonic() - begun
             out.seek(0)
             self.compare(want._replace(err=shown), Run(out.read(), shown, process.returncode))
         os.close(reader)
-        self.look_at_progress(shown.decode(), sum(len(reference.lines_of(data)) for _, data in files), place == "terminal")
+        self.look_at_progress(shown.decode(), sum(len(reference.lines_of(data)) for _, data in files), place == "terminal", took)
+
+    def progress_beside_answers(self):
+        """One line of progress is rewritten on a terminal only if the answers go elsewhere. What is typed at doesn't count."""
+        terminals = self.drawn.card("terminals", TERMINALS)
+        data = self.drawn.file(self.drawn.chance.randint(1, 7))
+        self.put({"a": data})
+        subcommand = self.subcommand()
+        begun = time.monotonic()
+        ends = {stream: two_ends("terminal" if stream in terminals else "pipe") for stream in ("stdin", "stdout", "stderr")}
+        streams = {stream: ends[stream][stream != "stdin"] for stream in ends}
+        if "stdin" in terminals:
+            streams["stdin"] = ends["stdin"][1]
+        with self.start([subcommand, "--progress", "a"], **streams) as process:
+            for stream in ("stdout", "stderr"):
+                os.close(ends[stream][1])
+            got = {stream: read_all(ends[stream][0]) for stream in ("stdout", "stderr")}
+            status = process.wait(PATIENCE)
+        for end in (*ends["stdin"], ends["stdout"][0], ends["stderr"][0]):
+            os.close(end)
+        want = reference.answers(subcommand, [(b"a", data)])
+        self.compare(want._replace(err=got["stderr"]), Run(got["stdout"], got["stderr"], status))
+        self.look_at_progress(got["stderr"].decode(), len(reference.lines_of(data)), terminals == ("stdin", "stderr"), time.monotonic() - begun)
 
     def progress_is_ended(self):
         """If a write fails, the line of progress that is rewritten on a terminal is ended before that is said."""
@@ -762,7 +853,7 @@ class Trials(AskTrials):
             said = read_all(reader)
             status = process.wait(PATIENCE)
         os.close(reader)
-        rows = rb"(\rkalah: \d+ of 200 lines, \d+ %(, \d+ \w+ left)?\x1b\[K)+\nkalah: write failed\n"
+        rows = rb"(\rkalah: \d+ of 200 lines, \d+ %(, \d+ \w+ left)?\x1b\[K)+\nkalah: write failed\n  tip: the disk is full, or the reader of the output has left\n"
         if status != 2 or not re.fullmatch(rows, said) or b" 200 of " in said:
             raise Differs(f"status {status}, and progress is shown as {said[-200:]!r}")
 
@@ -773,14 +864,18 @@ class Trials(AskTrials):
         sizes = [0] if lines == "none" else [0, 1, 7, 150, 2500]
         return [(name, self.drawn.file(self.drawn.chance.choice(sizes))) for name in ("a", "b")]
 
-    def look_at_progress(self, shown, lines, in_place):
-        """The shown numbers rise from none to all lines, each with its share: a line for each per cent, or one line that is rewritten."""
+    def look_at_progress(self, shown, lines, in_place, took):
+        """The shown numbers rise from none to all lines, each with its share: a line for each per cent, or one line that is rewritten.
+        The time left is what the other lines take at the rate so far, in a run that took so many seconds."""
         begin, end = ("\r", "\x1b[K") if in_place else ("", "\n")
         rows = [(int(answered), left) for answered, left in re.findall(r"kalah: (\d+) of \d+ lines, \d+ %(, \d+ (?:s|min|h) left)?", shown)]
         again = [f"{begin}kalah: {n} of {lines} lines, {100 * n // lines if lines else 100} %{left}{end}" for n, left in rows]
         counts = [n for n, _ in rows]
         if shown != "".join(again) + "\n" * in_place or counts != sorted(set(counts)) or rows[0] != (0, "") or rows[-1] != (lines, ""):
             raise Differs(f"progress is shown as {shown[:300]!r} .. {shown[-100:]!r}")
+        for answered, left in rows:
+            if left and in_seconds(left) > took * (lines - answered) / answered:
+                raise Differs(f"{left} is shown after {answered} of {lines} lines, in a run of {took:.1f} s")
         parts = 1000 if in_place else 100
         steps = {-(-lines * part // parts) for part in range(parts + 1)}
         if steps - set(counts) or (set(counts) - steps and not in_place):
@@ -824,6 +919,29 @@ class Trials(AskTrials):
             said += "\n" * said.startswith("error") + f"  tip: {tip}\n"
         self.compare(Run(b"", said.encode(), status), self.run_on_terminal(words, "stderr", "stdout"))
 
+    def hidden_names(self):
+        """Control characters of a name or an argument are escaped on a terminal, and only there. Answers have them as they are."""
+        name, seen = self.drawn.card("hidden", HIDDEN)
+        self.put({f"{name}.txt": b"1/0 1/0"})
+        for word, said, tip in (
+            (["steps", name], "kalah: cannot read {0}\n", "  tip: there is no such file\n"),
+            ([f"{name}.b"], mistake("unrecognized subcommand '{0}.b'", "<COMMAND>"), "\n  tip: for a file of positions, use `kalah solve {0}.b`\n"),
+        ):
+            self.compare(Run(b"", said.format(name).encode(), 2), self.run_on_terminal(word, "stdout", "stderr"))
+            self.compare(Run(b"", (said + tip).format(seen).encode(), 2), self.run_on_terminal(word, "stderr", "stdout"))
+        want = reference.answers("solve", [(f"{name}.txt".encode(), b"1/0 1/0")])
+        self.compare(want, self.run_on_terminal(["solve", f"{name}.txt"], "stdout", "stderr"))
+
+    def marked_files(self):
+        """A file that begins with a byte order mark gets a tip on a terminal, beside its answers."""
+        data, tip = self.drawn.card("marks", MARKS)
+        self.put({"a": b"1/0", "b": data})
+        subcommand = self.subcommand()
+        want = reference.answers(subcommand, [(b"a", b"1/0"), (b"b", data)])
+        self.compare(want, self.run_on_terminal([subcommand, "a", "b"], "stdout", "stderr"))
+        want = want._replace(err=f"  tip: {tip}\n".encode())
+        self.compare(want, self.run_on_terminal([subcommand, "a", "b"], "stderr", "stdout"))
+
     def run_on_terminal(self, words, stream, other):
         """Returns the result of a run in which this standard stream is a terminal, and the other one a pipe."""
         (screen, terminal), (reader, pipe) = two_ends("terminal"), two_ends("pipe")
@@ -849,17 +967,17 @@ class Trials(AskTrials):
             raise Differs(f"64 workers with large tables take {kilobytes} kB for quick lines")
 
     def tables_as_asked(self):
-        """The table of `ask`, `play` and `show` is as large as they are asked to make it: a search fills it."""
+        """The table is as large as it is asked to be: a search fills it."""
         subcommand = self.drawn.card("one search", ONE_SEARCH)
-        self.put({})
+        self.put({"a": LONG_GAME})
         small, large = (self.memory_of_search(subcommand, entries) for entries in (1, 1 << 20))
         if large < small + FILLED:
             raise Differs(f"{subcommand} takes {small} kB with a table of one entry, and {large} kB with the largest")
 
     def memory_of_search(self, subcommand, entries):
         """Returns the most that a long search has in memory, in kB, after some time at work."""
-        line = [] if subcommand == "ask" else [LONG_GAME]
-        with self.start([subcommand, f"--table={entries}", *line], stdin=subprocess.PIPE, bufsize=0) as process:
+        rest = {"ask": [], "play": [LONG_GAME], "show": [LONG_GAME]}.get(subcommand, ["--workers=1", "a"])
+        with self.start([subcommand, f"--table={entries}", *rest], stdin=subprocess.PIPE, bufsize=0) as process:
             process.stdin.write(LONG_GAME + b"\n")
             soon(lambda: process.poll() is not None or sum(ticks_of(process).values()) >= SEARCHED)
             kilobytes = in_memory(process, "VmHWM")
@@ -901,16 +1019,14 @@ class Trials(AskTrials):
         lines = 10_000
         data = QUICK * lines
         self.put({"a": data})
-        if self.drawn.card("few writes", FEW_WRITES) == "file":
-            words, want = ["solve", "--workers=2", "a"], reference.answers("solve", [(b"a", data)])
-        else:
-            words, want = ["ask"], reference.asked("solve", data)
+        words, share = self.drawn.card("few writes", FEW_WRITES)
+        want = reference.asked("solve", data) if words == ["ask"] else reference.answers("solve", [(b"a", data)])
         reader, writer = socket.socketpair(socket.AF_UNIX, socket.SOCK_SEQPACKET)
         with reader, open(self.files / "a", "rb") as file, self.start(words, stdin=file, stdout=writer) as process:
             writer.close()
             pieces = list(iter(lambda: reader.recv(1 << 20), b""))
             self.compare(want, self.end_of(process)._replace(out=b"".join(pieces)))
-        if len(pieces) > lines // 4:
+        if len(pieces) > lines // share:
             raise Differs(f"{lines} lines went out in {len(pieces)} writes")
 
     def waits_at_rest(self):
@@ -956,12 +1072,15 @@ KINDS = {
     "busy_workers": len(BUSY_WORKERS),
     "few_lines": len(FEW_LINES),
     "progress": len(PROGRESS),
+    "progress_beside_answers": len(TERMINALS),
     "progress_is_ended": 1,
     **ASK_KINDS,
     "one_pipe_twice": 2,
     "a_named_pipe_twice": 2,
     "usage": len(USAGES),
     "tips": len(TIPS),
+    "hidden_names": len(HIDDEN),
+    "marked_files": len(MARKS),
     "many_large_tables": len(SEARCHING),
     "tables_as_asked": len(ONE_SEARCH),
     "few_lines_in_little_space": len(SUBCOMMANDS),

@@ -6,6 +6,7 @@ ghost use Rattle.kalah_cli.specs.Failure.{failure_of};
 use crate::files::ReadFault;
 use crate::help;
 use crate::status::ExitStatus;
+use crate::terminal::write_escaped;
 use crate::tips::write_tip;
 use kalah_jobs::Sink;
 use kalah_run::RunFault;
@@ -36,10 +37,11 @@ pub(crate) enum Failure<'a> {
 
 impl Failure<'_> {
     /// Writes the message of the failure. What can't be written is dropped.
-    pub(crate) fn report<E: Write>(self, err: &mut E) {
+    pub(crate) fn report<E: Write>(self, on_terminal: bool, err: &mut E) {
         let words: &[u8] = match self {
             Failure::Unreadable(name, _) => {
-                let _ = write!(err, "kalah: cannot read {name}");
+                let _ = err.write_all(b"kalah: cannot read ");
+                write_escaped(name, on_terminal, err);
                 b"\n"
             }
             Failure::Unmoved(house) => {
@@ -60,10 +62,11 @@ impl Failure<'_> {
     }
 }
 
-/// Returns the exit status of a run that ended so. If it failed, it reports the failure on `err`, with its tip.
+/// Returns the exit status of a run that ended so. If it failed, it reports the failure on `err`, and on a terminal
+/// its tip.
 pub(crate) fn report_end<E: Write>(
     ended: Result<ExitStatus, Failure<'_>>,
-    with_tips: bool,
+    on_terminal: bool,
     err: &mut E,
 ) -> ExitStatus
     ensures { result ≡ ended_by ended.entry }
@@ -71,8 +74,10 @@ pub(crate) fn report_end<E: Write>(
     match ended {
         Ok(status) => status,
         Err(failure) => {
-            failure.report(err);
-            write_tip(failure, with_tips, err);
+            failure.report(on_terminal, err);
+            if on_terminal {
+                write_tip(failure, err);
+            }
             ExitStatus::Failed
         }
     }

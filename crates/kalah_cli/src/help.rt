@@ -4,9 +4,9 @@
 macro_rules! of_a_position {
     ($($more:literal),*) => {
         concat!("\
-A position is one argument, so it needs quotes: '1,1/0 1,1/0'. Seen by the
-player to move, it is the seeds in that player's houses, a slash, the seeds in
-that player's store, a space, and the same for the other player. The ", $($more),*)
+A position is one argument, so it needs quotes. '1,1/0 1,1/0' has the houses and
+the store of the player to move, and then those of the other player. The
+", $($more),*)
     };
 }
 
@@ -14,8 +14,7 @@ that player's store, a space, and the same for the other player. The ", $($more)
 macro_rules! of_a_move {
     ($more:literal) => {
         of_a_position!("\
-line of a
-move has its house, the position after it, and again, turn or over:
+line of a move has its house, the position after it, and again, turn or over:
     1 1,1/0 0,2/0 turn
 ", $more, "`kalah --help` has the rules and the meaning of these words.")
     };
@@ -111,16 +110,15 @@ pub(crate) const LONG_OF_MOVES: &str = of_a_move!("");
 pub(crate) const LONG_OF_PLAY: &str = of_a_move!(
     "\
 With --first H the first line is the move of house H. It fails if that house
-can't be moved. The search runs in one thread, with one table of its own.
+can't be moved.
 "
 );
 
 /// What follows the long help of `show`.
 pub(crate) const LONG_OF_SHOW: &str = of_a_position!(
     "\
-player
-to move sits at the bottom, with houses from left to right, and below each house
-stands the margin that its move gets in best play:
+player to move sits at the bottom, with houses from left to right, and below each
+house stands the margin that its move gets in best play:
        3   3   3
    0               0
        3   3   3
@@ -128,8 +126,7 @@ stands the margin that its move gets in best play:
 Nothing stands below a house that can't be moved. If the game is over, the last
 line has its margin:
     over, margin 3
-A margin below -99 fills its column and touches the one before it. The search
-runs in one thread, with one table of its own.
+A margin below -99 fills its column and touches the one before it.
 `kalah --help` has the rules and the form of positions."
 );
 
@@ -143,9 +140,7 @@ move, and the last line has their sum. For kalah count 2 '1,1/0 1,1/0':
     2 1
     total 3
 With DEPTH 0 there is one way, which has no move: total 1.
-A position is one argument, so it needs quotes. Seen by the player to move, it
-is the seeds in that player's houses, a slash, the seeds in that player's store,
-a space, and the same for the other player.
+A position is one argument, so it needs quotes.
 `kalah --help` has the rules and the form of positions.";
 
 /// What follows the long help of `solve`.
@@ -158,8 +153,7 @@ an answer line, in order:
                                best house
     first.txt:5 -4 over        the game is over, with this margin
     first.txt:9 fault shape    not a position
-An early hard line holds back all later answers. That a reader has left is
-noticed only at the next write.
+An early hard line holds back all later answers.
 "
 );
 
@@ -210,7 +204,3 @@ Usage: kalah ask [OPTIONS]
 
 For more information, try '--help'.
 ";
-
-/// What is added to the error for arguments that seem to be one position without quotes.
-pub(crate) const QUOTES: &[u8] =
-    b"\n  tip: a position is one argument, so put it in quotes: '1,1/0 1,1/0'\n";

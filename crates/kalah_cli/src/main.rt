@@ -66,6 +66,6 @@ fn main(rt: HostRuntime) -> ExitCode {
         }
         Err(failure) => failure,
     };
-    failure.report(&mut err);
+    failure.report(false, &mut err);
     ExitCode::from(ExitStatus::Failed.code())
 }

@@ -17,7 +17,7 @@ use crate::request::{Request, parse};
 use crate::solve_files::run_files;
 use crate::status::ExitStatus;
 use crate::terminal::Terminal;
-use crate::tips::advise;
+use crate::tips::report_refused;
 use crate::version::VERSION_LINE;
 use clap::Error;
 use clap::error::ErrorKind;
@@ -65,8 +65,7 @@ fn refuse<O: Sink, E: Write>(
         ErrorKind::DisplayVersion => print_text(VERSION_LINE, out),
         ErrorKind::OutOfMemory => return Err(Failure::OutOfMemory),
         _ => {
-            let _ = err.write_all(text.as_bytes());
-            advise(words, text.as_str(), with_tips, err);
+            report_refused(words, text.as_str(), with_tips, err);
             return Ok(ExitStatus::Failed);
         }
     }

@@ -13,6 +13,7 @@ use crate::progress::Progress;
 use crate::request::FilesRequest;
 use crate::status::ExitStatus;
 use crate::terminal::Terminal;
+use crate::tips::advise_on_files;
 use kalah_jobs::{FileText, Sink};
 use kalah_run::{BatchRequest, OpenGate, Rest, RunFault, Tally, answer_batch};
 use std::alloc::Global;
@@ -91,6 +92,9 @@ pub(crate) fn run_files<'a, R: Files + Clock + Terminal + Threads + Wait + Sync,
     let tally = answer_files(rt, alloc, request, files.as_slice(), out, err)?;
     if tally.faults == 0 {
         return Ok(ExitStatus::Clean);
+    }
+    if rt.shows_errors() {
+        advise_on_files(files.as_slice(), err);
     }
     Ok(ExitStatus::LineFaults)
 }

@@ -51,7 +51,7 @@ const LONG_HELP_OF_TABLE: &str =
 
 const WORKERS: Argument = Argument {
     name: "workers",
-    help: "Solve up to N lines in parallel, 1 to 64",
+    help: "Answer up to N lines in parallel, 1 to 64",
     kind: Kind::NumberOption {
         value_name: "N",
         most: MOST_WORKERS,

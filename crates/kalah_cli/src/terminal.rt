@@ -1,5 +1,5 @@
-//! Which standard streams are terminals.
-use std::io::IsTerminal;
+//! Which standard streams are terminals, and text that is safe on one.
+use std::io::{IsTerminal, Write};
 
 /// Which of a runtime's standard streams are terminals.
 pub trait Terminal {
@@ -25,4 +25,28 @@ impl Terminal for HostRuntime {
     fn shows_errors(&self) -> bool {
         self.stderr().is_terminal()
     }
+}
+
+/// Writes a text. On a terminal each byte of a control character but the line feed is written as a backslash and three octal digits, as
+/// `ls -b` does, so that no name can move the cursor or rename the window. What can't be written is dropped.
+pub(crate) fn write_escaped<E: Write>(text: &str, on_terminal: bool, err: &mut E) {
+    if !on_terminal || !text.chars().any(is_hidden) {
+        let _ = err.write_all(text.as_bytes());
+        return;
+    }
+    for shown in text.chars() {
+        let mut bytes = [0u8; 4];
+        for byte in shown.encode_utf8(&mut bytes).as_bytes() {
+            if is_hidden(shown) {
+                let _ = write!(err, "\\{byte:03o}");
+            } else {
+                let _ = err.write_all(&[*byte]);
+            }
+        }
+    }
+}
+
+// Returns whether a character is a control character, but no line feed.
+fn is_hidden(shown: char) -> bool {
+    shown.is_control() && shown != '\n'
 }

@@ -16,7 +16,7 @@ fn each_failure_is_said_in_its_words(rt: HostRuntime) {
         ),
         (
             Failure::Unreadable("1/0 1/0 e", ReadFault::Missing),
-            "cannot read 1/0 1/0 e\n  tip: for a position, use `kalah show '1/0 1/0 e'`, or `kalah ask`",
+            "cannot read 1/0 1/0 e",
         ),
         (Failure::TooManyFiles, "too many files"),
         (Failure::TooManyLines, "too many lines"),

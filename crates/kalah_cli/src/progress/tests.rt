@@ -10,7 +10,7 @@ use std::sync::atomic::AtomicU64;
 use std::sync::atomic::Ordering::SeqCst;
 use std::time::Duration;
 
-/// A clock, and terminals for the answers and for the errors or not.
+/// A clock, which is not set to the time of day, and terminals for the answers and for the errors or not.
 #[derive(Drop)]
 struct Machine {
     seconds: AtomicU64,
@@ -35,7 +35,7 @@ impl Clock for Machine {
     }
 
     fn since_1970(&self) -> io::Result<Duration> {
-        self.monotonic()
+        Ok(Duration::from_secs(1 << 40))
     }
 }
 

@@ -8,7 +8,7 @@ fn a_line_that_is_not_read_has_a_tip_on_a_terminal(rt: HostRuntime) {
             "99,99/98 0,10/97 e",
             LineFault::Seeds,
             "seeds",
-            "208 seeds in houses; at most 31 are solved",
+            "208 seeds in houses; at most 31 are accepted",
         ),
         (
             "1,1/0,1,1/0",

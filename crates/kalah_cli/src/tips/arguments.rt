@@ -1,0 +1,186 @@
+//! Why arguments are refused, and the tip that follows.
+use super::is_side;
+use crate::terminal::write_escaped;
+use kalah_jobs::read_line;
+use std::io::Write;
+
+const QUOTES: &str = "a position is one argument, so put it in quotes: '1,1/0 1,1/0'";
+
+const COUNT: &str = "DEPTH comes first, as in `kalah count 3 '1,1/0 1,1/0'`";
+
+// Two parts of what the command line says to refuse arguments, and the tip if it has both.
+const TIPS: &[(&str, &str, &str)] = &[
+    (
+        "not provided",
+        "<FILE>",
+        "for standard input, use /dev/stdin, as in `kalah solve /dev/stdin`",
+    ),
+    ("not provided", " count <DEPTH>", COUNT),
+    ("'--values' found", "<FILE>", "use `kalah values FILE`"),
+    ("'--steps' found", "<FILE>", "use `kalah steps FILE`"),
+    ("'-w' found", "<FILE>", "use `--workers N`"),
+    ("'-j' found", "<FILE>", "use `--workers N`"),
+    ("'--jobs' found", "<FILE>", "use `--workers N`"),
+    ("'--threads' found", "<FILE>", "use `--workers N`"),
+    (
+        "'--json' found",
+        "<FILE>",
+        "`python3 -m kalah table --json FILE` prints JSON",
+    ),
+    (
+        "'--boards' found",
+        " show [OPTIONS]",
+        "`kalah show` draws the board without it",
+    ),
+    (
+        "'e' found",
+        "<LINE>",
+        "` e` stands inside the quotes, as in '1,1/0 1,1/0 e'",
+    ),
+    ("'--depth' found", " count <DEPTH>", COUNT),
+    ("'<DEPTH>'", "invalid digit", COUNT),
+    (
+        "'--workers <N>'",
+        "invalid digit",
+        "N is a number from 1 to 64",
+    ),
+    (
+        "'--table <N>'",
+        "invalid digit",
+        "N is a number from 1 to 1048576",
+    ),
+    ("'--first <H>'", "invalid digit", "H is a house from 1 to 6"),
+    ("'-v' found", "<COMMAND>", "use `kalah --version`"),
+    ("'version'", "<COMMAND>", "use `kalah --version`"),
+    ("'help'", "<COMMAND>", "use `kalah --help`"),
+    ("'perft'", "<COMMAND>", "use `kalah count DEPTH LINE`"),
+    (
+        "'best'",
+        "<COMMAND>",
+        "use `kalah show LINE`, or `kalah solve FILE`",
+    ),
+];
+
+// A tip that may name an argument.
+#[derive(Clone, Copy)]
+struct Tip<'a> {
+    before: &'a str,
+    word: &'a str,
+    after: &'a str,
+}
+
+impl<'a> Tip<'a> {
+    fn new(text: &'a str) -> Tip<'a> {
+        Tip::about(text, "", "")
+    }
+
+    fn about(before: &'a str, word: &'a str, after: &'a str) -> Tip<'a> {
+        Tip {
+            before,
+            word,
+            after,
+        }
+    }
+}
+
+// Returns the tip for a first argument that is no subcommand.
+fn tip_for_name<'a>(name: &'a str, next: Option<&'a String>) -> Option<Tip<'a>> {
+    if read_line(name.as_bytes()).is_ok() {
+        Some(Tip::about(
+            "for a position, use `kalah show '",
+            name,
+            "'`, or `kalah ask`",
+        ))
+    } else if is_side(name) {
+        Some(Tip::new(QUOTES))
+    } else if name.contains('.') {
+        Some(Tip::about("for a file of positions, use `kalah solve ", name, "`"))
+    } else if name == "help" {
+        next.map(|next| Tip::about("use `kalah ", next.as_str(), " --help`"))
+    } else {
+        None
+    }
+}
+
+// Returns the tip for an argument of this subcommand that is one too many.
+fn tip_for_excess<'a>(subcommand: &str, word: &'a str) -> Option<Tip<'a>> {
+    match subcommand {
+        "ask" if is_side(word) || read_line(word.as_bytes()).is_ok() => Some(Tip::new(
+            "`kalah ask` reads standard input; for one position, use `kalah show '1,1/0 1,1/0'`",
+        )),
+        "ask" if !word.starts_with('-') => Some(Tip::about(
+            "`kalah ask` reads standard input: use `kalah ask < ",
+            word,
+            "`",
+        )),
+        "play" if matches!(word, "1" | "2" | "3" | "4" | "5" | "6") => Some(Tip::about(
+            "for the first move, use `--first ",
+            word,
+            "`",
+        )),
+        _ => None,
+    }
+}
+
+// Returns the tip for arguments that the command line refuses with this text, if there is one.
+fn tip_for<'a>(words: &'a [String], text: &str) -> Option<Tip<'a>> {
+    let [_, name, rest @ ..] = words else {
+        return None;
+    };
+    if text.contains("unrecognized subcommand") {
+        if let Some(tip) = tip_for_name(name.as_str(), rest.first()) {
+            return Some(tip);
+        }
+    } else if WITH_LINE.contains(&name.as_str()) && has_parts(rest) {
+        return Some(Tip::new(QUOTES));
+    } else if text.contains("unexpected argument") {
+        if let Some(word) = rest.last() {
+            if let Some(tip) = tip_for_excess(name.as_str(), word.as_str()) {
+                return Some(tip);
+            }
+        }
+    }
+    for (one, other, tip) in TIPS {
+        if text.contains(*one) && text.contains(*other) {
+            return Some(Tip::new(*tip));
+        }
+    }
+    if text.contains("not provided") {
+        return Some(Tip::about("as in `kalah ", name.as_str(), " '1,1/0 1,1/0'`"));
+    }
+    None
+}
+
+// The subcommands that have one argument LINE.
+const WITH_LINE: &[&str] = &["moves", "play", "show", "count"];
+
+// Returns whether two adjacent arguments each have a slash, as those of a position without quotes.
+fn has_parts(words: &[String]) -> bool {
+    let mut has_parts = false;
+    let mut has_slash = false;
+    for word in words {
+        let had_slash = has_slash;
+        has_slash = word.contains('/');
+        has_parts |= had_slash && has_slash;
+    }
+    has_parts
+}
+
+/// Writes why arguments are refused, which is this text. On a terminal control characters are escaped, and the tip follows, if there is
+/// one.
+pub(crate) fn report_refused<E: Write>(
+    words: &[String],
+    text: &str,
+    on_terminal: bool,
+    err: &mut E,
+) {
+    write_escaped(text, on_terminal, err);
+    if !on_terminal {
+        return;
+    }
+    if let Some(tip) = tip_for(words, text) {
+        let _ = write!(err, "\n  tip: {}", tip.before);
+        write_escaped(tip.word, true, err);
+        let _ = writeln!(err, "{}", tip.after);
+    }
+}
