@@ -66,6 +66,9 @@ static bool start(struct run *run, const char *word)
     if (run->pid == 0) {
         dup2(pipes[0], 0);
         dup2(pipes[3], 1);
+        /* If the standard input was closed, an end of a pipe is that stream already, and is not to be closed. */
+        fcntl(0, F_SETFD, 0);
+        fcntl(1, F_SETFD, 0);
         execlp(program, "kalah", word, (char *)NULL);
         _exit(127);
     }
