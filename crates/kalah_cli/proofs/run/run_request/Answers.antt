@@ -1,3 +1,5 @@
+use Rattle.std.proofs.Common.{arith}
+use Rattle.std.proofs.lemmas.Grind.{common_steps}
 use Rattle.kalah_cli.proofs.RunLemmas.{reads_nothing}
 use Rattle.kalah_cli.proofs.run.run_request.Goals as goal
 
@@ -11,3 +13,6 @@ returns-in-Files g c = rw c.in-Files.is c.run_files.ensures
 
 pub returns-in-Ask : goal.returns-in-Ask
 returns-in-Ask g c = rw c.in-Ask.is (_, (c.standard_input.ensures, c.run_ask.ensures))
+
+pub run_line-requires-clause-range : goal.run_line-requires-clause-range
+run_line-requires-clause-range g c = grind (arith, common_steps)
