@@ -1,6 +1,6 @@
 -- Runs over files that are known.
-use Rattle.std.proofs.Common.{◌≡◌, ◌≢◌, ◌∷◌, ℕ, List, [], Bool, Option, All, Contains, arith, codes, false, Some, ap, inl, inr, map, refl, subst, suc, sym, zero}
-use Rattle.std.specs.Prelude.{◌↔◌}
+use Rattle.std.proofs.Common.{◌≡◌, ◌≢◌, ◌∷◌, ◌∙◌, ℕ, List, [], Bool, Option, All, arith, codes, false, None, Some, ap, inl, inr, length, map, refl, subst, suc, sym, true}
+use Rattle.std.specs.Prelude.{◌↔◌, IfSome}
 use Rattle.std.specs.Io.KnownBytes.{Appends}
 use Rattle.std.proofs.lemmas.Bool.{ne_eqb}
 use Rattle.clap.specs.Words.{Text}
@@ -8,11 +8,14 @@ use Rattle.clap.proofs.OnLiterals.{clap_on_literals}
 use Rattle.kalah_jobs.specs.Files.NamedBytes.{NamedBytes}
 use Rattle.kalah_jobs.specs.Writing.Output.{output_of, tally_of}
 use Rattle.kalah_jobs.specs.declared.files.question.Question.TheVariants.{BestMove}
-use Rattle.kalah_cli.specs.KnownRuns.{IsSolved, SolvesByItsWords, SolvesTheFile}
-use Rattle.kalah_cli.specs.Request.{IsPlainWord, IsTakenAs, answers}
+use Rattle.kalah_jobs.specs.Asking.Asked.{answers_to, are_all_read}
+use Rattle.kalah_jobs.specs.declared.files.question.Question.{Question}
+use Rattle.kalah_cli.specs.Ask.{AnswersInput}
+use Rattle.kalah_cli.specs.KnownRuns.{AnswersWhatIsKnown, AreOn, IsAnswerTo, IsAnswerToLines, IsSolved, SolvesByItsWords}
+use Rattle.kalah_cli.specs.Request.{IsPlainWord, IsTakenAs, answers, ask}
 use Rattle.kalah_cli.specs.Runs.{DoesWhatIsAsked}
 use Rattle.kalah_cli.specs.SolveFiles.{AnswersFiles}
-use Rattle.kalah_cli.specs.Sources.{Source, file_named, file_of, known_bytes}
+use Rattle.kalah_cli.specs.Sources.{MayBeLeft, Source, file_named, file_of, known_bytes}
 use Rattle.kalah_cli.specs.declared.status.ExitStatus.{ExitStatus}
 use Rattle.kalah_cli.specs.declared.status.ExitStatus.TheVariants.{Clean, Failed}
 use Rattle.kalah_cli.proofs.RequestLemmas.{taken_at}
@@ -64,33 +67,65 @@ module _ {O : Type 0} (written : O → Option (List ℕ)) (has_failed is_handed_
         | inr fails ↦ absurd (went fails.0)
       ]
 
--- an element of a list of one
-only : (file one : NamedBytes) → Contains (one ∷ []) file → one ≡ file
-only file one (zero, within, is) = is
-only file one (suc k, within, is) = absurd (omega (arith, within))
+-- ---- runs over a disk and a standard input that are known
 
--- if the one file that there is is known, its bytes are solved
-pub solves_the_file : {O : Type 0} (written : O → Option (List ℕ)) (has_failed is_handed_on : O → Bool) (old new : O) (status : ExitStatus)
-    (files : List NamedBytes) (typed : List ℕ) (words : List Text) (output : List ℕ)
-    → DoesWhatIsAsked written has_failed is_handed_on old new status (known_bytes files typed) words
-    → written old ≡ Some [] → written new ≡ Some output
-    → SolvesTheFile status output words files
-solves_the_file written has_failed is_handed_on old new status files typed words output accepted before after =
-    λ name file one is plain went.
-    let does = solves_by_words written has_failed is_handed_on old new status (known_bytes files typed) words accepted name file.name is
-    plain went in
-    let same : file ≡ file_of file.name does.0 = only (file_of file.name does.0) file
-    (subst (λ l. Contains l (file_of file.name does.0)) one does.1.0) in
-    let solved : IsSolved written old new status file = subst (IsSolved written old new status) (sym same) does.1.1 in
-    subst (λ l. (output ≡ output_of l) × (status ≡ Clean ↔ (tally_of l).faults ≡ 0)) (sym one) (
-      subst (λ o. Appends o (Some output) (output_of (file ∷ []))) before
-          (subst (λ o. Appends (written old) o (output_of (file ∷ []))) after solved.0),
-      solved.1,
-    )
+-- a standard input that may be left is the one that is known
+known_left : (typed : List ℕ) (unread : Option (List ℕ)) → MayBeLeft (λ bytes. bytes ≡ typed) unread → unread ≡ Some typed
+known_left typed None may =
+    let longer : 0 ∷ typed ≡ typed = may (0 ∷ typed) in
+    absurd (let same : suc (length typed) ≡ length typed = ap length longer in omega (arith, same))
+known_left typed (Some bytes) may = ap (λ l. Some l) may
 
--- a file of this name gives its bytes
-pub gives : (files : List NamedBytes) {file : NamedBytes} {name bytes : List ℕ} → Contains files file → file.name ≡ name
-    → file.bytes ≡ bytes
-    → Contains files (file_of name bytes)
-gives files {file} {name} {bytes} has same is =
-    subst (λ n. Contains files (file_of n bytes)) same (subst (λ b. Contains files (file_of file.name b)) is has)
+module _ {O : Type 0} (written : O → Option (List ℕ)) (has_failed is_handed_on : O → Bool) (old new : O) (status : ExitStatus)
+    (disk : List NamedBytes) (typed output : List ℕ) (before : written old ≡ Some []) (after : written new ≡ Some output) where
+  -- what was added is all that was written
+  all_written : (text : List ℕ) → Appends (written old) (written new) text → output ≡ text
+  all_written text adds = subst (λ o. Appends o (Some output) text) before (subst (λ o. Appends (written old) o text) after adds)
+
+  files_known : (question : Question) (names : List Text) → status ≢ Failed
+      → AnswersFiles written has_failed is_handed_on old new status (known_bytes disk typed) question names
+      → (files : List NamedBytes) × (AreOn disk names files × IsAnswerTo status output question files)
+  files_known question names went does = (
+    does.files,
+    (
+      record { named = does.named; bytes = elim does.given [ | inl fails ↦ absurd (went fails.0) | inr given ↦ given ] },
+      (all_written _ (does.printed.whole went), does.clean went),
+    ),
+  )
+
+  lines_known : (question : Question) (unread : Option (List ℕ)) → status ≢ Failed → unread ≡ Some typed
+      → AnswersInput written has_failed is_handed_on old new status question unread
+      → IsAnswerToLines status output question typed
+  lines_known question unread went is does =
+      let asked = does.asked went in
+      let all : asked.0.read ≡ typed = subst (λ u. IfSome u (λ bytes. asked.0.read ≡ bytes)) is asked.0.all in
+      let read = subst (λ bytes. does.all_read ≡ are_all_read bytes) all asked.0.status in (
+        all_written (answers_to question typed)
+            (subst (λ bytes. Appends (written old) (written new) (answers_to question bytes)) all asked.0.written),
+        subst (λ b. status ≡ Clean ↔ b ≡ true) read asked.1,
+      )
+
+  -- what is promised of any run is pinned of one over what is known
+  pub answers_what_is_known : (words : List Text)
+      → DoesWhatIsAsked written has_failed is_handed_on old new status (known_bytes disk typed) words
+      → SolvesByItsWords written old new status words (known_bytes disk typed)
+      → AnswersWhatIsKnown status output disk typed words
+  answers_what_is_known words accepted solved = record {
+    solve = λ name file is plain went on.
+        let does = solved name file.name is plain went in
+        let same : file_of file.name does.0 ≡ file =
+        (let one : Some does.0 ≡ Some file.bytes = sym does.1.0 ∙ on in ap (file_of file.name) (let two : does.0 ≡ file.bytes = cc in two)) in
+        (
+          all_written (output_of (file ∷ [])) (subst (λ f. IsSolved written old new status f) same does.1.1).0,
+          (subst (λ f. IsSolved written old new status f) same does.1.1).1,
+        );
+    files = λ question workers table progress names taken went.
+        elim (accepted (answers question workers table progress names) taken) [
+          | inl does ↦ files_known question names went does
+          | inr fails ↦ absurd (went fails.0)
+        ];
+    lines = λ question table taken went. elim (accepted (ask question table) taken) [
+      | inl does ↦ lines_known question does.0 went (known_left typed does.0 does.1.0) does.1.1
+      | inr fails ↦ absurd (went fails.0)
+    ];
+  }

@@ -1,5 +1,6 @@
 -- What a run reads: files by their names, and the standard input.
-use Rattle.std.specs.Prelude.{◌≡◌, ℕ, List, Contains, Option, None, Some, ⊤}
+use Rattle.std.specs.Prelude.{◌≡◌, ℕ, List, Option, None, Some, find, option_map, ⊤}
+use Rattle.std.specs.Str.{bytes_eq}
 use Rattle.kalah_jobs.specs.Files.NamedBytes.{NamedBytes}
 
 -- what can be read: the file of a name, or the standard input
@@ -20,7 +21,11 @@ MayBeLeft may_give (Some bytes) = may_give bytes
 abbrev pub file_of : List ℕ → List ℕ → NamedBytes
 file_of name bytes = record { name = name; bytes = bytes }
 
--- the sources give these alone: to a name the bytes of a file that has it, and one standard input
+-- the bytes of the first file of a disk that has this name
+abbrev pub bytes_on : List NamedBytes → List ℕ → Option (List ℕ)
+bytes_on disk name = option_map (λ file. file.bytes) (find (λ file. bytes_eq file.name name) disk)
+
+-- the sources give these alone: to a name the bytes of the disk's file, and one standard input
 abbrev pub known_bytes : List NamedBytes → List ℕ → Source → List ℕ → Type 0
-known_bytes files typed (file_named name) bytes = Contains files (file_of name bytes)
-known_bytes files typed standard_input bytes = bytes ≡ typed
+known_bytes disk typed (file_named name) bytes = bytes_on disk name ≡ Some bytes
+known_bytes disk typed standard_input bytes = bytes ≡ typed
