@@ -161,7 +161,7 @@ taken_once words a b p q =
 pub moves_taken : (name line : Text) → IsPlainWord line → IsTakenAs (name ∷ codes "moves" ∷ line ∷ []) (moves false line)
 unfolding clap_on_literals
 moves_taken name [] plain = absurd plain
-moves_taken name (x ∷ xs) plain = let no_flag = ne_eqb _ _ plain in (simp no_flag refl, simp no_flag refl)
+moves_taken name (x ∷ xs) plain = let no_flag = ne_eqb _ _ plain in (simp no_flag (refl {a = []}), simp no_flag (refl {a = Some (moves false (x ∷ xs))}))
 
 -- ---- what a parse of the program's arguments makes of them
 

@@ -22,6 +22,7 @@ use Rattle.clap.proofs.WalkLemmas.{list_any-map}
 use Rattle.kalah_jobs.specs.Files.NamedBytes.{NamedBytes}
 use Rattle.kalah_jobs.specs.declared.files.question.Question.{Question}
 use Rattle.kalah_cli.specs.SolveFiles.{AnswersFiles, has_line_feed}
+use Rattle.kalah_cli.specs.Sources.{Source, any_bytes}
 use Rattle.std.specs.Io.Buffered.{reader_buffer, reader_capacity, reader_inner, reader_remaining}
 use Rattle.std.specs.Io.KnownBytes.{prepend_known}
 use Rattle.std.specs.declared.io.buffered.BufReader.{BufReader}
@@ -78,7 +79,7 @@ module _ {O : Type 0} (written : O → Option (List ℕ)) (has_failed is_handed_
   line_done : {line : List ℕ} (command : LineCommand) {old new : O}
       → AnswersLine written has_failed is_handed_on old new status line (command_output command)
       → ((p : Position) → Reads line p → (MayPrint command p → ⊥) → FailsWithoutOutput old new status)
-      → Does written has_failed is_handed_on old new status (command_asks command line)
+      → Does written has_failed is_handed_on old new status any_bytes (command_asks command line)
   line_done (Moves boards) is fails = is
   line_done (Play table boards first) is fails = (is, fails)
   line_done (Show table plain) is fails = is
@@ -89,7 +90,7 @@ module _ {O : Type 0} (written : O → Option (List ℕ)) (has_failed is_handed_
       -- the text of the position was printed
       pub line_answered : {old new : O} → IsPrinted written has_failed is_handed_on old new (command_output command p) → MayPrint command p
           → (has_failed new ≡ true) ↔ (status ≡ Failed) → status ≢ LineFaults
-          → Does written has_failed is_handed_on old new status (command_asks command line)
+          → Does written has_failed is_handed_on old new status any_bytes (command_asks command line)
       line_answered {old} {new} printed may fails no_fault =
           let sound : status ≢ Failed → has_failed new ≡ false =
           λ went. false_from_ne_true (has_failed new) (λ failed. went (fails.0 failed)) in
@@ -111,9 +112,9 @@ module _ {O : Type 0} (written : O → Option (List ℕ)) (has_failed is_handed_
 
       -- the command failed before anything was written
       pub line_refused : {old new : O} → status ≡ Failed → has_failed old ≡ false → new ≡ old
-          → Does written has_failed is_handed_on old new status (command_asks command line)
+          → Does written has_failed is_handed_on old new status any_bytes (command_asks command line)
       line_refused {old} failed sound still =
-          subst (λ new. Does written has_failed is_handed_on old new status (command_asks command line)) (sym still)
+          subst (λ new. Does written has_failed is_handed_on old new status any_bytes (command_asks command line)) (sym still)
           (line_done command (record {
             read = λ q other. (λ fault. let both : Failed ≡ LineFaults = sym failed ∙ fault in cc, prints_nothing failed);
             unread = λ none. absurd (none p (read_at same p reads));
@@ -122,12 +123,22 @@ module _ {O : Type 0} (written : O → Option (List ℕ)) (has_failed is_handed_
 
     -- the line writes no position
     pub line_unread : {out : O} → IsUnread bytes → status ≡ LineFaults → has_failed out ≡ false
-        → Does written has_failed is_handed_on out out status (command_asks command line)
+        → Does written has_failed is_handed_on out out status any_bytes (command_asks command line)
     line_unread none fault sound = line_done command (record {
       read = λ p reads. absurd (none p (read_at (sym same) p reads));
       unread = λ _. (fault, refl);
       ends = ends_unchanged sound;
     }) (λ p reads. absurd (none p (read_at (sym same) p reads)))
+
+-- nothing is read for it, so it does the same whatever there is to read
+pub reads_nothing : {O : Type 0} (written : O → Option (List ℕ)) (has_failed is_handed_on : O → Bool) (old new : O) (status : ExitStatus)
+    (may_give : Source → List ℕ → Type 0) (command : LineCommand) (line : List ℕ)
+    → Does written has_failed is_handed_on old new status any_bytes (command_asks command line)
+    → Does written has_failed is_handed_on old new status may_give (command_asks command line)
+reads_nothing written has_failed is_handed_on old new status may_give (Moves boards) line does = does
+reads_nothing written has_failed is_handed_on old new status may_give (Play table boards first) line does = does
+reads_nothing written has_failed is_handed_on old new status may_give (Show table plain) line does = does
+reads_nothing written has_failed is_handed_on old new status may_give (Count depth) line does = does
 
 -- ---- what is answered of files
 
@@ -147,11 +158,12 @@ their_names (name ∷ names) = ap (λ l. name ∷ l) (their_names names)
 
 -- the program failed before anything was written
 pub files_refused : {O : Type 0} (written : O → Option (List ℕ)) (has_failed is_handed_on : O → Bool) {status : ExitStatus} {out : O}
-    {question : Question} {names : List (List ℕ)} → status ≡ Failed → has_failed out ≡ false
-    → AnswersFiles written has_failed is_handed_on out out status question names
+    {may_give : Source → List ℕ → Type 0} {question : Question} {names : List (List ℕ)} → status ≡ Failed → has_failed out ≡ false
+    → AnswersFiles written has_failed is_handed_on out out status may_give question names
 files_refused written has_failed is_handed_on {names = names} failed sound = record {
   files = empty_files names;
   named = their_names names;
+  given = inl (failed, refl);
   printed = prints_nothing written has_failed is_handed_on failed;
   one_line = λ went. absurd (went failed);
   clean = λ went. absurd (went failed);
@@ -259,31 +271,34 @@ module _ {O : Type 0} (written : O → Option (List ℕ)) (has_failed is_handed_
       (ends_unchanged written has_failed is_handed_on sound)
 
   -- how a run ends that does what is asked, unless lines of the standard input are to be answered
-  pub run_ends : (a : Asked) → IsOfNoInput a → Does written has_failed is_handed_on old new status a
-      → Ends written has_failed is_handed_on old new status
-  run_ends (moves boards line) _ does = does.ends
-  run_ends (play first table boards line) _ does = does.0.ends
-  run_ends (answers question workers table progress names) _ does = does.ends
-  run_ends (ask question table) none does = absurd none
-  run_ends (show plain table line) _ does = does.ends
-  run_ends (count depth line) _ does = does.ends
-  run_ends conflict _ does = ends_without_output does
+  pub run_ends : (may_give : Source → List ℕ → Type 0) (a : Asked) → IsOfNoInput a
+      → Does written has_failed is_handed_on old new status may_give a → Ends written has_failed is_handed_on old new status
+  run_ends may_give (moves boards line) _ does = does.ends
+  run_ends may_give (play first table boards line) _ does = does.0.ends
+  run_ends may_give (answers question workers table progress names) _ does = does.ends
+  run_ends may_give (ask question table) none does = absurd none
+  run_ends may_give (show plain table line) _ does = does.ends
+  run_ends may_give (count depth line) _ does = does.ends
+  run_ends may_give conflict _ does = ends_without_output does
 
-  pub run_fails : (a : Asked) → Does written has_failed is_handed_on old new status a → has_failed new ≡ true → status ≡ Failed
-  run_fails (ask question table) does = does.1.failed
-  run_fails a does = (run_ends a tt does).failed
+  pub run_fails : (may_give : Source → List ℕ → Type 0) (a : Asked) → Does written has_failed is_handed_on old new status may_give a
+      → has_failed new ≡ true → status ≡ Failed
+  run_fails may_give (ask question table) does = does.1.1.failed
+  run_fails may_give a does = (run_ends may_give a tt does).failed
 
-  pub run_hands_on : (a : Asked) → Does written has_failed is_handed_on old new status a → status ≢ Failed → is_handed_on old ≡ true
+  pub run_hands_on : (may_give : Source → List ℕ → Type 0) (a : Asked) → Does written has_failed is_handed_on old new status may_give a
+      → status ≢ Failed → is_handed_on old ≡ true
       → is_handed_on new ≡ true
-  run_hands_on (ask question table) does = λ went.
-      does.1.handed_on (false_from_ne_true (has_failed new) (λ failed. went (does.1.failed failed)))
-  run_hands_on a does = (run_ends a tt does).handed_on
+  run_hands_on may_give (ask question table) does = λ went.
+      does.1.1.handed_on (false_from_ne_true (has_failed new) (λ failed. went (does.1.1.failed failed)))
+  run_hands_on may_give a does = (run_ends may_give a tt does).handed_on
 
 -- so what is promised of arguments that are accepted covers those of `moves`
 pub by_words : {O : Type 0} (written : O → Option (List ℕ)) (has_failed is_handed_on : O → Bool) (words : List Text) (old new : O)
-    (status : ExitStatus) → DoesWhatIsAsked written has_failed is_handed_on old new status words
+    (status : ExitStatus) (may_give : Source → List ℕ → Type 0)
+    → DoesWhatIsAsked written has_failed is_handed_on old new status may_give words
     → MovesByItsWords written words old new status
-by_words written has_failed is_handed_on words old new status accepted = record {
+by_words written has_failed is_handed_on words old new status may_give accepted = record {
   moves = λ name line is p reads.
       elim (accepted (moves false line) (taken_at is (moves_taken name line (read_is_plain line p reads)))) [
         | inl does ↦

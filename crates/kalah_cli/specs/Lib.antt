@@ -8,6 +8,8 @@ pub mod Play
 pub mod Solver
 pub mod Line
 pub mod Count
+pub mod Sources
 pub mod SolveFiles
 pub mod Ask
 pub mod Runs
+pub mod KnownRuns

@@ -13,6 +13,7 @@ use Rattle.kalah_cli.specs.Request.{Asked, AsksNot, IsPlainWord, IsRefused, IsTa
 use Rattle.kalah_cli.specs.Line.{show_output}
 use Rattle.kalah_cli.specs.Ask.{AnswersInput}
 use Rattle.kalah_cli.specs.SolveFiles.{AnswersFiles}
+use Rattle.kalah_cli.specs.Sources.{MayBeLeft, Source, standard_input}
 use Rattle.kalah_cli.specs.Ends.{AnswersLine, FailsWithoutOutput, IsUnread}
 use Rattle.kalah_cli.specs.declared.status.ExitStatus.{ExitStatus}
 use Rattle.kalah_cli.specs.declared.status.ExitStatus.TheVariants.{Clean, LineFaults, Failed}
@@ -26,7 +27,8 @@ IsOfNoInput _ = ⊤
 abbrev pub version_line : Text
 version_line = codes "kalah 1.3.0" ++ line_feed ∷ []
 
-module _ {O : Type 0} (written : O → Option (List ℕ)) (has_failed is_handed_on : O → Bool) (old new : O) (status : ExitStatus) where
+module _ {O : Type 0} (written : O → Option (List ℕ)) (has_failed is_handed_on : O → Bool) (old new : O) (status : ExitStatus)
+    (may_give : Source → List ℕ → Type 0) where
   -- what the program does for each request. A game that is asked to begin with a house that may not be moved fails without output, and
   -- so do options that exclude each other
   abbrev pub Does : Asked → Type 0
@@ -34,8 +36,9 @@ module _ {O : Type 0} (written : O → Option (List ℕ)) (has_failed is_handed_
   Does (play first table boards line) =
       AnswersLine written has_failed is_handed_on old new status line (play_output first boards)
       × ((p : Position) → Reads line p → (MayBegin first p → ⊥) → FailsWithoutOutput old new status)
-  Does (answers question workers table progress names) = AnswersFiles written has_failed is_handed_on old new status question names
-  Does (ask question table) = (unread : Option (List ℕ)) × AnswersInput written has_failed is_handed_on old new status question unread
+  Does (answers question workers table progress names) = AnswersFiles written has_failed is_handed_on old new status may_give question names
+  Does (ask question table) = (unread : Option (List ℕ))
+      × (MayBeLeft (may_give standard_input) unread × AnswersInput written has_failed is_handed_on old new status question unread)
   Does (show plain table line) = AnswersLine written has_failed is_handed_on old new status line (show_output plain)
   Does (count depth line) = AnswersLine written has_failed is_handed_on old new status line (count_output depth)
   Does conflict = FailsWithoutOutput old new status

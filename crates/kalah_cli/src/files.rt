@@ -3,13 +3,14 @@ ghost use Rattle.std.specs.Prelude.{◌≡◌, ◌≢◌, ◌<◌, ◌≤◌, Al
 ghost use Rattle.std.specs.Io.KnownBytes.{Consumes, IsAtEnd};
 ghost use Rattle.kalah_jobs.specs.Limits.{most_file_bytes};
 ghost use Rattle.kalah_cli.specs.Failure.{FailsToRead, FailsToReadOneOf};
+ghost use Rattle.kalah_cli.specs.Sources.{file_named};
 
 use crate::failure::Failure;
+use crate::sources::Sources;
 use kalah_jobs::{FileText, MOST_FILE_BYTES};
 use std::alloc::Global;
+use std::io;
 use std::io::{ErrorKind, Read};
-use std::rt::Files;
-use std::{fs, io};
 
 /// The most bytes that one read asks for.
 const CHUNK: usize = 65_536;
@@ -76,10 +77,12 @@ pub(crate) fn read_limited<F: Read>(
 }
 
 // Returns all bytes of the file of this name. A file of more than 67,108,864 bytes can't be read.
-fn read_file<R: Files>(rt: &R, alloc: Global, name: &str) -> Result<Vec<u8>, ReadFault>
-    ensures { IfOk result (λ bytes. length bytes.items ≤ most_file_bytes) }
+#[tactic(auto, using(crate::proofs::FilesLemmas::read_whole))]
+fn read_file<R: Sources>(rt: &R, alloc: Global, name: &str) -> Result<Vec<u8>, ReadFault>
+    ensures within { IfOk result (λ bytes. length bytes.items ≤ most_file_bytes) }
+    ensures given { IfOk result (λ bytes. R.may_give rt.now (file_named name.now) bytes.items) }
 {
-    match fs::open(rt, name) {
+    match rt.open(name) {
         Ok(mut file) => read_limited(alloc, &mut file, MOST_FILE_BYTES),
         Err(error) => Err(fault_of(&error)),
     }
@@ -97,7 +100,7 @@ fn unread<'a>(name: &'a str, fault: ReadFault) -> Failure<'a>
 
 /// Returns the files of these names, in order, each read whole. Fails at the first that can't be read, or with `OutOfMemory` if memory
 /// was refused.
-pub(crate) fn read_files<'a, R: Files>(
+pub(crate) fn read_files<'a, R: Sources>(
     rt: &R,
     alloc: Global,
     names: &[&'a str],
@@ -105,6 +108,7 @@ pub(crate) fn read_files<'a, R: Files>(
     ensures named { IfOk result
         (λ files. map (λ file. file.name) files.items ≡ map (λ name. name.now) names.now) }
     ensures within { IfOk result (λ files. All (λ file. length file.bytes ≤ most_file_bytes) files.items) }
+    ensures given { IfOk result (λ files. All (λ file. R.may_give rt.now (file_named file.name) file.bytes) files.items) }
     ensures failure { IfErr result (FailsToReadOneOf names.now) }
 {
     let mut files = Vec::new(alloc);

@@ -4,6 +4,7 @@ ghost use Rattle.kalah_cli.specs.Ends.{IsPrinted, ended_by};
 ghost use Rattle.kalah_cli.specs.Line.{MayPrint, SearchesNothing, command_output};
 ghost use Rattle.kalah_cli.specs.Request.{IsCommandInRange, command_asks};
 ghost use Rattle.kalah_cli.specs.Runs.{Does};
+ghost use Rattle.kalah_cli.specs.Sources.{any_bytes};
 
 use crate::count::write_count;
 use crate::failure::{Failure, status_of_sink};
@@ -60,7 +61,7 @@ pub(crate) fn run_line<O: Sink, E: Write>(
 ) -> Result<ExitStatus, Failure<'static>>
     requires range { IsCommandInRange command.now }
     requires sink { O.has_failed out.old ≡ false }
-    ensures { Does O.written O.has_failed O.is_handed_on out.old out.new (ended_by result) (command_asks command.now line.now) }
+    ensures { Does O.written O.has_failed O.is_handed_on out.old out.new (ended_by result) any_bytes (command_asks command.now line.now) }
 {
     match read_line(line.as_bytes()) {
         Ok(board) => match print(alloc, command, &board, out) {

@@ -21,6 +21,7 @@ mod run;
 mod show;
 mod solve_files;
 mod solver;
+mod sources;
 mod status;
 mod subcommands;
 mod terminal;

@@ -6,6 +6,7 @@ ghost use Rattle.clap.specs.declared.error.kind.ErrorKind.TheVariants.{DisplayHe
 ghost use Rattle.kalah_jobs.specs.declared.files.question.Question.{Question};
 ghost use Rattle.kalah_cli.specs.Ask.{StopsBetweenLines};
 ghost use Rattle.kalah_cli.specs.Ends.{FailsWithoutOutput, IsPrinted, ended_by};
+ghost use Rattle.kalah_cli.specs.KnownRuns.{SolvesByItsWords};
 ghost use Rattle.kalah_cli.specs.Play.{PlaysBestGames};
 ghost use Rattle.kalah_cli.specs.Request.{Asked, IsInRange, IsTakenAs, ask, request_asks, texts_of};
 ghost use Rattle.kalah_cli.specs.Runs.{Does, DoesWhatIsAsked, IsOfNoInput, MovesByItsWords, RefusesArguments, version_line};
@@ -15,6 +16,7 @@ use crate::failure::{Failure, report_end, status_of_sink};
 use crate::line::run_line;
 use crate::request::{Request, parse};
 use crate::solve_files::run_files;
+use crate::sources::Sources;
 use crate::status::ExitStatus;
 use crate::terminal::Terminal;
 use crate::tips::report_refused;
@@ -23,8 +25,8 @@ use clap::Error;
 use clap::error::ErrorKind;
 use kalah_jobs::{Sink, flush_unless_failed, write_unless_failed};
 use std::alloc::Global;
-use std::io::{Input, Write};
-use std::rt::{Clock, Files};
+use std::io::Write;
+use std::rt::Clock;
 use std::sync::Wait;
 use std::thread::Threads;
 
@@ -73,7 +75,7 @@ fn refuse<O: Sink, E: Write>(
 }
 
 // Carries out the request.
-fn run_request<'a, R: Files + Input + Clock + Terminal + Threads + Wait + Sync, O: Sink, E: Write>(
+fn run_request<'a, R: Sources + Clock + Terminal + Threads + Wait + Sync, O: Sink, E: Write>(
     rt: &R,
     alloc: Global,
     request: &Request<'a>,
@@ -83,7 +85,8 @@ fn run_request<'a, R: Files + Input + Clock + Terminal + Threads + Wait + Sync, 
 ) -> Result<ExitStatus, Failure<'a>>
     requires range { IsInRange request.now }
     requires sink { O.has_failed out.old ≡ false }
-    ensures { Does O.written O.has_failed O.is_handed_on out.old out.new (ended_by result) (request_asks request.now) }
+    ensures { Does O.written O.has_failed O.is_handed_on out.old out.new (ended_by result) (R.may_give rt.now)
+        (request_asks request.now) }
 {
     match request {
         Request::Line { line, command } => run_line(alloc, line, command, with_tips, out, err),
@@ -91,7 +94,7 @@ fn run_request<'a, R: Files + Input + Clock + Terminal + Threads + Wait + Sync, 
         Request::Ask { question, table } => {
             run_ask(
                 alloc,
-                rt.reader(),
+                rt.standard_input(),
                 rt.is_typed(),
                 *question,
                 *table,
@@ -115,7 +118,7 @@ fn run_request<'a, R: Files + Input + Clock + Terminal + Threads + Wait + Sync, 
 ///
 /// Answers, help and the version go to `out`, and messages about failures and unread lines to `err`. A failing write to `err` changes
 /// nothing.
-pub fn run_words<R: Files + Input + Clock + Terminal + Threads + Wait + Sync, O: Sink, E: Write>(
+pub fn run_words<R: Sources + Clock + Terminal + Threads + Wait + Sync, O: Sink, E: Write>(
     rt: &R,
     alloc: Global,
     words: Vec<String>,
@@ -124,9 +127,11 @@ pub fn run_words<R: Files + Input + Clock + Terminal + Threads + Wait + Sync, O:
 ) -> ExitStatus
     requires sink { O.has_failed out.old ≡ false }
     requires named { 0 < vec_len words }
-    // Accepted arguments, in general; those of `moves LINE` also by their words.
-    ensures accepted { DoesWhatIsAsked O.written O.has_failed O.is_handed_on out.old out.new result (texts_of words.items) }
+    // Accepted arguments, in general; those of `moves LINE` and `solve FILE` also by their words.
+    ensures accepted { DoesWhatIsAsked O.written O.has_failed O.is_handed_on out.old out.new result (R.may_give rt.now)
+        (texts_of words.items) }
     ensures by_words { MovesByItsWords O.written (texts_of words.items) out.old out.new result }
+    ensures solved { SolvesByItsWords O.written out.old out.new result (texts_of words.items) (R.may_give rt.now) }
     // The game of `play` is one of best play.
     ensures best_play { PlaysBestGames }
     // Arguments that are refused, as those that ask for help or for the version.

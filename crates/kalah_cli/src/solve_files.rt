@@ -1,16 +1,18 @@
 //! `kalah solve FILE..`, `kalah values FILE..` and `kalah steps FILE..`.
-ghost use Rattle.std.specs.Prelude.{◌≡◌, ◌↔◌, IfOk, IsErrOf, false, map, true};
+ghost use Rattle.std.specs.Prelude.{◌≡◌, ◌↔◌, All, IfOk, IsErrOf, false, map, true};
 ghost use Rattle.std.specs.List.{list_any};
 ghost use Rattle.kalah_jobs.specs.Writing.Output.{output_to};
 ghost use Rattle.kalah_run.specs.Batch.Answering.{AnswersBatch};
 ghost use Rattle.kalah_cli.specs.Ends.{ended_by};
 ghost use Rattle.kalah_cli.specs.Request.{IsInLimits};
 ghost use Rattle.kalah_cli.specs.SolveFiles.{AnswersFiles, has_line_feed};
+ghost use Rattle.kalah_cli.specs.Sources.{file_named};
 
 use crate::failure::Failure;
 use crate::files::read_files;
 use crate::progress::Progress;
 use crate::request::FilesRequest;
+use crate::sources::Sources;
 use crate::status::ExitStatus;
 use crate::terminal::Terminal;
 use crate::tips::advise_on_files;
@@ -18,7 +20,7 @@ use kalah_jobs::{FileText, Sink};
 use kalah_run::{BatchRequest, OpenGate, Rest, RunFault, Tally, answer_batch};
 use std::alloc::Global;
 use std::io::Write;
-use std::rt::{Clock, Files};
+use std::rt::Clock;
 use std::sync::Wait;
 use std::thread::Threads;
 
@@ -31,13 +33,14 @@ fn any_has_line_feed(names: &[&str]) -> bool
 
 // Returns the files of these names, each read whole. Fails with `LineFeed` exactly if one of the names has a line feed in it.
 #[tactic(auto, using(crate::proofs::RunLemmas::texts_have_line_feed))]
-fn read_named<'a, R: Files>(
+fn read_named<'a, R: Sources>(
     rt: &R,
     alloc: Global,
     names: &[&'a str],
 ) -> Result<Vec<FileText>, Failure<'a>>
     ensures named { IfOk result
         (λ files. map (λ file. file.name) files.items ≡ map (λ name. name.now) names.now) }
+    ensures given { IfOk result (λ files. All (λ file. R.may_give rt.now (file_named file.name) file.bytes) files.items) }
     ensures line_feed { IsErrOf result Failure.LineFeed ↔ list_any has_line_feed (map (λ name. name.now) names.now) ≡ true }
 {
     if any_has_line_feed(names) {
@@ -76,7 +79,12 @@ fn answer_files<R: Clock + Terminal + Threads + Wait + Sync, O: Sink, E: Write>(
 /// Answers what is asked of each line of the named files.
 ///
 /// Returns `Clean` if each line was read, and `LineFaults` if one was not.
-pub(crate) fn run_files<'a, R: Files + Clock + Terminal + Threads + Wait + Sync, O: Sink, E: Write>(
+pub(crate) fn run_files<
+    'a,
+    R: Sources + Clock + Terminal + Threads + Wait + Sync,
+    O: Sink,
+    E: Write,
+>(
     rt: &R,
     alloc: Global,
     request: &FilesRequest<'a>,
@@ -85,7 +93,7 @@ pub(crate) fn run_files<'a, R: Files + Clock + Terminal + Threads + Wait + Sync,
 ) -> Result<ExitStatus, Failure<'a>>
     requires limits { IsInLimits request.now }
     requires sink { O.has_failed out.old ≡ false }
-    ensures { AnswersFiles O.written O.has_failed O.is_handed_on out.old out.new (ended_by result) request.now.question
+    ensures { AnswersFiles O.written O.has_failed O.is_handed_on out.old out.new (ended_by result) (R.may_give rt.now) request.now.question
         (map (λ name. name.now) request.now.files.items) }
 {
     let files = read_named(rt, alloc, request.files.as_slice())?;

@@ -2,6 +2,7 @@ ghost use Rattle.std.specs.Prelude.{◌<◌, vec_len};
 
 mod help;
 mod hostile;
+mod known;
 mod solving;
 
 use super::run_words;

@@ -1,3 +1,4 @@
+use Rattle.std.proofs.lemmas.Grind.{common_steps}
 use Rattle.std.proofs.Common.{◌<◌, ◌≤◌, ◌+◌, ◌-◌, ◌∙◌, ℕ, List, ap, arith, get_or, length, subst, sym}
 use Rattle.std.specs.Prelude.{Contains, sum_by}
 use Rattle.std.proofs.lemmas.List.{take_all}
@@ -67,3 +68,6 @@ returns-clause-given g c =
     (sym (lines_are c.args.depth c.args.board.now c.requires.low))
     (given_all _ _ (line_of c.args.depth c.args.board.now) c.loop-i.invariant.same c.loop-i.i _ _ c.loop-i.invariant.given
     (omega (arith, c.loop-i-test.false, c.len-i-end.ensures)))
+
+pub loop-i-init : goal.loop-i-init
+loop-i-init g c = grind (arith, common_steps)

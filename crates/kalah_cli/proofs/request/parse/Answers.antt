@@ -1,4 +1,5 @@
-use Rattle.std.proofs.Common.{◌≡◌, map, rules, subst, sym}
+use Rattle.std.proofs.lemmas.Grind.{common_steps}
+use Rattle.std.proofs.Common.{◌≡◌, map, rules, subst, sym, arith}
 use Rattle.std.proofs.lemmas.Result.{IfOk-weaker}
 use Rattle.clap.specs.Words.{HasKind, fault_of}
 use Rattle.clap.specs.declared.error.Error.{Error}
@@ -13,14 +14,14 @@ unwrap-requires g c =
     let words = map g.S.AsStr.text c.args.words.now in
     let read = parsed _ words _ c.in_ok-command.ensures c.in_ok-matches.ensures.kinds
     (λ simple. (c.in_ok-matches.ensures.matches simple).1) in
-    search rules
+    grind (arith, common_steps)
 
 pub requested-requires : goal.requested-requires
 requested-requires g c =
     let words = map g.S.AsStr.text c.args.words.now in
     let read = parsed _ words _ c.in_ok-command.ensures c.in_ok-matches.ensures.kinds
     (λ simple. (c.in_ok-matches.ensures.matches simple).1) in
-    search rules
+    grind (arith, common_steps)
 
 pub returns-clause-taken : goal.returns-clause-taken
 returns-clause-taken g c =
@@ -47,3 +48,6 @@ has_kind g c e same =
 
 pub returns-in_err-matches-clause-kinds : goal.returns-in_err-matches-clause-kinds
 returns-in_err-matches-clause-kinds g c = on_error _ _ _ _ c.from_residual-in_err-matches.ensures.1 (has_kind g c)
+
+pub returns-clause-range : goal.returns-clause-range
+returns-clause-range g c = grind (arith, common_steps)

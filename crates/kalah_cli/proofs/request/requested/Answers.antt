@@ -1,3 +1,4 @@
+use Rattle.std.proofs.lemmas.Grind.{common_steps}
 use Rattle.std.proofs.Common.{◌∙◌, ap, arith, codes, is_some, refl, sym}
 use Rattle.clap.specs.Words.{found_of, rows_of}
 use Rattle.kalah_rules.specs.Limits.{most_depth}
@@ -50,3 +51,21 @@ returns-clause-range c = elim c.match-name.branch [
       (sym w.given_byte-in-count.ensures ∙ w.unwrap.ensures) in
       rw w.command-is depth.1
 ]
+
+pub files_request-requires-in-steps : goal.files_request-requires-in-steps
+files_request-requires-in-steps c = grind (arith, common_steps)
+
+pub files_request-requires-in-values : goal.files_request-requires-in-values
+files_request-requires-in-values c = grind (arith, common_steps)
+
+pub files_request-requires : goal.files_request-requires
+files_request-requires c = grind (arith, common_steps)
+
+pub returns-in-steps-clause-asked : goal.returns-in-steps-clause-asked
+returns-in-steps-clause-asked c = grind (arith, common_steps)
+
+pub returns-in-solve-clause-asked : goal.returns-in-solve-clause-asked
+returns-in-solve-clause-asked c = grind (arith, common_steps)
+
+pub unreachable-requires : goal.unreachable-requires
+unreachable-requires c = grind (arith, common_steps)

@@ -1,4 +1,5 @@
-use Rattle.std.proofs.Common.{subst, sym}
+use Rattle.std.proofs.lemmas.Grind.{common_steps}
+use Rattle.std.proofs.Common.{subst, sym, arith}
 use Rattle.std.proofs.lemmas.Bool.{false_from_ne_true}
 use Rattle.kalah_cli.specs.Ends.{IsPrinted}
 use Rattle.kalah_cli.specs.Runs.{version_line}
@@ -13,3 +14,12 @@ returns-clause-version g c = λ help clean. elim c.match-kind.branch [
       (sym w.out-is) w.print_text-in-DisplayVersion.ensures in
       (printed.given.whole (false_from_ne_true _ (λ failed. let bad = c.status_of_sink.ensures.failed.0 failed in cc))).1
 ]
+
+pub returns-in_default-kind : goal.returns-in_default-kind
+returns-in_default-kind g c = grind (arith, common_steps)
+
+pub returns-clause-mistake : goal.returns-clause-mistake
+returns-clause-mistake g c = grind (arith, common_steps)
+
+pub returns-clause-unchanged : goal.returns-clause-unchanged
+returns-clause-unchanged g c = grind (arith, common_steps)

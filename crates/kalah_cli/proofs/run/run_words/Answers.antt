@@ -6,6 +6,7 @@ use Rattle.kalah_cli.specs.Command.{kalah_app}
 use Rattle.kalah_cli.specs.Ends.{FailsWithoutOutput}
 use Rattle.kalah_cli.specs.Request.{Asked, AsksNot, IsTakenAs, ask, request_asks, texts_of}
 use Rattle.kalah_cli.specs.Runs.{Does}
+use Rattle.kalah_cli.proofs.KnownLemmas.{solves_by_words}
 use Rattle.kalah_cli.proofs.RunLemmas.{stops_at_once, by_words, no_request, run_ends, run_fails, run_hands_on}
 use Rattle.kalah_cli.proofs.RequestLemmas.{taken_at, taken_once}
 use Rattle.kalah_cli.proofs.GameLemmas.{plays_best}
@@ -25,16 +26,21 @@ is_asked g c a taken = taken_once (texts_of c.args.words.items) (request_asks c.
 
 -- which is done
 does : (g : Over) (c : After-drop-words g) (a : Asked) → request_asks c.in-Ok.request ≡ a
-    → Does g.O.Sink.written g.O.Sink.has_failed g.O.Sink.is_handed_on c.args.out.now c.run_request-ended.new.out c.report_end.result a
+    → Does g.O.Sink.written g.O.Sink.has_failed g.O.Sink.is_handed_on c.args.out.now c.run_request-ended.new.out c.report_end.result
+    (g.R.Sources.may_give c.args.rt.now) a
 does g c a is =
-    subst (Does g.O.Sink.written g.O.Sink.has_failed g.O.Sink.is_handed_on c.args.out.now c.run_request-ended.new.out c.report_end.result) is
+    subst (Does g.O.Sink.written g.O.Sink.has_failed g.O.Sink.is_handed_on c.args.out.now c.run_request-ended.new.out c.report_end.result
+    (g.R.Sources.may_give c.args.rt.now)) is
     (rw c.report_end.ensures c.run_request-ended.ensures)
 
 pub returns-in-Ok-clause-accepted : goal.returns-in-Ok-clause-accepted
 returns-in-Ok-clause-accepted g c = λ a taken. inl (does g c a (is_asked g c a taken))
 
 pub returns-in-Ok-clause-by_words : goal.returns-in-Ok-clause-by_words
-returns-in-Ok-clause-by_words g c = by_words _ _ _ _ _ _ _ (returns-in-Ok-clause-accepted g c)
+returns-in-Ok-clause-by_words g c = by_words _ _ _ _ _ _ _ _ (returns-in-Ok-clause-accepted g c)
+
+pub returns-in-Ok-clause-solved : goal.returns-in-Ok-clause-solved
+returns-in-Ok-clause-solved g c = solves_by_words _ _ _ _ _ _ (g.R.Sources.may_give c.args.rt.now) _ (returns-in-Ok-clause-accepted g c)
 
 pub returns-in-Ok-clause-best_play : goal.returns-in-Ok-clause-best_play
 returns-in-Ok-clause-best_play g c = plays_best
@@ -51,19 +57,19 @@ returns-in-Ok-clause-refused g c = record {
 }
 
 pub returns-in-Ok-clause-failed : goal.returns-in-Ok-clause-failed
-returns-in-Ok-clause-failed g c = run_fails _ _ _ c.requires.sink _ (does g c _ refl)
+returns-in-Ok-clause-failed g c = run_fails _ _ _ c.requires.sink (g.R.Sources.may_give c.args.rt.now) _ (does g c _ refl)
 
 pub returns-in-Ok-clause-unchanged : goal.returns-in-Ok-clause-unchanged
 returns-in-Ok-clause-unchanged g c = λ none.
-    (run_ends _ _ _ c.requires.sink _ (none _ (request_taken g c)) (does g c _ refl)).unchanged
+    (run_ends _ _ _ c.requires.sink (g.R.Sources.may_give c.args.rt.now) _ (none _ (request_taken g c)) (does g c _ refl)).unchanged
 
 pub returns-in-Ok-clause-stopped : goal.returns-in-Ok-clause-stopped
 returns-in-Ok-clause-stopped g c = λ question table taken failed sound.
     let does = does g c (ask question table) (is_asked g c (ask question table) taken) in
-    (does.0, does.1.left, does.1.stopped failed sound)
+    (does.0, does.1.1.left, does.1.1.stopped failed sound)
 
 pub returns-in-Ok-clause-handed_on : goal.returns-in-Ok-clause-handed_on
-returns-in-Ok-clause-handed_on g c = run_hands_on _ _ _ c.requires.sink _ (does g c _ refl)
+returns-in-Ok-clause-handed_on g c = run_hands_on _ _ _ c.requires.sink (g.R.Sources.may_give c.args.rt.now) _ (does g c _ refl)
 
 -- ---- the parse failed
 
@@ -93,7 +99,10 @@ pub returns-clause-accepted : goal.returns-clause-accepted
 returns-clause-accepted g c = λ a taken. inr (failed g c a taken)
 
 pub returns-clause-by_words : goal.returns-clause-by_words
-returns-clause-by_words g c = by_words _ _ _ _ _ _ _ (returns-clause-accepted g c)
+returns-clause-by_words g c = by_words _ _ _ _ _ _ _ _ (returns-clause-accepted g c)
+
+pub returns-clause-solved : goal.returns-clause-solved
+returns-clause-solved g c = solves_by_words _ _ _ _ _ _ (g.R.Sources.may_give c.args.rt.now) _ (returns-clause-accepted g c)
 
 pub returns-clause-best_play : goal.returns-clause-best_play
 returns-clause-best_play g c = plays_best

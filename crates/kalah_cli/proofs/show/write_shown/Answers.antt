@@ -1,4 +1,5 @@
-use Rattle.std.proofs.Common.{◌≡◌, ◌∷◌, [], ◌++◌, ◌∙◌, refl, subst, sym}
+use Rattle.std.proofs.lemmas.Grind.{common_steps}
+use Rattle.std.proofs.Common.{◌≡◌, ◌∷◌, [], ◌++◌, ◌∙◌, refl, subst, sym, arith}
 use Rattle.kalah_rules.specs.Position.{Position}
 use Rattle.kalah_jobs.specs.Files.Lines.{line_feed}
 use Rattle.kalah_jobs.specs.Writing.Given.{WasGiven}
@@ -27,3 +28,6 @@ returns g c =
     (sym (shown_parts c.args.board.now))
     (printed_flushed _ _ _ _ _ _ _ (given_then _ _ _ _ _ _ _ c.write_plain.ensures.given c.write_values.ensures)
     c.flush_unless_failed.ensures.given c.flush_unless_failed.ensures.handed_on)
+
+pub values-values-requires-clause-shown : goal.values-values-requires-clause-shown
+values-values-requires-clause-shown g c = grind (arith, common_steps)

@@ -1,4 +1,5 @@
-use Rattle.std.proofs.Common.{rules, ◌∙◌, refl, sym}
+use Rattle.std.proofs.lemmas.Grind.{common_steps}
+use Rattle.std.proofs.Common.{rules, ◌∙◌, refl, sym, arith}
 use Rattle.std.proofs.lemmas.Bool.{both_ways}
 use Rattle.kalah_jobs.proofs.AskingLemmas.{all_answered, begun_last, begun_line, begun_so_far, byte_read, cut_off, fine_is_no_fault, line_read, nothing_read, written_is_not_read}
 use Rattle.kalah_jobs.proofs.asking.answer_lines.answer_each.Goals as goal
@@ -81,3 +82,6 @@ returns-clause-begins g c =
 
 pub returns-clause-none_left : goal.returns-clause-none_left
 returns-clause-none_left g c = fine_is_no_fault
+
+pub loop-byte-smaller : goal.loop-byte-smaller
+loop-byte-smaller g c = grind (arith, common_steps)

@@ -1,3 +1,4 @@
+use Rattle.std.proofs.lemmas.Grind.{common_steps}
 use Rattle.std.proofs.Common.{arith}
 use Rattle.std.proofs.lemmas.List.Sums.{count_by-le-length}
 use Rattle.kalah_jobs.specs.Writing.Answer.{is_faulty_entry}
@@ -8,3 +9,6 @@ pub overflow_add-faults : goal.overflow_add-faults
 overflow_add-faults c =
     let few = count_by-le-length is_faulty_entry c.loop-rest.entries.items in
     omega (arith, few, c.loop-rest.invariant.faults, c.loop-rest.entries.ok, c.loop-rest.entries.small)
+
+pub loop-rest-preserved : goal.loop-rest-preserved
+loop-rest-preserved c = grind (arith, common_steps)

@@ -4,3 +4,6 @@ use Rattle.kalah_jobs.proofs.collecting.collector.Collector.new.Goals as goal
 
 pub loop-f-preserved : goal.loop-f-preserved
 loop-f-preserved c = grind (arith, common_steps)
+
+pub returns-clause-empty : goal.returns-clause-empty
+returns-clause-empty c = grind (arith, common_steps)

@@ -66,3 +66,6 @@ loop-file-preserved c =
       room = omega (arith, c.push_reserved-in-loop-file.ensures.capacity, so_far.room);
       starts_room = omega (arith, c.push_reserved.ensures.capacity, so_far.starts_room);
     }
+
+pub returns-in_err-faults-clause-too_many_files : goal.returns-in_err-faults-clause-too_many_files
+returns-in_err-faults-clause-too_many_files c = grind (arith, common_steps)

@@ -1,4 +1,5 @@
-use Rattle.std.proofs.Common.{◌∷◌, ◌++◌, []}
+use Rattle.std.proofs.lemmas.Grind.{common_steps}
+use Rattle.std.proofs.Common.{◌∷◌, ◌++◌, [], arith}
 use Rattle.kalah_jobs.proofs.LineLemmas.{begins_taking, house_follows, no_house, no_store, nothing_follows, store_follows}
 use Rattle.kalah_jobs.proofs.line.side.Side.take.Goals as goal
 
@@ -34,3 +35,6 @@ loop-seeds-preserved c =
     let so_far = c.loop-seeds.invariant in
     house_follows so_far c.in_ok-seeds.ensures.is c.in_ok-mark.ensures.cases.0 c.if-mark-ne44.false
     (c.push.ensures.houses so_far.houses so_far.has) c.push.ensures.one
+
+pub loop-seeds-smaller : goal.loop-seeds-smaller
+loop-seeds-smaller c = grind (arith, common_steps)

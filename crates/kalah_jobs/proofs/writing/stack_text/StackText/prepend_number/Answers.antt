@@ -1,3 +1,4 @@
+use Rattle.std.proofs.lemmas.Grind.{common_steps}
 use Rattle.std.proofs.Common.{rules, arith}
 use Rattle.kalah_jobs.proofs.WritingLemmas.{piece_before, number_is_text}
 use Rattle.kalah_jobs.proofs.writing.stack_text.StackText.prepend_number.Goals as goal
@@ -9,3 +10,6 @@ invariant_of-self c = (
   piece_before _ _ _ c.write_digits-self-inside.ensures.written (number_is_text c.args.n (omega (arith, c.ranges.n.fits)))
       c.self.invariant.2,
 )
+
+pub returns-clause-longer : goal.returns-clause-longer
+returns-clause-longer c = grind (arith, common_steps)

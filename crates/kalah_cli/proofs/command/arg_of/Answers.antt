@@ -1,0 +1,18 @@
+use Rattle.std.proofs.Common.{arith}
+use Rattle.std.proofs.lemmas.Grind.{common_steps}
+use Rattle.kalah_cli.proofs.command.arg_of.Goals as goal
+
+pub returns-in-Some : goal.returns-in-Some
+returns-in-Some c = grind (arith, common_steps)
+
+pub returns-in-None : goal.returns-in-None
+returns-in-None c = grind (arith, common_steps)
+
+pub returns-in-PositionalNumber : goal.returns-in-PositionalNumber
+returns-in-PositionalNumber c = grind (arith, common_steps)
+
+pub returns-in-PositionalText : goal.returns-in-PositionalText
+returns-in-PositionalText c = grind (arith, common_steps)
+
+pub returns-in-Flag : goal.returns-in-Flag
+returns-in-Flag c = grind (arith, common_steps)

@@ -1,0 +1,15 @@
+use Rattle.std.proofs.Common.{◌≡◌, ◌∙◌, Some, ap, find, option_map, rules, sym, tests}
+use Rattle.std.specs.Str.{bytes_eq}
+use Rattle.std.proofs.lemmas.Iterator.{YieldsList-from_slice}
+use Rattle.std.proofs.lemmas.Iterator.Search.{find_from_yields_List}
+use Rattle.kalah_jobs.specs.Files.NamedBytes.{NamedBytes}
+use Rattle.kalah_cli.proofs.run.tests.known.KnownSources.open.Goals as goal
+
+pub returns-in-Some : goal.returns-in-Some
+returns-in-Some g c =
+    let disk = c.args.self.now.disk.now in
+    let found = find_from_yields_List (λ (file : NamedBytes). bytes_eq file.name c.args.name.now) _ _ c.find.result c.find.ensures.ran
+    (YieldsList-from_slice disk cc) (λ x b q k. search (rules, tests)) in
+    let bytes : c.in-Some.file.now.bytes ≡ c.as_slice.result.now = cc in
+    ap (option_map (λ (file : NamedBytes). file.bytes)) (sym found)
+    ∙ ap (λ r. option_map (λ (file : NamedBytes). file.bytes) (option_map (λ f. f.now) r)) c.in-Some.is ∙ ap (λ l. Some l) bytes

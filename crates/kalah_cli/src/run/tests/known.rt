@@ -1,0 +1,122 @@
+//! Runs over files and a standard input that are known, so that a contract sees them.
+ghost use Rattle.std.specs.Prelude.{◌<◌, vec_len};
+ghost use Rattle.kalah_cli.specs.KnownRuns.{AnswersWhatIsKnown};
+ghost use Rattle.kalah_cli.specs.Request.{texts_of};
+ghost use Rattle.kalah_cli.specs.Sources.{known_bytes};
+
+use super::{Host, run_words, words_of};
+use crate::sources::Sources;
+use crate::status::ExitStatus;
+use crate::status::ExitStatus::{Clean, Failed, LineFaults};
+use crate::terminal::Terminal;
+use kalah_jobs::{FileText, Stream};
+use std::alloc::Global;
+use std::io;
+use std::io::ErrorKind;
+use std::rt::Clock;
+use std::sync::Wait;
+use std::thread::Threads;
+use std::time::Duration;
+
+/// A runtime with this disk and this standard input.
+#[derive(Clone, Copy)]
+struct Known<'a, R> {
+    rt: &'a R,
+    disk: &'a [FileText],
+    typed: &'a [u8],
+}
+
+impl<R: Threads> Threads for Known<'_, R> {}
+
+impl<R: Wait> Wait for Known<'_, R> {}
+
+impl<R: Clock> Clock for Known<'_, R> {
+    fn monotonic(&self) -> io::Result<Duration> {
+        self.rt.monotonic()
+    }
+
+    fn since_1970(&self) -> io::Result<Duration> {
+        self.rt.since_1970()
+    }
+}
+
+impl<R> Terminal for Known<'_, R> {
+    fn is_typed(&self) -> bool {
+        false
+    }
+
+    fn shows_answers(&self) -> bool {
+        false
+    }
+
+    fn shows_errors(&self) -> bool {
+        false
+    }
+}
+
+impl<'a, R> Sources for Known<'a, R> {
+    type File = &'a [u8];
+
+    type Standard = &'a [u8];
+
+    ghost may_give = { λ known. known_bytes known.disk.now known.typed.now };
+
+    fn open(&self, name: &str) -> io::Result<&'a [u8]> {
+        match self.disk.iter().find(|file| file.name.as_str() == name) {
+            Some(file) => Ok(file.bytes.as_slice()),
+            None => Err(io::Error::from(ErrorKind::NotFound)),
+        }
+    }
+
+    fn standard_input(&self) -> &'a [u8] {
+        self.typed
+    }
+}
+
+// Returns the status and the output of a run over this disk and this standard input. Unless it failed, both are pinned.
+fn run_over<R: Clock + Threads + Wait + Sync>(
+    rt: &R,
+    alloc: Global,
+    disk: &[FileText],
+    typed: &[u8],
+    words: Vec<String>,
+) -> (ExitStatus, Vec<u8>)
+    requires { 0 < vec_len words }
+    ensures { AnswersWhatIsKnown result.0 result.1.items disk.now typed.now (texts_of words.items) }
+{
+    let known = Known { rt, disk, typed };
+    let mut out = Stream::new(Vec::new(alloc));
+    let mut err = Vec::<u8>::new(alloc);
+    let status = run_words(&known, alloc, words, &mut out, &mut err);
+    (status, out.into_inner())
+}
+
+// A file of this name and these bytes.
+fn file(rt: &impl Host, name: &str, bytes: &[u8]) -> FileText {
+    FileText {
+        name: String::from_str(rt.alloc(), name).expect(rt, "no memory"),
+        bytes: bytes.to_vec(rt.alloc()).expect(rt, "no memory"),
+    }
+}
+
+const RUNS: &[(&[&str], ExitStatus, &str)] = &[
+    (&["solve", "a"], LineFaults, "a:1 2 house 2\na:2 fault shape\n"),
+    (&["values", "b", "b"], Clean, "b:1 1:0\nb:1 1:0\n"),
+    (&["solve", "b", "a"], LineFaults, "b:1 0 house 1\na:1 2 house 2\na:2 fault shape\n"),
+    (&["solve", "a", "c"], Failed, ""),
+    (&["ask"], LineFaults, "6 house 1\nfault empty\n"),
+];
+
+#[test]
+fn what_is_known_is_answered(rt: HostRuntime) {
+    let disk = [
+        file(&rt, "a", b"1,1/0 1,1/0\n1/0"),
+        file(&rt, "b", b"1/0 1/0\n"),
+    ];
+    for (words, status, want) in RUNS {
+        let words = words_of(&rt, *words);
+        let (ended, out) = run_over(&rt, rt.alloc(), &disk, b"3/0 3/0\n\n", words);
+        assert!(rt; ended == *status);
+        assert!(rt; out.as_slice() == want.as_bytes());
+    }
+}
