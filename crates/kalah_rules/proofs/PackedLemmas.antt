@@ -161,14 +161,6 @@ module _ (a : Rows) (h : ℕ) (w : IsWithinHouses a) (holds : HoldsSeeds (bare a
       store ≡ store_gained (length a.own) h (seeds a.own h) → IsPackedPosition (record { rows = rows; store = store }) q
   rows_show rows store rows_are store_is' = omega (arith, own_small, store_is)
 
-  -- and are numbers of 60 bits
-  pub sown_small : number_of q.own + 2 ^ 30 * number_of q.other < 2 ^ 60
-  sown_small =
-      let other_small = number_of-small 6 q.other
-      (omega (arith, sown_keeps.other_side, w.same_side))
-      (omega (arith, few)) in
-      omega (arith, own_small)
-
   -- a house whose last seed falls into the store without a lap
   pub into_store : (rows house own_more : ℕ) → seeds a.own h + h ≡ length a.own + 1
       → rows ≡ number_of a.own + 2 ^ 30 * number_of a.other →
@@ -384,11 +376,6 @@ over_swapped q going = grind arith
 -- the houses of a board are within their limits
 pub rows_within : (p : Position) → IsWithinLimits p → IsWithinHouses (rows_of p)
 rows_within p l = omega arith
-
--- and with them a board, if each store leaves room for their seeds
-limits_with : {a : Rows} {own other : ℕ} → IsWithinHouses a → own + seeds_in_houses (bare a) ≤ most_in_play →
-    other + seeds_in_houses (bare a) ≤ most_in_play → IsWithinLimits (with_stores a own other)
-limits_with w own other = omega arith
 
 -- a move keeps the houses within the limits
 pub after_within : (a : Rows) (h : ℕ) → IsWithinHouses a → HoldsSeeds (bare a) h → IsWithinHouses (rows_of (after (bare a) h))

@@ -406,12 +406,6 @@ first_up (suc (suc (suc (suc (suc zero))))) most = omega arith
 first_up (suc (suc (suc (suc (suc (suc zero)))))) most = omega arith
 first_up (suc (suc (suc (suc (suc (suc (suc m))))))) most = omega arith
 
-first_more : (m d : ℕ) → m + d ≤ 7 → first m ≤ first (m + d)
-first_more m zero most = grind arith
-first_more m (suc d) most =
-    let next : m + suc d ≡ suc (m + d) = omega arith in
-    rw next (omega (arith, first_more m d (omega arith), first_up))
-
 first_rises : (m n : ℕ) → m ≤ n → n ≤ 7 → first m ≤ first n
 first_rises m n below most = grind arith
 
