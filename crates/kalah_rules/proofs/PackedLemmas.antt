@@ -18,7 +18,6 @@ use Rattle.kalah_rules.specs.declared.houses.sowings.Sowing.{Sowing}
 use Rattle.kalah_rules.specs.Sowings.{own_gained, other_gained, store_gained, last_place, IsLastHouse, IsSowing, IsSowingCell, AreSowings}
 use Rattle.kalah_rules.proofs.KeyLemmas.{number_of-small, pow_five, pow_other, low_cell, moved_far, placed_small, number_of-set, number_of-all, number_of-up_to, read_seeds, own_sown, other_sown, own_gain, other_gain, IsPackOf, pack_of, packed_as, sum-zero, number_of-zero}
 use Rattle.std.proofs.lemmas.List.{length-replicate, get_or-set_same, get_or-set_other}
-use Rattle.kalah_rules.specs.Limits.{most_in_play}
 use Rattle.kalah_rules.specs.Play.{legal_houses, step_to, step_of}
 use Rattle.kalah_rules.specs.Measure.{IsNearerEnd}
 use Rattle.kalah_rules.specs.HousesStep.{houses_step_to, houses_step}

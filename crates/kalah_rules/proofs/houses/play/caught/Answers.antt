@@ -1,4 +1,4 @@
-use Rattle.std.proofs.Common.{arith, ◌≡◌, ◌+◌, ◌<◌, ◌^◌, ◌&&◌, ◌∙◌, ℕ, Bool, true, false, ◌∷◌, [], get_or, MatchBool, cond, bit_and}
+use Rattle.std.proofs.Common.{arith, ◌≡◌, ◌+◌, ◌<◌, ◌^◌, ◌&&◌, ℕ, Bool, true, false, ◌∷◌, [], get_or, MatchBool, cond, bit_and}
 use Rattle.std.proofs.lemmas.Nat.{and_le_l, and_le_r, and_mask}
 use Rattle.kalah_rules.specs.Sowing.{captures}
 use Rattle.kalah_rules.proofs.houses.play.caught.Goals as goal
