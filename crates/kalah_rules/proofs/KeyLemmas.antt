@@ -8,8 +8,8 @@ use Rattle.std.proofs.lemmas.Bool.{cases_eq}
 use Rattle.kalah_rules.specs.Position.{seeds, Rows, IsWithinHouses, seeds_in_houses, bare, without_seeds}
 use Rattle.kalah_rules.specs.Sowing.{row_of, lap_length, gain, own_distance, other_distance}
 use Rattle.kalah_rules.proofs.PlayLemmas.{range_more, length-row_of, same_as_row, row_of_same, seeds-set_same, seeds-set_other, sum-zeros}
-use Rattle.kalah_rules.specs.Key.{number_of, cells, rule_bit, key_of, side_at, rows_at, IsKey}
-use Rattle.kalah_rules.specs.Packed.{ones, up_to, IsPacked, IsPackedRow}
+use Rattle.kalah_rules.specs.Key.{number_of, cells, rule_bit, rows_number, key_of, game_of, side_at, rows_at, IsKey}
+use Rattle.kalah_rules.specs.Packed.{ones, up_to, unpacked, IsPacked, IsPackedRow}
 use Rattle.kalah_rules.specs.Sowings.{own_gained, other_gained, store_gained}
 use Rattle.std.proofs.lemmas.Grind.{same_number_lists}
 use Rattle.std.proofs.Math.Seq.{take-append_seam, drop-append_seam}
@@ -389,30 +389,38 @@ rows_at_key {a} h =
     rows_of_key a _ _ h refl (rule_at-bit _ bit)
 
 -- a key fits sixty-four bits
-key_of-small : (b : Rows) → IsWithinHouses b → key_of b < 2 ^ 64
-key_of-small b h = grind (arith, number_of-small)
+pub key_fits : (b : Rows) → IsWithinHouses b → key_of b < 2 ^ 64
+key_fits b h = grind (arith, number_of-small)
 
--- the key of houses, with their number of seeds, is those houses packed
-pub packed_as : (b : Rows) (k s : ℕ) → IsWithinHouses b → k ≡ key_of b → s ≡ seeds_in_houses (bare b) → IsPacked k s
-    × (rows_at k ≡ b)
-packed_as b k s h e seeds_are = grind (arith, rows_at_key)
-
--- and fits sixty-four bits
-pub packed_fits : {k s : ℕ} → IsPacked k s → k < 2 ^ 64
-packed_fits {k} is = omega (arith, key_of-small)
+-- the parts of the key of houses, with their number of seeds, are those houses packed
+pub packed_as : (b : Rows) (rows seeds game : ℕ) → IsWithinHouses b → rows ≡ rows_number b → seeds ≡ seeds_in_houses (bare b) →
+    game ≡ game_of b → IsPacked rows seeds game × (unpacked rows game ≡ b)
+packed_as b rows seeds game h rows_are seeds_are game_is =
+    let key_is : rows + 2 ^ 60 * game ≡ key_of b = omega arith in
+    let same : unpacked rows game ≡ b = ap rows_at key_is ∙ rows_at_key h in
+    grind arith
 
 -- what the fields of packed houses determine of the houses
-pub record IsPackOf (a : Rows) (key seeds : ℕ) : Type 0 where
+pub record IsPackOf (a : Rows) (rows seeds game : ℕ) : Type 0 where
   pub limits : IsWithinHouses a
-  pub key_is : key_of a ≡ key
+  pub rows_are : rows ≡ rows_number a
   pub seeds_are : seeds ≡ seeds_in_houses (bare a)
+  pub game_is : game ≡ game_of a
 
-pub pack_of : {a : Rows} {k s : ℕ} → IsPacked k s → rows_at k ≡ a → IsPackOf a k s
+pub pack_of : {a : Rows} {rows seeds game : ℕ} → IsPacked rows seeds game → unpacked rows game ≡ a → IsPackOf a rows seeds game
 pack_of is e = grind arith
 
--- what lies above the cells of a key
-pub above_cells : (b : Rows) (k : ℕ) → IsWithinHouses b → key_of b ≡ k → k / 2 ^ 60 ≡ length b.own + 8 * rule_bit b.rule
-above_cells b k h e = let says = key_says h e in omega arith
+-- both rows fit sixty bits, the own row thirty
+pub record AreRows (a : Rows) (rows : ℕ) : Type 0 where
+  pub fit : rows < 2 ^ 60
+  pub own : number_of a.own ≡ rows % 2 ^ 30
+  pub other : number_of a.other ≡ rows / 2 ^ 30
+
+pub rows_of_pack : {a : Rows} {rows seeds game : ℕ} → IsPackOf a rows seeds game → AreRows a rows
+rows_of_pack {a} is =
+    let own_small = number_of-small 6 a.own is.limits.at_most_six (omega (arith, is.limits.few_seeds)) in
+    let other_small = number_of-small 6 a.other (omega (arith, is.limits.same_side)) (omega (arith, is.limits.few_seeds)) in
+    omega (arith, is.rows_are)
 
 -- a row is empty exactly when its number is 0
 pub sum-zero : (xs : List ℕ) → number_of xs ≡ 0 → sum xs ≡ 0
@@ -427,19 +435,6 @@ number_of-zero (x ∷ xs) e = let cons = sum_by-cons (λ (y : ℕ). y) x xs in l
 -- a row's number is 0 if its seeds are none
 pub no_seeds : (xs : List ℕ) → nat_eq (number_of xs) 0 ≡ nat_eq (sum xs) 0
 no_seeds xs = grind (arith, number_of-zero, sum-zero)
-
--- the rows of a key as numbers
-pub own_number_at : (a : Rows) (k : ℕ) → IsWithinHouses a → key_of a ≡ k → number_of a.own ≡ k % 2 ^ 30
-own_number_at a k h e = grind (arith, number_of-small)
-
--- the other row
-pub other_number_at : (a : Rows) (k : ℕ) → IsWithinHouses a → key_of a ≡ k → number_of a.other ≡ k / 2 ^ 30 % 2 ^ 30
-other_number_at a k h e = grind (arith, number_of-small)
-
--- both rows
-pub rows_number_at : (a : Rows) (k : ℕ) → IsWithinHouses a → key_of a ≡ k
-    → k % 2 ^ 60 ≡ number_of a.own + 2 ^ 30 * number_of a.other
-rows_number_at a k h e = omega (arith, own_number_at a k h e, other_number_at a k h e)
 
 -- the number of the last houses of a row, and its bound
 pub record IsRead (xs : List ℕ) (k number : ℕ) : Type 0 where
@@ -485,16 +480,17 @@ same_key a b ha hb e =
     let bit = sym (key_says ha e).rule in
     sym (rows_of_key _ _ _ ha e bit) ∙ rows_of_key _ _ _ hb refl bit
 
--- the key without its cells is that of empty houses
-pub without_seeds_packed : {a : Rows} {k s : ℕ} → IsPackOf a k s →
-    IsPacked (k / 2 ^ 60 * 2 ^ 60) 0 × (rows_at (k / 2 ^ 60 * 2 ^ 60) ≡ without_seeds a)
-without_seeds_packed {a} {k} is =
+-- without seeds only the game is left
+pub without_seeds_packed : {a : Rows} {rows seeds game : ℕ} → IsPackOf a rows seeds game →
+    IsPacked 0 0 game × (unpacked 0 game ≡ without_seeds a)
+without_seeds_packed {a} is =
     let side = length-replicate {A = ℕ} (length a.own) 0 in
     let none = sum-zeros (length a.own) in
-    packed_as _ _ 0
+    packed_as _ 0 0 _
     (omega arith)
-    (omega (arith, above_cells a k is.limits is.key_is, number_of-zeros))
+    (omega (arith, number_of-zeros))
     (omega arith)
+    (omega (arith, is.game_is))
 
 -- ==== The houses of one side in one number
 
@@ -525,14 +521,14 @@ module _ {count number seeds : ℕ} (x : ℕ) (row : IsPackedRow count number se
 
 -- ---- two rows
 
--- the key of two rows and a rule
-pub packed_rows : {own other : List ℕ} {rule : Rule} {own_number other_number m bit seeds : ℕ} →
+-- two rows and a rule, packed
+pub packed_rows : {own other : List ℕ} {rule : Rule} {own_number other_number m game seeds : ℕ} →
     IsWithinHouses (record { own = own; other = other; rule = rule }) →
-    own_number ≡ number_of own → other_number ≡ number_of other → m ≡ length own → bit ≡ rule_bit rule
+    own_number ≡ number_of own → other_number ≡ number_of other → m ≡ length own → game ≡ m + 8 * rule_bit rule
     → seeds ≡ sum own + sum other →
-    IsPacked (own_number + 2 ^ 30 * other_number + 2 ^ 60 * (m + 8 * bit)) seeds
-    × (rows_at (own_number + 2 ^ 30 * other_number + 2 ^ 60 * (m + 8 * bit)) ≡ record { own = own; other = other; rule = rule })
-packed_rows within own_is other_is m_is bit_is seeds_are = packed_as _ _ _ within (omega arith) seeds_are
+    IsPacked (own_number + 2 ^ 30 * other_number) seeds game
+    × (unpacked (own_number + 2 ^ 30 * other_number) game ≡ record { own = own; other = other; rule = rule })
+packed_rows within own_is other_is m_is game_is seeds_are = packed_as _ _ _ _ within (omega arith) seeds_are (omega arith)
 
 -- ==== Houses from six cells a row
 
@@ -540,13 +536,13 @@ packed_rows within own_is other_is m_is bit_is seeds_are = packed_as _ _ _ withi
 sum-shown : (m : ℕ) (cells : List ℕ) → padded (take m cells) ≡ cells → sum (take m cells) ≡ sum cells
 sum-shown m cells same = grind (arith, sum-padded)
 
--- the key that is made of the cells is that of their houses
-pub packed_new : {m : ℕ} {own other : List ℕ} (rule : Rule) {own_number other_number bit seeds : ℕ} → length own ≡ 6 →
-    length other ≡ 6 → CanBeHouses m own other →
-    own_number ≡ number_of own → other_number ≡ number_of other → bit ≡ rule_bit rule → seeds ≡ sum own + sum other →
-    IsPacked (own_number + 2 ^ 30 * other_number + 2 ^ 60 * (m + 8 * bit)) seeds
-    × (rows_at (own_number + 2 ^ 30 * other_number + 2 ^ 60 * (m + 8 * bit)) ≡ rows_from m own other rule)
-packed_new {m} {own} {other} rule own_long other_long can own_is other_is bit_is seeds_are =
+-- the cells, packed
+pub packed_new : {m : ℕ} {own other : List ℕ} (rule : Rule) {own_number other_number game seeds : ℕ} → length own ≡ 6 →
+    length other ≡ 6 → CanBeHouses m own other → own_number ≡ number_of own → other_number ≡ number_of other →
+    game ≡ m + 8 * rule_bit rule → seeds ≡ sum own + sum other →
+    IsPacked (own_number + 2 ^ 30 * other_number) seeds game
+    × (unpacked (own_number + 2 ^ 30 * other_number) game ≡ rows_from m own other rule)
+packed_new {m} {own} {other} rule own_long other_long can own_is other_is game_is seeds_are =
     let own_shown = length-take-le m own (omega arith) in
     let other_shown = length-take-le m other (omega arith) in
     let own_padded = padded_from_zeros m _ own_long can.at_most_six can.own_past in
@@ -556,5 +552,6 @@ packed_new {m} {own} {other} rule own_long other_long can own_is other_is bit_is
     let own_same = number_of-shown m _ own_padded in
     let other_same = number_of-shown m _ other_padded in
     let limits : IsWithinHouses _ = omega arith in
-    packed_as _ _ _ limits (omega arith)
+    packed_as _ _ _ _ limits (omega arith)
+    (omega arith)
     (omega arith)

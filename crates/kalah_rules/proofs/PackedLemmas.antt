@@ -10,15 +10,14 @@ use Rattle.kalah_rules.specs.Position.{Position, Rows, IsWithinHouses, side_leng
 use Rattle.kalah_rules.specs.Lap.{HoldsSeeds, lifted}
 use Rattle.kalah_rules.specs.Sowing.{lap_length, own_distance, other_distance, store_distance, sow, sown, last_distance, is_again, captures, can_capture, captured, after}
 use Rattle.kalah_rules.proofs.PlayLemmas.{set_less, sow_side, sow_keeps, sow_other_store, own_distance_past, own_distance_back, last_house_own, last_house_store, last_house_other, after_at, legal_holds, after_nearer, sum-zeros, with_more, after_of_rows, legal_going}
-use Rattle.kalah_rules.specs.Key.{number_of, rows_at, rule_bit}
-use Rattle.kalah_rules.specs.Packed.{IsPackedPosition, ones, IsPacked}
+use Rattle.kalah_rules.specs.Key.{number_of, rule_bit}
+use Rattle.kalah_rules.specs.Packed.{IsPackedPosition, ones, unpacked, IsPacked}
 use Rattle.kalah_rules.specs.declared.houses.play.RowNumbers.{RowNumbers}
 use Rattle.kalah_rules.specs.declared.rule.Rule.{Rule}
 use Rattle.kalah_rules.specs.declared.houses.sowings.Sowing.{Sowing}
 use Rattle.kalah_rules.specs.Sowings.{own_gained, other_gained, store_gained, last_place, IsLastHouse, IsSowing, IsSowingCell, AreSowings}
-use Rattle.kalah_rules.proofs.KeyLemmas.{number_of-small, pow_five, pow_other, low_cell, moved_far, number_of-set, number_of-all, number_of-up_to, read_seeds, own_sown, other_sown, own_gain, other_gain, IsPackOf, pack_of, packed_as, above_cells, sum-zero, number_of-zero, rows_number_at}
+use Rattle.kalah_rules.proofs.KeyLemmas.{number_of-small, pow_five, pow_other, low_cell, moved_far, placed_small, number_of-set, number_of-all, number_of-up_to, read_seeds, own_sown, other_sown, own_gain, other_gain, IsPackOf, pack_of, packed_as, sum-zero, number_of-zero}
 use Rattle.std.proofs.lemmas.List.{length-replicate, get_or-set_same, get_or-set_other}
-use Rattle.kalah_rules.specs.Limits.{most_in_play}
 use Rattle.kalah_rules.specs.Play.{legal_houses, step_to, step_of}
 use Rattle.kalah_rules.specs.Measure.{IsNearerEnd}
 use Rattle.kalah_rules.specs.HousesStep.{houses_step_to, houses_step}
@@ -44,21 +43,23 @@ sow_rule p h k = refl
 -- rows from which houses are taken
 taken_off : (rows x y : ℕ) {own other own_new other_new : ℕ} → rows % 2 ^ 30 ≡ own → rows / 2 ^ 30 ≡ other →
     own_new + x ≡ own → other_new + y ≡ other →
-    (x ≤ rows) × (2 ^ 30 * y ≤ rows - x) × ((rows - x - 2 ^ 30 * y) % 2 ^ 30 ≡ own_new)
-    × ((rows - x - 2 ^ 30 * y) / 2 ^ 30 ≡ other_new)
+    (x + 2 ^ 30 * y ≤ rows) × ((rows - (x + 2 ^ 30 * y)) % 2 ^ 30 ≡ own_new) × ((rows - (x + 2 ^ 30 * y)) / 2 ^ 30 ≡ other_new)
 taken_off rows x y own_is other_is less other_less = omega arith
+
+-- the last seed and the seeds across, where they stand in both rows
+abbrev pub seeds_to_catch : RowNumbers → ℕ → ℕ → ℕ
+seeds_to_catch r seed across = seed + r.rows / 2 ^ across % 32 * 2 ^ across % 2 ^ 64
 
 -- what is caught of rows: the last seed, if it is alone in its house, and the seeds across, as the rule says
 abbrev pub Caught : Rule → RowNumbers → ℕ → ℕ → ℕ → ℕ → ℕ → Type 0
-Caught rule r house seed across last taken =
+Caught rule r house seed across seeds count =
     MatchBool ((bit_and r.rows house == seed) && captures rule (r.rows / 2 ^ across % 32))
-    ((last ≡ 1) × (taken ≡ r.rows / 2 ^ across % 32)) ((last ≡ 0) × (taken ≡ 0))
+    ((seeds ≡ seeds_to_catch r seed across) × (count ≡ 1 + r.rows / 2 ^ across % 32)) ((seeds ≡ 0) × (count ≡ 0))
 
 -- the rows that are left show this position
-pub record LeavesRows (r : RowNumbers) (seed bit last taken : ℕ) (p : Position) : Type 0 where
-  pub here : last * seed ≤ r.rows
-  pub across : taken * 2 ^ bit % 2 ^ 64 ≤ r.rows - last * seed
-  pub shows : IsPackedPosition (record { rows = r.rows - last * seed - taken * 2 ^ bit % 2 ^ 64; store = r.store + last + taken }) p
+pub record LeavesRows (r : RowNumbers) (seeds count : ℕ) (p : Position) : Type 0 where
+  pub within : seeds ≤ r.rows
+  pub shows : IsPackedPosition (record { rows = r.rows - seeds; store = r.store + count }) p
 
 -- the five bits of a house
 house_bits : (rows k : ℕ) → bit_and rows (31 * 32 ^ k) ≡ rows / 32 ^ k % 32 * 32 ^ k
@@ -142,6 +143,10 @@ module _ (a : Rows) (h : ℕ) (w : IsWithinHouses a) (holds : HoldsSeeds (bare a
   own_small : number_of q.own < 2 ^ 30
   own_small = number_of-small 6 q.own (omega (arith, sown_keeps.side)) (omega (arith, few))
 
+  -- and the other row
+  other_small : number_of q.other < 2 ^ 30
+  other_small = number_of-small 6 q.other (omega (arith, sown_keeps.other_side, w.same_side)) (omega (arith, few))
+
   -- both rows without the house's seeds, and with what they gain
   pub sown_rows : (rows house gains : ℕ) → rows ≡ number_of a.own + 2 ^ 30 * number_of a.other
       → house ≡ 32 ^ (h - 1) * seeds a.own h →
@@ -149,25 +154,17 @@ module _ (a : Rows) (h : ℕ) (w : IsWithinHouses a) (holds : HoldsSeeds (bare a
       rows - house + gains ≡ number_of q.own + 2 ^ 30 * number_of q.other
   sown_rows rows house gains rows_are house_is gains_are = omega (arith, own_is, other_is, lifted_is)
 
-  -- so they are what a key without its rule has, less what it loses
-  pub sown_less : (rest loses : ℕ) → rest ≡ number_of a.own + 2 ^ 30 * number_of a.other + 2 ^ 60 * length a.own →
-      loses + (own_gained (length a.own) h (seeds a.own h) + 2 ^ 30 * other_gained (length a.own) h (seeds a.own h))
-      ≡ 2 ^ 60 * length a.own + 32 ^ (h - 1) * seeds a.own h →
-      (loses ≤ rest) × (rest - loses ≡ number_of q.own + 2 ^ 30 * number_of q.other)
-  sown_less rest loses rest_is loses_is = omega (arith, own_is, other_is)
+  -- so they are both rows, less what they lose
+  pub sown_less : (rows loses : ℕ) → rows ≡ number_of a.own + 2 ^ 30 * number_of a.other → loses < 2 ^ 64 →
+      (loses + (own_gained (length a.own) h (seeds a.own h) + 2 ^ 30 * other_gained (length a.own) h (seeds a.own h))) % 2 ^ 64
+      ≡ 32 ^ (h - 1) * seeds a.own h →
+      (rows + (2 ^ 64 - loses)) % 2 ^ 64 ≡ number_of q.own + 2 ^ 30 * number_of q.other
+  sown_less rows loses rows_are loses_small loses_is = omega (arith, own_is, other_is, own_small, other_small)
 
   -- show the position after the sowing
   pub rows_show : (rows store : ℕ) → rows ≡ number_of q.own + 2 ^ 30 * number_of q.other →
       store ≡ store_gained (length a.own) h (seeds a.own h) → IsPackedPosition (record { rows = rows; store = store }) q
   rows_show rows store rows_are store_is' = omega (arith, own_small, store_is)
-
-  -- and are numbers of 60 bits
-  pub sown_small : number_of q.own + 2 ^ 30 * number_of q.other < 2 ^ 60
-  sown_small =
-      let other_small = number_of-small 6 q.other
-      (omega (arith, sown_keeps.other_side, w.same_side))
-      (omega (arith, few)) in
-      omega (arith, own_small)
 
   -- a house whose last seed falls into the store without a lap
   pub into_store : (rows house own_more : ℕ) → seeds a.own h + h ≡ length a.own + 1
@@ -202,10 +199,10 @@ module _ (a : Rows) (h : ℕ) (w : IsWithinHouses a) (holds : HoldsSeeds (bare a
       ∙ read_seeds _ _ (omega arith) (omega (arith, few)))
 
   -- all that a capture does to the rows, read and written by bits
-  capture_shows : {r : RowNumbers} {i house seed across last taken : ℕ} → IsPackedPosition r q → 1 ≤ i → i ≤ length a.own →
-      IsLastHouse (length a.own) i house seed across → Caught a.rule r house seed across last taken →
-      LeavesRows r seed across last taken (captured q (Some i))
-  capture_shows {r} {i} {house} {seed} {across} {last} {taken} shows low high at told =
+  capture_shows : {r : RowNumbers} {i house seed across caught_seeds count : ℕ} → IsPackedPosition r q → 1 ≤ i → i ≤ length a.own →
+      IsLastHouse (length a.own) i house seed across → Caught a.rule r house seed across caught_seeds count →
+      LeavesRows r caught_seeds count (captured q (Some i))
+  capture_shows {r} {i} {house} {seed} {across} {caught_seeds} {count} shows low high at told =
       let j = opposite q i in
       let side = sown_keeps.side in
       let other_side = sown_keeps.other_side in
@@ -214,31 +211,29 @@ module _ (a : Rows) (h : ℕ) (w : IsWithinHouses a) (holds : HoldsSeeds (bare a
       let there = read_across r i across shows low high opposite_is in
       let alone : (bit_and r.rows house == seed) ≡ (seeds q.own i == 1) =
       rw (at.house, at.seed, ← read_own r i (5 * (i - 1)) shows low high refl, pow_five (i - 1)) (one_seed_at r.rows (i - 1)) in
-      let caught : MatchBool (can_capture q i) ((last ≡ 1) × (taken ≡ seeds q.other j)) ((last ≡ 0) × (taken ≡ 0)) =
+      let caught : MatchBool (can_capture q i) ((caught_seeds ≡ seed + seeds q.other j * 2 ^ across % 2 ^ 64) × (count ≡ 1 + seeds q.other j))
+      ((caught_seeds ≡ 0) × (count ≡ 0)) =
       rw sown_keeps.rule (rw (alone, there) at told) in
       elim (cases_Bool (can_capture q i)) [
         | inr kept ↦
-            let none : (last ≡ 0) × (taken ≡ 0) = rw kept at caught in
-            let same : r.rows - last * seed - taken * 2 ^ across % 2 ^ 64 ≡ r.rows = rw (none.0, none.1) (omega arith) in
+            let none : (caught_seeds ≡ 0) × (count ≡ 0) = rw kept at caught in
             record {
-              here = rw none.0 (omega arith);
-              across = rw (none.0, none.1) (omega arith);
-              shows = rw kept (omega arith);
+              within = omega (arith, none.0);
+              shows = rw (kept, none.0, none.1) (omega arith);
             }
         | inl some ↦
-            let both : (last ≡ 1) × (taken ≡ seeds q.other j) = rw some at caught in
+            let both : (caught_seeds ≡ seed + seeds q.other j * 2 ^ across % 2 ^ 64) × (count ≡ 1 + seeds q.other j) = rw some at caught in
             let one : seeds q.own i ≡ 1 = eqb-true (seeds q.own i) 1 (and_parts _ _ some).0 in
             let own_set = number_of-set q.own (i - 1) 0 (omega arith) in
             let other_set = number_of-set q.other (j - 1) 0 (omega (arith, w.same_side)) in
             let one_at : 32 ^ (i - 1) * seeds q.own i ≡ 32 ^ (i - 1) * 1 = ap (λ n. 32 ^ (i - 1) * n) one in
-            let x : last * seed ≡ 32 ^ (i - 1) = rw (both.0, at.seed) (omega arith) in
-            let y : taken * 2 ^ across % 2 ^ 64 ≡ 2 ^ 30 * (32 ^ (j - 1) * seeds q.other j) =
-            rw (both.1, opposite_is, pow_other (j - 1)) (moved_far _ _ far (omega arith)) in
+            let y : seeds q.other j * 2 ^ across % 2 ^ 64 ≡ 2 ^ 30 * (32 ^ (j - 1) * seeds q.other j) =
+            rw (opposite_is, pow_other (j - 1)) (moved_far _ _ far (omega arith)) in
+            let is : caught_seeds ≡ 32 ^ (i - 1) + 2 ^ 30 * (32 ^ (j - 1) * seeds q.other j) = both.0 ∙ omega (arith, y, at.seed) in
             let off = taken_off r.rows (32 ^ (i - 1)) (32 ^ (j - 1) * seeds q.other j) shows.own shows.other (omega arith) (omega arith) in
             record {
-              here = rw x off.0;
-              across = rw (x, y) off.1;
-              shows = rw (x, y, some) (record { own = off.2; other = off.3; store = omega arith });
+              within = rw is off.0;
+              shows = rw (is, some) (record { own = off.1; other = off.2; store = omega (arith, both.1) });
             }
       ]
 
@@ -326,34 +321,45 @@ module _ (p : Position) (h : ℕ) (holds : HoldsSeeds p h) where
   again_at = grind (arith, cases_eq, place_past, eq-eqb, place_near)
 
 -- where no house has one seed, nothing is caught
-none_caught : (rule : Rule) (r : RowNumbers) (last taken : ℕ) {p : Position} → Caught rule r 0 1 0 last taken → IsPackedPosition r p →
-    LeavesRows r 1 0 last taken p
-none_caught rule r last taken told shows = grind (arith, and_le_r)
+none_caught : (rule : Rule) (r : RowNumbers) (seeds count : ℕ) {p : Position} → Caught rule r 0 1 0 seeds count → IsPackedPosition r p →
+    LeavesRows r seeds count p
+none_caught rule r seeds count told shows = grind (arith, and_le_r)
 
 -- the bit across lies within a key
 pub across_within : {m : ℕ} (h c : ℕ) (s : Sowing) → IsSowing m h c s → m ≤ 6 → s.across < 64
 across_within {m} h c s sowing few = grind arith
 
 -- the rows after the move are those of the sowing, less what is caught
-pub move_leaves : {a : Rows} {h : ℕ} {s : Sowing} {r : RowNumbers} {rule : Rule} {last taken : ℕ} → IsWithinHouses a →
+pub move_leaves : {a : Rows} {h : ℕ} {s : Sowing} {r : RowNumbers} {rule : Rule} {caught_seeds count : ℕ} → IsWithinHouses a →
     HoldsSeeds (bare a) h → IsSowing (length a.own) h (seeds a.own h) s → IsPackedPosition r (sown (bare a) h) → rule ≡ a.rule →
-    Caught rule r s.last_house s.last_seed s.across last taken → LeavesRows r s.last_seed s.across last taken (after (bare a) h)
-move_leaves {a} {h} {s} {r} {rule} {last} {taken} w holds sowing shows same caught =
+    Caught rule r s.last_house s.last_seed s.across caught_seeds count → LeavesRows r caught_seeds count (after (bare a) h)
+move_leaves {a} {h} {s} {r} {rule} {caught_seeds} {count} w holds sowing shows same caught =
     let place = last_place _ h _ in
     let told = rw same at caught in
     elim (cases_lt _ place) [
       | inl past ↦
           let no = sowing.elsewhere past in
-          rw (no.seed, no.across)
-          (none_caught a.rule r last taken (rw (no.house, no.seed, no.across) at told) (after_past _ h holds r past shows))
+          none_caught a.rule r caught_seeds count (rw (no.house, no.seed, no.across) at told) (after_past _ h holds r past shows)
       | inr own ↦
           let leaves = capture_shows a h w holds shows (omega arith) own (sowing.own own) told in
-          record {
-            here = leaves.here;
-            across = leaves.across;
-            shows = after_own _ h holds _ own leaves.shows;
-          }
+          record { within = leaves.within; shows = after_own _ h holds _ own leaves.shows }
     ]
+
+-- where the last seed and the seeds across stand, is room in a number
+pub caught_fits : {m : ℕ} (h c x : ℕ) (s : Sowing) → IsSowing m h c s → m ≤ 6 → x < 32 → s.last_seed + x * 2 ^ s.across % 2 ^ 64 < 2 ^ 64
+caught_fits {m} h c x s sowing side small = elim (cases_lt m (last_place m h c)) [
+  | inl past ↦
+      let no = sowing.elsewhere past in
+      let there : x * 2 ^ s.across % 2 ^ 64 ≡ x = rw no.across (omega arith) in
+      omega (arith, no.seed)
+  | inr own ↦
+      let i = last_place m h c in
+      let at = sowing.own own in
+      let seed : s.last_seed < 2 ^ 30 = omega (arith, at.seed, placed_small (i - 1) 1 (omega arith) (omega arith)) in
+      let there : x * 2 ^ s.across % 2 ^ 64 ≡ 2 ^ 30 * (32 ^ (m - i) * x) =
+      rw (at.across, pow_other (m - i)) (moved_far _ _ (omega arith) small) in
+      omega (arith, placed_small (m - i) x (omega arith) small)
+]
 
 -- ==== The result of a move on houses, as a board reports it
 
@@ -385,11 +391,6 @@ over_swapped q going = grind arith
 pub rows_within : (p : Position) → IsWithinLimits p → IsWithinHouses (rows_of p)
 rows_within p l = omega arith
 
--- and with them a board, if each store leaves room for their seeds
-limits_with : {a : Rows} {own other : ℕ} → IsWithinHouses a → own + seeds_in_houses (bare a) ≤ most_in_play →
-    other + seeds_in_houses (bare a) ≤ most_in_play → IsWithinLimits (with_stores a own other)
-limits_with w own other = omega arith
-
 -- a move keeps the houses within the limits
 pub after_within : (a : Rows) (h : ℕ) → IsWithinHouses a → HoldsSeeds (bare a) h → IsWithinHouses (rows_of (after (bare a) h))
 after_within a h w holds = grind (arith, after_keeps)
@@ -399,10 +400,10 @@ pub swapped_within : (q : Position) → IsWithinHouses (rows_of q) → IsWithinH
 swapped_within q w = omega arith
 
 -- ---- what `play` computes
--- the move of house h leads to this step with the houses of a key, which are packed
-pub record IsStepTo (a : Rows) (h key seeds : ℕ) (step : Rows → HousesStep) : Type 0 where
-  pub packed : IsPacked key seeds
-  pub is : step (rows_at key) ≡ houses_step a h
+-- the move of house h leads to this step with the houses that are packed so
+pub record IsStepTo (a : Rows) (h rows seeds game : ℕ) (step : Rows → HousesStep) : Type 0 where
+  pub packed : IsPacked rows seeds game
+  pub is : step (unpacked rows game) ≡ houses_step a h
 
 pub store_small : {a : Rows} {h : ℕ} {r : RowNumbers} → IsWithinHouses a → Contains (legal_houses (bare a)) h
     → IsPackedPosition r (after (bare a) h) →
@@ -411,10 +412,10 @@ store_small {a} {h} {r} w has shows =
     let keeps = after_keeps _ _ w (legal_holds _ _ has) in
     omega (arith, keeps.play)
 
-module _ {a : Rows} {h key seeds : ℕ} {r : RowNumbers} (packed : IsPacked key seeds) (view : rows_at key ≡ a)
+module _ {a : Rows} {h rows seeds game : ℕ} {r : RowNumbers} (packed : IsPacked rows seeds game) (view : unpacked rows game ≡ a)
     (has : Contains (legal_houses (bare a)) h) (shows : IsPackedPosition r (after (bare a) h)) where
   -- the meaning of the fields
-  is : IsPackOf a key seeds
+  is : IsPackOf a rows seeds game
   is = pack_of packed view
 
   -- the position after the move
@@ -456,24 +457,23 @@ module _ {a : Rows} {h key seeds : ℕ} {r : RowNumbers} (packed : IsPacked key 
     going = grind (arith, number_of-zero)
 
     -- with the mover
-    pub again_packed : is_again (bare a) h ≡ true → IsStepTo a h (r.rows + key / 2 ^ 60 * 2 ^ 60) (seeds - r.store) (Again r.store)
+    pub again_packed : is_again (bare a) h ≡ true → IsStepTo a h r.rows (seeds - r.store) game (Again r.store)
     again_packed more =
-        let above = above_cells _ _ is.limits is.key_is in
         let rule = ap rule_bit keeps.rule in
-        let there = packed_as _ _ _ within
-        (omega (arith, shows.own, keeps.side)) (omega (arith, keeps.play, is.seeds_are)) in
+        let there = packed_as _ _ _ game within
+        (omega (arith, shows.own, shows.other)) (omega (arith, keeps.play, is.seeds_are)) (omega (arith, is.game_is, keeps.side)) in
         record { packed = there.0; is = rw (shows.store, there.1) (sym (step_again _ _ going more)) }
 
     -- or with the other player
     pub turn_packed : is_again (bare a) h ≡ false →
-        IsStepTo a h (r.rows / 2 ^ 30 + 2 ^ 30 * (r.rows % 2 ^ 30) + key / 2 ^ 60 * 2 ^ 60) (seeds - r.store) (Turn r.store)
+        IsStepTo a h (r.rows / 2 ^ 30 + 2 ^ 30 * (r.rows % 2 ^ 30)) (seeds - r.store) game (Turn r.store)
     turn_packed passed =
-        let above = above_cells a _ is.limits is.key_is in
         let rule = ap rule_bit keeps.rule in
-        let there = packed_as (rows_of (swapped moved)) _ (seeds - _)
+        let there = packed_as (rows_of (swapped moved)) _ (seeds - _) game
         (swapped_within moved within)
-        (omega (arith, shows.own, keeps.other_side, is.limits.same_side))
-        (omega (arith, keeps.play, is.seeds_are)) in
+        (omega (arith, shows.own, shows.other))
+        (omega (arith, keeps.play, is.seeds_are))
+        (omega (arith, is.game_is, keeps.other_side, is.limits.same_side)) in
         record { packed = there.0; is = rw (shows.store, there.1) (sym (step_turn moved _ going passed)) }
 
 -- ---- a step on houses, applied to a position
@@ -553,7 +553,7 @@ board_step {b} {own_store} {other_store} {h} l view has to is =
 
 -- ==== Moves whose last seed falls into the store without a lap
 
-module _ {a : Rows} {h key seeds : ℕ} {r : RowNumbers} (packed : IsPacked key seeds) (view : rows_at key ≡ a)
+module _ {a : Rows} {h rows seeds game : ℕ} {r : RowNumbers} (packed : IsPacked rows seeds game) (view : unpacked rows game ≡ a)
     (has : Contains (legal_houses (bare a)) h)
     (ends : position.seeds a.own h + h ≡ length a.own + 1) (shows : IsPackedPosition r (sown (bare a) h)) where
   w : IsWithinHouses a
@@ -583,34 +583,30 @@ module _ {a : Rows} {h key seeds : ℕ} {r : RowNumbers} (packed : IsPacked key 
   other_some none = grind (arith, legal_going, sum-zero, other_is, w, holds)
 
   -- so the game goes on with the mover, if the mover has seeds left
-  pub store_packed : 0 < r.rows % 2 ^ 30 → IsStepTo a h (r.rows + key / 2 ^ 60 * 2 ^ 60) (seeds - r.store) (Again r.store)
+  pub store_packed : 0 < r.rows % 2 ^ 30 → IsStepTo a h r.rows (seeds - r.store) game (Again r.store)
   store_packed some = again_packed packed view has store_shows (omega arith) other_some again
 
--- what a move does to the key whose last seed falls into the store without a lap: `house` are the seeds of the
+-- what a move does to both rows whose last seed falls into the store without a lap: `house` are the seeds of the
 -- house where they stand in the row, `own_more` is one seed in each house after it
-pub record MovesIntoStore (a : Rows) (h key seeds house own_more : ℕ) : Type 0 where
-  pub fits : house ≤ key
-  pub goes_on : 0 < (key - house + own_more) % 2 ^ 30 → IsStepTo a h (key - house + own_more) (seeds - 1) (Again 1)
-  pub over : (key - house + own_more) % 2 ^ 30 ≡ 0 → Over 1 (seeds - 1) ≡ houses_step a h
+pub record MovesIntoStore (a : Rows) (h rows seeds game house own_more : ℕ) : Type 0 where
+  pub fits : house ≤ rows
+  pub goes_on : 0 < (rows - house + own_more) % 2 ^ 30 → IsStepTo a h (rows - house + own_more) (seeds - 1) game (Again 1)
+  pub over : (rows - house + own_more) % 2 ^ 30 ≡ 0 → Over 1 (seeds - 1) ≡ houses_step a h
 
-pub moves_into_store : {a : Rows} {h key seeds house own_more : ℕ} → IsPacked key seeds → rows_at key ≡ a
+pub moves_into_store : {a : Rows} {h rows seeds game house own_more : ℕ} → IsPacked rows seeds game → unpacked rows game ≡ a
     → Contains (legal_houses (bare a)) h →
     position.seeds a.own h + h ≡ length a.own + 1 → house ≡ 32 ^ (h - 1) * position.seeds a.own h
     → own_more + ones h ≡ ones (length a.own) →
-    MovesIntoStore a h key seeds house own_more
-moves_into_store {a} {h} {key} {seeds} {house} {own_more} packed view has ends house_is own_more_is =
+    MovesIntoStore a h rows seeds game house own_more
+moves_into_store {a} {h} {rows} {seeds} {game} {house} {own_more} packed view has ends house_is own_more_is =
     let pack = pack_of packed view in
     let w = pack.limits in
     let holds = legal_holds _ _ has in
-    let rows = rows_number_at _ _ w pack.key_is in
-    let shows = into_store a h w holds _ house _ ends rows house_is own_more_is in
-    let lies : house ≤ key % 2 ^ 60 = omega (arith, lifted_is a h w holds) in
-    let now : key - house + own_more ≡ key % 2 ^ 60 - house + own_more + key / 2 ^ 60 * 2 ^ 60 = omega arith in
-    let own : (key - house + own_more) % 2 ^ 30 ≡ (key % 2 ^ 60 - house + own_more) % 2 ^ 30 = omega arith in
+    let shows = into_store a h w holds _ house _ ends pack.rows_are house_is own_more_is in
     record {
-      fits = omega arith;
-      goes_on = λ some. rw now (store_packed packed view has ends shows (omega arith));
-      over = λ none. over_own packed view has (store_shows packed view has ends shows) (cc);
+      fits = omega (arith, pack.rows_are, lifted_is a h w holds);
+      goes_on = store_packed packed view has ends shows;
+      over = over_own packed view has (store_shows packed view has ends shows);
     }
 
 -- ==== The cells of the table of sowings

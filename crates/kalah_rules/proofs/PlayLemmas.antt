@@ -48,9 +48,6 @@ sum_range_change f g a (suc n) i low high same =
           omega arith
     ]
 
-pub fall_all : (w w0 c m h : ℕ) → h ≤ m → 0 < c → w + c * (m + 1 - h) ≤ w0 + c * (m - h) → w < w0
-fall_all w w0 c m h high some falls = grind arith
-
 -- one seed more that comes no farther than d
 pub fall_step : (w a b k d e : ℕ) {w' : ℕ} → w + a ≤ b + k * d → w' ≡ w + e → e ≤ d → w' + a ≤ b + (k + 1) * d
 fall_step w a b k d e before more near = omega arith
@@ -76,12 +73,6 @@ distance_range_le (x ∷ xs) a n w near =
     let rest = sum_range_same f _ _ (length xs) (λ j j_low. ap (λ k. k * w j) (slice_index_more _ _ _ _ j_low)) in
     distance_step _ _ n x _ (sum_by-cons f a (range_with_len _ (length xs))) (rw start (mul-le x _ x n (omega arith) (omega arith)))
     (rw rest (distance_range_le xs _ n w (omega arith))) (sum_by-cons _ x xs)
-
-pub add_rows : (m a b u v : ℕ) → u ≤ m * a → v ≤ m * b → u + v ≤ m * (a + b)
-add_rows m a b u v one two = omega arith
-
-pub swap_sums : (m a b u v : ℕ) → (b + a) * (m * (b + a) + 1) + (v + u) ≡ (a + b) * (m * (a + b) + 1) + (u + v)
-swap_sums m a b u v = omega arith
 
 -- fewer seeds outweigh any distance
 pub lower_by_seeds : (m s s' w w' : ℕ) → s' < s → w' ≤ m * s' → s' * (m * s' + 1) + w' < s * (m * s + 1) + w
@@ -176,12 +167,6 @@ row_of_more n f g i low high here others =
 
 -- the cell of each distance is one
 module _ (m h : ℕ) (h_low : 1 ≤ h) (h_high : h ≤ m) where
-  pub own_distance_low : (i : ℕ) → 1 ≤ i → i ≤ m → 1 ≤ own_distance m h i
-  own_distance_low i low high = grind arith
-
-  pub own_distance_high : (i : ℕ) → 1 ≤ i → i ≤ m → own_distance m h i ≤ lap_length m
-  own_distance_high i low high = grind arith
-
   pub own_distance_apart : (i j : ℕ) → 1 ≤ i → i ≤ m → 1 ≤ j → j ≤ m → i ≢ j
       → own_distance m h i ≢ own_distance m h j
   own_distance_apart i j i_low i_high j_low j_high other = grind arith
@@ -444,11 +429,6 @@ sow_with_more : (a b : ℕ) (p : Position) (h c : ℕ) → sow (with_more a b p)
 unfolding sow
 sow_with_more a b p h c = grind arith
 
--- a capture keeps what was added
-captured_with_more : (a b : ℕ) (q : Position) (o : Option ℕ) → captured (with_more a b q) o ≡ with_more a b (captured q o)
-captured_with_more a b q None = refl
-captured_with_more a b q (Some i) = grind arith
-
 -- a move keeps what was added
 pub after_with_more : (a b : ℕ) (p : Position) (h : ℕ) → after (with_more a b p) h ≡ with_more a b (after p h)
 unfolding after
@@ -473,10 +453,6 @@ row_distance-set row i v low high =
     (omega arith)
     (λ j j_low ne. ap (λ x. x * (length row + 1 - j)) (seeds-set_other _ _ _ _ low j_low ne)) in
     rw (length-set _ _ v) (change ∙ ap (λ x. row_distance row + x) (ap (λ x. x * _) (seeds-set_same _ _ _ low high)))
-
--- a cell that c seeds reach gets one at least
-gain_some : (n c d : ℕ) → 0 < n → d ≤ c → 1 ≤ gain n c d
-gain_some n c d pos reach = grind arith
 
 store_gains : (p : Position) (h : ℕ) →
     (sown p h).own_store ≡ p.own_store + gain (lap_length (side_length p)) (seeds p.own h) (store_distance (side_length p) h)
@@ -532,11 +508,6 @@ captured_falls q (Some i) = grind (arith, captures_fall)
 
 sown_nearer : (p : Position) (h : ℕ) → HoldsSeeds p h → length p.other ≡ side_length p → IsNearerEnd (sown p h) p
 sown_nearer p h holds same = grind (arith, houses_fall, sow_keeps, way_falls_all)
-
-nearer_by : (p q r : Position) → IsNearerEnd q p → (seeds_in_houses r < seeds_in_houses q) ⊎ (r ≡ q) → IsNearerEnd r p
-nearer_by p q r (inl less) (inl falls) = inl omega arith
-nearer_by p q r (inr near) (inl falls) = inl omega arith
-nearer_by p q r nearer (inr same) = rw same nearer
 
 -- every move
 pub after_nearer : (p : Position) (h : ℕ) → HoldsSeeds p h → HasEqualSides p → IsNearerEnd (after p h) p

@@ -20,6 +20,10 @@ abbrev pub rule_bit : Rule → ℕ
 rule_bit Classic = 0
 rule_bit EmptyCapture = 1
 
+-- both rows as a number, the own row lowest
+abbrev pub rows_number : Rows → ℕ
+rows_number a = number_of a.own + 2 ^ 30 * number_of a.other
+
 -- own houses from bit 0, other houses from bit 30, the houses per side from bit 60, the rule at bit 63
 abbrev pub key_of : Rows → ℕ
 key_of a = number_of a.own + 2 ^ 30 * number_of a.other + 2 ^ 60 * length a.own + 2 ^ 63 * rule_bit a.rule

@@ -1,16 +1,21 @@
--- Houses in one number.
+-- Houses in numbers.
 use Rattle.std.specs.Prelude.{◌≡◌, ℕ, ◌≤◌, ◌+◌, ◌-◌, ◌*◌, ◌/◌, ◌%◌, ◌^◌, if◌then◌else◌, nat_le, sum}
-use Rattle.kalah_rules.specs.Position.{Position, seeds_in_houses, bare, IsWithinHouses}
+use Rattle.kalah_rules.specs.Position.{Position, Rows, seeds_in_houses, bare, IsWithinHouses}
 use Rattle.kalah_rules.specs.Sowing.{row_of}
 use Rattle.kalah_rules.specs.Limits.{most_houses, most_seeds}
-use Rattle.kalah_rules.specs.Key.{number_of, cells, key_of, rows_at}
+use Rattle.kalah_rules.specs.Key.{number_of, cells, rows_number, game_of, rows_at}
 use Rattle.kalah_rules.specs.declared.houses.play.RowNumbers.{RowNumbers}
 
--- the key of houses of the game, with the number of seeds in them
-pub record IsPacked (key seeds : ℕ) : Type 0 where
-  pub limits : IsWithinHouses (rows_at key)
-  pub key_is : key_of (rows_at key) ≡ key
-  pub seeds_are : seeds_in_houses (bare (rows_at key)) ≡ seeds
+-- the houses whose key has these rows, and this game above them
+abbrev pub unpacked : ℕ → ℕ → Rows
+unpacked rows game = rows_at (rows + 2 ^ 60 * game)
+
+-- both rows of houses, the number of seeds in them, and their game
+pub record IsPacked (rows seeds game : ℕ) : Type 0 where
+  pub limits : IsWithinHouses (unpacked rows game)
+  pub rows_are : rows_number (unpacked rows game) ≡ rows
+  pub seeds_are : seeds_in_houses (bare (unpacked rows game)) ≡ seeds
+  pub game_is : game_of (unpacked rows game) ≡ game
 
 -- the number of some houses of a side, with the number of seeds in them
 pub record IsPackedRow (count number seeds : ℕ) : Type 0 where

@@ -1,4 +1,4 @@
--- A sowing as one subtraction from a key.
+-- A sowing as one subtraction from both rows.
 use Rattle.std.specs.Prelude.{◌≡◌, ℕ, ◌+◌, ◌-◌, ◌*◌, ◌%◌, ◌^◌, ◌==◌, ◌<◌, ◌≤◌, List, slice_index_or}
 use Rattle.kalah_rules.specs.Key.{number_of}
 use Rattle.kalah_rules.specs.Sowing.{lap_length, row_of, gain, own_distance, store_distance, other_distance}
@@ -32,10 +32,9 @@ pub record IsNoHouse (bits lowest begin : ℕ) : Type 0 where
   pub seed : lowest ≡ 1
   pub across : begin ≡ 0
 
--- how c seeds of house h are sown: what a key without its rule loses if its houses a side go too, what the store gains, and where the last
--- seed falls
+-- how c seeds of house h are sown: what both rows lose, modulo 2 ^ 64, what the store gains, and where the last seed falls
 pub record IsSowing (m h c : ℕ) (s : Sowing) : Type 0 where
-  pub loses : s.loses + (own_gained m h c + 2 ^ 30 * other_gained m h c) ≡ 2 ^ 60 * m + 32 ^ (h - 1) * c
+  pub loses : (s.loses + (own_gained m h c + 2 ^ 30 * other_gained m h c)) % 2 ^ 64 ≡ 32 ^ (h - 1) * c
   pub store : s.store ≡ store_gained m h c
   pub again : s.again ≡ (last_place m h c == m + 1)
   pub own : last_place m h c ≤ m → IsLastHouse m (last_place m h c) s.last_house s.last_seed s.across

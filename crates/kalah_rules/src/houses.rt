@@ -1,4 +1,4 @@
-//! The houses of a board without the stores, in one number.
+//! The houses of a board without the stores, as numbers.
 ghost use Rattle.std.specs.Prelude.{◌≡◌, ◌<◌, ◌≤◌, ◌^◌, ◌↔◌, length, sum, IsSome, IfSome, IsTrue, Some};
 ghost use Rattle.kalah_rules.specs.Position.{Rows, seeds, seeds_in_houses, is_over, bare, without_seeds, IsWithinHouses};
 ghost use Rattle.kalah_rules.specs.Cells.{CanBeHouses, rows_from};
@@ -13,7 +13,7 @@ pub(crate) mod sowings;
 use crate::houses::house::House;
 use crate::houses::house_row::HouseRow;
 use crate::houses::numbers::{
-    OTHER_ROW, RULE, SIDE, cells_of, number_of, rule_number, rule_of, seeds_at,
+    OTHER_ROW, RULE, SIDE, cells_of, game_number, number_of, rule_of, seeds_at,
 };
 use crate::limits::{MOST_HOUSES, MOST_SEEDS};
 use crate::row::{is_empty_past, total};
@@ -23,11 +23,15 @@ use std::marker::Model;
 /// The houses of a board and its rule, without the stores. Stores change neither the legal moves nor what they do, so
 /// this is all that a solver needs.
 ///
-/// They are stored as their key and the number of seeds in them. Both are equally wide, so that a copy has no gap.
+/// They are stored as both rows in one number, the number of seeds, and the game. A search that knows its game computes nothing of it.
 #[derive(Clone, Copy, Debug, PartialEq, Eq)]
 pub struct Houses {
-    key: u64,
-    seeds: u64,
+    // The lowest 60 bits of the key.
+    rows: u64,
+    // As wide as half of the rows, like the game, so that a copy has no gap.
+    seeds: u32,
+    // The upper four bits of the key.
+    game: u32,
 }
 
 impl Model for Houses {
@@ -36,16 +40,16 @@ impl Model for Houses {
     ghost Value = { Rows };
 
     ghost use Rattle.kalah_rules.specs.Position.{bare, seeds_in_houses};
-    ghost use Rattle.kalah_rules.specs.Key.{key_of, rows_at};
-    ghost use Rattle.kalah_rules.specs.Packed.{IsPacked};
+    ghost use Rattle.kalah_rules.specs.Key.{rows_number, game_of};
+    ghost use Rattle.kalah_rules.specs.Packed.{IsPacked, unpacked};
 
-    ghost view = { λ a. rows_at a.key };
+    ghost view = { λ a. unpacked a.rows a.game };
 
-    ghost invariant = { λ a. IsPacked a.key a.seeds };
+    ghost invariant = { λ a. IsPacked a.rows a.seeds a.game };
 
-    ghost inverse = { λ rows. record { key = key_of rows; seeds = seeds_in_houses (bare rows) } };
+    ghost inverse = { λ a. record { rows = rows_number a; seeds = seeds_in_houses (bare a); game = game_of a } };
 
-    ghost inverse_ok = { λ a h i. record { key = h.key_is i; seeds = h.seeds_are i } };
+    ghost inverse_ok = { λ a h i. record { rows = h.rows_are i; seeds = h.seeds_are i; game = h.game_is i } };
 }
 
 impl Houses {
@@ -66,12 +70,10 @@ impl Houses {
         if seeds > MOST_SEEDS {
             return None;
         }
-        let key = number_of(&own)
-            + OTHER_ROW * number_of(&other)
-            + SIDE * (m as u64 + 8 * rule_number(rule));
         Some(Houses {
-            key,
-            seeds: seeds as u64,
+            rows: number_of(&own) + OTHER_ROW * number_of(&other),
+            seeds: seeds as u32,
+            game: game_number(m, rule),
         })
     }
 
@@ -85,9 +87,11 @@ impl Houses {
         if m < 1 || other.len() != m || seeds > MOST_SEEDS as u64 {
             return None;
         }
-        let rest = m as u64 + 8 * rule_number(rule);
-        let key = own.number() + OTHER_ROW * other.number() + SIDE * rest;
-        Some(Houses { key, seeds })
+        Some(Houses {
+            rows: own.number() + OTHER_ROW * other.number(),
+            seeds: seeds as u32,
+            game: game_number(m, rule),
+        })
     }
 
     /// Returns the houses that have this key.
@@ -111,12 +115,12 @@ impl Houses {
     ///
     /// Own house i is in the five bits from 5(i - 1) on, and the other player's house i in those from 30 + 5(i - 1) on. Bits 60 to 62
     /// have the number of houses a side, and bit 63 is set for the empty-capture rule.
-    #[tactic(auto, using(crate::proofs::KeyLemmas::pack_of))]
+    #[tactic(auto, using(crate::proofs::KeyLemmas::pack_of, crate::proofs::KeyLemmas::key_fits))]
     pub fn key(&self) -> u64
         ensures key { result ≡ key_of self.now }
         ensures limits { IsWithinHouses self.now }
     {
-        self.key
+        self.rows + SIDE * self.game as u64
     }
 
     /// Returns the number of seeds in the houses of both players, at most 31.
@@ -132,14 +136,14 @@ impl Houses {
         ensures side { result ≡ length self.now.own }
         ensures limits { IsWithinHouses self.now }
     {
-        (self.key / SIDE % 8) as u8
+        (self.game % 8) as u8
     }
 
     /// Returns the rule of capture.
     pub fn rule(&self) -> Rule
         ensures { result ≡ self.now.rule }
     {
-        rule_of(self.key / RULE)
+        rule_of(self.game as u64 / 8)
     }
 
     /// Returns the game of the houses, the upper four bits of their key: the number of houses a side, and 8 more for the empty-capture
@@ -148,7 +152,7 @@ impl Houses {
         ensures game { result ≡ game_of self.now }
         ensures limits { IsWithinHouses self.now }
     {
-        (self.key / SIDE) as u8
+        self.game as u8
     }
 
     /// Returns these houses, which must be of this game. If it is a constant, what is computed of the result is compiled for this game.
@@ -158,29 +162,29 @@ impl Houses {
         ensures { result ≡ self }
     {
         Houses {
-            key: self.key % SIDE + SIDE * game as u64,
+            rows: self.rows,
             seeds: self.seeds,
+            game: game as u32,
         }
     }
 
     /// Returns the mover's houses as a number with five bits for each, house 1 lowest: the lowest 30 bits of the key.
-    #[tactic(auto, using(crate::proofs::KeyLemmas::pack_of, crate::proofs::KeyLemmas::own_number_at))]
+    #[tactic(auto, using(crate::proofs::KeyLemmas::pack_of, crate::proofs::KeyLemmas::rows_of_pack))]
     pub fn own_row(&self) -> u64
         ensures value { result ≡ number_of self.now.own }
         ensures small { result < 2 ^ 30 }
         ensures limits { IsWithinHouses self.now }
     {
-        self.key % OTHER_ROW
+        self.rows % OTHER_ROW
     }
 
     /// Returns the other player's houses as such a number: bits 30 to 59 of the key.
-    #[tactic(auto, using(crate::proofs::KeyLemmas::pack_of, crate::proofs::KeyLemmas::other_number_at))]
     pub fn other_row(&self) -> u64
         ensures value { result ≡ number_of self.now.other }
         ensures small { result < 2 ^ 30 }
         ensures limits { IsWithinHouses self.now }
     {
-        self.key / OTHER_ROW % OTHER_ROW
+        self.rows / OTHER_ROW
     }
 
     /// Returns the number of seeds in the mover's house `i`, which is 1 to `m`.
@@ -241,8 +245,9 @@ impl Houses {
         ensures { result ≡ without_seeds self.now }
     {
         Houses {
-            key: self.key / SIDE * SIDE,
+            rows: 0,
             seeds: 0,
+            game: self.game,
         }
     }
 }

@@ -28,10 +28,6 @@ cell_none zero = refl
 cell_none (suc i) = cell_none i
 
 -- ---- the last mark
--- five bits more
-next_power : (q : ℕ) → 32 ^ suc q ≡ 32 * 32 ^ q
-next_power q = omega arith
-
 -- the highest cell with something
 pub top_cell : (q n : ℕ) → 32 ^ q ≤ n → n < 32 ^ suc q → 0 < cell n q
 top_cell zero n low high = omega arith
@@ -71,11 +67,6 @@ module _ (marks h : ℕ) (is : IsLastMark marks h) where
 
   pub gone_before : (i : ℕ) → i ≢ h - 1 → cell (marks - 32 ^ (h - 1)) i ≡ 0 → cell marks i ≡ 0
   gone_before i other none = omega (arith, others_stay)
-
--- and there are fewer
-power_some : (q : ℕ) → 0 < 32 ^ q
-power_some zero = omega arith
-power_some (suc q) = omega (arith, power_some q)
 
 pub marks_fall : {marks h : ℕ} → IsLastMark marks h → marks - 32 ^ (h - 1) < marks
 marks_fall {marks} {h} is = omega arith
@@ -149,10 +140,6 @@ cell_of_row (x ∷ xs) (suc i) few =
     let cons = sum_by-cons (λ (y : ℕ). y) x xs in
     let rest : _ / 32 ≡ number_of xs = omega arith in
     ap (λ k. cell k i) rest ∙ cell_of_row xs i (omega arith)
-
--- a cell before others
-first_cell : (d r : ℕ) → d < 32 → (r * 32 + d) % 32 ≡ d
-first_cell d r small = omega arith
 
 later_cell : (d r i : ℕ) → d < 32 → cell (r * 32 + d) (suc i) ≡ cell r i
 later_cell d r i small = grind arith

@@ -9,7 +9,7 @@ use Rattle.std.proofs.Math.ListN.{take, replicate, length-replicate, length-set}
 use Rattle.std.proofs.lemmas.List.Sums.{sum_by-cons, sum_by-take-drop, sum_by-append}
 use Rattle.kalah_rules.specs.Position.{Rows, IsWithinHouses, bare, is_over, seeds_in_houses}
 use Rattle.kalah_rules.specs.Key.{number_of, game_of, key_of}
-use Rattle.kalah_rules.proofs.KeyLemmas.{same_key, number_of-append, pow_five, rule_bit-small, packed_as, packed_fits}
+use Rattle.kalah_rules.proofs.KeyLemmas.{same_key, number_of-append, pow_five, rule_bit-small, key_fits}
 use Rattle.kalah_solve.specs.Table.RowRank.{choose, row_rank, sums_number, rank_of_houses}
 use Rattle.kalah_solve.specs.Table.EndgameTable.{choice_at, AreChoices, pair_at, ArePairs, IsEnding, StoresWon, AreTrueWords, word_of, stored_at}
 use Rattle.atomic_table.specs.Table.{State, Enters, Arrives, keeps}
@@ -406,12 +406,6 @@ first_up (suc (suc (suc (suc (suc zero))))) most = omega arith
 first_up (suc (suc (suc (suc (suc (suc zero)))))) most = omega arith
 first_up (suc (suc (suc (suc (suc (suc (suc m))))))) most = omega arith
 
-first_more : (m d : ℕ) → m + d ≤ 7 → first m ≤ first (m + d)
-first_more m zero most = grind arith
-first_more m (suc d) most =
-    let next : m + suc d ≡ suc (m + d) = omega arith in
-    rw next (omega (arith, first_more m d (omega arith), first_up))
-
 first_rises : (m n : ℕ) → m ≤ n → n ≤ 7 → first m ≤ first n
 first_rises m n below most = grind arith
 
@@ -601,9 +595,6 @@ place_later n x y enough rest less = grind (arith, add-mul)
 -- so two with one place are one
 place_same : (n x y : ℕ) → 1024 ≤ n → left_open x ≡ left_open y → place_among n x ≡ place_among n y → x ≡ y
 place_same n x y enough rest same = grind (arith, place_later)
-
-key_fits : (a : Rows) → IsWithinHouses a → key_of a < 2 ^ 64
-key_fits a within = packed_fits (packed_as a (key_of a) _ within refl refl).0
 
 same_placed : (n : ℕ) (a b : Rows) → 1024 ≤ n → IsWithinHouses a → IsWithinHouses b →
     left_open (mixed (key_of a)) ≡ left_open (mixed (key_of b)) →

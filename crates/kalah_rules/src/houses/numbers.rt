@@ -47,14 +47,13 @@ pub(super) fn cells_of(number: u64) -> [u8; 6]
     ]
 }
 
-// Returns the bit of a rule.
-pub(super) fn rule_number(rule: Rule) -> u64
-    ensures value { result ≡ rule_bit rule }
-    ensures small { result ≤ 1 }
+// Returns the number of the game with `m` houses a side and this rule.
+pub(super) fn game_number(m: u8, rule: Rule) -> u32
+    ensures { result ≡ m + 8 * rule_bit rule }
 {
     match rule {
-        Rule::Classic => 0,
-        Rule::EmptyCapture => 1,
+        Rule::Classic => m as u32,
+        Rule::EmptyCapture => m as u32 + 8,
     }
 }
 

@@ -8,7 +8,7 @@ ghost use Rattle.kalah_rules.specs.Sowings.{IsSowing};
 
 use crate::houses::Houses;
 use crate::houses::house::House;
-use crate::houses::numbers::{OTHER_ROW, RULE, SIDE, alone, one_each, one_each_to, seeds_at};
+use crate::houses::numbers::{OTHER_ROW, alone, one_each, one_each_to, seeds_at};
 use crate::houses::sowings::{Sowing, Sowings};
 use crate::rule::Rule;
 use crate::step::HousesStep;
@@ -17,25 +17,25 @@ use crate::step::HousesStep;
 #[derive(Clone, Copy)]
 pub(super) struct RowNumbers {
     rows: u64,
-    store: u64,
+    store: u32,
 }
 
-// One if a condition holds. Read from a table, it stays a number: a compiler makes no branch of it.
-static ONE_IF: [u64; 2] = [0, 1];
+// All bits if a condition holds. Read from a table, they stay a number: a compiler makes no branch of it.
+static ALL_IF: [u64; 2] = [0, u64::MAX];
 
-// Returns what is captured: the last seed and the seeds across, or nothing. `single` is whether the last seed is alone in an own house,
-// and the house across has `across` seeds. Which of the two is hard to predict, so both are numbers, and a row changes by them without a
-// branch.
+// Returns what is captured of both rows, `seeds` and in all `count` seeds, or nothing. Seeds are captured if the last one is alone in an
+// own house, which `single` states, and the rule lets it capture the `across` seeds across. Which is hard to predict, so the seeds are
+// masked, without a branch.
 #[inline(always)]
-fn caught(rule: Rule, single: bool, across: u64) -> (u64, u64)
+fn caught(rule: Rule, single: bool, across: u64, seeds: u64) -> (u64, u64)
     requires { across < 32 }
     ensures caught { MatchBool (single && captures rule across)
-        ((result.0 ≡ 1) × (result.1 ≡ across)) ((result.0 ≡ 0) × (result.1 ≡ 0)) }
-    ensures few { result.0 + result.1 ≤ 32 }
+        ((result.0 ≡ seeds) × (result.1 ≡ 1 + across)) ((result.0 ≡ 0) × (result.1 ≡ 0)) }
+    ensures few { result.1 ≤ 32 }
 {
     let captures = rule.captures(across as u8);
-    let last = ONE_IF[usize::from(single & captures)];
-    (last, last * across)
+    let mask = ALL_IF[usize::from(single & captures)];
+    (seeds & mask, (1 + across) & mask)
 }
 
 impl Houses {
@@ -52,8 +52,8 @@ impl Houses {
         ensures limits { IsWithinHouses self.now }
     {
         RowNumbers {
-            rows: self.key % RULE - sowing.loses,
-            store: sowing.store as u64,
+            rows: self.rows.wrapping_sub(sowing.loses),
+            store: sowing.store as u32,
         }
     }
 
@@ -67,10 +67,11 @@ impl Houses {
         let sown = self.sow(house, sowing);
         let single = sown.rows & sowing.last_house == sowing.last_seed;
         let across = (sown.rows >> sowing.across) % 32;
-        let (last, taken) = caught(self.rule(), single, across);
+        let seeds = sowing.last_seed + (across << sowing.across);
+        let (seeds, count) = caught(self.rule(), single, across, seeds);
         RowNumbers {
-            rows: sown.rows - last * sowing.last_seed - (taken << sowing.across),
-            store: sown.store + last + taken,
+            rows: sown.rows - seeds,
+            store: sown.store + count as u32,
         }
     }
 
@@ -82,11 +83,12 @@ impl Houses {
         requires ends { seeds self.now.own house + house ≡ length self.now.own + 1 }
         ensures { result ≡ houses_step self.now house }
     {
-        let lifted = self.key - alone(house, seeds_at(self.own_row(), house));
-        let key = lifted + (one_each(self.m()) - one_each_to(house));
+        let lifted = self.rows - alone(house, seeds_at(self.own_row(), house));
+        let rows = lifted + (one_each(self.m()) - one_each_to(house));
         let seeds = self.seeds - 1;
-        if key % OTHER_ROW > 0 {
-            return HousesStep::Again(1, Houses { key, seeds });
+        if rows % OTHER_ROW > 0 {
+            let game = self.game;
+            return HousesStep::Again(1, Houses { rows, seeds, game });
         }
         HousesStep::Over {
             own: 1,
@@ -118,13 +120,13 @@ impl Houses {
                 other: 0,
             };
         }
-        let rest = self.key / SIDE * SIDE;
+        let game = self.game;
         if again {
-            let key = rows.rows + rest;
-            HousesStep::Again(gained, Houses { key, seeds })
+            let rows = rows.rows;
+            HousesStep::Again(gained, Houses { rows, seeds, game })
         } else {
-            let key = other + OTHER_ROW * own + rest;
-            HousesStep::Turn(gained, Houses { key, seeds })
+            let rows = other + OTHER_ROW * own;
+            HousesStep::Turn(gained, Houses { rows, seeds, game })
         }
     }
 

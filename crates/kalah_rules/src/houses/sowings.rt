@@ -1,10 +1,10 @@
-//! How each house is sown, for each number of its seeds. A sowing is one subtraction from a key.
+//! How each house is sown, for each number of its seeds. A sowing is one subtraction from both rows.
 ghost use Rattle.std.specs.Prelude.{◌<◌, ◌≤◌, ℕ};
 ghost use Rattle.kalah_rules.specs.Sowings.{IsLastHouse, IsNoHouse, IsSowing, IsSowingCell};
 ghost use Rattle.kalah_rules.specs.declared.houses.sowings.TheConstants.{CELLS};
 
 use crate::houses::house::House;
-use crate::houses::numbers::{OTHER_ROW, SIDE, alone, other_gains, own_gains};
+use crate::houses::numbers::{OTHER_ROW, alone, other_gains, own_gains};
 use std::marker::Model;
 
 // The number of cells of the table. A house that begins at bit b has its 32 cells at row b + m - 1 on sides of m houses. Sides of 1 to 5
@@ -14,7 +14,7 @@ const CELLS: usize = 31 * 32;
 /// How the seeds of one house are sown.
 #[derive(Clone, Copy)]
 pub(super) struct Sowing {
-    // What a key without its rule loses: the houses a side, and the seeds that are lifted, less what both rows gain.
+    // What both rows lose, modulo 2^64: the seeds that are lifted, less what the rows gain.
     pub(super) loses: u64,
     // If the last seed falls into an own house, the five bits of that house, and the lowest of them. Otherwise 0 and 1, so that no row
     // has one seed there.
@@ -59,7 +59,7 @@ impl Sowing {
         let place = (h - 1 + count) % lap + 1;
         let (last_house, last_seed, across) = last_cell(m, place);
         Sowing {
-            loses: SIDE * m as u64 + alone(House::new(h), count as u64) - gains,
+            loses: alone(House::new(h), count as u64).wrapping_sub(gains),
             last_house,
             last_seed,
             across,

@@ -84,6 +84,7 @@ pub(super) fn with_stored(word: u64, at: u32, stored: u64) -> u64
 }
 
 // Makes this many words, with no ending known. Fails only if memory was refused.
+#[tactic(auto, using(crate::proofs::TableLemmas::begins))]
 pub(super) fn empty_words<A: Allocator + Clone>(
     alloc: A,
     count: usize,

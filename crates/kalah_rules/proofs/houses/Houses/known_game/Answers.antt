@@ -1,14 +1,12 @@
-use Rattle.std.proofs.Common.{◌≡◌, ◌+◌, ◌*◌, ◌%◌, ◌^◌, ℕ, arith}
+use Rattle.std.proofs.Common.{◌≡◌, ◌∙◌, ℕ, sym}
 use Rattle.kalah_rules.specs.Position.{Rows}
-use Rattle.kalah_rules.specs.Key.{rows_at, game_of}
-use Rattle.kalah_rules.specs.Packed.{IsPacked}
-use Rattle.kalah_rules.proofs.KeyLemmas.{pack_of, above_cells}
+use Rattle.kalah_rules.specs.Key.{game_of}
+use Rattle.kalah_rules.specs.Packed.{IsPacked, unpacked}
+use Rattle.kalah_rules.proofs.KeyLemmas.{pack_of}
 use Rattle.kalah_rules.proofs.houses.Houses.known_game.Goals as goal
 
-same : {a : Rows} {key seeds game : ℕ} → IsPacked key seeds → rows_at key ≡ a → game_of a ≡ game → key % 2 ^ 60 + 2 ^ 60 * game ≡ key
-same {a} {key} packed view is =
-    let pack = pack_of packed view in
-    omega (arith, above_cells a key pack.limits pack.key_is)
+same : {a : Rows} {rows seeds game known : ℕ} → IsPacked rows seeds game → unpacked rows game ≡ a → game_of a ≡ known → known ≡ game
+same packed view is = sym ((pack_of packed view).game_is ∙ is)
 
 pub invariant_of-result : goal.invariant_of-result
 invariant_of-result c = rw (same c.self.invariant c.self.view_is c.requires) c.self.invariant

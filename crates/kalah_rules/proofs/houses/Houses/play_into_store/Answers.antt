@@ -6,7 +6,7 @@ use Rattle.kalah_rules.proofs.PackedLemmas.{house_read, MovesIntoStore, moves_in
 use Rattle.kalah_rules.proofs.houses.Houses.play_into_store.Goals as goal
 use Rattle.kalah_rules.proofs.houses.Houses.play_into_store.Goals.{After-one_each_to}
 
--- what the move does to the key
+-- what the move does to both rows
 module _ (c : After-one_each_to) where
   less : c.one_each_to.result ≤ c.one_each.result
   less =
@@ -14,7 +14,7 @@ module _ (c : After-one_each_to) where
       let last = (legal_holds (bare a) c.args.house c.requires.legal).last in
       omega (arith, ones_le c.args.house (length a.own) last, rw c.m.ensures.side at c.one_each.ensures.value)
 
-  moved : MovesIntoStore c.args.self.now c.args.house c.self.inside.key c.self.inside.seeds c.alone.result
+  moved : MovesIntoStore c.args.self.now c.args.house c.self.inside.rows c.self.inside.seeds c.self.inside.game c.alone.result
       (c.one_each.result - c.one_each_to.result)
   moved =
       let a = c.args.self.now in
@@ -26,14 +26,14 @@ module _ (c : After-one_each_to) where
       moves_into_store c.self.invariant c.self.view_is c.requires.legal c.requires.ends house
       (omega (arith, less))
 
-pub overflow_sub-key : goal.overflow_sub-key
-overflow_sub-key c = less c
+pub overflow_sub-rows : goal.overflow_sub-rows
+overflow_sub-rows c = less c
 
 pub invariant_of-result : goal.invariant_of-result
-invariant_of-result c = ((moved c.before).goes_on c.if-key-gt0.true).packed
+invariant_of-result c = ((moved c.before).goes_on c.if-rows-gt0.true).packed
 
-pub returns-then-key-gt0 : goal.returns-then-key-gt0
-returns-then-key-gt0 c = ((moved c.before).goes_on c.if-key-gt0.true).is
+pub returns-then-rows-gt0 : goal.returns-then-rows-gt0
+returns-then-rows-gt0 c = ((moved c.before).goes_on c.if-rows-gt0.true).is
 
 pub returns : goal.returns
 returns c = (moved c.before.before).over (omega arith)

@@ -1,6 +1,6 @@
-use Rattle.std.proofs.Common.{arith, sym, ◌∙◌, ◌+◌, ◌-◌, ◌*◌, ◌/◌, ◌%◌, ◌^◌}
+use Rattle.std.proofs.Common.{arith, sym, refl, ◌∙◌, ◌+◌, ◌-◌, ◌*◌, ◌/◌, ◌%◌, ◌^◌}
 use Rattle.kalah_rules.specs.declared.step.HousesStep.TheVariants.{Again, Turn}
-use Rattle.kalah_rules.proofs.KeyLemmas.{pack_of, packed_fits}
+use Rattle.kalah_rules.proofs.KeyLemmas.{pack_of, rows_of_pack}
 use Rattle.kalah_rules.proofs.PackedLemmas.{IsStepTo, store_within, store_small, over_own, over_other, again_packed, turn_packed}
 use Rattle.kalah_rules.proofs.houses.Houses.step.Goals as goal
 use Rattle.kalah_rules.proofs.houses.Houses.step.Goals.{Then-again, Else-again}
@@ -21,29 +21,26 @@ returns-then-other-eq0 c =
     c.if-other-eq0.true)
 
 -- the step on which the mover moves again
-again : (c : Then-again) → IsStepTo c.args.self.now c.args.house (c.args.rows.rows + c.self.inside.key / 2 ^ 60 * 2 ^ 60)
-    (c.self.inside.seeds - c.args.rows.store) (Again c.args.rows.store)
+again : (c : Then-again) → IsStepTo c.args.self.now c.args.house c.args.rows.rows (c.self.inside.seeds - c.args.rows.store)
+    c.self.inside.game (Again c.args.rows.store)
 again c = again_packed c.self.invariant c.self.view_is c.requires.legal c.requires.rows c.if-own-eq0.false c.if-other-eq0.false
     (sym c.requires.again ∙ c.if-again.true)
 
-pub overflow_add-key : goal.overflow_add-key
-overflow_add-key c = omega (arith, packed_fits (again c.before).packed)
-
 pub invariant_of-result : goal.invariant_of-result
-invariant_of-result c = (again c.before).packed
+invariant_of-result c = (again c).packed
 
 pub returns-then-again : goal.returns-then-again
-returns-then-again c = (again c.before).is
+returns-then-again c = (again c).is
 
 -- and the turn
 turn : (c : Else-again) → IsStepTo c.args.self.now c.args.house
-    (c.args.rows.rows / 2 ^ 30 + 2 ^ 30 * (c.args.rows.rows % 2 ^ 30) + c.self.inside.key / 2 ^ 60 * 2 ^ 60)
-    (c.self.inside.seeds - c.args.rows.store) (Turn c.args.rows.store)
+    (c.args.rows.rows / 2 ^ 30 + 2 ^ 30 * (c.args.rows.rows % 2 ^ 30)) (c.self.inside.seeds - c.args.rows.store) c.self.inside.game
+    (Turn c.args.rows.store)
 turn c = turn_packed c.self.invariant c.self.view_is c.requires.legal c.requires.rows c.if-own-eq0.false c.if-other-eq0.false
     (sym c.requires.again ∙ c.if-again.false)
 
-pub overflow_add-key-else-again-2 : goal.overflow_add-key-else-again-2
-overflow_add-key-else-again-2 c = omega (arith, packed_fits (turn c).packed)
+pub overflow_add-rows : goal.overflow_add-rows
+overflow_add-rows c = omega (arith, (rows_of_pack (pack_of (turn c).packed refl)).fit)
 
 pub invariant_of-result-else-again : goal.invariant_of-result-else-again
 invariant_of-result-else-again c = (turn c).packed
