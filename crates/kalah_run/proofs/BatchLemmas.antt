@@ -47,7 +47,7 @@ use Rattle.kalah_run.specs.Queue.Lists.{Accounts, outcomes_in}
 use Rattle.kalah_run.specs.declared.batch.shared_work.SharedWork.{SharedWork}
 use Rattle.kalah_run.proofs.DeskLemmas.{length-drawn_numbers}
 use Rattle.kalah_run.specs.declared.batch.request.Rest.{Rest}
-use Rattle.kalah_run.specs.declared.batch.request.Rest.TheVariants.{Solve}
+use Rattle.kalah_run.specs.declared.batch.request.Rest.TheVariants.{Solve, Leave}
 use Rattle.kalah_jobs.specs.declared.files.question.Question.{Question}
 use Rattle.kalah_jobs.specs.Limits.{most_files, most_lines}
 use Rattle.kalah_run.specs.Batch.Answering.{AnswersBatch, counts_of}
@@ -505,21 +505,53 @@ some_spent (w ∷ ws) some spent =
       ap {B = ℕ} (λ (b : Bool). if b then 1 else 0) (spent 0 w (omega arith)),
     )
 
--- Each worker has run, and the rest is solved: all jobs were drawn, and the gate knows them.
+-- Each worker has run: all jobs were drawn, and if they were drawn by workers the gate knows them.
 pub each_job_known : {G : Type 0} {knows : G → ℕ → Bool} {shared : SharedWork G} {before after : List Worker} {drawn : ℕ}
-    → HaveRun knows shared before after → shared.rest ≡ Solve → 0 < length before
+    → HaveRun knows shared before after → 0 < length before
     → DealsEachOnce (job_count shared.jobs.now) drawn (drawn_rows (passes_of after))
     → (job : ℕ) → job < job_count shared.jobs.now → knows shared.gate.now job ≡ true
-each_job_known {knows = knows} {shared} {before} {after} {drawn} run solve some deals job low =
+each_job_known {knows = knows} {shared} {before} {after} {drawn} run some deals job low =
     let Known : ℕ → Type 0 = λ n. knows shared.gate.now n ≡ true in
     let spent = λ (k : ℕ) (w : Worker) (within : k < length after).
-    (run.each k w (let many = run.as_many in omega arith)).spent solve in
+    (run.each k w (let many = run.as_many in omega arith)).spent in
     let all : drawn ≡ job_count shared.jobs.now = deals.spent (some_spent after (let many = run.as_many in omega arith) spent) in
     let once = deals.each_once job ∙ ap {B = ℕ} (λ (b : Bool). if b then 1 else 0) (lt-ltb job drawn (omega arith)) in
     has_of_rows Known job (drawn_rows (passes_of after)) (omega (arith, once))
     (All-map (λ (r : DrawnRow). All Known r.numbers) (λ (p : PassState). p.row) (passes_of after)
     (All-map (λ (p : PassState). All Known p.row.numbers) (λ (w : Worker). w.pass) after
     (λ k w within. (run_at_work shared before after run k w within).known)))
+
+-- what holds unless the rest is left holds if it is to be solved, and if the output has not failed
+pub unless_left : {rest : Rest} {failed : Bool} {A : Type 0} → A ⊎ IsLeft rest failed → (rest ≡ Solve) ⊎ (failed ≡ false) → A
+unless_left {rest} {failed} {A} known sound =
+    ⊎_elim
+    (λ (a : A). a)
+    (λ (left : IsLeft rest failed). absurd
+    (⊎_elim
+    (λ (solve : rest ≡ Solve). let both : Leave ≡ Solve = sym left.0 ∙ solve in cc)
+    (λ (still : failed ≡ false). let both : true ≡ false = sym left.1 ∙ still in cc)
+    sound))
+    known
+
+-- the calling thread has still drawn nothing, unless the rest is left
+pub none_yet : {rest : Rest} {failed : Bool} {before after : PassState} → (before.row.numbers ≡ []) ⊎ IsLeft rest failed
+    → (after ≡ before) ⊎ IsLeft rest failed → (after.row.numbers ≡ []) ⊎ IsLeft rest failed
+none_yet {rest} {failed} {before} {after} none same =
+    ⊎_elim
+    (λ (is : after ≡ before). ⊎_elim (λ (n : before.row.numbers ≡ []). inl (ap (λ (p : PassState). p.row.numbers) is ∙ n))
+    (λ (left : IsLeft rest failed). inr left) none)
+    (λ (left : IsLeft rest failed). inr left)
+    same
+
+-- what had failed has failed
+failed_still : {was : Bool} (now : Bool) → (now ≡ false → was ≡ false) → was ≡ true → now ≡ true
+failed_still true sound failed = refl
+failed_still false sound failed = absurd (let both : true ≡ false = sym failed ∙ sound refl in cc)
+
+pub left_still : {rest : Rest} {was : Bool} {A : Type 0} (now : Bool) → (now ≡ false → was ≡ false) → A ⊎ IsLeft rest was
+    → A ⊎ IsLeft rest now
+left_still {rest} {was} {A} now sound known =
+    ⊎_elim (λ (a : A). inl a) (λ (left : IsLeft rest was). inr (left.0, failed_still now sound left.1)) known
 
 -- ==== What stands written when a batch has ended
 

@@ -19,7 +19,7 @@ use Rattle.std.proofs.Math.Nat.{mod-eq_of_lt}
 use Rattle.std.proofs.lemmas.Bool.Decides.{nat_tests}
 use Rattle.atomic_table.specs.Table.{State, Me, step, keeps, Allows, opening, Splits, Joins, Enters, Seen, Final}
 use Rattle.kalah_jobs.specs.Limits.{most_lines}
-use Rattle.kalah_run.specs.Limits.{most_workers}
+use Rattle.kalah_run.specs.Limits.{most_passes}
 use Rattle.kalah_run.specs.Desk.Steps.{DrawsFrom, Draws, StartsClosing, after_handing_out, pass_handed_out, after_reclaiming_row}
 use Rattle.kalah_run.specs.Desk.States.{as_pass_view, row_in, total_in, number_in, PassState, DeskState, new_pass, AreNewPasses, drawn_rows}
 use Rattle.std.proofs.lemmas.List.{get_or_push, get_or_append_left, length-map, nil_from_length}
@@ -295,7 +295,7 @@ draws_at {S} plan slots seat total number numbers s kept homes at fits =
     let n : ℕ = slice_index s.words 0 in
     let is : n ≡ drawn_in (all_rows s.views) + spent_in (all_rows s.views) = ap (λ ws. slice_index ws 0) kept.word in
     let small : drawn_in (all_rows s.views) ≤ most_lines = omega (arith, kept.lawful.within, kept.few.0) in
-    let few : spent_in (all_rows s.views) ≤ most_workers = omega (arith, few_spent plan s kept, kept.few.1) in
+    let few : spent_in (all_rows s.views) ≤ most_passes = omega (arith, few_spent plan s kept, kept.few.1) in
     let next : (n + 1) % 2 ^ 64 ≡ n + 1 = mod-eq_of_lt (omega arith) in
     let words : set s.words 0 ((n + 1) % 2 ^ 64) ≡ (n + 1) ∷ [] = ap (λ ws. set ws 0 ((n + 1) % 2 ^ 64)) kept.word
     ∙ ap (λ m. m ∷ []) next in
@@ -361,7 +361,7 @@ kept_alike plan s after kept words same passes fits =
     }
 
 -- the empty desk
-pub begins : {S : Type 0} (plan : DeskPlan) → plan.total ≤ most_lines → plan.passes ≤ most_workers
+pub begins : {S : Type 0} (plan : DeskPlan) → plan.total ≤ most_lines → plan.passes ≤ most_passes
     → IsKept {S = S} plan (opening (0 ∷ []) [] (opening_view plan))
 begins plan total passes = record {
   few = (total, passes);
@@ -413,6 +413,35 @@ one_pass_more desk count passes p handed_out is = (
       ∙ ap (new_pass desk) (sym same))
       (cases_lt k count),
 )
+
+-- of new passes, those before the last one, and the last one
+pub but_the_last : (desk : DeskState) (count : ℕ) (passes : List PassState) (p : PassState)
+    → AreNewPasses desk (count + 1) (passes ++ p ∷ []) → AreNewPasses desk count passes × (p ≡ new_pass desk count)
+but_the_last desk count passes p new =
+    let many : length passes ≡ count = omega (arith, length-append passes (p ∷ []), new.0) in (
+      (many, λ k d within. sym (get_or_append_left passes (p ∷ []) d k (omega (arith, many))) ∙ new.1 k d (omega arith)),
+      sym (get_or_push passes p p count many) ∙ new.1 count p (omega arith),
+    )
+
+-- if the last row is empty, the others have all numbers
+pub deals_to_others : (total drawn : ℕ) (rows : List DrawnRow) (r : DrawnRow) → r.numbers ≡ []
+    → DealsEachOnce total drawn (rows ++ r ∷ []) → DealsEachOnce total drawn rows
+deals_to_others total drawn rows r empty deals = record {
+  within = deals.within;
+  count = omega (arith, deals.count, sum_by_push (λ (x : DrawnRow). length x.numbers) rows r, ap (λ (l : List ℕ). length l) empty);
+  each_once = λ x.
+      let same : times_in x (drawn_numbers rows) ≡ times_in x (drawn_numbers (rows ++ r ∷ [])) = omega (
+        arith,
+        times_rows x rows,
+        times_rows x (rows ++ r ∷ []),
+        sum_by_push (times x) rows r,
+        ap (λ (l : List ℕ). count_by (λ y. y == x) l) empty,
+      ) in
+      same ∙ deals.each_once x;
+  ascending = λ k d within. subst (λ (x : DrawnRow). AllPairs (λ a b. a < b) x.numbers) (get_or_append_left rows (r ∷ []) d k within)
+      (deals.ascending k d (omega (arith, within, length-append rows (r ∷ []))));
+  spent = λ some. deals.spent (omega (arith, some, sum_by_push (λ (x : DrawnRow). if x.spent then 1 else 0) rows r));
+}
 
 -- a seat that is to reclaim the passes
 pub starts_closing : {S : Type 0} (plan : DeskPlan) (slots : ℕ)
@@ -510,7 +539,7 @@ length-drawn_numbers passes = length-map (drawn_rows passes) (λ (r : DrawnRow).
 -- ==== The rule of the desk, in plain words
 
 pub desk_is_lawful : (plan : DeskPlan) (state : State ⊤ DeskView) → IsKept plan state
-    → CountsWhatItDeals plan.total state.words (all_rows state.views)
+    → CountsWhatItDeals plan.total plan.passes state.words (all_rows state.views)
 desk_is_lawful plan state kept =
     let rows : List DrawnRow = all_rows state.views in
     record {
@@ -520,7 +549,6 @@ desk_is_lawful plan state kept =
       most = omega (
         arith,
         kept.lawful.within,
-        kept.few.1,
         kept.passes,
         rows_within_passes state.views,
         count_by-le-length (λ r. r.spent) rows,

@@ -1,5 +1,5 @@
 //! A batch: the lines of position files, solved by many workers and answered in order.
-ghost use Rattle.std.specs.Prelude.{◌≡◌, ◌<◌, [], false, true, IfErr, IfOk, OnOk};
+ghost use Rattle.std.specs.Prelude.{◌≡◌, ◌<◌, ◌⊎◌, [], false, true, IfErr, IfOk, OnOk};
 ghost use Rattle.kalah_run.specs.Limits.{AreWorkers, IsTableSize};
 ghost use Rattle.kalah_jobs.specs.Writing.Given.{WasGiven};
 ghost use Rattle.kalah_jobs.specs.Writing.Output.{output_of, output_to};
@@ -30,7 +30,15 @@ use kalah_jobs::{FileText, Jobs, Question, Sink, flush_unless_failed};
 use std::alloc::Global;
 use std::marker::Model;
 use std::sync::Wait;
+use std::sync::atomic::Rule;
 use std::thread::Threads;
+
+// The rule of the word that is 1 once the workers of a batch have ended. What a 1 says is proved for every rule, so this one states nothing.
+struct Ended;
+
+impl Rule for Ended {
+    ghost invariant = { λ _. Unit {0} };
+}
 
 /// How many lines a batch has answered.
 #[derive(Clone, Copy, Debug, PartialEq, Eq)]
@@ -80,12 +88,12 @@ pub fn answer_batch<R: Threads + Wait + Sync, G: Gate, V: Watch, W: Sink>(
     ensures answers { AnswersBatch W.written W.has_failed W.is_handed_on (output_to request.now.question request.now.files.now)
         request.now.files.now out.old out.new result }
 
-    // The gate knows each job, which a worker has drawn, if the rest is to be solved.
-    ensures solved { request.now.rest ≡ Solve → SolvesAll (G.knows gate.now) request.now.files.now result }
+    // The gate knows each job, which a worker has drawn, unless the rest is left.
+    ensures solved { (request.now.rest ≡ Solve) ⊎ (W.has_failed out.new ≡ false) → SolvesAll (G.knows gate.now) request.now.files.now result }
 {
     let jobs = Jobs::asking(alloc, request.question, request.files)?;
     if jobs.total() > 0 {
-        OpenBatch::open(alloc, request, &jobs, gate)?.run(rt, watch, out)?;
+        OpenBatch::open(alloc, request, &jobs, gate)?.run::<R, V, W, Ended>(rt, watch, out)?;
     }
     flush_and_count(&jobs, out)
 }

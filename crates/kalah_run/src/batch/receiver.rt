@@ -7,6 +7,7 @@ ghost use Rattle.kalah_run.specs.Queue.States.{HasGot};
 use crate::batch::gate::Gate;
 use crate::batch::shared_work::SharedWork;
 use crate::batch::watch::Watch;
+use crate::desk::pass::Pass;
 use crate::queue::ResultsQueue;
 use crate::queue::passes::GetPass;
 use kalah_jobs::{Outcome, Sink};
@@ -61,20 +62,24 @@ impl<'a, E: Rule> Receiver<'a, E> {
         shared.queue.get(rt, &mut self.pass)
     }
 
-    /// Gets an outcome of a job that was under way when the workers were stopped. Returns `None` once they have ended, and no outcome
-    /// is left.
+    /// Gets an outcome of a job that was under way when the rest was left: the pass has drawn all that was. Returns `None` once the workers
+    /// have ended, and no outcome is left.
     pub(crate) fn get_last<R: Wait, W: Sink>(
         &mut self,
         rt: &R,
         queue: &ResultsQueue,
+        left: &Pass,
         out: &W,
     ) -> Option<Outcome>
         requires queue { self.old.pass.queue ≡ queue.now.id }
+        // No worker can begin a further job.
+        requires left { left.now.row.spent ≡ true }
         requires ready { IsReady (W.has_failed out.now) (W.may_hold_back out.now) (W.is_handed_on out.now) }
         ensures got { MatchOption result (self.new.pass ≡ self.old.pass) (λ outcome. HasGot self.old.pass outcome self.new.pass) }
         ensures ended { IfNone result (E.invariant 1) }
     {
-        // Only the contract reads it.
+        // Only the contract reads these.
+        let _ = left;
         let _ = out;
         queue.get_to_end(rt, &mut self.pass, Some(self.ended))
     }

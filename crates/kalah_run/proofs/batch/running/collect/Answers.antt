@@ -1,12 +1,14 @@
-use Rattle.std.proofs.Common.{◌∷◌, [], ℕ, List, inl, inr, length, refl, sym, ap, subst, ◌∙◌, arith, rules}
+use Rattle.std.proofs.Common.{◌≡◌, ◌⊎◌, ◌∷◌, [], ℕ, List, inl, inr, length, refl, sym, ap, subst, ◌∙◌, arith, rules}
 use Rattle.std.specs.Prelude.{Some}
 use Rattle.std.proofs.lemmas.List.{map-append, length-append}
 use Rattle.kalah_jobs.specs.declared.files.job.Job.{Job}
 use Rattle.kalah_run.specs.Queue.States.{GetState}
+use Rattle.kalah_run.specs.Desk.States.{IsPassAt}
+use Rattle.kalah_run.specs.Batch.UnderWay.{IsLeft}
 use Rattle.kalah_run.specs.Batch.Running.{MayHaveGot}
 use Rattle.kalah_run.specs.Queue.Lists.{outcomes_in}
 use Rattle.kalah_run.specs.Batch.OrderedOutput.{HasWritten, Waits}
-use Rattle.kalah_run.proofs.BatchLemmas.{given_whole, new_written, progress_offered, still_written}
+use Rattle.kalah_run.proofs.BatchLemmas.{given_whole, left_still, new_written, none_yet, progress_offered, still_written}
 use Rattle.kalah_run.proofs.batch.running.collect.Given as given
 use Rattle.kalah_run.proofs.batch.running.collect.Goals as goal
 use Rattle.kalah_run.proofs.batch.running.collect.Goals.{in-Some, in-None+in-Some-flush_and_get, else-loop-test, then-loop-test+in-None+in-None-flush_and_get}
@@ -16,8 +18,10 @@ loop-init g c = record {
   queue = refl;
   workers = refl;
   all = ap (λ (l : List (ℕ × Job)). length l) c.requires.first;
+  own = c.requires.own;
+  left = inl c.requires.none;
   few_tries = omega arith;
-  progress = rw c.requires.first (c.write.ensures _ _ [] _ (new_written _ _ _ c.requires.new));
+  progress = rw c.requires.first (c.write.ensures.writes _ _ [] _ (new_written _ _ _ c.requires.new));
 }
 
 -- an outcome was got, soon or later
@@ -27,12 +31,26 @@ next : (g : given.Over) (c : goal.After-accepts g) → MayHaveGot g.W.Sink.writt
 next g c = elim c.match-get_soon.branch [
   | in-Some w ↦ rw (w.out-is, w.receiver-is, w.outcome-is)
       (record { got = w.in-Some.ensures.got; left = tt; ended = tt; keeps = search rules; sound = λ still. still })
-  | in-None+in-Some-flush_and_get w ↦ rw (w.out-is, w.receiver-is, w.outcome-is, ← w.in-None.ensures.got) w.in-Some-flush_and_get.ensures
+  | in-None+in-Some-flush_and_get w ↦ rw (w.out-is, w.receiver-is, w.outcome-is, ← w.in-None.ensures.got) w.in-Some-flush_and_get.ensures.got
 ]
+
+-- and the calling thread has drawn nothing, unless the rest is left
+next_left : (g : given.Over) (c : goal.After-accepts g) → IsPassAt c.args.shared.now.desk c.match-get_soon.left
+    × ((c.match-get_soon.left.row.numbers ≡ []) ⊎ IsLeft c.args.shared.now.rest (g.W.Sink.has_failed c.match-get_soon.out))
+next_left g c =
+    let asked : (c.leave_after.new.pass.row.numbers ≡ []) ⊎ IsLeft c.args.shared.now.rest (g.W.Sink.has_failed c.loop.out) =
+    none_yet c.loop.invariant.left (rw c.failed.ensures at c.leave_after.ensures.kept) in
+    elim c.match-get_soon.branch [
+      | in-Some w ↦ rw (w.out-is, w.left-is) (c.leave_after.ensures.own, asked)
+      | in-None+in-Some-flush_and_get w ↦
+          let later = w.in-Some-flush_and_get.ensures in
+          rw (w.out-is, w.left-is) (later.own, none_yet (left_still _ later.got.sound asked) later.left)
+    ]
 
 pub loop-preserved : goal.loop-preserved
 loop-preserved g c =
     let outcome = c.match-get_soon.outcome in
+    let next_left = next_left g c in
     let next = next g c in
     let worker = next.got.0 in
     let is = next.got.2 in
@@ -42,6 +60,8 @@ loop-preserved g c =
       workers = ap (λ (p : GetState). p.workers) is ∙ c.loop.invariant.workers;
       all = ap (λ (l : List (ℕ × Job)). length l) more ∙ length-append c.loop.receiver.pass.got ((worker, outcome) ∷ [])
           ∙ omega (arith, c.loop.invariant.all);
+      own = next_left.0;
+      left = left_still _ c.write-in-loop.ensures.sound next_left.1;
       few_tries = search rules;
       progress =
           subst (λ (l : List Job). HasWritten c.args.output.files.now c.args.output.jobs.now l (g.W.Sink.written c.args.out.now)
@@ -50,7 +70,7 @@ loop-preserved g c =
           (sym (ap (λ (l : List (ℕ × Job)). outcomes_in l) more
           ∙ map-append (λ (p : ℕ × Job). p.1) c.loop.receiver.pass.got ((worker, outcome) ∷ [])))
           (let so_far = still_written next.keeps next.sound c.loop.invariant.progress.0 in
-          c.write-in-loop.ensures _ _ _ _ (record {
+          c.write-in-loop.ensures.writes _ _ _ _ (record {
             of_files = so_far.of_files;
             of_jobs = so_far.of_jobs;
             progress = progress_offered so_far.progress outcome c.offer.new.self c.offer.result c.offer.ensures.offers;
@@ -71,7 +91,7 @@ returns-clause-collected g c =
                 (λ still. rw (← w.out-is) (flushed.sound still)) c.loop.invariant.progress;
           })
       | then-loop-test+in-None+in-None-flush_and_get w ↦
-          let left = w.in-None-flush_and_get.ensures in
+          let left = w.in-None-flush_and_get.ensures.got in
           let before = c.loop.invariant.progress in
           let so_far = still_written left.keeps left.sound before.0 in
           rw (w.receiver-is, left.got ∙ w.in-None.ensures.got) (record {
@@ -81,4 +101,15 @@ returns-clause-collected g c =
             given = given_whole c.args.output (rw (← w.out-is) flushed.keeps)
                 (λ still. rw (← w.out-is) (flushed.sound still)) (so_far, before.1);
           })
+    ])
+
+pub returns-clause-left : goal.returns-clause-left
+returns-clause-left g c = left_still _ c.flush_to_wait.ensures.sound
+    (elim c.loop-test.branch [
+      | else-loop-test w ↦ rw (w.out-is, w.left-is) c.loop.invariant.left
+      | then-loop-test+in-None+in-None-flush_and_get w ↦
+          let last = w.in-None-flush_and_get.ensures in
+          let asked : (w.leave_after.new.pass.row.numbers ≡ []) ⊎ IsLeft c.args.shared.now.rest (g.W.Sink.has_failed c.loop.out) =
+          none_yet c.loop.invariant.left (rw w.failed.ensures at w.leave_after.ensures.kept) in
+          rw (w.out-is, w.left-is) (none_yet (left_still _ last.got.sound asked) last.left)
     ])
