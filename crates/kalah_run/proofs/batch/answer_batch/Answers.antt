@@ -61,3 +61,6 @@ run-requires-clause-begins g c κs within = tt
 
 pub run-requires-clause-ends : goal.run-requires-clause-ends
 run-requires-clause-ends g c κs within = λ after run. tt
+
+pub returns-in_err-jobs-clause-answers : goal.returns-in_err-jobs-clause-answers
+returns-in_err-jobs-clause-answers g c = grind (arith, common_steps)

@@ -1,3 +1,4 @@
+use Rattle.std.proofs.lemmas.Grind.{common_steps}
 use Rattle.std.proofs.Common.{◌≡◌, ◌⊎◌, ◌∷◌, [], ℕ, List, inl, inr, length, refl, sym, ap, subst, ◌∙◌, arith, rules}
 use Rattle.std.specs.Prelude.{Some}
 use Rattle.std.proofs.lemmas.List.{map-append, length-append}
@@ -113,3 +114,6 @@ returns-clause-left g c = left_still _ c.flush_to_wait.ensures.sound
           none_yet c.loop.invariant.left (rw w.failed.ensures at w.leave_after.ensures.kept) in
           rw (w.out-is, w.left-is) (none_yet (left_still _ last.got.sound asked) last.left)
     ])
+
+pub returns-clause-ended : goal.returns-clause-ended
+returns-clause-ended g c = grind (arith, common_steps)

@@ -65,3 +65,9 @@ returns-clause-writes g c = λ files jobs past begun so_far.
 
 pub loop-self-smaller-then-not-failed : goal.loop-self-smaller-then-not-failed
 loop-self-smaller-then-not-failed g c = grind (arith, common_steps)
+
+pub loop-self-smaller-else-not-failed : goal.loop-self-smaller-else-not-failed
+loop-self-smaller-else-not-failed g c = grind (arith, common_steps)
+
+pub loop-self-smaller : goal.loop-self-smaller
+loop-self-smaller g c = grind (arith, common_steps)
