@@ -12,7 +12,9 @@ pub(crate) mod pass;
 pub(crate) mod rule;
 
 use crate::desk::pass::Pass;
-use crate::desk::rule::{DeskPlan, DeskRule, DeskView, DrawNumber, HandOut, Reclaim, StartClosing};
+use crate::desk::rule::{
+    DeskPlan, DeskRule, DeskView, DrawNumber, DrawRest, HandOut, Reclaim, StartClosing,
+};
 use atomic_table::Table;
 use std::alloc::{AllocError, Global};
 use std::marker::Model;
@@ -130,14 +132,22 @@ impl Desk {
         None
     }
 
-    /// Draws with the pass until it is spent: then no number is left for any pass.
+    /// Draws all numbers that are left, in one step, so that none is left for any other pass. Then the pass is spent.
     #[cold]
     #[inline(never)]
     pub(crate) fn draw_rest(&self, pass: &mut Pass)
         requires { IsPassAt self.now pass.old }
         ensures own { IsPassAt self.now pass.new }
+        ensures number { pass.new.number ≡ pass.old.number }
         ensures spent { pass.new.row.spent ≡ true }
     {
+        if pass.is_spent {
+            return;
+        }
+        self.table
+            .shared
+            .fetch_max::<DrawRest>(&mut pass.seat, 0, self.total as u64);
+        // It finds none.
         while let Some(_) = self.draw(pass) {}
     }
 

@@ -1,8 +1,11 @@
 //! A batch that is opened, run and closed.
-ghost use Rattle.std.specs.Prelude.{◌≡◌, ◌≤◌, ◌⊎◌, ℕ, ◌<◌, [], ◌∷◌, ◌++◌, length, vec_len, vec_capacity, false, true, IfErr, IfOk, OnErr, OnOk};
+ghost use Rattle.std.specs.Prelude.{◌≡◌, ◌≤◌, ◌⊎◌, ◌+◌, ℕ, ◌<◌, [], ◌++◌, length, vec_len, vec_capacity, false, true, IfErr, IfOk, IfSome, OnErr, OnOk};
+ghost use Rattle.kalah_jobs.specs.Limits.{most_lines};
 ghost use Rattle.kalah_jobs.specs.Files.Jobs.{job_count};
-ghost use Rattle.kalah_run.specs.Limits.{IsTableSize};
+ghost use Rattle.kalah_run.specs.Limits.{AreWorkers, IsTableSize};
+ghost use Rattle.kalah_run.specs.Desk.States.{AreNewPasses, new_pass};
 ghost use Rattle.kalah_run.specs.Batch.AtWork.{passes_of, puts_of, OnceRun};
+ghost use Rattle.kalah_run.specs.Batch.Leaving.{rest_of, pass_in};
 ghost use Rattle.kalah_run.specs.Batch.Running.{IsAsAsked, IsReadyToRun, HaveOwnTables};
 ghost use Rattle.kalah_run.specs.Batch.OrderedOutput.{whole_output};
 ghost use Rattle.kalah_run.specs.Batch.UnderWay.{WasGivenSince};
@@ -12,7 +15,7 @@ use crate::batch::crew::Crew;
 use crate::batch::gate::Gate;
 use crate::batch::ordered_output::OrderedOutput;
 use crate::batch::receiver::Receiver;
-use crate::batch::request::BatchRequest;
+use crate::batch::request::{BatchRequest, Rest};
 use crate::batch::run_fault::RunFault;
 use crate::batch::running::run_and_write;
 use crate::batch::shared_work::SharedWork;
@@ -28,6 +31,35 @@ use std::alloc::{AllocError, Global};
 use std::sync::Wait;
 use std::sync::atomic::{AtomicIn, Rule};
 use std::thread::Threads;
+
+// Opens a desk with a pass for each worker, and with one more if the rest is to be left: that of the calling thread.
+fn open_desk(
+    alloc: Global,
+    total: u32,
+    workers: u32,
+    rest: Rest,
+) -> Result<(Desk, Vec<Pass>, Option<Pass>), AllocError>
+    requires total { total ≤ most_lines }
+    requires workers { AreWorkers workers }
+    ensures total { IfOk result (λ r. r.0.total ≡ total) }
+    ensures passes { IfOk result (λ r. AreNewPasses r.0 workers r.1.items) }
+    ensures left { IfOk result (λ r. IfSome r.2 (λ left. left ≡ new_pass r.0 workers)) }
+    ensures rest { IfOk result (λ r. rest_of r.2 ≡ rest) }
+    ensures all { IfOk result (λ r. workers + length (pass_in r.2) ≡ r.0.passes) }
+    ensures room { IfOk result (λ r. workers + length (pass_in r.2) ≤ vec_capacity r.1) }
+{
+    match rest {
+        Rest::Solve => {
+            let (desk, passes) = Desk::open(alloc, total, workers)?;
+            Ok((desk, passes, None))
+        }
+        Rest::Leave => {
+            let (desk, mut passes) = Desk::open_for(alloc, total, workers + 1)?;
+            let left = passes.pop();
+            Ok((desk, passes, left))
+        }
+    }
+}
 
 // Makes a worker for each pair of passes, in their order, and leaves the lists empty. All workers share what they learn of endings.
 fn put_together(
@@ -57,29 +89,36 @@ fn put_together(
 }
 
 // Moves the passes of the workers, in their order, and then that of the calling thread, into two lists that have room for them.
-fn take_apart(workers: Vec<Worker>, left: Pass, passes: &mut Vec<Pass>, puts: &mut Vec<PutPass>)
+fn take_apart(
+    workers: Vec<Worker>,
+    left: Option<Pass>,
+    passes: &mut Vec<Pass>,
+    puts: &mut Vec<PutPass>,
+)
     requires empty { (passes.old.items ≡ []) × (puts.old.items ≡ []) }
-    requires passes_room { vec_len workers < vec_capacity passes.old }
+    requires passes_room { vec_len workers + length (pass_in left) ≤ vec_capacity passes.old }
     requires puts_room { vec_len workers ≤ vec_capacity puts.old }
-    ensures passes { passes.new.items ≡ passes_of workers.items ++ left ∷ [] }
+    ensures passes { passes.new.items ≡ passes_of workers.items ++ pass_in left }
     ensures puts { puts.new.items ≡ puts_of workers.items }
 {
     for worker in workers {
         passes.push_reserved(worker.pass);
         puts.push_reserved(worker.put);
     }
-    passes.push_reserved(left);
+    if let Some(left) = left {
+        passes.push_reserved(left);
+    }
 }
 
-/// A batch that is open: what its workers share, the workers, the pass to get what they send, the pass to draw what is left after a failed
-/// write, and what is written of it. The two lists
-/// from which the workers took their passes have room for their return.
+/// A batch that is open: what its workers share, the workers, the pass to get what they send, that to draw what is left after a failed
+/// write, if the rest is to be left, and what is written of it. The two lists from which the workers took their passes have room for
+/// the return of all passes.
 #[derive(Drop)]
 pub(crate) struct OpenBatch<'a, G> {
     shared: SharedWork<'a, G>,
     workers: Vec<Worker>,
     get: GetPass,
-    left: Pass,
+    left: Option<Pass>,
     output: OrderedOutput<'a>,
     passes: Vec<Pass>,
     puts: Vec<PutPass>,
@@ -101,10 +140,7 @@ impl<'a, G: Gate> OpenBatch<'a, G> {
         let output = OrderedOutput::new(alloc, request.files, jobs)?;
         let total = jobs.total();
         let count = request.workers.min(total).max(1);
-        let (desk, mut passes) = Desk::open_for(alloc, total, count + 1)?;
-        let Some(left) = passes.pop() else {
-            unreachable!()
-        };
+        let (desk, mut passes, left) = open_desk(alloc, total, count, request.rest)?;
         let (queue, mut puts, get) = ResultsQueue::open(alloc, QUEUE_PLACES, count)?;
         let workers = put_together(alloc, &mut passes, &mut puts, request.table)?;
         Ok(OpenBatch {
@@ -113,7 +149,6 @@ impl<'a, G: Gate> OpenBatch<'a, G> {
                 queue,
                 jobs,
                 gate,
-                rest: request.rest,
             },
             workers,
             get,
@@ -140,8 +175,8 @@ impl<'a, G: Gate> OpenBatch<'a, G> {
             (whole_output self.entry.output)) }
         ensures fault { IfErr result (λ e. e ≡ RunFault.NoWorker) }
         ensures untouched { OnErr result (out.new ≡ out.old) }
-        ensures solved { (self.entry.shared.rest ≡ Solve) ⊎ (W.has_failed out.new ≡ false) → OnOk result ((job : ℕ) → job < job_count self.entry.shared.jobs.now
-            → G.knows self.entry.shared.gate.now job ≡ true) }
+        ensures solved { (rest_of self.entry.left ≡ Solve) ⊎ (W.has_failed out.new ≡ false)
+            → OnOk result ((job : ℕ) → job < job_count self.entry.shared.jobs.now → G.knows self.entry.shared.gate.now job ≡ true) }
     {
         let OpenBatch {
             shared,
@@ -158,8 +193,8 @@ impl<'a, G: Gate> OpenBatch<'a, G> {
             workers,
             ended: &ended,
         };
-        let receiver = Receiver::new(get, &ended);
-        let (workers, get, left) = run_and_write(rt, crew, receiver, left, output, watch, out)?;
+        let receiver = Receiver::new(get, left, &ended);
+        let (workers, get, left) = run_and_write(rt, crew, receiver, output, watch, out)?;
         take_apart(workers, left, &mut passes, &mut puts);
         let SharedWork { desk, queue, .. } = shared;
         desk.close(passes);

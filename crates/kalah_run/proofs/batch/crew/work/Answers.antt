@@ -1,4 +1,3 @@
-use Rattle.std.proofs.lemmas.Grind.{common_steps}
 use Rattle.std.proofs.Common.{◌≡◌, ℕ, ◌∷◌, ◌++◌, [], true, rules, sym, ap, ◌∙◌, arith}
 use Rattle.kalah_run.specs.declared.desk.rule.DrawnRow.{DrawnRow}
 use Rattle.kalah_run.specs.Desk.States.{PassState}
@@ -32,6 +31,3 @@ loop-job-smaller g c =
     let same = c.answer-outcome.ensures.same in
     less_left _ _ _ _ (ap (λ (p : PassState). p.row.numbers) same.0 ∙ ap (λ (r : DrawnRow). r.numbers) c.in-Some.ensures.drawn)
     c.in-Some.ensures.above c.in-Some.ensures.below
-
-pub returns-in_default : goal.returns-in_default
-returns-in_default g c = grind (arith, common_steps)

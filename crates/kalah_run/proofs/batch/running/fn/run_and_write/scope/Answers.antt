@@ -16,8 +16,7 @@ returns g c = record {
   ended = record {
     all_ran = search rules;
     collected = c.collect-get.ensures.collected;
-    own = c.collect-get.ensures.own;
-    left = c.collect-get.ensures.left;
+    draws = c.collect-get.ensures.draws;
   };
   fault = tt;
   untouched = tt;
