@@ -175,7 +175,7 @@ impl<'a, G: Gate> OpenBatch<'a, G> {
             (whole_output self.entry.output)) }
         ensures fault { IfErr result (λ e. e ≡ RunFault.NoWorker) }
         ensures untouched { OnErr result (out.new ≡ out.old) }
-        ensures solved { (rest_of self.entry.left ≡ Solve) ⊎ (W.has_failed out.new ≡ false)
+        ensures gate_hears_all { (rest_of self.entry.left ≡ Solve) ⊎ (W.has_failed out.new ≡ false)
             → OnOk result ((job : ℕ) → job < job_count self.entry.shared.jobs.now → G.knows self.entry.shared.gate.now job ≡ true) }
     {
         let OpenBatch {

@@ -79,8 +79,8 @@ fn flush_and_get<R: Wait, G: Gate, V: Watch, W: Sink, E: Rule>(
 }
 
 // Accepts the outcome of each job, and writes each line once it is ready and all earlier ones are written; then the output may flush.
-// If the output fails and the rest is left, it draws that itself, and accepts what the workers still send. It accepts until they have ended,
-// since a worker may sleep until another outcome is got. Returns both passes, to close the queue and the desk.
+// If the output fails and the rest is left, it draws that itself, and accepts what the workers still send. It accepts until they have
+// ended, since a worker may sleep until another outcome is got. Returns both passes, to close the queue and the desk.
 fn collect<R: Wait, G: Gate, V: Watch, W: Sink, E: Rule>(
     rt: &R,
     shared: &SharedWork<'_, G>,

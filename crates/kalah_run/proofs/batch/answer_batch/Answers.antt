@@ -36,15 +36,15 @@ returns-clause-answers g c =
     ])
     (starts_none _ _ [] refl end.given.start) (λ sound. (end.given.whole sound).0)) end.counted end.handed_on end.fault
 
--- each job was solved, if the rest is to be
-pub returns-clause-solved : goal.returns-clause-solved
-returns-clause-solved g c = λ unless ok job low.
+-- the gate knows each job, if the rest is to be solved or no write has failed
+pub returns-clause-gate_hears_all : goal.returns-clause-gate_hears_all
+returns-clause-gate_hears_all g c = λ unless ok job low.
     let end = c.flush_and_count.ensures in
     let jobs = as_many_jobs _ _ _ c.in_ok-jobs.ensures.value in
     elim c.if-total-gt0.branch [
       | then-total-gt0+in_ok-open+in_ok-run w ↦
           let asked = w.in_ok-open.ensures.asked in
-          rw (← asked.of_gate) (w.in_ok-run.ensures.solved
+          rw (← asked.of_gate) (w.in_ok-run.ensures.gate_hears_all
           (⊎_elim (λ solve. inl (asked.of_rest ∙ solve)) (λ sound. inr (ap g.W.Sink.has_failed (sym w.out-is) ∙ (end.given.whole sound).0)) unless) job
           (omega (arith, low, jobs, ap job_count asked.of_jobs)))
       | else-total-gt0 w ↦ absurd (omega (arith, low, jobs, w.if-total-gt0.false, c.total.ensures.lines))

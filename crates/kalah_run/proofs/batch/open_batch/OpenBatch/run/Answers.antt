@@ -110,8 +110,8 @@ returns-clause-given g c =
     (⊎_elim (λ nothing. ⊎_elim (λ all. inl (each_got g c nothing all)) (λ left. inr left) collected.all_got) (λ left. inr left)
     (nothing_drawn c.requires.ready.left draws))
 
-pub returns-clause-solved : goal.returns-clause-solved
-returns-clause-solved g c = λ unless job low.
+pub returns-clause-gate_hears_all : goal.returns-clause-gate_hears_all
+returns-clause-gate_hears_all g c = λ unless job low.
     let ended = c.in_ok-workers.ensures.ended in
     let drawn = nothing_drawn c.requires.ready.left (rw c.new-receiver.ensures.1 at ended.draws) in
     each_job_known ended.all_ran c.requires.ready.some (dealt g c (unless_left drawn unless)) job low
