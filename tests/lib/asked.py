@@ -82,8 +82,8 @@ class AskTrials:
                 if got != want:
                     break
             os.close(writer)
-            status = int(b"fault" in want)
-            self.compare(Run(want, b"", status), Run(got, process.stderr.read(), process.wait()))
+            end = self.end_of(process)
+            self.compare(Run(want, b"", int(b"fault" in want)), end._replace(out=got + end.out))
 
     def asked_at_once(self):
         """Lines from each source, in pieces of each size, are answered as those of a file."""

@@ -6,6 +6,7 @@ import os
 import pty
 import re
 import resource
+import select
 import shutil
 import socket
 import subprocess
@@ -254,6 +255,9 @@ NO_READER_IS_LEFT = list(product(SEARCHING, ["1", "4"], ["pipe", "/dev/full"]))
 # The numbers of workers of a run whose reader leaves late.
 LEFT_AFTER_A_PAUSE = [64, 8]
 
+# The numbers of workers of a run whose reader leaves after a second at most, and how many hard lines it has.
+LEFT_WITH_LINES_UNDER_WAY = [*[(4, 10), (8, 10)] * 7, *[(4, 0), (8, 0)] * 2, *[(64, 10), (64, 0)]]
+
 # A line that takes no time.
 EASY = b"1,1/0 1,1/0\n"
 
@@ -302,8 +306,9 @@ LITTLE_SPACE = 24_000
 SPACE_OF_MANY = 64_000
 MEMORY_OF_MANY = 16_000
 
-# With a table of one entry each of these lines takes seconds, so no run finishes all of them.
-HARD = b"2,3,2,3,2,3/0 3,2,3,2,3,3/0\n" * 1000
+# With a table of one entry each of these lines takes long, so no run finishes a thousand of them.
+HARD_LINE = b"2,3,2,3,2,3/0 3,2,3,2,3,3/0\n"
+HARD = HARD_LINE * 1000
 
 # The seconds after which a run counts as endless.
 PATIENCE = 120
@@ -371,12 +376,17 @@ def in_seconds(left):
     return int(count) * {"s": 1, "min": 60, "h": 3600}[unit]
 
 
-def read_all(reader):
-    """Reads until all writers are closed."""
-    got = b""
+def read_all(reader, process):
+    """Reads until all writers are closed. If that takes too long, ends the process."""
+    got, end = b"", time.monotonic() + PATIENCE
     with suppress(OSError):
-        while piece := os.read(reader, 65536):
+        while select.select([reader], [], [], max(0.0, end - time.monotonic()))[0]:
+            piece = os.read(reader, 65536)
+            if not piece:
+                return got
             got += piece
+        process.kill()
+        raise Differs(f"what the run writes has not ended after {PATIENCE} seconds")
     return got
 
 
@@ -491,12 +501,12 @@ class Trials(AskTrials):
         """Returns the result of a run."""
         return self.end_of(self.start(words, name, **streams))
 
-    def end_of(self, process):
+    def end_of(self, process, patience=PATIENCE):
         try:
-            out, err = process.communicate(timeout=PATIENCE)
+            out, err = process.communicate(timeout=patience)
         except subprocess.TimeoutExpired:
             process.kill()
-            raise Differs(f"the run has not ended after {PATIENCE} seconds") from None
+            raise Differs(f"the run has not ended after {patience} seconds") from None
         return Run(out or b"", err or b"", process.returncode)
 
     def compare(self, want, got):
@@ -676,6 +686,18 @@ class Trials(AskTrials):
             os.close(reader)
             self.compare(Run(b"", b"kalah: write failed\n", 2), self.end_of(process)._replace(out=b""))
 
+    def left_with_lines_under_way(self):
+        """A run ends soon once its reader has left, whatever its workers do then: they wait for room, or solve a line that takes long while
+        the calling thread sleeps."""
+        workers, hard = self.drawn.card("left with lines under way", LEFT_WITH_LINES_UNDER_WAY)
+        self.put({"a": EASY * 4000 + (HARD_LINE + EASY * 200) * hard + EASY * 100_000})
+        reader, writer = os.pipe()
+        with self.start(["solve", "--table=1", f"--workers={workers}", "a"], stdout=writer) as process:
+            os.close(writer)
+            time.sleep(self.drawn.chance.uniform(0.1, 1))
+            os.close(reader)
+            self.compare(Run(b"", b"kalah: write failed\n", 2), self.end_of(process, SOON)._replace(out=b""))
+
     def timed(self, run):
         """Returns the result of a run, and the processor time that it took, in seconds."""
         before = resource.getrusage(resource.RUSAGE_CHILDREN)
@@ -814,7 +836,7 @@ class Trials(AskTrials):
             os.close(writer)
             if place == "file":
                 process.wait(PATIENCE)
-            shown = read_all(reader)
+            shown = read_all(reader, process)
             process.wait(PATIENCE)
             took = time.monotonic() - begun
             out.seek(0)
@@ -836,7 +858,7 @@ class Trials(AskTrials):
         with self.start([subcommand, "--progress", "a"], **streams) as process:
             for stream in ("stdout", "stderr"):
                 os.close(ends[stream][1])
-            got = {stream: read_all(ends[stream][0]) for stream in ("stdout", "stderr")}
+            got = {stream: read_all(ends[stream][0], process) for stream in ("stdout", "stderr")}
             status = process.wait(PATIENCE)
         for end in (*ends["stdin"], ends["stdout"][0], ends["stderr"][0]):
             os.close(end)
@@ -850,7 +872,7 @@ class Trials(AskTrials):
         reader, writer = two_ends("terminal")
         with open("/dev/full", "wb") as full, self.start([self.searching(), "--progress", "a"], stdout=full, stderr=writer) as process:
             os.close(writer)
-            said = read_all(reader)
+            said = read_all(reader, process)
             status = process.wait(PATIENCE)
         os.close(reader)
         rows = rb"(\rkalah: \d+ of 200 lines, \d+ %(, \d+ \w+ left)?\x1b\[K)+\nkalah: write failed\n  tip: the disk is full, or the reader of the output has left\n"
@@ -948,7 +970,7 @@ class Trials(AskTrials):
         with self.start(words, **{stream: terminal, other: pipe}, preexec_fn=give_up_reading) as process:
             os.close(terminal)
             os.close(pipe)
-            got = {stream: read_all(screen), other: read_all(reader)}
+            got = {stream: read_all(screen, process), other: read_all(reader, process)}
             status = process.wait(PATIENCE)
         os.close(screen)
         os.close(reader)
@@ -1065,6 +1087,7 @@ KINDS = {
     "streams": len(STREAMS_OF_RUNS),
     "no_reader_is_left": len(NO_READER_IS_LEFT),
     "left_after_a_pause": 2 * len(LEFT_AFTER_A_PAUSE),
+    "left_with_lines_under_way": 2 * len(LEFT_WITH_LINES_UNDER_WAY),
     "first_answers": len(FIRST_ANSWERS),
     "first_picture": len(FIRST_PICTURES),
     "first_move": len(FIRST_MOVES),

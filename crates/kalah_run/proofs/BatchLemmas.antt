@@ -3,7 +3,7 @@ use Rattle.std.proofs.Common.{add-one, IfErr, ◌≡◌, ◌≤◌, ◌<◌, ◌
 use Rattle.std.proofs.lemmas.List.{nil_from_length, map-append, reverse-append, append-nil, take-append-drop, take_all, take_more, flat_map_more, get_or-map, length-append, length-map}
 use Rattle.kalah_jobs.specs.declared.files.entry.Entry.{Entry}
 use Rattle.kalah_jobs.specs.declared.files.job.Job.{Job}
-use Rattle.std.specs.Prelude.{◌⊎◌, All, Some, fold, slice_get, Option, None, Result, Ok, Err, sum_by, IsErr, OnOk, count_by, ◌↔◌, IfOk}
+use Rattle.std.specs.Prelude.{◌⊎◌, All, Some, IfSome, fold, slice_get, Option, None, Result, Ok, Err, sum_by, IsErr, OnOk, count_by, ◌↔◌, IfOk}
 use Rattle.std.proofs.lemmas.List.Sums.{fold-append, sum_by-cons}
 use Rattle.std.proofs.lemmas.Option.{get_or_from_slice_get, slice_get_within}
 use Rattle.kalah_jobs.specs.Files.JobList.{job_list, jobs_from, file_jobs, line_job, entries_of, entry_at}
@@ -17,7 +17,8 @@ use Rattle.std.proofs.Math.Seq.{take-nil}
 use Rattle.std.proofs.KnownBytes.{Appends-kept, Appends-nil, Appends-trans}
 use Rattle.kalah_jobs.specs.Writing.Given.{AppendsStart}
 use Rattle.kalah_jobs.proofs.WritingLemmas.{start_none, start_then, start_longer, start_kept, files_are_their_jobs}
-use Rattle.kalah_run.specs.Batch.UnderWay.{WasGivenSince, text_of_job, written_upto, IsUnderWay, IsLeft}
+use Rattle.kalah_run.specs.Batch.UnderWay.{WasGivenSince, text_of_job, written_upto, IsUnderWay}
+use Rattle.kalah_run.specs.Batch.Leaving.{rest_of, pass_in, HasDrawnNothing, IsLeft, DrawsOnlyTheRest}
 use Rattle.std.specs.List.{flat_map, enumerate_from}
 use Rattle.std.proofs.lemmas.Bool.{cases_eq, cases_lt, lt-ltb}
 use Rattle.std.proofs.lemmas.Grind.{flat_map-append}
@@ -33,9 +34,9 @@ use Rattle.kalah_jobs.specs.Files.Lines.{line_feed}
 use Rattle.kalah_jobs.specs.Files.NamedBytes.{NamedBytes}
 use Rattle.kalah_run.specs.declared.batch.ordered_output.OrderedOutput.{OrderedOutput}
 use Rattle.kalah_run.specs.Batch.OrderedOutput.{text_of, IsNew, HasWritten, whole_output, Waits}
-use Rattle.std.proofs.lemmas.List.Elements.{All-cons, All-map}
+use Rattle.std.proofs.lemmas.List.Elements.{All-cons, All-map, All-nil}
 use Rattle.kalah_run.specs.Queue.States.{PutState, ArePassesFrom, sent_by}
-use Rattle.kalah_run.specs.Desk.States.{PassState, IsPassAt, AreNewPasses, new_pass, drawn_rows}
+use Rattle.kalah_run.specs.Desk.States.{DeskState, PassState, IsPassAt, AreNewPasses, new_pass, drawn_rows}
 use Rattle.kalah_run.specs.declared.batch.worker.Worker.{Worker}
 use Rattle.kalah_run.specs.Batch.Running.{HasOwnTable, HaveOwnTables}
 use Rattle.atomic_table.specs.Seated.{TableId}
@@ -47,7 +48,7 @@ use Rattle.kalah_run.specs.Queue.Lists.{Accounts, outcomes_in}
 use Rattle.kalah_run.specs.declared.batch.shared_work.SharedWork.{SharedWork}
 use Rattle.kalah_run.proofs.DeskLemmas.{length-drawn_numbers}
 use Rattle.kalah_run.specs.declared.batch.request.Rest.{Rest}
-use Rattle.kalah_run.specs.declared.batch.request.Rest.TheVariants.{Solve}
+use Rattle.kalah_run.specs.declared.batch.request.Rest.TheVariants.{Solve, Leave}
 use Rattle.kalah_jobs.specs.declared.files.question.Question.{Question}
 use Rattle.kalah_jobs.specs.Limits.{most_files, most_lines}
 use Rattle.kalah_run.specs.Batch.Answering.{AnswersBatch, counts_of}
@@ -505,21 +506,89 @@ some_spent (w ∷ ws) some spent =
       ap {B = ℕ} (λ (b : Bool). if b then 1 else 0) (spent 0 w (omega arith)),
     )
 
--- Each worker has run, and the rest is solved: all jobs were drawn, and the gate knows them.
+-- Each worker has run: all jobs were drawn, and if they were drawn by workers the gate knows them.
 pub each_job_known : {G : Type 0} {knows : G → ℕ → Bool} {shared : SharedWork G} {before after : List Worker} {drawn : ℕ}
-    → HaveRun knows shared before after → shared.rest ≡ Solve → 0 < length before
+    → HaveRun knows shared before after → 0 < length before
     → DealsEachOnce (job_count shared.jobs.now) drawn (drawn_rows (passes_of after))
     → (job : ℕ) → job < job_count shared.jobs.now → knows shared.gate.now job ≡ true
-each_job_known {knows = knows} {shared} {before} {after} {drawn} run solve some deals job low =
+each_job_known {knows = knows} {shared} {before} {after} {drawn} run some deals job low =
     let Known : ℕ → Type 0 = λ n. knows shared.gate.now n ≡ true in
     let spent = λ (k : ℕ) (w : Worker) (within : k < length after).
-    (run.each k w (let many = run.as_many in omega arith)).spent solve in
+    (run.each k w (let many = run.as_many in omega arith)).spent in
     let all : drawn ≡ job_count shared.jobs.now = deals.spent (some_spent after (let many = run.as_many in omega arith) spent) in
     let once = deals.each_once job ∙ ap {B = ℕ} (λ (b : Bool). if b then 1 else 0) (lt-ltb job drawn (omega arith)) in
     has_of_rows Known job (drawn_rows (passes_of after)) (omega (arith, once))
     (All-map (λ (r : DrawnRow). All Known r.numbers) (λ (p : PassState). p.row) (passes_of after)
     (All-map (λ (p : PassState). All Known p.row.numbers) (λ (w : Worker). w.pass) after
     (λ k w within. (run_at_work shared before after run k w within).known)))
+
+-- what holds unless the rest is left holds if it is to be solved, and if the output has not failed
+pub unless_left : {rest : Rest} {failed : Bool} {A : Type 0} → A ⊎ IsLeft rest failed → (rest ≡ Solve) ⊎ (failed ≡ false) → A
+unless_left {rest} {failed} {A} known sound =
+    ⊎_elim
+    (λ (a : A). a)
+    (λ (left : IsLeft rest failed). absurd
+    (⊎_elim
+    (λ (solve : rest ≡ Solve). let both : Leave ≡ Solve = sym left.0 ∙ solve in cc)
+    (λ (still : failed ≡ false). let both : true ≡ false = sym left.1 ∙ still in cc)
+    sound))
+    known
+
+-- what had failed has failed
+failed_still : {was : Bool} (now : Bool) → (now ≡ false → was ≡ false) → was ≡ true → now ≡ true
+failed_still true sound failed = refl
+failed_still false sound failed = absurd (let both : true ≡ false = sym failed ∙ sound refl in cc)
+
+-- the calling thread's pass, before and after a call of the output
+pub draws_still : {desk : DeskState} {was : Bool} {before after : Option PassState} (now : Bool) → (now ≡ false → was ≡ false)
+    → DrawsOnlyTheRest desk was before after → DrawsOnlyTheRest desk now before after
+draws_still {was = was} {before} now sound draws = record {
+  own = draws.own;
+  rest = draws.rest;
+  same = ⊎_elim inl (λ (left : IsLeft (rest_of before) was). inr (left.0, failed_still now sound left.1)) draws.same;
+}
+
+-- and after two steps
+pub draws_on : {desk : DeskState} {failed : Bool} {first second third : Option PassState} → DrawsOnlyTheRest desk failed first second
+    → DrawsOnlyTheRest desk failed second third → DrawsOnlyTheRest desk failed first third
+draws_on {failed = failed} {first} {second} {third} one two = record {
+  own = two.own;
+  rest = two.rest ∙ one.rest;
+  same =
+      ⊎_elim
+      (λ (is : third ≡ second). ⊎_elim (λ (was : second ≡ first). inl (is ∙ was)) inr one.same)
+      (λ (left : IsLeft (rest_of second) failed). inr (sym one.rest ∙ left.0, left.1))
+      two.same;
+}
+
+-- if it is new, it is a pass of the desk, and has drawn nothing
+pub new_own : (desk : DeskState) (number : ℕ) (left : Option PassState) → IfSome left (λ p. p ≡ new_pass desk number)
+    → IfSome left (IsPassAt desk)
+new_own desk number None new = tt
+new_own desk number (Some p) new = (ap (λ (p : PassState). p.desk) new, ap (λ (p : PassState). p.total) new)
+
+pub new_left : (desk : DeskState) (number : ℕ) (left : Option PassState) → IfSome left (λ p. p ≡ new_pass desk number)
+    → HasDrawnNothing left
+new_left desk number None new = tt
+new_left desk number (Some p) new = ap (λ (p : PassState). p.row.numbers) new
+
+-- it has a pass as it had one
+pub as_many_left : (before after : Option PassState) → rest_of after ≡ rest_of before
+    → length (pass_in after) ≡ length (pass_in before)
+as_many_left None None same = refl
+as_many_left (Some p) (Some q) same = refl
+as_many_left None (Some q) same = absurd (let both : Leave ≡ Solve = same in cc)
+as_many_left (Some p) None same = absurd (let both : Solve ≡ Leave = same in cc)
+
+-- what holds of it holds of each in its list
+pub own_in : (P : PassState → Type 0) (left : Option PassState) → IfSome left P → All P (pass_in left)
+own_in P None own = All-nil P
+own_in P (Some p) own = All-cons P p [] own (All-nil P)
+
+-- it has drawn nothing if it had not, unless the rest is left
+pub nothing_drawn : {desk : DeskState} {failed : Bool} {before after : Option PassState} → HasDrawnNothing before
+    → DrawsOnlyTheRest desk failed before after → HasDrawnNothing after ⊎ IsLeft (rest_of before) failed
+nothing_drawn nothing draws = ⊎_elim (λ is. inl (subst HasDrawnNothing (sym is) nothing)) inr draws.same
 
 -- ==== What stands written when a batch has ended
 

@@ -1,11 +1,12 @@
 -- The desk: what is kept of its word and its seats, and what the rows are at the end.
-use Rattle.std.proofs.Common.{◌≡◌, ⊎_elim, ℕ, zero, suc, ◌+◌, ◌≤◌, List, [], ◌∷◌, ◌++◌, length, set, refl, sym, ap, ◌∙◌, subst, arith, length-append, append-nil, ◌%◌, ◌^◌, ◌<◌, get_or, true, false, cond, ◌-◌}
-use Rattle.std.specs.Prelude.{◌==◌, sum_by, count_by, All, nat_lt, AllPairs, if◌then◌else◌, slice_index, min, IsTrue, ⊤}
+use Rattle.std.proofs.Common.{◌≡◌, ⊎_elim, ℕ, zero, suc, ◌+◌, ◌≤◌, List, [], ◌∷◌, ◌++◌, length, set, refl, sym, ap, ◌∙◌, subst, arith, length-append, append-nil, append_assoc, ◌%◌, ◌^◌, ◌<◌, get_or, true, false, cond, ◌-◌}
+use Rattle.std.specs.Prelude.{◌==◌, Option, Some, None, sum_by, count_by, All, nat_lt, AllPairs, if◌then◌else◌, slice_index, max, min, IsTrue, ⊤}
 use Rattle.std.proofs.lemmas.List.Sums.{sum_by-cons, sum_by-append, sum_by_push, count_by-le-length, get_or-le-sum_by}
 use Rattle.std.proofs.lemmas.List.Elements.{All-append, All-nil, All-cons, All-head, All-tail}
 use mathlib.Core.Option.{some, some-injective, some-ne-none, none}
 use lib.ListN.{get_elem?}
-use Rattle.kalah_run.proofs.ViewLemmas.{Each, each_more, each_set, was_there}
+use Rattle.atomic_table.proofs.Lists.{set_again, set_here}
+use Rattle.kalah_run.proofs.ViewLemmas.{Each, each_more, each_set, in_views, was_there}
 use Rattle.kalah_run.specs.declared.desk.rule.DrawnRow.{DrawnRow}
 use Rattle.kalah_run.specs.declared.desk.rule.DeskPlan.{DeskPlan}
 use Rattle.kalah_run.specs.declared.desk.rule.DeskView.{DeskView}
@@ -19,11 +20,12 @@ use Rattle.std.proofs.Math.Nat.{mod-eq_of_lt}
 use Rattle.std.proofs.lemmas.Bool.Decides.{nat_tests}
 use Rattle.atomic_table.specs.Table.{State, Me, step, keeps, Allows, opening, Splits, Joins, Enters, Seen, Final}
 use Rattle.kalah_jobs.specs.Limits.{most_lines}
-use Rattle.kalah_run.specs.Limits.{most_workers}
-use Rattle.kalah_run.specs.Desk.Steps.{DrawsFrom, Draws, StartsClosing, after_handing_out, pass_handed_out, after_reclaiming_row}
+use Rattle.kalah_run.specs.Limits.{most_passes}
+use Rattle.kalah_run.specs.Desk.Steps.{DrawsFrom, Draws, DrawsRest, numbers_from, StartsClosing, after_handing_out, pass_handed_out, after_reclaiming_row}
 use Rattle.kalah_run.specs.Desk.States.{as_pass_view, row_in, total_in, number_in, PassState, DeskState, new_pass, AreNewPasses, drawn_rows}
-use Rattle.std.proofs.lemmas.List.{get_or_push, get_or_append_left, length-map, nil_from_length}
+use Rattle.std.proofs.lemmas.List.{get_or_push, get_or_append_left, length-map, map-append, nil_from_length, set-set}
 use Rattle.kalah_run.specs.Desk.Law.{CountsWhatItDeals}
+use Rattle.kalah_run.specs.Batch.Leaving.{HasDrawnNothing, pass_in}
 
 -- ==== Sums over the rows of all seats, and facts of each row: after a change of one seat's view, and after a new seat
 
@@ -287,6 +289,26 @@ few_spent plan s kept = omega (
   rows_within_passes s.views,
 )
 
+-- The rule stays if the row of a pass changes, the rows are lawful with that, and the word becomes their count.
+kept_after : {S : Type 0} (plan : DeskPlan) (s : State S DeskView) (seat total number : ℕ) (before after : DrawnRow) (word : ℕ)
+    {words : List ℕ} → IsKept plan s → get_elem? s.views seat ≡ some (Drawing total number before)
+    → AreLawful plan.total (all_rows (set s.views seat (Drawing total number after)))
+    → drawn_in (all_rows (set s.views seat (Drawing total number after)))
+    + spent_in (all_rows (set s.views seat (Drawing total number after))) ≡ word → words ≡ word ∷ []
+    → IsKept {S = S} plan (record { words = words; homes = s.homes; views = set s.views seat (Drawing total number after) })
+kept_after plan s seat total number before after word kept at lawful count words = record {
+  few = kept.few;
+  word = words ∙ ap (λ m. m ∷ []) (sym count);
+  passes = omega (
+    arith,
+    sum_set passes_in s.views seat (Drawing total number before) (Drawing total number after) at,
+    kept.passes,
+  );
+  lawful = lawful;
+  totals = each_set (λ k v. HasTotal plan.total v) s.views seat (Drawing total number after)
+      (kept.totals seat (Drawing total number before) at) (λ j u other there. kept.totals j u there);
+}
+
 -- a draw of a pass that is not spent
 draws_at : {S : Type 0} (plan : DeskPlan) (slots seat total number : ℕ) (numbers : List ℕ)
     → Allows {S = S} (IsKept plan) slots seat (unspent_view total number numbers, []) 0 (λ n. (n + 1) % 2 ^ 64)
@@ -295,47 +317,101 @@ draws_at {S} plan slots seat total number numbers s kept homes at fits =
     let n : ℕ = slice_index s.words 0 in
     let is : n ≡ drawn_in (all_rows s.views) + spent_in (all_rows s.views) = ap (λ ws. slice_index ws 0) kept.word in
     let small : drawn_in (all_rows s.views) ≤ most_lines = omega (arith, kept.lawful.within, kept.few.0) in
-    let few : spent_in (all_rows s.views) ≤ most_workers = omega (arith, few_spent plan s kept, kept.few.1) in
+    let few : spent_in (all_rows s.views) ≤ most_passes = omega (arith, few_spent plan s kept, kept.few.1) in
     let next : (n + 1) % 2 ^ 64 ≡ n + 1 = mod-eq_of_lt (omega arith) in
     let words : set s.words 0 ((n + 1) % 2 ^ 64) ≡ (n + 1) ∷ [] = ap (λ ws. set ws 0 ((n + 1) % 2 ^ 64)) kept.word
     ∙ ap (λ m. m ∷ []) next in
     let after : DeskView → State S DeskView =
     λ w. record { words = set s.words 0 ((n + 1) % 2 ^ 64); homes = s.homes; views = set s.views seat w } in
-    let kept_with : (r : DrawnRow) → AreLawful plan.total (all_rows (set s.views seat (Drawing total number r)))
-    → drawn_in (all_rows (set s.views seat (Drawing total number r)))
-    + spent_in (all_rows (set s.views seat (Drawing total number r))) ≡ n + 1
-    → IsKept {S = S} plan (after (Drawing total number r)) =
-    λ r lawful count. record {
-      few = kept.few;
-      word = words ∙ ap (λ m. m ∷ []) (sym count);
-      passes = omega (
-        arith,
-        sum_set passes_in s.views seat (unspent_view total number numbers) (Drawing total number r) at,
-        kept.passes,
-      );
-      lawful = lawful;
-      totals = each_set (λ k v. HasTotal plan.total v) s.views seat (Drawing total number r)
-          (kept.totals seat (unspent_view total number numbers) at) (λ j u other there. kept.totals j u there);
-    } in
     let done : (w : DeskView) × IsKept {S = S} plan (after w) × DrawsFrom (unspent_view total number numbers) n w =
     ⊎_elim
     (λ (low : n < total).
-    let some = draws_some plan s seat total number numbers n kept at is low in
-    (drawn_view total number numbers n, kept_with _ some.0 some.1, rw (lt-ltb n total low) (refl, some.2)))
+    let some = draws_some plan s seat total number numbers n kept at is low in (
+      drawn_view total number numbers n,
+      kept_after plan s seat total number _ _ (n + 1) kept at some.0 some.1 words,
+      rw (lt-ltb n total low) (refl, some.2),
+    ))
     (λ (high : total ≤ n).
-    let no_more = draws_none plan s seat total number numbers n kept at is high in
-    (spent_view total number numbers, kept_with _ no_more.0 no_more.1, rw (le-ltb n total high) refl))
+    let no_more = draws_none plan s seat total number numbers n kept at is high in (
+      spent_view total number numbers,
+      kept_after plan s seat total number _ _ (n + 1) kept at no_more.0 no_more.1 words,
+      rw (le-ltb n total high) refl,
+    ))
     (cases_lt n total)
     in (done.0, keeps, tt, done.1, (refl, done.2))
+
+-- the seat's view, if it is a pass that is not spent
+unspent_me : {S : Type 0} (me : Me S DeskView) → me ≡ (as_pass_view me.0, []) → (row_in me.0).spent ≡ false
+    → me ≡ (unspent_view (total_in me.0) (number_in me.0) (row_in me.0).numbers, [])
+unspent_me me is unspent =
+    let v = me.0 in
+    is ∙ ap (λ b. (Drawing (total_in v) (number_in v) (drawn_row (row_in v).numbers b), [])) unspent
 
 pub draws : {S : Type 0} (plan : DeskPlan) (slots seat : ℕ) (me : Me S DeskView) → me ≡ (as_pass_view me.0, [])
     → (row_in me.0).spent ≡ false
     → Allows {S = S} (IsKept plan) slots seat me 0 (λ n. (n + 1) % 2 ^ 64) (Draws (step slots 0 1 0 none) me)
 draws {S} plan slots seat me is unspent =
+    let v = me.0 in rw (unspent_me me is unspent) (draws_at plan slots seat (total_in v) (number_in v) (row_in v).numbers)
+
+-- ==== A pass draws all that is left: that keeps the rule, as one draw after the other does
+
+-- with the numbers from n on, as many as are left
+draws_all : {S : Type 0} (plan : DeskPlan) (left : ℕ) (s : State S DeskView) (seat total number : ℕ) (numbers : List ℕ) (n : ℕ)
+    → IsKept plan s → get_elem? s.views seat ≡ some (unspent_view total number numbers)
+    → n ≡ drawn_in (all_rows s.views) + spent_in (all_rows s.views) → n + left ≡ total
+    → IsKept {S = S} plan (record {
+      words = total ∷ [];
+      homes = s.homes;
+      views = set s.views seat (unspent_view total number (numbers ++ numbers_from n left));
+    })
+draws_all {S} plan zero s seat total number numbers n kept at is all =
+    let same : set s.views seat (unspent_view total number (numbers ++ [])) ≡ s.views =
+    set_again s.views seat _ (at ∙ ap (λ l. some (unspent_view total number l)) (sym (append-nil numbers))) in
+    let words : s.words ≡ total ∷ [] = kept.word ∙ ap (λ m. m ∷ []) (omega arith) in
+    subst (IsKept plan) (λ i. let t : State S DeskView = record { words = words i; homes = s.homes; views = sym same i } in t) kept
+draws_all {S} plan (suc left) s seat total number numbers n kept at is all =
+    let w : DeskView = drawn_view total number numbers n in
+    let one = draws_some plan s seat total number numbers n kept at is (omega arith) in
+    let next : State S DeskView = record { words = (n + 1) ∷ []; homes = s.homes; views = set s.views seat w } in
+    let rest = draws_all plan left next seat total number (numbers ++ n ∷ []) (n + 1)
+    (kept_after plan s seat total number _ _ (n + 1) kept at one.0 one.1 refl)
+    (set_here s.views seat w (in_views s.views seat (unspent_view total number numbers) at)) (sym one.1) (omega arith) in
+    subst (λ (views : List DeskView). IsKept {S = S} plan (record { words = total ∷ []; homes = s.homes; views = views }))
+    (set-set s.views seat w _ ∙ ap (λ l. set s.views seat (unspent_view total number l))
+    (append_assoc numbers (n ∷ []) (numbers_from (n + 1) left)))
+    rest
+
+draws_rest_at : {S : Type 0} (plan : DeskPlan) (slots seat total number : ℕ) (numbers : List ℕ) (limit : ℕ) → limit ≡ plan.total
+    → Allows {S = S} (IsKept plan) slots seat (unspent_view total number numbers, []) 0 (λ n. max n limit)
+    (DrawsRest (step slots 0 limit 0 none) (unspent_view total number numbers, []))
+draws_rest_at {S} plan slots seat total number numbers limit limit_is s kept homes at fits =
+    let n : ℕ = slice_index s.words 0 in
+    let is : n ≡ drawn_in (all_rows s.views) + spent_in (all_rows s.views) = ap (λ ws. slice_index ws 0) kept.word in
+    let same : total ≡ plan.total = kept.totals seat (unspent_view total number numbers) at in
+    let w : DeskView = unspent_view total number (numbers ++ numbers_from n (total - n)) in
+    let words : set s.words 0 (max n limit) ≡ max n limit ∷ [] = ap (λ ws. set ws 0 (max n limit)) kept.word in
+    let done : IsKept {S = S} plan (record { words = set s.words 0 (max n limit); homes = s.homes; views = set s.views seat w }) =
+    ⊎_elim
+    (λ (low : n < total).
+    subst (λ (ws : List ℕ). IsKept {S = S} plan (record { words = ws; homes = s.homes; views = set s.views seat w }))
+    (sym (words ∙ ap (λ m. m ∷ []) (omega arith)))
+    (draws_all plan (total - n) s seat total number numbers n kept at is (omega arith)))
+    (λ (high : total ≤ n).
+    let none_left : total - n ≡ 0 = omega arith in
+    let row : numbers ++ numbers_from n (total - n) ≡ numbers = ap (λ k. numbers ++ numbers_from n k) none_left ∙ append-nil numbers in
+    let views : set s.views seat w ≡ s.views =
+    set_again s.views seat w (at ∙ ap (λ l. some (unspent_view total number l)) (sym row)) in
+    let unchanged : set s.words 0 (max n limit) ≡ s.words = words ∙ ap (λ m. m ∷ []) (omega arith) ∙ sym kept.word in
+    subst (IsKept plan) (λ i. let t : State S DeskView = record { words = sym unchanged i; homes = s.homes; views = sym views i } in t) kept)
+    (cases_lt n total)
+    in (w, keeps, tt, done, (refl, refl))
+
+pub draws_rest : {S : Type 0} (plan : DeskPlan) (slots seat : ℕ) (me : Me S DeskView) (limit : ℕ) → limit ≡ plan.total
+    → me ≡ (as_pass_view me.0, []) → (row_in me.0).spent ≡ false
+    → Allows {S = S} (IsKept plan) slots seat me 0 (λ n. max n limit) (DrawsRest (step slots 0 limit 0 none) me)
+draws_rest {S} plan slots seat me limit limit_is is unspent =
     let v = me.0 in
-    let unspent_me : Me S DeskView = (unspent_view (total_in v) (number_in v) (row_in v).numbers, []) in
-    let pass : me ≡ unspent_me = is ∙ ap (λ b. (Drawing (total_in v) (number_in v) (drawn_row (row_in v).numbers b), [])) unspent in
-    rw pass (draws_at plan slots seat (total_in v) (number_in v) (row_in v).numbers)
+    rw (unspent_me me is unspent) (draws_rest_at plan slots seat (total_in v) (number_in v) (row_in v).numbers limit limit_is)
 
 -- ==== The seats that come and go keep the rule: the first one, that of a pass handed out, the closing one, that of a pass that ends
 
@@ -361,7 +437,7 @@ kept_alike plan s after kept words same passes fits =
     }
 
 -- the empty desk
-pub begins : {S : Type 0} (plan : DeskPlan) → plan.total ≤ most_lines → plan.passes ≤ most_workers
+pub begins : {S : Type 0} (plan : DeskPlan) → plan.total ≤ most_lines → plan.passes ≤ most_passes
     → IsKept {S = S} plan (opening (0 ∷ []) [] (opening_view plan))
 begins plan total passes = record {
   few = (total, passes);
@@ -413,6 +489,44 @@ one_pass_more desk count passes p handed_out is = (
       ∙ ap (new_pass desk) (sym same))
       (cases_lt k count),
 )
+
+-- of new passes, those before the last one, and the last one
+pub but_the_last : (desk : DeskState) (count : ℕ) (passes : List PassState) (p : PassState)
+    → AreNewPasses desk (count + 1) (passes ++ p ∷ []) → AreNewPasses desk count passes × (p ≡ new_pass desk count)
+but_the_last desk count passes p new =
+    let many : length passes ≡ count = omega (arith, length-append passes (p ∷ []), new.0) in (
+      (many, λ k d within. sym (get_or_append_left passes (p ∷ []) d k (omega (arith, many))) ∙ new.1 k d (omega arith)),
+      sym (get_or_push passes p p count many) ∙ new.1 count p (omega arith),
+    )
+
+-- if the last row is empty, the others have all numbers
+deals_but_last : (total drawn : ℕ) (rows : List DrawnRow) (r : DrawnRow) → r.numbers ≡ []
+    → DealsEachOnce total drawn (rows ++ r ∷ []) → DealsEachOnce total drawn rows
+deals_but_last total drawn rows r empty deals = record {
+  within = deals.within;
+  count = omega (arith, deals.count, sum_by_push (λ (x : DrawnRow). length x.numbers) rows r, ap (λ (l : List ℕ). length l) empty);
+  each_once = λ x.
+      let same : times_in x (drawn_numbers rows) ≡ times_in x (drawn_numbers (rows ++ r ∷ [])) = omega (
+        arith,
+        times_rows x rows,
+        times_rows x (rows ++ r ∷ []),
+        sum_by_push (times x) rows r,
+        ap (λ (l : List ℕ). count_by (λ y. y == x) l) empty,
+      ) in
+      same ∙ deals.each_once x;
+  ascending = λ k d within. subst (λ (x : DrawnRow). AllPairs (λ a b. a < b) x.numbers) (get_or_append_left rows (r ∷ []) d k within)
+      (deals.ascending k d (omega (arith, within, length-append rows (r ∷ []))));
+  spent = λ some. deals.spent (omega (arith, some, sum_by_push (λ (x : DrawnRow). if x.spent then 1 else 0) rows r));
+}
+
+-- and if the calling thread has drawn nothing, the workers have
+pub deals_to_others : {total drawn : ℕ} (passes : List PassState) (left : Option PassState) → HasDrawnNothing left
+    → DealsEachOnce total drawn (drawn_rows (passes ++ pass_in left)) → DealsEachOnce total drawn (drawn_rows passes)
+deals_to_others {total} {drawn} passes None nothing deals =
+    subst (λ (l : List PassState). DealsEachOnce total drawn (drawn_rows l)) (append-nil passes) deals
+deals_to_others {total} {drawn} passes (Some p) nothing deals =
+    deals_but_last total drawn (drawn_rows passes) p.row nothing
+    (subst (λ (l : List DrawnRow). DealsEachOnce total drawn l) (map-append (λ (p : PassState). p.row) passes (p ∷ [])) deals)
 
 -- a seat that is to reclaim the passes
 pub starts_closing : {S : Type 0} (plan : DeskPlan) (slots : ℕ)
@@ -510,7 +624,7 @@ length-drawn_numbers passes = length-map (drawn_rows passes) (λ (r : DrawnRow).
 -- ==== The rule of the desk, in plain words
 
 pub desk_is_lawful : (plan : DeskPlan) (state : State ⊤ DeskView) → IsKept plan state
-    → CountsWhatItDeals plan.total state.words (all_rows state.views)
+    → CountsWhatItDeals plan.total plan.passes state.words (all_rows state.views)
 desk_is_lawful plan state kept =
     let rows : List DrawnRow = all_rows state.views in
     record {
@@ -520,7 +634,6 @@ desk_is_lawful plan state kept =
       most = omega (
         arith,
         kept.lawful.within,
-        kept.few.1,
         kept.passes,
         rows_within_passes state.views,
         count_by-le-length (λ r. r.spent) rows,

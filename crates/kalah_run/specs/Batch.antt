@@ -3,5 +3,6 @@ pub mod Answering
 pub mod NoLine
 pub mod AtWork
 pub mod UnderWay
+pub mod Leaving
 pub mod OrderedOutput
 pub mod Running

@@ -1,5 +1,5 @@
 -- The most workers of a batch, the largest table of each, and the most places of a results queue.
-use Rattle.std.specs.Prelude.{◌<◌, ◌≤◌, ℕ}
+use Rattle.std.specs.Prelude.{◌<◌, ◌≤◌, ℕ, suc}
 use Rattle.kalah_solve.specs.Table.Entries.{most_entries}
 use Rattle.kalah_run.specs.declared.limits.TheConstants.{MOST_PLACES, MOST_WORKERS}
 
@@ -9,6 +9,10 @@ most_workers = MOST_WORKERS
 -- a number of workers that a batch may have
 abbrev pub AreWorkers : ℕ → Type 0
 AreWorkers workers = (0 < workers) × (workers ≤ most_workers)
+
+-- the most passes of a desk: one for each worker, and one for the calling thread
+abbrev pub most_passes : ℕ
+most_passes = suc most_workers
 
 -- a number of entries that a table may have
 abbrev pub IsTableSize : ℕ → Type 0

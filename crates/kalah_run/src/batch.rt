@@ -1,9 +1,9 @@
 //! A batch: the lines of position files, solved by many workers and answered in order.
-ghost use Rattle.std.specs.Prelude.{◌≡◌, ◌<◌, [], false, true, IfErr, IfOk, OnOk};
+ghost use Rattle.std.specs.Prelude.{◌≡◌, ◌<◌, ◌⊎◌, [], false, true, IfErr, IfOk, OnOk};
 ghost use Rattle.kalah_run.specs.Limits.{AreWorkers, IsTableSize};
 ghost use Rattle.kalah_jobs.specs.Writing.Given.{WasGiven};
 ghost use Rattle.kalah_jobs.specs.Writing.Output.{output_of, output_to};
-ghost use Rattle.kalah_run.specs.Batch.Answering.{AnswersBatch, SolvesAll, counts_of};
+ghost use Rattle.kalah_run.specs.Batch.Answering.{AnswersBatch, HearsAll, counts_of};
 ghost use Rattle.kalah_run.specs.declared.batch.request.Rest.TheVariants.{Solve};
 
 mod crew;
@@ -30,7 +30,15 @@ use kalah_jobs::{FileText, Jobs, Question, Sink, flush_unless_failed};
 use std::alloc::Global;
 use std::marker::Model;
 use std::sync::Wait;
+use std::sync::atomic::Rule;
 use std::thread::Threads;
+
+// The rule of the word that is 1 once the workers of a batch have ended. What a 1 says is proved for every rule, so this one states nothing.
+struct Ended;
+
+impl Rule for Ended {
+    ghost invariant = { λ _. Unit {0} };
+}
 
 /// How many lines a batch has answered.
 #[derive(Clone, Copy, Debug, PartialEq, Eq)]
@@ -80,12 +88,13 @@ pub fn answer_batch<R: Threads + Wait + Sync, G: Gate, V: Watch, W: Sink>(
     ensures answers { AnswersBatch W.written W.has_failed W.is_handed_on (output_to request.now.question request.now.files.now)
         request.now.files.now out.old out.new result }
 
-    // The gate knows each job, which a worker has drawn, if the rest is to be solved.
-    ensures solved { request.now.rest ≡ Solve → SolvesAll (G.knows gate.now) request.now.files.now result }
+    // The gate hears of each job, unless the rest is left.
+    ensures gate_hears_all { (request.now.rest ≡ Solve) ⊎ (W.has_failed out.new ≡ false)
+        → HearsAll (G.knows gate.now) request.now.files.now result }
 {
     let jobs = Jobs::asking(alloc, request.question, request.files)?;
     if jobs.total() > 0 {
-        OpenBatch::open(alloc, request, &jobs, gate)?.run(rt, watch, out)?;
+        OpenBatch::open(alloc, request, &jobs, gate)?.run::<R, V, W, Ended>(rt, watch, out)?;
     }
     flush_and_count(&jobs, out)
 }
@@ -107,9 +116,9 @@ fn flush_and_count<W: Sink>(jobs: &Jobs, out: &mut W) -> Result<Tally, RunFault>
     })
 }
 
-/// Solves every line of the files: `answer_batch` with the best move asked, by `workers` workers, 1 to 64. Each has a table of `table`
-/// entries, 1 to 1,048,576. If a write fails, the remaining lines are still solved, and the gate is called for each. Returns and fails
-/// as `answer_batch`.
+/// Solves every line of the files: `answer_batch` with the best move asked and `Rest::Solve`, by `workers` workers, 1 to 64. Each has a
+/// table of `table` entries, 1 to 1,048,576. The gate hears of each job, also after a failed write. Returns and fails as
+/// `answer_batch`.
 pub fn solve_batch<R: Threads + Wait + Sync, G: Gate, W: Sink>(
     rt: &R,
     alloc: Global,
@@ -125,7 +134,7 @@ pub fn solve_batch<R: Threads + Wait + Sync, G: Gate, W: Sink>(
 
     // As in `answer_batch`.
     ensures answers { AnswersBatch W.written W.has_failed W.is_handed_on (output_of files.now) files.now out.old out.new result }
-    ensures solved { SolvesAll (G.knows gate.now) files.now result }
+    ensures gate_hears_all { HearsAll (G.knows gate.now) files.now result }
 {
     let request = BatchRequest {
         question: Question::BestMove,

@@ -1,7 +1,7 @@
 //! The desk: its passes draw the numbers below a total from one word, each number once.
 ghost use Rattle.std.specs.Prelude.{◌≡◌, ℕ, ◌<◌, ◌≤◌, ◌↔◌, [], ◌∷◌, ◌++◌, length, true, false, All, IfOk, IfSome, IfNone, IsTrue};
 ghost use Rattle.kalah_jobs.specs.Limits.{most_lines};
-ghost use Rattle.kalah_run.specs.Limits.{AreWorkers};
+ghost use Rattle.kalah_run.specs.Limits.{AreWorkers, most_passes};
 ghost use Rattle.kalah_run.specs.Desk.Rows.{drawn_row, spent_in, DealsEachOnce};
 ghost use Rattle.kalah_run.specs.Desk.Kept.{opening_view};
 ghost use Rattle.kalah_run.specs.Desk.States.{IsPassAt, AreNewPasses, drawn_rows};
@@ -12,7 +12,9 @@ pub(crate) mod pass;
 pub(crate) mod rule;
 
 use crate::desk::pass::Pass;
-use crate::desk::rule::{DeskPlan, DeskRule, DeskView, DrawNumber, HandOut, Reclaim, StartClosing};
+use crate::desk::rule::{
+    DeskPlan, DeskRule, DeskView, DrawNumber, DrawRest, HandOut, Reclaim, StartClosing,
+};
 use atomic_table::Table;
 use std::alloc::{AllocError, Global};
 use std::marker::Model;
@@ -67,6 +69,20 @@ impl Desk {
         ensures desk { IfOk result (λ r. (r.0.total ≡ total) × (r.0.passes ≡ passes)) }
         ensures passes { IfOk result (λ r. AreNewPasses r.0 passes r.1.items) }
     {
+        Desk::open_for(alloc, total, passes)
+    }
+
+    /// Opens a desk as `open`, with up to 65 passes.
+    pub(crate) fn open_for(
+        alloc: Global,
+        total: u32,
+        passes: u32,
+    ) -> Result<(Desk, Vec<Pass>), AllocError>
+        requires total { total ≤ most_lines }
+        requires passes { passes ≤ most_passes }
+        ensures desk { IfOk result (λ r. (r.0.total ≡ total) × (r.0.passes ≡ passes)) }
+        ensures passes { IfOk result (λ r. AreNewPasses r.0 passes r.1.items) }
+    {
         let plan = DeskPlan { total, passes };
         let (table, mut opener) = Table::of_words(alloc, &[0], &plan)?;
         let mut handed_out = Vec::with_capacity(alloc, passes as usize)?;
@@ -114,6 +130,25 @@ impl Desk {
         }
         pass.is_spent = true;
         None
+    }
+
+    /// Draws all numbers that are left, in one step, so that none is left for any other pass. Then the pass is spent.
+    #[cold]
+    #[inline(never)]
+    pub(crate) fn draw_rest(&self, pass: &mut Pass)
+        requires { IsPassAt self.now pass.old }
+        ensures own { IsPassAt self.now pass.new }
+        ensures number { pass.new.number ≡ pass.old.number }
+        ensures spent { pass.new.row.spent ≡ true }
+    {
+        if pass.is_spent {
+            return;
+        }
+        self.table
+            .shared
+            .fetch_max::<DrawRest>(&mut pass.seat, 0, self.total as u64);
+        // It finds none.
+        while let Some(_) = self.draw(pass) {}
     }
 
     /// Closes the desk, which reclaims all its passes. Returns how many numbers were drawn, and whether some pass is spent: then that is

@@ -15,9 +15,9 @@ use Rattle.kalah_run.specs.declared.batch.run_fault.RunFault.TheVariants.{TooMan
 abbrev pub counts_of : List (List Entry) → LineCounts
 counts_of jobs = record { lines = length (job_list jobs); faults = count_by is_faulty_job (job_list jobs) }
 
--- The gate knows the job of each line, unless the batch failed otherwise than by a write.
-abbrev pub SolvesAll : (ℕ → Bool) → List NamedBytes → Result LineCounts RunFault → Type 0
-SolvesAll knows files result = IfErr result (λ e. e ≡ Write) → (job : ℕ) → job < lines_in_all files → knows job ≡ true
+-- The gate hears of the job of each line, unless the batch failed otherwise than by a write.
+abbrev pub HearsAll : (ℕ → Bool) → List NamedBytes → Result LineCounts RunFault → Type 0
+HearsAll knows files result = IfErr result (λ e. e ≡ Write) → (job : ℕ) → job < lines_in_all files → knows job ≡ true
 
 -- The lines of these files have this output, and a sink was `old` before they were answered and is `new` afterwards; `bytes` is
 -- what was written to a sink, if that is known.

@@ -6,7 +6,6 @@ use Rattle.kalah_jobs.specs.declared.files.job.Job.{Job}
 use Rattle.kalah_jobs.specs.Collecting.Batch.{job}
 use Rattle.kalah_run.specs.Desk.States.{PassState, IsPassAt}
 use Rattle.kalah_run.specs.Queue.States.{PutState}
-use Rattle.kalah_run.specs.declared.batch.request.Rest.TheVariants.{Solve}
 use Rattle.kalah_run.specs.declared.batch.shared_work.SharedWork.{SharedWork}
 use Rattle.kalah_run.specs.declared.batch.worker.Worker.{Worker}
 
@@ -33,11 +32,11 @@ module _ {G : Type 0} (knows : G → ℕ → Bool) where
   abbrev pub AreAtWork : SharedWork G → List Worker → Type 0
   AreAtWork shared workers = All (IsAtWork shared) workers
 
-  -- the worker has run: it keeps its number, and there is nothing left to draw, or the rest may be left
+  -- the worker has run: it keeps its number, and there is nothing left to draw
   pub record HasRun (shared : SharedWork G) (before after : Worker) : Type 0 where
     pub at_work : IsAtWork shared after
     pub number : after.put.number ≡ before.put.number
-    pub spent : shared.rest ≡ Solve → after.pass.row.spent ≡ true
+    pub spent : after.pass.row.spent ≡ true
 
   -- each worker has run, and stands in its place
   pub record HaveRun (shared : SharedWork G) (before after : List Worker) : Type 0 where

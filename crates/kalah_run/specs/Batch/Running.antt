@@ -1,5 +1,5 @@
 -- What is known of a batch: once it is open, while it is run, and when it has ended.
-use Rattle.std.specs.Prelude.{◌≡◌, ℕ, ◌<◌, ◌≤◌, Bool, max, min, List, [], length, vec_capacity, ◌⊎◌, Option, MatchOption, IfNone, false}
+use Rattle.std.specs.Prelude.{◌≡◌, ℕ, ◌+◌, ◌<◌, ◌≤◌, Bool, max, min, List, [], length, vec_capacity, ◌⊎◌, Option, MatchOption, IfSome, IfNone, false}
 use Rattle.std.specs.List.{All}
 use Rattle.std.specs.Io.KnownBytes.{Keeps}
 use Rattle.std.specs.declared.alloc.Global.{Global}
@@ -9,6 +9,7 @@ use Rattle.kalah_jobs.specs.declared.files.entry.Entry.{Entry}
 use Rattle.kalah_jobs.specs.declared.files.job.Job.{Job}
 use Rattle.kalah_jobs.specs.Files.Jobs.{job_count}
 use Rattle.kalah_solve.specs.Table.Entries.{empty_table}
+use Rattle.kalah_run.specs.Desk.States.{PassState, IsPassAt}
 use Rattle.kalah_run.specs.Queue.States.{ArePassesFrom, GetState, HasGot}
 use Rattle.kalah_run.specs.Queue.Lists.{outcomes_in}
 use Rattle.kalah_run.specs.Batch.AtWork.{puts_of, AreAtWork, HaveRun}
@@ -18,7 +19,8 @@ use Rattle.kalah_run.specs.declared.limits.TheConstants.{QUEUE_PLACES}
 use Rattle.kalah_run.specs.declared.batch.worker.Worker.{Worker}
 use Rattle.kalah_run.specs.declared.batch.open_batch.OpenBatch.{OpenBatch}
 use Rattle.kalah_jobs.specs.Collecting.Batch.{AreJobsInSomeOrder}
-use Rattle.kalah_run.specs.Batch.UnderWay.{IsLeft, WasGivenSince}
+use Rattle.kalah_run.specs.Batch.Leaving.{rest_of, pass_in, HasDrawnNothing, IsLeft, DrawsOnlyTheRest}
+use Rattle.kalah_run.specs.Batch.UnderWay.{WasGivenSince}
 use Rattle.kalah_run.specs.declared.batch.request.Rest.{Rest}
 use Rattle.kalah_run.specs.declared.batch.ordered_output.OrderedOutput.{OrderedOutput}
 use Rattle.kalah_run.specs.declared.batch.shared_work.SharedWork.{SharedWork}
@@ -34,7 +36,7 @@ module _ {G : Type 0} where
   -- the two lists for the passes' return are empty, and have room for them
   pub record HasRoom (b : OpenBatch G) : Type 0 where
     pub empty : (b.passes.items ≡ []) × (b.puts.items ≡ [])
-    pub passes : length b.workers.items ≤ vec_capacity b.passes
+    pub passes : length b.workers.items + length (pass_in b.left) ≤ vec_capacity b.passes
     pub puts : length b.workers.items ≤ vec_capacity b.puts
 
   -- for this request, with these jobs and this gate: there are the workers asked for, but at most one for each job, and one for no job;
@@ -44,14 +46,16 @@ module _ {G : Type 0} where
     pub tables : HaveOwnTables request.table b.workers.items
     pub of_files : b.output.files.now ≡ request.files.now
     pub of_jobs : b.shared.jobs.now ≡ jobs
-    pub of_rest : b.shared.rest ≡ request.rest
+    pub of_rest : rest_of b.left ≡ request.rest
     pub of_gate : b.shared.gate.now ≡ gate
     pub queue : b.shared.queue.capacity ≡ QUEUE_PLACES
 
   -- there is a worker; each is at work and has its place, nothing was got, and nothing is written
   pub record IsReadyToRun (knows : G → ℕ → Bool) (b : OpenBatch G) : Type 0 where
     pub some : 0 < length b.workers.items
-    pub passes : length b.workers.items ≡ b.shared.desk.passes
+    pub passes : length b.workers.items + length (pass_in b.left) ≡ b.shared.desk.passes
+    pub own : IfSome b.left (IsPassAt b.shared.desk)
+    pub left : HasDrawnNothing b.left
     pub at_work : AreAtWork knows b.shared b.workers.items
     pub puts : ArePassesFrom b.shared.queue.id 0 (puts_of b.workers.items)
     pub get : b.get ≡ record { queue = b.shared.queue.id; workers = length b.workers.items; got = [] }
@@ -80,15 +84,18 @@ pub record HasCollected (rest : Rest) (output : OrderedOutput) (begun out : Opti
 
 module _ {G : Type 0} (knows : G → ℕ → Bool) where
   -- the workers are at work, nothing was got of what they send, and nothing is written
-  pub record CanRun (shared : SharedWork G) (workers : List Worker) (get : GetState) (output : OrderedOutput) : Type 0 where
+  pub record CanRun (shared : SharedWork G) (workers : List Worker) (get : GetState) (left : Option PassState) (output : OrderedOutput)
+      : Type 0 where
     pub at_work : AreAtWork knows shared workers
     pub queue : get.queue ≡ shared.queue.id
     pub nothing_got : get.got ≡ []
+    pub own : IfSome left (IsPassAt shared.desk)
     pub nothing_written : IsNew output
 
   -- each worker has run, and what they sent was collected, if a sink was `old` and is `new`
   pub record RunHasEnded {W : Type 0} (bytes : W → Option (List ℕ)) (has_failed : W → Bool) (shared : SharedWork G)
-      (workers : List Worker) (get : GetState) (output : OrderedOutput) (old new : W) (workers' : List Worker) (get' : GetState)
-      : Type 0 where
+      (workers : List Worker) (get : GetState) (left : Option PassState) (output : OrderedOutput) (old new : W)
+      (workers' : List Worker) (get' : GetState) (left' : Option PassState) : Type 0 where
     pub all_ran : HaveRun knows shared workers workers'
-    pub collected : HasCollected shared.rest output (bytes old) (bytes new) (has_failed new) get get'
+    pub collected : HasCollected (rest_of left) output (bytes old) (bytes new) (has_failed new) get get'
+    pub draws : DrawsOnlyTheRest shared.desk (has_failed new) left left'

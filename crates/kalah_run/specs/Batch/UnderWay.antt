@@ -1,5 +1,5 @@
 -- What is known while a batch is under way: what has come, and what was written of it.
-use Rattle.std.specs.Prelude.{◌≡◌, ℕ, ◌+◌, ◌<◌, List, length, take, Bool, false, true, Option}
+use Rattle.std.specs.Prelude.{◌≡◌, ℕ, ◌+◌, ◌<◌, List, length, take, Bool, false, Option}
 use Rattle.std.specs.List.{flat_map}
 use Rattle.std.specs.Io.KnownBytes.{Appends}
 use Rattle.kalah_jobs.specs.declared.files.entry.Entry.{Entry}
@@ -11,12 +11,6 @@ use Rattle.kalah_jobs.specs.Collecting.CollectorState.{FileState, state_of}
 use Rattle.kalah_jobs.specs.Collecting.Held.{Kept}
 use Rattle.kalah_jobs.specs.Writing.Output.{text_of_line}
 use Rattle.kalah_jobs.specs.Writing.Given.{AppendsStart}
-use Rattle.kalah_run.specs.declared.batch.request.Rest.{Rest}
-use Rattle.kalah_run.specs.declared.batch.request.Rest.TheVariants.{Leave}
-
--- the rest is left, as the output has failed
-abbrev pub IsLeft : Rest → Bool → Type 0
-IsLeft rest has_failed = (rest ≡ Leave) × (has_failed ≡ true)
 
 -- A sink that had `begun` was given bs, in order. It has all of them after that, unless a call of it has failed; and then it
 -- has a prefix of them, and nothing else.

@@ -4,7 +4,7 @@ use mathlib.Core.Option.{some}
 use lib.ListN.{get_elem?}
 use Rattle.atomic_table.specs.Table.{State}
 use Rattle.kalah_jobs.specs.Limits.{most_lines}
-use Rattle.kalah_run.specs.Limits.{most_workers}
+use Rattle.kalah_run.specs.Limits.{most_passes}
 use Rattle.kalah_run.specs.declared.desk.rule.DrawnRow.{DrawnRow}
 use Rattle.kalah_run.specs.declared.desk.rule.DeskPlan.{DeskPlan}
 use Rattle.kalah_run.specs.declared.desk.rule.DeskView.{DeskView}
@@ -43,7 +43,7 @@ HasTotal t _ = Unit {0}
 
 -- Between any two steps: the word counts the numbers drawn and the spent passes, no pass is lost, and the rows of all passes are lawful
 pub record IsKept {S : Type 0} (plan : DeskPlan) (s : State S DeskView) : Type 0 where
-  pub few : (plan.total ≤ most_lines) × (plan.passes ≤ most_workers)
+  pub few : (plan.total ≤ most_lines) × (plan.passes ≤ most_passes)
   pub word : s.words ≡ (drawn_in (all_rows s.views) + spent_in (all_rows s.views)) ∷ []
   pub passes : sum_by passes_in s.views ≡ plan.passes
   pub lawful : AreLawful plan.total (all_rows s.views)

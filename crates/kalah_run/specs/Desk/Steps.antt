@@ -1,5 +1,5 @@
 -- What each step at the desk returns, and which views it leaves.
-use Rattle.std.specs.Prelude.{◌≡◌, ℕ, ◌+◌, ◌-◌, ◌<◌, [], ◌∷◌, ◌++◌, true, false, nat_lt, All, MatchBool}
+use Rattle.std.specs.Prelude.{◌≡◌, ℕ, zero, suc, ◌+◌, ◌-◌, ◌<◌, List, [], ◌∷◌, ◌++◌, true, false, nat_lt, All, MatchBool}
 use Rattle.atomic_table.specs.Table.{Me, Step}
 use Rattle.kalah_run.specs.declared.desk.rule.DeskView.{DeskView}
 use Rattle.kalah_run.specs.declared.desk.rule.DeskView.TheVariants.{Opening, Drawing, Closing, Ended}
@@ -17,6 +17,20 @@ DrawsFrom _ n w = Unit {0}
 -- a pass draws from what its seat holds
 abbrev pub Draws : {S : Type 0} → Step S → Me S DeskView → ℕ → Me S DeskView → Type 0
 Draws step me n now = (now.1 ≡ me.1) × DrawsFrom me.0 n now.0
+
+-- the numbers from n on, below n + k
+abbrev pub numbers_from : ℕ → ℕ → List ℕ
+numbers_from n zero = []
+numbers_from n (suc k) = n ∷ numbers_from (n + 1) k
+
+-- The view w after a pass has drawn all that is left from n on.
+abbrev pub DrawsRestFrom : DeskView → ℕ → DeskView → Type 0
+DrawsRestFrom (Drawing total number r) n w = w ≡ Drawing total number (drawn_row (r.numbers ++ numbers_from n (total - n)) r.spent)
+DrawsRestFrom _ n w = Unit {0}
+
+-- a pass draws all that is left
+abbrev pub DrawsRest : {S : Type 0} → Step S → Me S DeskView → ℕ → Me S DeskView → Type 0
+DrawsRest step me n now = (now.1 ≡ me.1) × DrawsRestFrom me.0 n now.0
 
 -- a new seat, which has reclaimed no pass yet
 abbrev pub StartsClosing : {S : Type 0} → Step S → Me S DeskView → ℕ → Me S DeskView → Type 0

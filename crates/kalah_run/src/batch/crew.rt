@@ -10,28 +10,17 @@ use std::sync::atomic::{AtomicIn, Rule};
 use std::thread;
 use std::thread::Threads;
 
-// Draws jobs, solves each and sends its outcome, until there is nothing left to draw or the workers are to stop.
+// Draws jobs, solves each and sends its outcome, until there is nothing left to draw.
 fn work<R: Wait, G: Gate>(rt: &R, shared: &SharedWork<'_, G>, worker: &mut Worker)
     requires { IsAtWork G.knows shared.now worker.old }
     ensures { HasRun G.knows shared.now worker.old worker.new }
 {
-    while shared.goes_on() {
-        let Some(job) = shared.desk.draw(&mut worker.pass) else {
-            return;
-        };
+    while let Some(job) = shared.desk.draw(&mut worker.pass) {
         shared.gate.before(job);
         let outcome = worker.answer(shared.jobs, job, shared.gate);
         shared.queue.put(rt, &mut worker.put, outcome);
         shared.gate.after(job);
     }
-}
-
-/// The rule of the word `ended`. It states nothing: calls are proved for every rule, so what a 1 means comes only from `requires ends` of
-/// `Crew::run`.
-pub(crate) struct Ended;
-
-impl Rule for Ended {
-    ghost invariant = { λ _. Unit {0} };
 }
 
 /// The workers of a batch and what they share, handed over to be run. The word is 1 once they have ended.

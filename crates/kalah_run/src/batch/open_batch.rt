@@ -1,18 +1,21 @@
 //! A batch that is opened, run and closed.
-ghost use Rattle.std.specs.Prelude.{◌≡◌, ◌≤◌, ℕ, ◌<◌, [], length, vec_len, vec_capacity, true, IfErr, IfOk, OnErr, OnOk};
+ghost use Rattle.std.specs.Prelude.{◌≡◌, ◌≤◌, ◌⊎◌, ◌+◌, ℕ, ◌<◌, [], ◌++◌, length, vec_len, vec_capacity, false, true, IfErr, IfOk, IfSome, OnErr, OnOk};
+ghost use Rattle.kalah_jobs.specs.Limits.{most_lines};
 ghost use Rattle.kalah_jobs.specs.Files.Jobs.{job_count};
-ghost use Rattle.kalah_run.specs.Limits.{IsTableSize};
-ghost use Rattle.kalah_run.specs.Batch.AtWork.{passes_of, puts_of};
+ghost use Rattle.kalah_run.specs.Limits.{AreWorkers, IsTableSize};
+ghost use Rattle.kalah_run.specs.Desk.States.{AreNewPasses, new_pass};
+ghost use Rattle.kalah_run.specs.Batch.AtWork.{passes_of, puts_of, OnceRun};
+ghost use Rattle.kalah_run.specs.Batch.Leaving.{rest_of, pass_in};
 ghost use Rattle.kalah_run.specs.Batch.Running.{IsAsAsked, IsReadyToRun, HaveOwnTables};
 ghost use Rattle.kalah_run.specs.Batch.OrderedOutput.{whole_output};
 ghost use Rattle.kalah_run.specs.Batch.UnderWay.{WasGivenSince};
 ghost use Rattle.kalah_run.specs.declared.batch.request.Rest.TheVariants.{Solve};
 
-use crate::batch::crew::{Crew, Ended};
+use crate::batch::crew::Crew;
 use crate::batch::gate::Gate;
 use crate::batch::ordered_output::OrderedOutput;
 use crate::batch::receiver::Receiver;
-use crate::batch::request::BatchRequest;
+use crate::batch::request::{BatchRequest, Rest};
 use crate::batch::run_fault::RunFault;
 use crate::batch::running::run_and_write;
 use crate::batch::shared_work::SharedWork;
@@ -26,8 +29,37 @@ use crate::queue::passes::{GetPass, PutPass};
 use kalah_jobs::{Jobs, Sink};
 use std::alloc::{AllocError, Global};
 use std::sync::Wait;
-use std::sync::atomic::{AtomicBool, AtomicIn};
+use std::sync::atomic::{AtomicIn, Rule};
 use std::thread::Threads;
+
+// Opens a desk with a pass for each worker, and with one more if the rest is to be left: that of the calling thread.
+fn open_desk(
+    alloc: Global,
+    total: u32,
+    workers: u32,
+    rest: Rest,
+) -> Result<(Desk, Vec<Pass>, Option<Pass>), AllocError>
+    requires total { total ≤ most_lines }
+    requires workers { AreWorkers workers }
+    ensures total { IfOk result (λ r. r.0.total ≡ total) }
+    ensures passes { IfOk result (λ r. AreNewPasses r.0 workers r.1.items) }
+    ensures left { IfOk result (λ r. IfSome r.2 (λ left. left ≡ new_pass r.0 workers)) }
+    ensures rest { IfOk result (λ r. rest_of r.2 ≡ rest) }
+    ensures all { IfOk result (λ r. workers + length (pass_in r.2) ≡ r.0.passes) }
+    ensures room { IfOk result (λ r. workers + length (pass_in r.2) ≤ vec_capacity r.1) }
+{
+    match rest {
+        Rest::Solve => {
+            let (desk, passes) = Desk::open(alloc, total, workers)?;
+            Ok((desk, passes, None))
+        }
+        Rest::Leave => {
+            let (desk, mut passes) = Desk::open_for(alloc, total, workers + 1)?;
+            let left = passes.pop();
+            Ok((desk, passes, left))
+        }
+    }
+}
 
 // Makes a worker for each pair of passes, in their order, and leaves the lists empty. All workers share what they learn of endings.
 fn put_together(
@@ -56,27 +88,37 @@ fn put_together(
     Ok(workers)
 }
 
-// Moves the passes of the workers, in their order, into two lists that have room for them.
-fn take_apart(workers: Vec<Worker>, passes: &mut Vec<Pass>, puts: &mut Vec<PutPass>)
+// Moves the passes of the workers, in their order, and then that of the calling thread, into two lists that have room for them.
+fn take_apart(
+    workers: Vec<Worker>,
+    left: Option<Pass>,
+    passes: &mut Vec<Pass>,
+    puts: &mut Vec<PutPass>,
+)
     requires empty { (passes.old.items ≡ []) × (puts.old.items ≡ []) }
-    requires passes_room { vec_len workers ≤ vec_capacity passes.old }
+    requires passes_room { vec_len workers + length (pass_in left) ≤ vec_capacity passes.old }
     requires puts_room { vec_len workers ≤ vec_capacity puts.old }
-    ensures passes { passes.new.items ≡ passes_of workers.items }
+    ensures passes { passes.new.items ≡ passes_of workers.items ++ pass_in left }
     ensures puts { puts.new.items ≡ puts_of workers.items }
 {
     for worker in workers {
         passes.push_reserved(worker.pass);
         puts.push_reserved(worker.put);
     }
+    if let Some(left) = left {
+        passes.push_reserved(left);
+    }
 }
 
-/// A batch that is open: what its workers share, the workers, the pass to get what they send, and what is written of it. The two lists
-/// from which the workers took their passes have room for their return.
+/// A batch that is open: what its workers share, the workers, the pass to get what they send, that to draw what is left after a failed
+/// write, if the rest is to be left, and what is written of it. The two lists from which the workers took their passes have room for
+/// the return of all passes.
 #[derive(Drop)]
 pub(crate) struct OpenBatch<'a, G> {
     shared: SharedWork<'a, G>,
     workers: Vec<Worker>,
     get: GetPass,
+    left: Option<Pass>,
     output: OrderedOutput<'a>,
     passes: Vec<Pass>,
     puts: Vec<PutPass>,
@@ -98,7 +140,7 @@ impl<'a, G: Gate> OpenBatch<'a, G> {
         let output = OrderedOutput::new(alloc, request.files, jobs)?;
         let total = jobs.total();
         let count = request.workers.min(total).max(1);
-        let (desk, mut passes) = Desk::open(alloc, total, count)?;
+        let (desk, mut passes, left) = open_desk(alloc, total, count, request.rest)?;
         let (queue, mut puts, get) = ResultsQueue::open(alloc, QUEUE_PLACES, count)?;
         let workers = put_together(alloc, &mut passes, &mut puts, request.table)?;
         Ok(OpenBatch {
@@ -107,11 +149,10 @@ impl<'a, G: Gate> OpenBatch<'a, G> {
                 queue,
                 jobs,
                 gate,
-                rest: request.rest,
-                is_stopped: AtomicBool::new(false),
             },
             workers,
             get,
+            left,
             output,
             passes,
             puts,
@@ -120,37 +161,41 @@ impl<'a, G: Gate> OpenBatch<'a, G> {
 
     /// Answers the jobs: runs the workers, and writes each answer line once it is ready and all earlier ones are written. Then it closes
     /// the batch. Fails with `NoWorker` if no thread could be started; then nothing is written.
-    pub(crate) fn run<R: Threads + Wait + Sync, V: Watch, W: Sink>(
+    pub(crate) fn run<R: Threads + Wait + Sync, V: Watch, W: Sink, E: Rule + Sync>(
         self,
         rt: &R,
         watch: &mut V,
         out: &mut W,
     ) -> Result<(), RunFault>
-        requires { IsReadyToRun G.knows self }
+        requires ready { IsReadyToRun G.knows self }
+        // What a 1 says of the workers, for every rule: it holds once each has run, and not before.
+        requires begins { E.invariant 0 }
+        requires ends { OnceRun G.knows self.shared self.workers.items (E.invariant 1) }
         ensures given { OnOk result (WasGivenSince (W.written out.old) (W.written out.new) (W.has_failed out.new)
             (whole_output self.entry.output)) }
         ensures fault { IfErr result (λ e. e ≡ RunFault.NoWorker) }
         ensures untouched { OnErr result (out.new ≡ out.old) }
-        ensures solved { self.entry.shared.rest ≡ Solve → OnOk result ((job : ℕ) → job < job_count self.entry.shared.jobs.now
-            → G.knows self.entry.shared.gate.now job ≡ true) }
+        ensures gate_hears_all { (rest_of self.entry.left ≡ Solve) ⊎ (W.has_failed out.new ≡ false)
+            → OnOk result ((job : ℕ) → job < job_count self.entry.shared.jobs.now → G.knows self.entry.shared.gate.now job ≡ true) }
     {
         let OpenBatch {
             shared,
             workers,
             get,
+            left,
             output,
             mut passes,
             mut puts,
         } = self;
-        let ended = AtomicIn::<Ended>::new(0);
+        let ended = AtomicIn::<E>::new(0);
         let crew = Crew {
             shared: &shared,
             workers,
             ended: &ended,
         };
-        let receiver = Receiver::new(get, &ended);
-        let (workers, get) = run_and_write(rt, crew, receiver, output, watch, out)?;
-        take_apart(workers, &mut passes, &mut puts);
+        let receiver = Receiver::new(get, left, &ended);
+        let (workers, get, left) = run_and_write(rt, crew, receiver, output, watch, out)?;
+        take_apart(workers, left, &mut passes, &mut puts);
         let SharedWork { desk, queue, .. } = shared;
         desk.close(passes);
         queue.close(rt, puts, get);

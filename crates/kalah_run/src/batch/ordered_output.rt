@@ -1,5 +1,5 @@
 //! The answers of a batch, written in the order of its lines.
-ghost use Rattle.std.specs.Prelude.{◌≡◌, length, IfOk};
+ghost use Rattle.std.specs.Prelude.{◌≡◌, length, false, IfOk};
 ghost use Rattle.kalah_jobs.specs.Collecting.CollectorState.{HasLinesOf};
 
 use kalah_jobs::{Collector, FileText, Jobs, Sink, write_answer};
@@ -42,7 +42,8 @@ impl<'a> OrderedOutput<'a> {
     /// Writes the next lines in output order, as far as they are ready.
     #[inline(always)]
     pub(crate) fn write<W: Sink>(&mut self, out: &mut W)
-        ensures { WritesReady self.old (W.written out.old) (W.has_failed out.old) self.new (W.written out.new) (W.has_failed out.new) }
+        ensures sound { W.has_failed out.new ≡ false → W.has_failed out.old ≡ false }
+        ensures writes { WritesReady self.old (W.written out.old) (W.has_failed out.old) self.new (W.written out.new) (W.has_failed out.new) }
     {
         while self.current < self.jobs.files() {
             let f = self.current;

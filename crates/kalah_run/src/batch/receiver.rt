@@ -1,31 +1,55 @@
-//! The calling thread's end of the queue. No other module can use its pass, so what these calls require holds at each wait for an outcome.
-ghost use Rattle.std.specs.Prelude.{◌≡◌, ◌≤◌, true, IfNone, MatchOption};
+//! The calling thread's passes of a batch. No other module can use them, so what these calls require holds at each wait for an outcome.
+ghost use Rattle.std.specs.Prelude.{◌≡◌, ◌≤◌, ◌↔◌, true, IfNone, IfSome, MatchOption};
 ghost use Rattle.kalah_jobs.specs.Writing.Given.{IsReady};
-ghost use Rattle.kalah_run.specs.Batch.UnderWay.{IsLeft};
+ghost use Rattle.kalah_run.specs.Batch.Leaving.{rest_of, IsLeft, NothingIsLeft, DrawsOnlyTheRest};
+ghost use Rattle.kalah_run.specs.Desk.States.{IsPassAt};
 ghost use Rattle.kalah_run.specs.Queue.States.{HasGot};
 
 use crate::batch::gate::Gate;
 use crate::batch::shared_work::SharedWork;
 use crate::batch::watch::Watch;
+use crate::desk::Desk;
+use crate::desk::pass::Pass;
 use crate::queue::ResultsQueue;
 use crate::queue::passes::GetPass;
 use kalah_jobs::{Outcome, Sink};
 use std::sync::Wait;
 use std::sync::atomic::{AtomicIn, Rule};
 
-/// The pass by which the calling thread gets outcomes, and the word that is 1 once the workers have ended.
+/// The pass by which the calling thread gets outcomes, that by which it draws what is left after a failed write, if the rest is to be
+/// left, and the word that is 1 once the workers have ended.
 #[derive(Drop)]
 pub(crate) struct Receiver<'a, E: Rule> {
     pass: GetPass,
+    left: Option<Pass>,
     ended: &'a AtomicIn<E>,
 }
 
 impl<'a, E: Rule> Receiver<'a, E> {
-    /// Makes a receiver with this pass.
-    pub(crate) fn new(pass: GetPass, ended: &'a AtomicIn<E>) -> Receiver<'a, E>
-        ensures { result.pass ≡ pass }
+    /// Makes a receiver with these passes.
+    pub(crate) fn new(pass: GetPass, left: Option<Pass>, ended: &'a AtomicIn<E>) -> Receiver<'a, E>
+        ensures { (result.pass ≡ pass) × (result.left ≡ left) }
     {
-        Receiver { pass, ended }
+        Receiver { pass, left, ended }
+    }
+
+    /// If the output has failed and the rest is to be left, draws all jobs that are left, so that no worker can. Returns whether that is
+    /// so. From then on a worker sends one outcome at most, that of the job under way.
+    #[inline(always)]
+    pub(crate) fn leave_after(&mut self, has_failed: bool, desk: &Desk) -> bool
+        requires { IfSome self.old.left (IsPassAt desk.now) }
+        ensures left { (result ≡ true) ↔ IsLeft (rest_of self.old.left) has_failed }
+        ensures spent { result ≡ true → NothingIsLeft self.new.left }
+        ensures draws { DrawsOnlyTheRest desk.now has_failed self.old.left self.new.left }
+        ensures pass { self.new.pass ≡ self.old.pass }
+    {
+        let Some(pass) = &mut self.left else {
+            return false;
+        };
+        if has_failed {
+            desk.draw_rest(pass);
+        }
+        has_failed
     }
 
     /// Gets an outcome that comes soon, as `ResultsQueue::get_soon`.
@@ -35,6 +59,7 @@ impl<'a, E: Rule> Receiver<'a, E> {
         ensures got { MatchOption result (self.new.pass ≡ self.old.pass) (λ outcome. HasGot self.old.pass outcome self.new.pass) }
         ensures tries { tries.new ≤ tries.old }
         ensures spent { IfNone result (tries.new ≡ 0) }
+        ensures left { self.new.left ≡ self.old.left }
     {
         queue.get_soon(&mut self.pass, tries)
     }
@@ -49,11 +74,12 @@ impl<'a, E: Rule> Receiver<'a, E> {
     ) -> Outcome
         requires queue { self.old.pass.queue ≡ shared.now.queue.id }
         // The workers go on, so an outcome comes.
-        requires goes_on { IsLeft shared.now.rest (W.has_failed out.now) → ⊥ }
+        requires goes_on { IsLeft (rest_of self.old.left) (W.has_failed out.now) → ⊥ }
         requires known { V.is_waiting watch.now ≡ true }
         // The sink has flushed all that was written, unless it may keep bytes in its buffer while its caller waits.
         requires ready { IsReady (W.has_failed out.now) (W.may_hold_back out.now) (W.is_handed_on out.now) }
-        ensures { HasGot self.old.pass result self.new.pass }
+        ensures got { HasGot self.old.pass result self.new.pass }
+        ensures left { self.new.left ≡ self.old.left }
     {
         // Only the contract reads these.
         let _ = watch;
@@ -61,8 +87,8 @@ impl<'a, E: Rule> Receiver<'a, E> {
         shared.queue.get(rt, &mut self.pass)
     }
 
-    /// Gets an outcome of a job that was under way when the workers were stopped. Returns `None` once they have ended, and no outcome
-    /// is left.
+    /// Gets an outcome of a job that was under way when the rest was left. Returns `None` once the workers have ended, and no outcome is
+    /// left.
     pub(crate) fn get_last<R: Wait, W: Sink>(
         &mut self,
         rt: &R,
@@ -70,19 +96,22 @@ impl<'a, E: Rule> Receiver<'a, E> {
         out: &W,
     ) -> Option<Outcome>
         requires queue { self.old.pass.queue ≡ queue.now.id }
+        // No worker can begin a further job.
+        requires spent { NothingIsLeft self.old.left }
         requires ready { IsReady (W.has_failed out.now) (W.may_hold_back out.now) (W.is_handed_on out.now) }
         ensures got { MatchOption result (self.new.pass ≡ self.old.pass) (λ outcome. HasGot self.old.pass outcome self.new.pass) }
         ensures ended { IfNone result (E.invariant 1) }
+        ensures left { self.new.left ≡ self.old.left }
     {
         // Only the contract reads it.
         let _ = out;
         queue.get_to_end(rt, &mut self.pass, Some(self.ended))
     }
 
-    /// Returns the pass, to close the queue.
-    pub(crate) fn into_pass(self) -> GetPass
-        ensures { result ≡ self.entry.pass }
+    /// Returns the passes, to close the queue and the desk.
+    pub(crate) fn into_passes(self) -> (GetPass, Option<Pass>)
+        ensures { result ≡ (self.entry.pass, self.entry.left) }
     {
-        self.pass
+        (self.pass, self.left)
     }
 }

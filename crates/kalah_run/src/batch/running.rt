@@ -1,5 +1,5 @@
 //! Runs the workers on further threads, while the calling thread accepts what they send.
-ghost use Rattle.std.specs.Prelude.{◌≡◌, ◌+◌, ◌⊎◌, [], length, false, IfErr, IfOk, OnErr};
+ghost use Rattle.std.specs.Prelude.{◌≡◌, ◌⊎◌, [], length, false, IfErr, IfNone, IfOk, IfSome, OnErr};
 ghost use Rattle.std.specs.Io.KnownBytes.{Keeps};
 ghost use Rattle.std.specs.Thread.{IsSync};
 ghost use Rattle.kalah_jobs.specs.Files.Jobs.{job_count};
@@ -7,6 +7,8 @@ ghost use Rattle.kalah_jobs.specs.Writing.Given.{IsReady};
 ghost use Rattle.kalah_run.specs.Batch.AtWork.{AreAtWork, HaveRun, OnceRun};
 ghost use Rattle.kalah_run.specs.Batch.OrderedOutput.{IsNew};
 ghost use Rattle.kalah_run.specs.Batch.Running.{CanRun, HasCollected, MayHaveGot, RunHasEnded};
+ghost use Rattle.kalah_run.specs.Batch.Leaving.{rest_of, NothingIsLeft, DrawsOnlyTheRest};
+ghost use Rattle.kalah_run.specs.Desk.States.{IsPassAt};
 
 use crate::batch::crew::Crew;
 use crate::batch::gate::Gate;
@@ -16,6 +18,7 @@ use crate::batch::run_fault::RunFault;
 use crate::batch::shared_work::SharedWork;
 use crate::batch::watch::Watch;
 use crate::batch::worker::Worker;
+use crate::desk::pass::Pass;
 use crate::limits::MOST_TRIES;
 use crate::queue::passes::GetPass;
 use kalah_jobs::{Outcome, Sink};
@@ -49,8 +52,8 @@ fn flush_to_wait<W: Sink>(out: &mut W)
     }
 }
 
-// Gets an outcome that did not come soon. The output flushes what it buffers before the wait. Returns `None` once the workers were stopped
-// and have ended.
+// Gets an outcome that did not come soon. The output flushes what it buffers before the wait. Returns `None` once the rest is left
+// and the workers have ended.
 #[cold]
 #[inline(never)]
 fn flush_and_get<R: Wait, G: Gate, V: Watch, W: Sink, E: Rule>(
@@ -61,10 +64,14 @@ fn flush_and_get<R: Wait, G: Gate, V: Watch, W: Sink, E: Rule>(
     out: &mut W,
 ) -> Option<Outcome>
     requires queue { receiver.old.pass.queue ≡ shared.now.queue.id }
-    ensures { MayHaveGot W.written W.has_failed shared.now.rest (E.invariant 1) receiver.old.pass receiver.new.pass out.old out.new result }
+    requires own { IfSome receiver.old.left (IsPassAt shared.now.desk) }
+    ensures draws { DrawsOnlyTheRest shared.now.desk (W.has_failed out.new) receiver.old.left receiver.new.left }
+    ensures spent { IfNone result (NothingIsLeft receiver.new.left) }
+    ensures got { MayHaveGot W.written W.has_failed (rest_of receiver.old.left) (E.invariant 1) receiver.old.pass receiver.new.pass
+        out.old out.new result }
 {
     flush_to_wait(out);
-    if shared.stop_after(out.failed()) {
+    if receiver.leave_after(out.failed(), &shared.desk) {
         return receiver.get_last(rt, &shared.queue, out);
     }
     watch.waits();
@@ -72,8 +79,8 @@ fn flush_and_get<R: Wait, G: Gate, V: Watch, W: Sink, E: Rule>(
 }
 
 // Accepts the outcome of each job, and writes each line once it is ready and all earlier ones are written; then the output may flush.
-// If the output fails and the rest is left, it stops the workers, and accepts what they still send. It accepts until they have ended, since
-// a worker may sleep until another outcome is got. Returns the pass, to close the queue.
+// If the output fails and the rest is left, it draws that itself, and accepts what the workers still send. It accepts until they have
+// ended, since a worker may sleep until another outcome is got. Returns both passes, to close the queue and the desk.
 fn collect<R: Wait, G: Gate, V: Watch, W: Sink, E: Rule>(
     rt: &R,
     shared: &SharedWork<'_, G>,
@@ -81,13 +88,16 @@ fn collect<R: Wait, G: Gate, V: Watch, W: Sink, E: Rule>(
     mut output: OrderedOutput<'_>,
     watch: &mut V,
     out: &mut W,
-) -> GetPass
+) -> (GetPass, Option<Pass>)
+    requires own { IfSome receiver.left (IsPassAt shared.now.desk) }
     requires queue { receiver.pass.queue ≡ shared.now.queue.id }
     requires first { receiver.pass.got ≡ [] }
     requires new { IsNew output }
-    ensures collected { HasCollected shared.now.rest output.entry (W.written out.old) (W.written out.new) (W.has_failed out.new)
-        receiver.entry.pass result }
-    ensures ended { (length result.got ≡ job_count output.entry.jobs.now) ⊎ E.invariant 1 }
+    ensures collected { HasCollected (rest_of receiver.entry.left) output.entry (W.written out.old) (W.written out.new)
+        (W.has_failed out.new) receiver.entry.pass result.0 }
+    ensures draws { DrawsOnlyTheRest shared.now.desk (W.has_failed out.new) receiver.entry.left result.1 }
+    // It ends early only once no job is left, and the workers have ended.
+    ensures ended { (length result.0.got ≡ job_count output.entry.jobs.now) ⊎ (NothingIsLeft result.1 × E.invariant 1) }
     // The thread may wait for the workers to end.
     ensures ready { IsReady (W.has_failed out.new) (W.may_hold_back out.new) (W.is_handed_on out.new) }
 {
@@ -97,7 +107,7 @@ fn collect<R: Wait, G: Gate, V: Watch, W: Sink, E: Rule>(
     for _ in 0..total {
         // One try more for each outcome, so that tries that find nothing take a small share of the time that the outcomes took.
         tries = (tries + 1).min(MOST_TRIES);
-        shared.stop_after(out.failed());
+        receiver.leave_after(out.failed(), &shared.desk);
         let outcome = match receiver.get_soon(&shared.queue, &mut tries) {
             Some(outcome) => outcome,
             None => match flush_and_get(rt, shared, &mut receiver, watch, out) {
@@ -112,11 +122,11 @@ fn collect<R: Wait, G: Gate, V: Watch, W: Sink, E: Rule>(
         watch.accepts();
     }
     flush_to_wait(out);
-    receiver.into_pass()
+    receiver.into_passes()
 }
 
 /// Runs the crew on further threads, and meanwhile accepts the outcome of each job and writes what is ready. Returns the workers and the
-/// pass. Fails with `NoWorker` if no thread could be started; then nothing is written.
+/// passes. Fails with `NoWorker` if no thread could be started; then nothing is written.
 pub(crate) fn run_and_write<R: Threads + Wait + Sync, G: Gate, V: Watch, W: Sink, E: Rule + Sync>(
     rt: &R,
     crew: Crew<'_, '_, G, E>,
@@ -124,23 +134,27 @@ pub(crate) fn run_and_write<R: Threads + Wait + Sync, G: Gate, V: Watch, W: Sink
     output: OrderedOutput<'_>,
     watch: &mut V,
     out: &mut W,
-) -> Result<(Vec<Worker>, GetPass), RunFault>
-    requires { CanRun G.knows crew.shared.now crew.workers.items receiver.pass output
+) -> Result<(Vec<Worker>, GetPass, Option<Pass>), RunFault>
+    requires { CanRun G.knows crew.shared.now crew.workers.items receiver.pass receiver.left output
         × OnceRun G.knows crew.shared.now crew.workers.items (E.invariant 1) }
     ensures ended { IfOk result (λ r. RunHasEnded G.knows W.written W.has_failed crew.entry.shared.now crew.entry.workers.items
-        receiver.entry.pass output.entry out.old out.new r.0.items r.1) }
+        receiver.entry.pass receiver.entry.left output.entry out.old out.new r.0.items r.1 r.2) }
     ensures fault { IfErr result (λ e. e ≡ RunFault.NoWorker) }
     ensures untouched { OnErr result (out.new ≡ out.old) }
 {
     let (ran, _watch, _out) = thread::scope(
         thread::scope_env(),
         rt,
-        move |scope| -> (Result<(Vec<Worker>, GetPass), RunFault>, &mut V, &mut W)
-            requires { IsSync R.row × IsSync G.row × CanRun G.knows crew.shared.now crew.workers.items receiver.pass output
+        move |scope| -> (
+            Result<(Vec<Worker>, GetPass, Option<Pass>), RunFault>,
+            &mut V,
+            &mut W,
+        )
+            requires { IsSync R.row × IsSync G.row × CanRun G.knows crew.shared.now crew.workers.items receiver.pass receiver.left output
                 × OnceRun G.knows crew.shared.now crew.workers.items (E.invariant 1) }
             ensures names { (result.1.ghost_name ≡ watch.entry.ghost_name) × (result.2.ghost_name ≡ out.entry.ghost_name) }
             ensures ended { IfOk result.0 (λ r. RunHasEnded G.knows W.written W.has_failed crew.entry.shared.now crew.entry.workers.items
-                receiver.entry.pass output.entry out.entry.now result.2.now r.0.items r.1) }
+                receiver.entry.pass receiver.entry.left output.entry out.entry.now result.2.now r.0.items r.1 r.2) }
             ensures fault { IfErr result.0 (λ e. e ≡ RunFault.NoWorker) }
             ensures untouched { OnErr result.0 (result.2.now ≡ out.entry.now) }
         {
@@ -160,9 +174,9 @@ pub(crate) fn run_and_write<R: Threads + Wait + Sync, G: Gate, V: Watch, W: Sink
             let Ok(child) = started else {
                 return (Err(RunFault::NoWorker), watch, out);
             };
-            let get = collect(rt, shared, receiver, output, watch, out);
+            let (get, left) = collect(rt, shared, receiver, output, watch, out);
             let workers = child.join(rt);
-            (Ok((workers, get)), watch, out)
+            (Ok((workers, get, left)), watch, out)
         },
     );
     ran

@@ -2,8 +2,8 @@
 ghost use Rattle.std.specs.Prelude.{◌≡◌, Bool, true};
 
 /// An observer of the progress of a batch. The calling thread calls `accepts` for each outcome that it has accepted, once the answers
-/// that are ready are written. It calls `waits` before it waits for an outcome, unless the workers were stopped
-/// after a failed write. A watch that blocks delays the batch.
+/// that are ready are written. It calls `waits` before it waits for an outcome, unless the rest is left after a
+/// failed write. A watch that blocks delays the batch.
 pub trait Watch {
     /// Whether the watch knows that the next outcome has not come yet. `waits` ensures it, and the call that waits requires it. By default
     /// it is true.

@@ -2,7 +2,7 @@
 ghost use Rattle.kalah_run.specs.Desk.Law.{DeskIsLawful};
 
 /// A fact between any two steps of any threads at a desk. Each number below the count of those drawn stands in the row of one pass, and
-/// there once. No other stands in any. The desk's one word is at most the total and 64.
+/// there once. No other stands in any. The desk's one word is at most the total and the number of passes.
 pub fn desk_is_lawful()
     ensures { DeskIsLawful }
 {}

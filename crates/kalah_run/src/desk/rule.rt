@@ -61,6 +61,15 @@ impl Play<(), DeskView> for DrawNumber {
     ghost then = { Draws };
 }
 
+/// A pass draws all that is left.
+pub struct DrawRest;
+
+impl Play<(), DeskView> for DrawRest {
+    ghost use Rattle.kalah_run.specs.Desk.Steps.{DrawsRest};
+
+    ghost then = { DrawsRest };
+}
+
 /// A new seat comes to reclaim the passes.
 pub struct StartClosing;
 

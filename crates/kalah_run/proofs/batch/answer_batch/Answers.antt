@@ -1,5 +1,5 @@
 use Rattle.std.proofs.lemmas.Grind.{common_steps}
-use Rattle.std.proofs.Common.{◌∙◌, [], refl, ap, arith, rules}
+use Rattle.std.proofs.Common.{◌∙◌, [], refl, sym, ap, ⊎_elim, inl, inr, arith, rules}
 use Rattle.kalah_jobs.specs.Files.Jobs.{job_count}
 use Rattle.kalah_run.proofs.BatchLemmas.{answered, as_many_jobs, given_kept, given_no_output, given_output, left_without_memory, left_without_worker, starts_none}
 use Rattle.kalah_run.proofs.batch.answer_batch.Goals.{then-total-gt0+in_ok-open+in_ok-run, else-total-gt0}
@@ -36,14 +36,16 @@ returns-clause-answers g c =
     ])
     (starts_none _ _ [] refl end.given.start) (λ sound. (end.given.whole sound).0)) end.counted end.handed_on end.fault
 
--- each job was solved, if the rest is to be
-pub returns-clause-solved : goal.returns-clause-solved
-returns-clause-solved g c = λ solve ok job low.
+-- the gate knows each job, if the rest is to be solved or no write has failed
+pub returns-clause-gate_hears_all : goal.returns-clause-gate_hears_all
+returns-clause-gate_hears_all g c = λ unless ok job low.
+    let end = c.flush_and_count.ensures in
     let jobs = as_many_jobs _ _ _ c.in_ok-jobs.ensures.value in
     elim c.if-total-gt0.branch [
       | then-total-gt0+in_ok-open+in_ok-run w ↦
           let asked = w.in_ok-open.ensures.asked in
-          rw (← asked.of_gate) (w.in_ok-run.ensures.solved (asked.of_rest ∙ solve) job
+          rw (← asked.of_gate) (w.in_ok-run.ensures.gate_hears_all
+          (⊎_elim (λ solve. inl (asked.of_rest ∙ solve)) (λ sound. inr (ap g.W.Sink.has_failed (sym w.out-is) ∙ (end.given.whole sound).0)) unless) job
           (omega (arith, low, jobs, ap job_count asked.of_jobs)))
       | else-total-gt0 w ↦ absurd (omega (arith, low, jobs, w.if-total-gt0.false, c.total.ensures.lines))
     ]
@@ -51,5 +53,14 @@ returns-clause-solved g c = λ solve ok job low.
 pub open-requires-after_bounds : goal.open-requires-after_bounds
 open-requires-after_bounds g c κs within = grind (arith, common_steps)
 
-pub run-requires-after_bounds : goal.run-requires-after_bounds
-run-requires-after_bounds g c κs within = c.in_ok-open.ensures.ready
+pub run-requires-clause-ready : goal.run-requires-clause-ready
+run-requires-clause-ready g c κs within = c.in_ok-open.ensures.ready
+
+pub run-requires-clause-begins : goal.run-requires-clause-begins
+run-requires-clause-begins g c κs within = tt
+
+pub run-requires-clause-ends : goal.run-requires-clause-ends
+run-requires-clause-ends g c κs within = λ after run. tt
+
+pub returns-in_err-jobs-clause-answers : goal.returns-in_err-jobs-clause-answers
+returns-in_err-jobs-clause-answers g c = grind (arith, common_steps)

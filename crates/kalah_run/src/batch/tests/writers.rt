@@ -1,8 +1,10 @@
 //! Batches whose writer fails.
+ghost use Rattle.std.specs.Prelude.{◌<◌, ◌≤◌};
+
 use super::told::{ROOM, wait_for_begun};
 use super::{ANSWERS, Counting, SEVEN_LINES, four_files, same_lines};
 use crate::limits::QUEUE_PLACES;
-use crate::{BatchRequest, NoWatch, Rest, RunFault, Tally, answer_batch};
+use crate::{BatchRequest, NoWatch, Rest, RunFault, Tally, answer_batch, solve_batch};
 use kalah_jobs::{FileText, Question, Stream};
 use std::alloc::Global;
 use std::io;
@@ -34,7 +36,18 @@ impl Write for Failing {
     }
 }
 
-/// The result of a batch of two workers with a writer that fails.
+impl Failing {
+    // A sink whose calls fail after the first `most`.
+    fn after(alloc: Global, most: u32) -> Stream<Failing> {
+        Stream::new(Failing {
+            bytes: Vec::new(alloc),
+            calls: 0,
+            most,
+        })
+    }
+}
+
+/// The result of a batch with a writer that fails.
 #[derive(Drop)]
 struct Run {
     tally: Result<Tally, RunFault>,
@@ -51,11 +64,7 @@ fn run_with<R: Threads + Wait + Sync>(
     most: u32,
 ) -> Run {
     let gate = Counting::new();
-    let mut out = Stream::new(Failing {
-        bytes: Vec::new(alloc),
-        calls: 0,
-        most,
-    });
+    let mut out = Failing::after(alloc, most);
     let request = BatchRequest {
         question,
         files,
@@ -69,6 +78,36 @@ fn run_with<R: Threads + Wait + Sync>(
         writer: out.into_inner(),
         gate,
     }
+}
+
+// What `solve_batch` does with such a writer.
+fn solve_with<R: Threads + Wait + Sync>(
+    rt: &R,
+    alloc: Global,
+    files: &[FileText],
+    workers: u32,
+    most: u32,
+) -> Run
+    requires { (0 < workers) × (workers ≤ 64) }
+{
+    let gate = Counting::new();
+    let mut out = Failing::after(alloc, most);
+    let tally = solve_batch(rt, alloc, files, workers, 16, &gate, &mut out);
+    Run {
+        tally,
+        writer: out.into_inner(),
+        gate,
+    }
+}
+
+// Of the seven lines each is solved, and the writer is called once more than it succeeds, unless it succeeds with all and their flush.
+fn ends_the_writing_alone(run: &Run, most: u32) -> bool {
+    let (tally, calls) = if most < 8 {
+        (Err(RunFault::Write), most.saturating_add(1))
+    } else {
+        (Ok(SEVEN_LINES), 8)
+    };
+    (run.tally, run.writer.calls) == (tally, calls) && run.gate.sent.load(SeqCst) == 7
 }
 
 // There is a call for each line, and one to flush them. One that fails ends the writing and nothing else.
@@ -85,13 +124,13 @@ fn every_failing_call_ends_the_writing_and_nothing_else(rt: HostRuntime) {
                 Rest::Solve,
                 most,
             );
-            let (tally, calls) = if most < 8 {
-                (Err(RunFault::Write), most + 1)
-            } else {
-                (Ok(SEVEN_LINES), 8)
-            };
-            assert!(rt; (run.tally, run.writer.calls) == (tally, calls), "{most}");
-            assert!(rt; run.gate.sent.load(SeqCst) == 7, "{most}");
+            assert!(rt; ends_the_writing_alone(&run, most), "{most}");
+        }
+    }
+    for most in 0..9u32 {
+        for workers in [1, 2, 64] {
+            let run = solve_with(&rt, rt.alloc(), files.as_slice(), workers, most);
+            assert!(rt; ends_the_writing_alone(&run, most), "{workers} {most}");
         }
     }
 }
@@ -113,13 +152,19 @@ fn a_flush_that_fails_is_a_failed_write(rt: HostRuntime) {
     }
 }
 
+// The lines are more than the workers can send before the line that fails is written.
 #[test]
 fn all_jobs_are_done_though_the_writer_takes_one_line(rt: HostRuntime) {
-    let files = same_lines(&rt, rt.alloc(), 200);
-    let run = run_with(&rt, rt.alloc(), Question::BestMove, &files, Rest::Solve, 1);
-    assert!(rt; (run.tally, run.writer.calls) == (Err(RunFault::Write), 2));
-    assert!(rt; run.writer.bytes.as_slice() == b"n:1 0 house 1\n".as_slice());
-    assert!(rt; run.gate.sent.load(SeqCst) == 200);
+    for lines in [200, ROOM + 200] {
+        let files = same_lines(&rt, rt.alloc(), lines);
+        let asked = run_with(&rt, rt.alloc(), Question::BestMove, &files, Rest::Solve, 1);
+        let solved = solve_with(&rt, rt.alloc(), &files, 64, 1);
+        for run in [&asked, &solved] {
+            assert!(rt; (run.tally, run.writer.calls) == (Err(RunFault::Write), 2));
+            assert!(rt; run.writer.bytes.as_slice() == b"n:1 0 house 1\n".as_slice());
+            assert!(rt; run.gate.sent.load(SeqCst) == lines);
+        }
+    }
 }
 
 // The most jobs that two workers begin if only one outcome is got before they are to stop: its own, those in the queue, and for each

@@ -1,4 +1,4 @@
-use Rattle.std.proofs.Common.{◌≡◌, ℕ, ◌∷◌, ◌++◌, [], true, rules, sym, ap, ◌∙◌}
+use Rattle.std.proofs.Common.{◌≡◌, ℕ, ◌∷◌, ◌++◌, [], true, rules, sym, ap, ◌∙◌, arith}
 use Rattle.kalah_run.specs.declared.desk.rule.DrawnRow.{DrawnRow}
 use Rattle.kalah_run.specs.Desk.States.{PassState}
 use Rattle.kalah_run.specs.Queue.States.{PutState}
@@ -7,9 +7,9 @@ use Rattle.kalah_run.proofs.BatchLemmas.{drawn_jobs-more, less_left}
 use Rattle.kalah_run.proofs.batch.crew.work.Goals as goal
 
 -- with no job in hand, all that was drawn is sent
-pub loop-worker-preserved : goal.loop-worker-preserved
-loop-worker-preserved g c =
-    let before = c.loop-worker.invariant.at_work in
+pub loop-job-preserved : goal.loop-job-preserved
+loop-job-preserved g c =
+    let before = c.loop-job.invariant.at_work in
     let Known : ℕ → Type 0 = λ job. g.G.Gate.knows c.args.shared.now.gate.now job ≡ true in
     let same = c.answer-outcome.ensures.same in
     let drawn = ap (λ (p : PassState). p.row.numbers) same.0 ∙ ap (λ (r : DrawnRow). r.numbers) c.in-Some.ensures.drawn in
@@ -17,17 +17,17 @@ loop-worker-preserved g c =
       at_work = record {
         draws = rw same.0 c.draw.ensures.own;
         sends = ap (λ (p : PutState). p.queue) (c.put.ensures) ∙ ap (λ (p : PutState). p.queue) same.1 ∙ before.sends;
-        known = rw drawn (All-push Known c.loop-worker.worker.pass.row.numbers c.in-Some.job before.known (search rules));
+        known = rw drawn (All-push Known c.loop-job.worker.pass.row.numbers c.in-Some.job before.known (search rules));
         sent = ap (λ (p : PutState). p.sent) c.put.ensures
             ∙ ap (λ (p : PutState). p.sent ++ c.answer-outcome.result ∷ []) same.1
-            ∙ rw before.sent (rw drawn (sym (drawn_jobs-more c.args.shared.now.jobs.now c.loop-worker.worker.pass.row.numbers _ _
+            ∙ rw before.sent (rw drawn (sym (drawn_jobs-more c.args.shared.now.jobs.now c.loop-job.worker.pass.row.numbers _ _
             c.answer-outcome.ensures.answer)));
       };
-      number = ap (λ (p : PutState). p.number) c.put.ensures ∙ ap (λ (p : PutState). p.number) same.1 ∙ c.loop-worker.invariant.number;
+      number = ap (λ (p : PutState). p.number) c.put.ensures ∙ ap (λ (p : PutState). p.number) same.1 ∙ c.loop-job.invariant.number;
     }
 
-pub loop-worker-smaller : goal.loop-worker-smaller
-loop-worker-smaller g c =
+pub loop-job-smaller : goal.loop-job-smaller
+loop-job-smaller g c =
     let same = c.answer-outcome.ensures.same in
     less_left _ _ _ _ (ap (λ (p : PassState). p.row.numbers) same.0 ∙ ap (λ (r : DrawnRow). r.numbers) c.in-Some.ensures.drawn)
     c.in-Some.ensures.above c.in-Some.ensures.below

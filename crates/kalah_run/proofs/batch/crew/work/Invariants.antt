@@ -3,11 +3,11 @@ use Rattle.kalah_run.proofs.BatchLemmas.{least_above}
 use Rattle.kalah_run.specs.Batch.AtWork.{IsAtWork}
 use Rattle.kalah_run.proofs.batch.crew.work.Given as goal
 
-abbrev pub invariant-loop-worker : goal.invariant-loop-worker
-invariant-loop-worker g l = record {
+abbrev pub invariant-loop-job : goal.invariant-loop-job
+invariant-loop-job g l = record {
   at_work : IsAtWork g.G.Gate.knows l.shared l.worker;
   number : l.worker.put.number ≡ l.fn.worker.put.number;
 }
 
-abbrev pub decreases-loop-worker : goal.decreases-loop-worker
-decreases-loop-worker g l = l.shared.desk.total - least_above l.worker.pass.row.numbers
+abbrev pub decreases-loop-job : goal.decreases-loop-job
+decreases-loop-job g l = l.shared.desk.total - least_above l.worker.pass.row.numbers

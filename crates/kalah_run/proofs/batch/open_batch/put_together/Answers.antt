@@ -1,3 +1,4 @@
+use Rattle.std.proofs.lemmas.Grind.{common_steps}
 use Rattle.std.proofs.Common.{arith, ◌∙◌}
 use Rattle.kalah_run.specs.declared.batch.worker.Worker.{Worker}
 use Rattle.kalah_run.proofs.BatchLemmas.{one_given, tables_more}
@@ -17,3 +18,9 @@ loop-pass-preserved c =
       puts_room = c.in-Some-pop.ensures.capacity ∙ so_far.puts_room;
       room = omega (arith, c.in-Some.ensures.len);
     }
+
+pub returns-clause-empty : goal.returns-clause-empty
+returns-clause-empty c = grind (arith, common_steps)
+
+pub returns-clause-puts : goal.returns-clause-puts
+returns-clause-puts c = grind (arith, common_steps)

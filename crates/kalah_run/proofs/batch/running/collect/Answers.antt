@@ -1,12 +1,14 @@
-use Rattle.std.proofs.Common.{◌∷◌, [], ℕ, List, inl, inr, length, refl, sym, ap, subst, ◌∙◌, arith, rules}
+use Rattle.std.proofs.lemmas.Grind.{common_steps}
+use Rattle.std.proofs.Common.{◌≡◌, ◌⊎◌, ◌∷◌, [], ℕ, List, inl, inr, length, refl, sym, ap, subst, ◌∙◌, arith, rules}
 use Rattle.std.specs.Prelude.{Some}
 use Rattle.std.proofs.lemmas.List.{map-append, length-append}
 use Rattle.kalah_jobs.specs.declared.files.job.Job.{Job}
 use Rattle.kalah_run.specs.Queue.States.{GetState}
+use Rattle.kalah_run.specs.Batch.Leaving.{rest_of, DrawsOnlyTheRest}
 use Rattle.kalah_run.specs.Batch.Running.{MayHaveGot}
 use Rattle.kalah_run.specs.Queue.Lists.{outcomes_in}
 use Rattle.kalah_run.specs.Batch.OrderedOutput.{HasWritten, Waits}
-use Rattle.kalah_run.proofs.BatchLemmas.{given_whole, new_written, progress_offered, still_written}
+use Rattle.kalah_run.proofs.BatchLemmas.{draws_on, draws_still, given_whole, new_written, progress_offered, still_written}
 use Rattle.kalah_run.proofs.batch.running.collect.Given as given
 use Rattle.kalah_run.proofs.batch.running.collect.Goals as goal
 use Rattle.kalah_run.proofs.batch.running.collect.Goals.{in-Some, in-None+in-Some-flush_and_get, else-loop-test, then-loop-test+in-None+in-None-flush_and_get}
@@ -16,23 +18,44 @@ loop-init g c = record {
   queue = refl;
   workers = refl;
   all = ap (λ (l : List (ℕ × Job)). length l) c.requires.first;
+  left = record { own = c.requires.own; rest = refl; same = inl refl };
   few_tries = omega arith;
-  progress = rw c.requires.first (c.write.ensures _ _ [] _ (new_written _ _ _ c.requires.new));
+  progress = rw c.requires.first (c.write.ensures.writes _ _ [] _ (new_written _ _ _ c.requires.new));
 }
 
 -- an outcome was got, soon or later
-next : (g : given.Over) (c : goal.After-accepts g) → MayHaveGot g.W.Sink.written g.W.Sink.has_failed c.args.shared.now.rest
-    (g.E.Rule.invariant 1) c.loop.receiver.pass c.match-get_soon.receiver.pass c.loop.out c.match-get_soon.out
-    (Some c.match-get_soon.outcome)
+next : (g : given.Over) (c : goal.After-accepts g) → MayHaveGot g.W.Sink.written g.W.Sink.has_failed
+    (rest_of c.leave_after.new.self.left) (g.E.Rule.invariant 1) c.loop.receiver.pass c.match-get_soon.receiver.pass c.loop.out
+    c.match-get_soon.out (Some c.match-get_soon.outcome)
 next g c = elim c.match-get_soon.branch [
-  | in-Some w ↦ rw (w.out-is, w.receiver-is, w.outcome-is)
+  | in-Some w ↦ rw (w.out-is, w.receiver-is, w.outcome-is, ← c.leave_after.ensures.pass)
       (record { got = w.in-Some.ensures.got; left = tt; ended = tt; keeps = search rules; sound = λ still. still })
-  | in-None+in-Some-flush_and_get w ↦ rw (w.out-is, w.receiver-is, w.outcome-is, ← w.in-None.ensures.got) w.in-Some-flush_and_get.ensures
+  | in-None+in-Some-flush_and_get w ↦ rw (
+    w.out-is,
+    w.receiver-is,
+    w.outcome-is,
+    ← c.leave_after.ensures.pass,
+    ← w.in-None.ensures.got,
+    ← w.in-None.ensures.left,
+  ) w.in-Some-flush_and_get.ensures.got
 ]
+
+-- with its own pass the calling thread has drawn only the rest
+next_left : (g : given.Over) (c : goal.After-accepts g) → DrawsOnlyTheRest c.args.shared.now.desk
+    (g.W.Sink.has_failed c.match-get_soon.out) c.args.receiver.left c.match-get_soon.receiver.left
+next_left g c =
+    let asked = draws_on c.loop.invariant.left (rw c.failed.ensures at c.leave_after.ensures.draws) in
+    elim c.match-get_soon.branch [
+      | in-Some w ↦ rw (w.out-is, w.receiver-is, w.in-Some.ensures.left) asked
+      | in-None+in-Some-flush_and_get w ↦
+          let later = w.in-Some-flush_and_get.ensures in
+          rw (w.out-is, w.receiver-is) (draws_on (draws_still _ later.got.sound asked) (rw w.in-None.ensures.left at later.draws))
+    ]
 
 pub loop-preserved : goal.loop-preserved
 loop-preserved g c =
     let outcome = c.match-get_soon.outcome in
+    let next_left = next_left g c in
     let next = next g c in
     let worker = next.got.0 in
     let is = next.got.2 in
@@ -42,6 +65,7 @@ loop-preserved g c =
       workers = ap (λ (p : GetState). p.workers) is ∙ c.loop.invariant.workers;
       all = ap (λ (l : List (ℕ × Job)). length l) more ∙ length-append c.loop.receiver.pass.got ((worker, outcome) ∷ [])
           ∙ omega (arith, c.loop.invariant.all);
+      left = draws_still _ c.write-in-loop.ensures.sound next_left;
       few_tries = search rules;
       progress =
           subst (λ (l : List Job). HasWritten c.args.output.files.now c.args.output.jobs.now l (g.W.Sink.written c.args.out.now)
@@ -50,7 +74,7 @@ loop-preserved g c =
           (sym (ap (λ (l : List (ℕ × Job)). outcomes_in l) more
           ∙ map-append (λ (p : ℕ × Job). p.1) c.loop.receiver.pass.got ((worker, outcome) ∷ [])))
           (let so_far = still_written next.keeps next.sound c.loop.invariant.progress.0 in
-          c.write-in-loop.ensures _ _ _ _ (record {
+          c.write-in-loop.ensures.writes _ _ _ _ (record {
             of_files = so_far.of_files;
             of_jobs = so_far.of_jobs;
             progress = progress_offered so_far.progress outcome c.offer.new.self c.offer.result c.offer.ensures.offers;
@@ -61,7 +85,7 @@ loop-preserved g c =
 pub returns-clause-collected : goal.returns-clause-collected
 returns-clause-collected g c =
     let flushed = c.flush_to_wait.ensures in
-    rw c.into_pass.ensures (elim c.loop-test.branch [
+    rw c.into_passes.ensures (elim c.loop-test.branch [
       | else-loop-test w ↦
           rw w.receiver-is (record {
             queue = c.loop.invariant.queue;
@@ -71,14 +95,29 @@ returns-clause-collected g c =
                 (λ still. rw (← w.out-is) (flushed.sound still)) c.loop.invariant.progress;
           })
       | then-loop-test+in-None+in-None-flush_and_get w ↦
-          let left = w.in-None-flush_and_get.ensures in
+          let left = w.in-None-flush_and_get.ensures.got in
           let before = c.loop.invariant.progress in
           let so_far = still_written left.keeps left.sound before.0 in
-          rw (w.receiver-is, left.got ∙ w.in-None.ensures.got) (record {
+          let asked = draws_on c.loop.invariant.left (rw w.failed.ensures at w.leave_after.ensures.draws) in
+          let gone = rw w.in-None.ensures.left at left.left in
+          rw (w.receiver-is, left.got ∙ w.in-None.ensures.got ∙ w.leave_after.ensures.pass) (record {
             queue = c.loop.invariant.queue;
             workers = c.loop.invariant.workers;
-            all_got = inr (left.left.0, grind (arith, flushed.sound, left.left.1, w.out-is));
+            all_got = inr (sym asked.rest ∙ gone.0, grind (arith, flushed.sound, gone.1, w.out-is));
             given = given_whole c.args.output (rw (← w.out-is) flushed.keeps)
                 (λ still. rw (← w.out-is) (flushed.sound still)) (so_far, before.1);
           })
     ])
+
+pub returns-clause-draws : goal.returns-clause-draws
+returns-clause-draws g c = rw c.into_passes.ensures (draws_still _ c.flush_to_wait.ensures.sound
+    (elim c.loop-test.branch [
+      | else-loop-test w ↦ rw (w.out-is, w.receiver-is) c.loop.invariant.left
+      | then-loop-test+in-None+in-None-flush_and_get w ↦
+          let last = w.in-None-flush_and_get.ensures in
+          let asked = draws_on c.loop.invariant.left (rw w.failed.ensures at w.leave_after.ensures.draws) in
+          rw (w.out-is, w.receiver-is) (draws_on (draws_still _ last.got.sound asked) (rw w.in-None.ensures.left at last.draws))
+    ]))
+
+pub returns-clause-ended : goal.returns-clause-ended
+returns-clause-ended g c = grind (arith, common_steps)

@@ -1,3 +1,4 @@
+use Rattle.std.proofs.lemmas.Grind.{common_steps}
 use Rattle.std.proofs.Common.{◌≡◌, ◌∷◌, ◌++◌, [], ◌∙◌, ap, append_assoc, arith, length, subst, sym}
 use Rattle.std.proofs.lemmas.List.{length-map, length_push}
 use Rattle.std.specs.Vec.Iter.{into_iter_deque, into_iter_items}
@@ -44,3 +45,9 @@ loop-put-preserved g c =
       known = ap (λ l. l ++ sent_by rest) more ∙ append_assoc known (put.sent ∷ []) (sent_by rest)
           ∙ ap (λ l. known ++ sent_by l) (sym step) ∙ so_far.known;
     }
+
+pub returns-clause-few : goal.returns-clause-few
+returns-clause-few g c = grind (arith, common_steps)
+
+pub absorb-requires-clause-queue : goal.absorb-requires-clause-queue
+absorb-requires-clause-queue g c = grind (arith, common_steps)

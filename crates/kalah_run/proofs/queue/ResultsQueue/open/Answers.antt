@@ -1,3 +1,4 @@
+use Rattle.std.proofs.lemmas.Grind.{common_steps}
 use Rattle.std.proofs.Common.{rules, arith, ◌≡◌, [], ap, ◌∙◌}
 use Rattle.std.proofs.lemmas.List.Elements.{All-push}
 use Rattle.kalah_run.specs.Queue.Steps.{sent_in, after_making_one, one_made}
@@ -23,3 +24,6 @@ loop-preserved c =
           rw c.push_reserved.ensures.items (All-push (λ p. p.sent ≡ []) _ _ so_far.unsent
           (ap sent_in (views.1 ∙ ap one_made so_far.made)));
     }
+
+pub returns-clause-puts : goal.returns-clause-puts
+returns-clause-puts c = grind (arith, common_steps)

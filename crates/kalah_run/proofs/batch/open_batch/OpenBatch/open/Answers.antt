@@ -2,7 +2,7 @@ use Rattle.std.proofs.Common.{List, [], refl, sym, ap, ◌∙◌, arith}
 use Rattle.kalah_run.specs.Queue.States.{GetState, ArePassesFrom}
 use Rattle.kalah_run.specs.Batch.AtWork.{puts_of}
 use Rattle.kalah_run.specs.declared.batch.worker.Worker.{Worker}
-use Rattle.kalah_run.proofs.BatchLemmas.{as_many_workers, new_at_work}
+use Rattle.kalah_run.proofs.BatchLemmas.{as_many_workers, new_at_work, new_left, new_own}
 use Rattle.kalah_run.proofs.batch.open_batch.OpenBatch.open.Goals as goal
 
 pub returns-clause-asked : goal.returns-clause-asked
@@ -17,7 +17,7 @@ returns-clause-asked g c = record {
   tables = c.in_ok-workers.ensures.tables;
   of_files = c.in_ok-output.ensures.of.0;
   of_jobs = refl;
-  of_rest = refl;
+  of_rest = c.in_ok-desk.ensures.rest;
   of_gate = refl;
   queue = c.in_ok-queue.ensures.queue;
 }
@@ -33,7 +33,9 @@ returns-clause-ready g c =
     let puts : ArePassesFrom queue 0 (puts_of workers) = rw are.puts opened.1 in
     record {
       some = omega (arith, count, c.max-count.ensures);
-      passes = count ∙ sym desk.desk.1;
+      passes = omega (arith, count, desk.all);
+      own = new_own c.in_ok-desk.desk c.max-count.result _ desk.left;
+      left = new_left c.in_ok-desk.desk c.max-count.result _ desk.left;
       at_work = new_at_work _ workers c.max-count.result
           (rw are.passes desk.passes) puts (rw are.puts opened.2);
       puts = puts;
@@ -43,7 +45,7 @@ returns-clause-ready g c =
       jobs = c.in_ok-output.ensures.of.1;
       room = record {
         empty = are.empty;
-        passes = omega (arith, count, are.room.0, desk.passes.0);
+        passes = omega (arith, count, are.room.0, desk.room);
         puts = omega (arith, count, are.room.1, opened.0);
       };
     }

@@ -12,6 +12,7 @@ bounds-files-f g c = omega (arith, c.loop-self-test.true, c.files.ensures.is, c.
 
 pub loop-self-preserved-then-not-failed : goal.loop-self-preserved-then-not-failed
 loop-self-preserved-then-not-failed g c = record {
+  sound = λ still. c.loop-self.invariant.sound (sym c.failed.ensures ∙ c.if-not-failed.true);
   progress = λ files jobs past begun so_far.
       let r = c.loop-self.self in
       let wrote = c.write_answer.ensures in
@@ -29,6 +30,7 @@ loop-self-preserved-then-not-failed g c = record {
 
 pub loop-self-preserved-else-not-failed : goal.loop-self-preserved-else-not-failed
 loop-self-preserved-else-not-failed g c = record {
+  sound = c.loop-self.invariant.sound;
   progress = λ files jobs past begun so_far.
       written_on (c.loop-self.invariant.progress files jobs past begun so_far) refl refl
       (λ progress. wrote_line progress c.take.new.self c.in-Some.taken _ _ c.in-Some.ensures.takes
@@ -37,6 +39,7 @@ loop-self-preserved-else-not-failed g c = record {
 
 pub loop-self-preserved : goal.loop-self-preserved
 loop-self-preserved g c = record {
+  sound = c.loop-self.invariant.sound;
   progress = λ files jobs past begun so_far.
       let ended = c.if-ended.ensures.0 refl in
       let nothing = c.in_default.ensures.takes in
@@ -46,15 +49,15 @@ loop-self-preserved g c = record {
       (sym nothing.unchanged) nothing.none_ready));
 }
 
-pub returns-else-ended : goal.returns-else-ended
-returns-else-ended g c = λ files jobs past begun so_far. (
+pub returns-else-ended-clause-writes : goal.returns-else-ended-clause-writes
+returns-else-ended-clause-writes g c = λ files jobs past begun so_far. (
   written_on (c.loop-self.invariant.progress files jobs past begun so_far) refl refl
       (λ progress. wrote_nothing progress c.take.new.self c.in_default.ensures.takes),
   search rules,
 )
 
-pub returns : goal.returns
-returns g c = λ files jobs past begun so_far.
+pub returns-clause-writes : goal.returns-clause-writes
+returns-clause-writes g c = λ files jobs past begun so_far.
     let r = c.loop-self.self in (
       c.loop-self.invariant.progress files jobs past begun so_far,
       λ low ended. absurd (omega (arith, low, c.loop-self-test.false, c.files.ensures.is, files_many r.jobs.now r.collector r.counts)),
@@ -62,3 +65,9 @@ returns g c = λ files jobs past begun so_far.
 
 pub loop-self-smaller-then-not-failed : goal.loop-self-smaller-then-not-failed
 loop-self-smaller-then-not-failed g c = grind (arith, common_steps)
+
+pub loop-self-smaller-else-not-failed : goal.loop-self-smaller-else-not-failed
+loop-self-smaller-else-not-failed g c = grind (arith, common_steps)
+
+pub loop-self-smaller : goal.loop-self-smaller
+loop-self-smaller g c = grind (arith, common_steps)

@@ -13,7 +13,11 @@ spawn_with-started-requires-send-T g c κs within = search (sendable, crosses, w
 pub returns : goal.returns
 returns g c = record {
   names = (refl, refl);
-  ended = record { all_ran = search rules; collected = c.collect-get.ensures.collected };
+  ended = record {
+    all_ran = search rules;
+    collected = c.collect-get.ensures.collected;
+    draws = c.collect-get.ensures.draws;
+  };
   fault = tt;
   untouched = tt;
 }
