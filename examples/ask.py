@@ -2,11 +2,12 @@
 
     python3 examples/ask.py LINE..
 
-It needs `kalah`, as examples/kalah.py says.
+It needs `kalah`, as `help(kalah)` says.
 """
 
-from kalah import Fault, Over, Solver
-from script import arguments, run
+from kalah import Fault, Over
+from kalah.client import Client
+from kalah.script import arguments, run
 
 
 def said(solver, line):
@@ -21,7 +22,7 @@ def said(solver, line):
 def main():
     parser = arguments(__doc__)
     parser.add_argument("line", nargs="+", metavar="LINE")
-    with Solver() as solver:
+    with Client() as solver:
         for line in parser.parse_args().line:
             print(f"{line}: {said(solver, line)}")
 

@@ -1,4 +1,4 @@
-"""The trials of examples/rules.py and of what uses its rules, for tests/examples: games from boards of any number of seeds.
+"""The trials of the package's rules and of what uses its rules, for tests/examples: games from boards of any number of seeds.
 
 The rules are compared with `kalah steps`, and above its limit with tests/lib/reference.py, where each cell gets its seeds by a formula.
 To have games whose values the reference finds, some trials lower the limit.
@@ -13,15 +13,12 @@ from itertools import product
 from xml.dom import minidom
 
 from lib import reference
-from lib.clients import EXAMPLES, kalah
+from lib.clients import Client, command, kalah
 from lib.drawn import FAULTS, Drawn
 from lib.scripts import HOSTILE, drawn_game, drawn_line, must
 from lib.serving import asked, served
 
-import handout
-import positions
-import review
-import rules
+from kalah import handout, positions, review, rules
 
 # The positions that are compared with the program's moves, those above its limit, and the lines that may have a fault.
 BELOW, ABOVE, READ = 20_000, 2_000, 1_000
@@ -55,7 +52,7 @@ def try_rules(program, folder, drawn):
         answer = rules.steps(line)
         over = isinstance(answer, kalah.Over)
         got = [f"{answer.margin} over"] if over else [f"{move.house} {move.position} {move.word}" for move in answer.moves]
-        must(got == words, f"rules.py, {line}: {got} in place of {words}")
+        must(got == words, f"rules, {line}: {got} in place of {words}")
 
 
 def position_above(draw):
@@ -72,11 +69,11 @@ def try_rules_above(draw):
     for _ in range(ABOVE):
         position = position_above(draw)
         line = reference.text(position)
-        must(rules.start(line) == line and rules.read(line) == position, f"rules.py, {line}: {rules.read(line)}")
+        must(rules.start(line) == line and rules.read(line) == position, f"rules, {line}: {rules.read(line)}")
         for house in reference.legal(position):
             got, want = rules.after(rules.read(line), house), reference.after(position, house)
-            must(got == want, f"rules.py, {line}, house {house}: {got} in place of {want}")
-            must(rules.read(rules.text(got[0])) == want[0], f"rules.py, {line}, house {house}: {rules.text(got[0])} is not read again")
+            must(got == want, f"rules, {line}, house {house}: {got} in place of {want}")
+            must(rules.read(rules.text(got[0])) == want[0], f"rules, {line}, house {house}: {rules.text(got[0])} is not read again")
 
 
 def try_faults(drawn):
@@ -93,7 +90,7 @@ def try_faults(drawn):
             got = "no question"
         if not isinstance(want, str) or want == "seeds":
             want = None
-        must(got == want or (got == "no question" and b"\xff" in line), f"rules.py, {line}: {got} in place of {want}")
+        must(got == want or (got == "no question" and b"\xff" in line), f"rules, {line}: {got} in place of {want}")
 
 
 def seen(position, depth):
@@ -115,19 +112,19 @@ def try_values(draw, solver):
         line = drawn_line(draw, 4, 8)
         position = reference.read(line.encode())
         values = {house: reference.value(position, house) for house in reference.legal(position)}
-        must(handout.values_of(solver, line) == values, f"rules.py, {line}: {handout.values_of(solver, line)} in place of {values}")
+        must(handout.values_of(solver, line) == values, f"rules, {line}: {handout.values_of(solver, line)} in place of {values}")
         large = re.sub("/[0-9]+", "/900", line, 1)
         lead = 900 - position.own.store
         got = rules.ask(solver, large).by_house
-        must(got == {house: value + lead for house, value in values.items()}, f"rules.py, {large}: {got}")
+        must(got == {house: value + lead for house, value in values.items()}, f"rules, {large}: {got}")
         found = seen_of(position, rules.LOOKED_AHEAD)
-        must(rules.seen_of_moves(rules.read(line), rules.LOOKED_AHEAD) == found, f"rules.py, {line}: it sees something other than {found}")
-        must(rules.guess(line) == max(found, key=found.get), f"rules.py, {line}: it guesses {rules.guess(line)} of {found}")
+        must(rules.seen_of_moves(rules.read(line), rules.LOOKED_AHEAD) == found, f"rules, {line}: it sees something other than {found}")
+        must(rules.guess(line) == max(found, key=found.get), f"rules, {line}: it guesses {rules.guess(line)} of {found}")
     for line, seeds in ((USUAL, 48), ("16,0/3 0,16/0 e", 32)):
-        must(handout.values_of(solver, line) is None, f"rules.py, {line}: it has values")
-        must(rules.too_many(line) == f"{seeds} seeds in houses: values from 31 on", f"rules.py, {line}: {rules.too_many(line)}")
-    must(rules.too_many("16,0/3 0,15/0") == "", "rules.py: 31 seeds are too many")
-    must(rules.ask(solver, "0,0/3 40,0/1") == kalah.Over(-38), "rules.py: the end of a game needs values")
+        must(handout.values_of(solver, line) is None, f"rules, {line}: it has values")
+        must(rules.too_many(line) == f"{seeds} seeds in houses: values from 31 on", f"rules, {line}: {rules.too_many(line)}")
+    must(rules.too_many("16,0/3 0,15/0") == "", "rules: 31 seeds are too many")
+    must(rules.ask(solver, "0,0/3 40,0/1") == kalah.Over(-38), "rules: the end of a game needs values")
 
 
 def try_plain(draw, folder):
@@ -166,21 +163,21 @@ class GameTrials:
         """Moves have values as soon as the seeds fit, and the curve has each of these, as South sees it."""
         moved, margin = drawn_game(self.draw, line)
         game = review.Game(" ".join([line, *(str(house) for _, house, _ in moved)]), self.solver)
-        must(len(game.played) == len(moved) and game.is_over, f"review.py: {line} {moved}: {game.flaw}")
+        must(len(game.played) == len(moved) and game.is_over, f"review: {line} {moved}: {game.flaw}")
         course = []
         for number, (played, said, (player, house, values)) in enumerate(zip(game.played, game.captions(), moved)):
             seeds = rules.seeds_in(rules.read(played.position))
             fits = seeds <= LOW
-            must(played.values == (values if fits else None), f"review.py, {played.position}: {played.values}")
+            must(played.values == (values if fits else None), f"review, {played.position}: {played.values}")
             worth = f"worth {values[house]:+d}" if fits else f" ({seeds} seeds in houses: values from {LOW} on)"
-            must(worth in said, f"review.py: {said}")
+            must(worth in said, f"review: {said}")
             if fits:
                 best = max(values.values())
                 course.append((number, -best if player else best, best - values[house]))
         course.append((len(moved), margin, 0))
-        must([*game.course()] == course, f"review.py, {line} {moved}: {[*game.course()]} in place of {course}")
+        must([*game.course()] == course, f"review, {line} {moved}: {[*game.course()]} in place of {course}")
         self.curve(game, course)
-        must(("nothing is proved" in game.html()) == bool(rules.too_many(line)), f"review.py --html: {line}")
+        must(("nothing is proved" in game.html()) == bool(rules.too_many(line)), f"review --html: {line}")
 
     def curve(self, game, course):
         """The points of the curve rise with their values, and stand in the order of the moves."""
@@ -188,14 +185,14 @@ class GameTrials:
         points = drawn.getElementsByTagName("circle")
         said = [point.getElementsByTagName("title")[0].firstChild.data for point in points]
         want = [f"after {number} moves {value:+d}" + f"; the next one loses {lost}" * (lost > 0) for number, value, lost in course]
-        must(said == want, f"review.py: the curve says {said} in place of {want}")
+        must(said == want, f"review: the curve says {said} in place of {want}")
         placed = [(float(point.getAttribute("cx")), float(point.getAttribute("cy"))) for point in points]
         line = drawn.getElementsByTagName("polyline")[0].getAttribute("points")
-        must([tuple(map(float, point.split(","))) for point in line.split()] == placed, f"review.py: the curve goes through {line}")
+        must([tuple(map(float, point.split(","))) for point in line.split()] == placed, f"review: the curve goes through {line}")
         for one, (left, above) in zip(course, placed):
             for other, (right, below) in zip(course, placed):
                 holds = (one[0] < other[0]) == (left < right) and (one[1] > other[1]) == (above < below)
-                must(holds, f"review.py: the curve of {course} is at {placed}")
+                must(holds, f"review: the curve of {course} is at {placed}")
 
     def handout(self, line):
         """Above the limit the moves are those that seem best, and below it best ones."""
@@ -205,8 +202,8 @@ class GameTrials:
             best = reference.best_play(at)[1] if rules.seeds_in(at) <= LOW else rules.guess(position)
             after, word = reference.after(at, best)
             is_right = move.house == best and reached == reference.text(after) and mover == player ^ (word == "turn")
-            must(is_right and bool(values) == (rules.seeds_in(at) <= LOW), f"handout.py, {position}: house {move.house}, {values}")
-        must(reference.is_over(rules.read(game[-1][0])), f"handout.py, {line}: the game ends at {game[-1][0]}")
+            must(is_right and bool(values) == (rules.seeds_in(at) <= LOW), f"handout, {position}: house {move.house}, {values}")
+        must(reference.is_over(rules.read(game[-1][0])), f"handout, {line}: the game ends at {game[-1][0]}")
 
     def written(self):
         """A game is the same, however it is written down."""
@@ -227,14 +224,13 @@ class GameTrials:
         games = [review.Game(f"{line} {form}", self.solver) for form in forms]
         for form, game in zip(forms, games):
             got = [played.move.house for played in game.played]
-            must(got == houses and game.is_over and not game.flaw, f"review.py, {line} {form}: {got}, {game.flaw}")
-        must(len({game.text() for game in games}) == 1, f"review.py, {line}: {forms} are not one game")
+            must(got == houses and game.is_over and not game.flaw, f"review, {line} {form}: {got}, {game.flaw}")
+        must(len({game.text() for game in games}) == 1, f"review, {line}: {forms} are not one game")
 
 
 def output(folder, name, *words, text="", status=0):
     """Returns what a script prints, on both outputs."""
-    script = [sys.executable, "-B", EXAMPLES / name, *map(str, words)]
-    done = subprocess.run(script, cwd=folder, input=text, capture_output=True, text=True)
+    done = subprocess.run([*command(name), *map(str, words)], cwd=folder, input=text, capture_output=True, text=True)
     said = f"{done.stdout}{done.stderr}"
     must(done.returncode == status and "Traceback" not in said, f"{name} {words}: status {done.returncode}\n{said}")
     return done.stdout, done.stderr
@@ -242,33 +238,33 @@ def output(folder, name, *words, text="", status=0):
 
 def try_usual_board(program, folder):
     """The scripts take the board of 48 seeds, and say where there are no values yet."""
-    must(">99<" in output(folder, "board.py", "99,4/0 4,4/0")[0], "board.py: 99 seeds in a house are not drawn")
-    _, err = output(folder, "board.py", "100,4/0 4,4/0", status=1)
-    must(err == "board.py: fault shape\n", f"board.py: {err}")
-    out, _ = output(folder, "duel.py", "--second", USUAL, text="6\n")
+    must(">99<" in output(folder, "board", "99,4/0 4,4/0")[0], "board: 99 seeds in a house are not drawn")
+    _, err = output(folder, "board", "100,4/0 4,4/0", status=1)
+    must(err == "board: fault shape\n", f"board: {err}")
+    out, _ = output(folder, "duel", "--second", USUAL, text="6\n")
     said = f"the solver: house {rules.guess(USUAL)} (48 seeds in houses: values from 31 on; it looks 4 moves ahead)\n"
-    must(out.startswith(said) and "your house, " in out, f"duel.py: {out}")
-    page, _ = output(folder, "handout.py", "--first", 1, "9,9/0 9,9/0")
+    must(out.startswith(said) and "your house, " in out, f"duel: {out}")
+    page, _ = output(folder, "handout", "--first", 1, "9,9/0 9,9/0")
     for said in ("house 1 (36 seeds in houses: values from 31 on)", "nothing is proved", ", worth "):
-        must(said in page, f"handout.py: {said} is not in {page}")
+        must(said in page, f"handout: {said} is not in {page}")
     for first, line in ((2, "1,0/0 1,1/0"), (0, "1,1/0 1,1/0"), (1, "0,0/1 1,1/0")):
-        out, err = output(folder, "handout.py", "--first", first, line, status=2)
-        must(out == "" and err.startswith(f"handout.py: house {first} can't be moved"), f"handout.py --first {first} {line}: {err}")
-    out, _ = output(folder, "review.py", USUAL, "3", "6")
-    must(out.startswith("1. South moves house 3 (48 seeds in houses: values from 31 on), and moves again.\n"), f"review.py: {out}")
-    must(out.endswith("South: moves 2, with values 0, mistakes 0, lost 0.\nNorth: moves 0, mistakes 0, lost 0.\n"), f"review.py: {out}")
-    page, _ = output(folder, "review.py", "--html", USUAL, "3", HOSTILE, status=1)
-    must("<script" not in page and "can&#x27;t move house &lt;/title&gt;" in page, f"review.py --html: {page}")
+        out, err = output(folder, "handout", "--first", first, line, status=2)
+        must(out == "" and err.startswith(f"handout: house {first} can't be moved"), f"handout --first {first} {line}: {err}")
+    out, _ = output(folder, "review", USUAL, "3", "6")
+    must(out.startswith("1. South moves house 3 (48 seeds in houses: values from 31 on), and moves again.\n"), f"review: {out}")
+    must(out.endswith("South: moves 2, with values 0, mistakes 0, lost 0.\nNorth: moves 0, mistakes 0, lost 0.\n"), f"review: {out}")
+    page, _ = output(folder, "review", "--html", USUAL, "3", HOSTILE, status=1)
+    must("<script" not in page and "can&#x27;t move house &lt;/title&gt;" in page, f"review --html: {page}")
     with served(program) as server:
         reached = asked(server.server_port, "/moves", USUAL)[1]["moves"][2]
-        must(reached == {"house": 3, "position": "4,4,0,5,5,5/1 4,4,4,4,4,4/0", "word": "again"}, f"web.py: {reached}")
+        must(reached == {"house": 3, "position": "4,4,0,5,5,5/1 4,4,4,4,4,4/0", "word": "again"}, f"web: {reached}")
         status, answer = asked(server.server_port, "/values", USUAL)
-        must((status, answer) == (422, {"error": "48 seeds in houses: values from 31 on"}), f"web.py, /values: {status} {answer}")
+        must((status, answer) == (422, {"error": "48 seeds in houses: values from 31 on"}), f"web, /values: {status} {answer}")
         status, answer = asked(server.server_port, "/best", USUAL)
         want = {"is_over": False, "house": rules.guess(USUAL), "guessed": "48 seeds in houses: values from 31 on; it looks 4 moves ahead"}
-        must((status, answer) == (200, want), f"web.py, /best: {status} {answer} in place of {want}")
+        must((status, answer) == (200, want), f"web, /best: {status} {answer} in place of {want}")
         status, answer = asked(server.server_port, "/best", "1,1/200 1,1/0")
-        must(answer == {"is_over": False, "margin": 202, "house": 2}, f"web.py, with large stores: {status} {answer}")
+        must(answer == {"is_over": False, "margin": 202, "house": 2}, f"web, with large stores: {status} {answer}")
 
 
 def reachable(line):
@@ -282,27 +278,27 @@ def reachable(line):
 
 def try_drawn_positions(folder, draw):
     """Positions of a range, of games and of a small margin are what they are said to be."""
-    lines = output(folder, "positions.py", 3, "4-6", "--sample", 90, "--seed", draw.randrange(1000))[0].splitlines()
+    lines = output(folder, "positions", 3, "4-6", "--sample", 90, "--seed", draw.randrange(1000))[0].splitlines()
     counts = Counter(rules.seeds_in(rules.read(line)) for line in lines)
-    must(len({*lines}) == 90 and [*sorted(counts)] == [4, 5, 6] and min(counts.values()) >= 10, f"positions.py 3 4-6: {counts}")
+    must(len({*lines}) == 90 and [*sorted(counts)] == [4, 5, 6] and min(counts.values()) >= 10, f"positions 3 4-6: {counts}")
     for rule, kind in product(["", " e"], ["random", "good"]):
         line = "2,2/0 2,2/0" + rule
         words = 2, "3-6", "--games", kind, "--start", line, "--sample", 8, "--seed", draw.randrange(1000)
-        lines = output(folder, "positions.py", *words)[0].splitlines()
+        lines = output(folder, "positions", *words)[0].splitlines()
         sizes = {rules.seeds_in(rules.read(line)) for line in lines}
         is_right = len({*lines}) == 8 and sizes <= {3, 4, 5, 6} and {*lines} <= reachable(line)
-        must(is_right and not any(reference.is_over(reference.read(one.encode())) for one in lines), f"positions.py {words}: {lines}")
+        must(is_right and not any(reference.is_over(reference.read(one.encode())) for one in lines), f"positions {words}: {lines}")
     start = rules.read(USUAL)
     for often, least, most in ((0, 8, 30), (1, 1, 1)):
         games = positions.of_games(draw, start, [40], often)
         found = {next(games) for _ in range(30)}
-        must(least <= len(found) <= most, f"positions.py: games with {often} of best moves reach {found}")
+        must(least <= len(found) <= most, f"positions: games with {often} of best moves reach {found}")
     every = [*positions.Positions(2, 5)]
     margins = {line: reference.best_play(reference.read(line.encode()))[0] for line in every}
     want = [line for line in every if abs(margins[line]) <= 1]
-    must(output(folder, "positions.py", 2, 5, "--balanced", 1)[0].splitlines() == want, "positions.py --balanced")
-    lines = output(folder, "positions.py", 2, "4-7", "--games", "--balanced", 2, "--sample", 10, "--seed", 1)[0].splitlines()
-    must(all(abs(reference.best_play(reference.read(line.encode()))[0]) <= 2 for line in lines), f"positions.py: {lines} are not balanced")
+    must(output(folder, "positions", 2, 5, "--balanced", 1)[0].splitlines() == want, "positions --balanced")
+    lines = output(folder, "positions", 2, "4-7", "--games", "--balanced", 2, "--sample", 10, "--seed", 1)[0].splitlines()
+    must(all(abs(reference.best_play(reference.read(line.encode()))[0]) <= 2 for line in lines), f"positions: {lines} are not balanced")
     for words, why in (
         ((2, "x"), "'x' is not a number from 2 to 31"),
         ((2, "9-8"), "'9-8' is not a number from 2 to 31"),
@@ -314,18 +310,18 @@ def try_drawn_positions(folder, draw):
         ((2, 4, "--balanced", "-1"), "'-1' is not a number from 0 on"),
         ((1, 31, "--sample", 3, "--games", "random"), "only 0 positions are found"),
     ):
-        out, err = output(folder, "positions.py", *words, status=2)
-        must(out == "" and why in err, f"positions.py {words}: {err}")
+        out, err = output(folder, "positions", *words, status=2)
+        must(out == "" and why in err, f"positions {words}: {err}")
 
 
 def try_booklet(folder):
     """The rules stand before the first puzzle; that of the empty capture only where a puzzle has it."""
     for rule in ("", " e"):
         (folder / "puzzles").write_text(f"1,3/0 1,1/0{rule}\n")
-        page, _ = output(folder, "booklet.py", "puzzles")
+        page, _ = output(folder, "booklet", "puzzles")
         first, _, rest = page.partition("<section>")
-        must("<h3>The rules of Kalah</h3>" in first and "<b>Capture.</b>" in first and "<svg" in rest, f"booklet.py: {page}")
-        must(("empty-capture" in first) == bool(rule), f"booklet.py: {page}")
+        must("<h3>The rules of Kalah</h3>" in first and "<b>Capture.</b>" in first and "<svg" in rest, f"booklet: {page}")
+        must(("empty-capture" in first) == bool(rule), f"booklet: {page}")
 
 
 def try_games(program, folder, seed):
@@ -334,7 +330,7 @@ def try_games(program, folder, seed):
     try_rules(program, folder, drawn)
     try_rules_above(drawn.chance)
     try_faults(drawn)
-    with kalah.Solver(kalah.Values) as solver:
+    with Client(kalah.Values) as solver:
         try_values(drawn.chance, solver)
         GameTrials(drawn.chance, solver).run()
     try_plain(drawn.chance, folder)

@@ -1,6 +1,6 @@
 """Draws a position as a board in SVG, with the player to move below.
 
-    python3 examples/board.py LINE > board.svg
+    python3 -m kalah board LINE > board.svg
 
 Each house is a circle with its number of seeds, and a store stands at each end. The small numbers at the edges are those of the houses, as
 their owner counts them. There may be any number of seeds, up to 99 in a house. Other programs call `read` and `svg`. It needs no `kalah`.
@@ -8,8 +8,8 @@ their owner counts them. There may be any number of seeds, up to 99 in a house. 
 
 import html
 
-import rules
-from script import arguments, run
+from . import rules
+from .script import arguments
 
 CELL, STORE, MARGIN, EDGE = 60, 54, 10, 16
 # How far the middles of the two rows of houses are from the upper edge.
@@ -62,7 +62,3 @@ def main():
     parser.add_argument("line", metavar="LINE")
     line = rules.start(parser.parse_args().line)
     print(svg(*read(line), title=f"Kalah, the player below moves: {line}"))
-
-
-if __name__ == "__main__":
-    run(main)

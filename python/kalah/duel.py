@@ -1,18 +1,18 @@
 """Play against the solver in a terminal.
 
-    python3 examples/duel.py [--second] LINE
+    python3 -m kalah duel [--second] LINE
 
 You sit below and begin, or the solver does with --second. Type the number of a house, counted from your left. At the end of the
 input, or with q, the game ends. There may be any number of seeds, up to 99 in a house. Above 31 in houses the solver has no values: it
-looks a few moves ahead, and says so. It needs `kalah`, as examples/kalah.py says.
+looks a few moves ahead, and says so. It needs `kalah`, as `help(kalah)` says.
 """
 
 import sys
 
-from board import read
-from kalah import Best, Over, Solver, find
-from rules import TooMany, ask, guess, guessed, start, steps
-from script import arguments, run
+from .board import read
+from .client import Best, Client, Over, find
+from .rules import TooMany, ask, guess, guessed, start, steps
+from .script import arguments
 
 
 def picture(position):
@@ -67,9 +67,5 @@ def main():
     parser.add_argument("line", metavar="LINE")
     asked = parser.parse_args()
     find()
-    with Solver(Best) as solver:
+    with Client(Best) as solver:
         duel(solver, start(asked.line), not asked.second)
-
-
-if __name__ == "__main__":
-    run(main)

@@ -1,14 +1,14 @@
 """Reviews games that were played: the value of each move, what it loses, and the best move.
 
-    python3 examples/review.py [--html] LINE H H H ..
-    python3 examples/review.py [--html] --games FILE
+    python3 -m kalah review [--html] LINE H H H ..
+    python3 -m kalah review [--html] --games FILE
 
 LINE is the position at the start, in which South moves, and each H is the house that was moved next: its number, or a letter from A to F or
 a to f. An `e` right after LINE names the rule, so a first move there is `E` or 5. Commas, and the numbers of moves, `1.` or beside letters
 also `1`, are passed over. FILE has a game in each line, in the same form. With --html the games are a page to print. It marks the worst
 move of each player, and a curve shows the value through the game. There may be any number of seeds, up to 99 in a house. Above 31 in
 houses a move has no value, and the review says so. If a move is illegal, or a line has a fault, the review ends there, standard error has
-the reason, and the status is 1. It needs `kalah`, as examples/kalah.py says.
+the reason, and the status is 1. It needs `kalah`, as `help(kalah)` says.
 """
 
 import html
@@ -16,11 +16,11 @@ import re
 import sys
 from dataclasses import dataclass
 
-from board import read
-from handout import GAME, PAGE, PLAYERS, UNPROVED, caption, result, step, values_of
-from kalah import Move, Over, Solver, Values, find
-from rules import start, steps, too_many
-from script import arguments, run
+from .board import read
+from .handout import GAME, PAGE, PLAYERS, UNPROVED, caption, result, step, values_of
+from .client import Client, Move, Over, Values, find
+from .rules import start, steps, too_many
+from .script import arguments
 
 # The curve: how wide a move is and how high the whole, and the room around it.
 WIDE, HIGH, LEFT, EDGE = 24, 160, 44, 24
@@ -167,20 +167,16 @@ def main():
             texts = {f"{asked.games}:{number}": text for number, text in enumerate(file, 1) if text.strip()}
     games = []
     find()
-    with Solver(Values) as solver:
+    with Client(Values) as solver:
         for name, text in texts.items():
             game = Game(text, solver)
             games.append(game)
             if not asked.html:
                 print(*filter(None, [name and f"{name} {game.line}", game.text()]), sep="\n", flush=True)
             if game.flaw:
-                print("review.py", *filter(None, [name]), game.flaw, sep=": ", file=sys.stderr)
+                print("review", *filter(None, [name]), game.flaw, sep=": ", file=sys.stderr)
     if asked.html:
         title = f"Kalah: {games[0].line}" if len(games) == 1 else f"Kalah: {len(games)} games"
         heads = [f"<h2>{html.escape(game.line)}</h2>\n" * (len(games) > 1) for game in games]
         print(PAGE.format(title=html.escape(title), games="\n".join(head + game.html() for head, game in zip(heads, games))))
     return any(game.flaw for game in games)
-
-
-if __name__ == "__main__":
-    run(main)

@@ -1,14 +1,14 @@
 """Writes a certificate of a position: for each player a strategy that gets the margin of best play, as lines that prove it.
 
-    python3 examples/certify.py LINE > FILE
+    python3 -m kalah certify LINE > FILE
 
-`examples/check.py FILE` checks them without `kalah`, which is asked here for the moves of the strategies alone. docs/CERTIFICATES.md
-has the form of the lines, and how many there are. It needs `kalah`, as examples/kalah.py says.
+`python3 -m kalah check FILE` checks them without `kalah`, which is asked here for the moves of the strategies alone. docs/CERTIFICATES.md
+has the form of the lines, and how many there are. It needs `kalah`, as `help(kalah)` says.
 """
 
-from check import holds, is_over, needs, read, said
-from kalah import Over, Solver, Values
-from script import arguments, run
+from .check import holds, is_over, needs, read, said
+from .client import Client, Over, Values
+from .script import arguments
 
 
 def values(solver, position):
@@ -53,10 +53,6 @@ def main():
     parser = arguments(__doc__)
     parser.add_argument("line", metavar="LINE")
     line = parser.parse_args().line
-    with Solver(Values, timeout=None) as solver:
+    with Client(Values, timeout=None) as solver:
         for text in certificate(line, solver):
             print(text)
-
-
-if __name__ == "__main__":
-    run(main)

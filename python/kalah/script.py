@@ -1,11 +1,11 @@
-"""What the scripts of this folder share: their help is the text at their top, and they end without a traceback."""
+"""What the tools share: their help is the text at their top, and they end without a traceback."""
 
 import argparse
 import os
 import signal
 import sys
 
-from kalah import Fault, Gone
+from .client import Fault, Gone
 
 
 def arguments(text):
@@ -13,8 +13,13 @@ def arguments(text):
     return argparse.ArgumentParser(description=text, formatter_class=argparse.RawDescriptionHelpFormatter)
 
 
+def name():
+    """Returns the name of what runs: the last word of `python3 -m kalah NAME`, or that of a script."""
+    return os.path.basename(sys.argv[0]).rpartition(" ")[2]
+
+
 def run(main):
-    """Runs a script, which may return its status. Ctrl-C ends it, and so does a reader that has seen enough, as `head`. If it fails,
+    """Runs a tool, which may return its status. Ctrl-C ends it, and so does a reader that has seen enough, as `head`. If it fails,
     standard error says why, and the status is 1 for a line that is not a position, otherwise 2."""
     try:
         status = main()
@@ -25,7 +30,7 @@ def run(main):
     except BrokenPipeError:
         end_by(signal.SIGPIPE)
     except (Gone, OSError, ValueError) as why:
-        print(f"{os.path.basename(sys.argv[0])}: {why}", file=sys.stderr, flush=True)
+        print(f"{name()}: {why}", file=sys.stderr, flush=True)
         # What is still in a buffer can't be written either.
         os._exit(1 if isinstance(why, Fault) else 2)
 
@@ -38,7 +43,7 @@ def end_by(number):
 
 def say(why):
     """Says on standard error what has failed. On a terminal that ends what is shown of the lines that are done."""
-    print("\r\033[K" * sys.stderr.isatty() + f"{os.path.basename(sys.argv[0])}: {why}", file=sys.stderr, flush=True)
+    print("\r\033[K" * sys.stderr.isatty() + f"{name()}: {why}", file=sys.stderr, flush=True)
 
 
 def of_lines(name, make):

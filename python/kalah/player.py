@@ -1,6 +1,6 @@
 """Engines of Kalah as players: commands that are started once, get a position a line, and answer each with a line that has a house.
 
-    from player import player
+    from kalah.player import player
 
     with player("./engine --depth 6", timeout=10) as engine:
         engine.house("1,1/0 1,1/0")     # 2
@@ -14,15 +14,15 @@ import shlex
 from argparse import ArgumentTypeError
 from shutil import which
 
-import rules
-from kalah import Best, Gone, Solver, find
+from . import rules
+from .client import Best, Client, Gone, find
 
 
 class NoMove(ValueError):
     """An engine has named no house that can be moved, or has not answered in time."""
 
 
-class Engine(Solver):
+class Engine(Client):
     """A run of an engine. After an answer that is none it is ended, and the next question starts another."""
 
     def __init__(self, command, timeout):
@@ -48,12 +48,12 @@ class Engine(Solver):
             raise NoMove(str(why)) from None
         possible = {str(house): house for house in rules.legal(rules.read(line))}
         if answer not in possible:
-            self.__exit__()
+            self.close()
             raise NoMove(f"{self.name} answers {answer[:40]!r}, not one of {' '.join(possible)}")
         return possible[answer]
 
 
-class Kalah(Solver):
+class Kalah(Client):
     """The solver as a player: it moves the lowest-numbered best house."""
 
     def __init__(self, timeout):

@@ -1,18 +1,15 @@
-"""Asks `kalah` about positions from Python.
+"""Asks a run of `kalah ask` about positions, line by line.
 
-    from kalah import Fault, Over, Solver, Values
+    from kalah.client import Client, Values
 
-    with Solver(Values) as solver:
-        solver.ask("1,1/0 1,1/0")       # Values(by_house={1: -2, 2: 2})
-        solver.ask("0,0/3 1,2/4")       # Over(margin=-4)
-        solver.ask("1/0")               # raises Fault("shape")
+    with Client(Values) as client:
+        client.ask("1,1/0 1,1/0")       # Values(by_house={1: -2, 2: 2})
+        client.ask("0,0/3 1,2/4")       # Over(margin=-4)
+        client.ask("1/0")               # raises Fault("shape")
 
-A solver is one run of `kalah ask`, which keeps what it learns. An answer is returned only if it is whole and has the form that
-docs/FORMAT.md gives it. If not, the question fails with `Gone`, that run is ended, and the next question starts another. So no question
-gets the answer to another one, whatever interrupts it. Threads may share a solver; a forked process starts a run of its own.
-
-It needs Linux, Python 3.9 or newer, and `kalah`: the program that is named, or that the environment variable KALAH names, or else on the
-path, beside the folder of this file, or where `make install`, a package or pip puts it.
+A client is one run, which keeps what it learns. An answer is returned only if it is whole and has its form. If not, the question fails
+with `Gone`, that run is ended, and the next question starts another. So no question gets the answer to another one, whatever interrupts
+it. Threads may share a client; a forked process starts a run of its own.
 """
 
 import functools
@@ -21,7 +18,6 @@ import re
 import select
 import shutil
 import subprocess
-import sysconfig
 import threading
 import time
 from dataclasses import dataclass
@@ -112,7 +108,7 @@ class Steps:
         return cls(moves) if moves and all(one.house < next.house for one, next in zip(moves, moves[1:])) else None
 
 
-class Solver:
+class Client:
     """A run of `kalah ask`. `kind` is the class of its answers, `Best`, `Values` or `Steps`. A question fails if the answer takes more than
     `timeout` seconds; if that is None, it never does."""
 
@@ -127,11 +123,18 @@ class Solver:
         return self
 
     def __exit__(self, *_):
+        self.close()
+
+    def __del__(self):
+        self.close()
+
+    def close(self):
+        """Ends the run. The next question starts another."""
         with self._lock:
             end(self._take())
 
     def ask(self, line):
-        """Returns the answer: one of this solver's kind, or `Over`. Fails with `Fault` if the line is not a position, with ValueError if
+        """Returns the answer: one of this client's kind, or `Over`. Fails with `Fault` if the line is not a position, with ValueError if
         it isn't one line of text, and with `Gone` if there is no answer."""
         question = one_line(line).encode() + b"\n"
         with self._lock:
@@ -173,12 +176,12 @@ class Solver:
 
 
 def moves(line, program=None):
-    """Returns the moves from a position. Fails as `Solver.ask` does."""
+    """Returns the moves from a position. Fails as `Client.ask` does."""
     return printed_moves(output(["moves", "--", one_line(line)], program))
 
 
 def play(line, first=None, program=None, timeout=60):
-    """Returns the moves of a game of best play, which begins with house `first` if there is one. Fails as `Solver.ask` does."""
+    """Returns the moves of a game of best play, which begins with house `first` if there is one. Fails as `Client.ask` does."""
     options = [] if first is None else [f"--first={first}"]
     return printed_moves(output(["play", *options, "--", one_line(line)], program, timeout))
 
@@ -192,9 +195,8 @@ def output(words, program=None, timeout=60):
 def find(program=None):
     """Returns the path of `kalah`. Fails with `Gone` if there is none, or an older one than this module needs."""
     name, folder = program or os.environ.get("KALAH"), Path(__file__).resolve().parent
-    # pip puts this module elsewhere than an installation puts the examples.
-    scripts = folder / "../../../../bin" if folder.name == "examples" else Path(sysconfig.get_path("scripts"))
-    places = [name] if name else ["kalah", folder / "../kalah", scripts / "kalah"]
+    # On the path; in a checkout; and where `make install`, a package or pip puts it.
+    places = [name] if name else ["kalah", folder / "../../kalah", folder / "../../../../bin/kalah"]
     path = next(filter(None, map(shutil.which, places)), None)
     if not path:
         raise Gone(f"there is no program {name or 'kalah'}: put it on the path, or name it in KALAH")

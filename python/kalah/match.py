@@ -1,14 +1,14 @@
 """Lets two players play against each other, from each position twice: each begins once.
 
-    python3 examples/match.py A B --positions FILE [--timeout S] [--record RECORD]
+    python3 -m kalah match A B --positions FILE [--timeout S] [--record RECORD]
 
-A and B are commands of engines, as examples/player.py says, or `kalah`, which moves a best house and plays where at most 31 seeds are in
+A and B are commands of engines, as `kalah.player` says, or `kalah`, which moves a best house and plays where at most 31 seeds are in
 houses. Printed are A's wins, draws and losses, and by how much it wins on average, with the standard error of that over the positions.
-RECORD gets a line for each game, which examples/review.py reads with --games: of the two games of a position first the one that A begins.
+RECORD gets a line for each game, which `review` reads with --games: of the two games of a position first the one that A begins.
 
 A player who names no house that can be moved, or takes more than S seconds, loses that game, which counts for no margin. Standard error
 names it, and the status is 1, as for a position that can't be played. A terminal shows how many positions are done. It needs `kalah`, as
-examples/kalah.py says, if a player is `kalah`.
+`help(kalah)` says, if a player is `kalah`.
 """
 
 from collections import namedtuple
@@ -16,9 +16,9 @@ from contextlib import nullcontext
 from math import sqrt
 from statistics import mean, stdev
 
-import rules
-from player import Kalah, NoMove, player, seconds
-from script import arguments, of_lines, run, say
+from . import rules
+from .player import Kalah, NoMove, player, seconds
+from .script import arguments, of_lines, say
 
 # A game: the houses that were moved, the margin of the player who began, and who lost it by no answer. One of the last two is None.
 Played = namedtuple("Played", "houses margin loser")
@@ -96,7 +96,3 @@ def main():
         _, has_failed = of_lines(asked.positions, match.position)
     print(*match.summary(), sep="\n")
     return has_failed or match.has_failed
-
-
-if __name__ == "__main__":
-    run(main)

@@ -1,20 +1,20 @@
 """Makes a booklet of puzzles to print: one HTML file with the rules on its first page, then two drawn boards a page, and the solutions
 at the end.
 
-    python3 examples/booklet.py [--title TITLE] FILE > booklet.html
+    python3 -m kalah booklet [--title TITLE] FILE > booklet.html
 
 Each line of FILE has a position, alone or within what `puzzles.py` prints. A solution has the values of all moves, and a game of best
-play. A line without such a position is named on standard error, and the status is then 1. It needs `kalah`, as examples/kalah.py says.
+play. A line without such a position is named on standard error, and the status is then 1. It needs `kalah`, as `help(kalah)` says.
 """
 
 import html
 import re
 from itertools import groupby
 
-from board import read, svg
-from handout import PLAYERS, result
-from kalah import Over, Solver, Values, play
-from script import arguments, of_lines, run
+from .board import read, svg
+from .handout import PLAYERS, result
+from .client import Client, Over, Values, play
+from .script import arguments, of_lines
 
 POSITION = re.compile("[0-9,]+/[0-9]+ [0-9,]+/[0-9]+( e)?(?![^ ])")
 PAGE = """<!DOCTYPE html>
@@ -89,14 +89,10 @@ def main():
     parser.add_argument("--title", default="Kalah puzzles")
     parser.add_argument("file", metavar="FILE", help="has a position in each line")
     asked = parser.parse_args()
-    with Solver(Values) as solver:
+    with Client(Values) as solver:
         made, has_failed = of_lines(asked.file, lambda line: puzzle(line, solver))
     puzzles = [f"<section><p><b>{number}.</b> {question}</p>\n{board}</section>" for number, (question, board, _) in enumerate(made, 1)]
     solutions = [f"<li>{solution}</li>" for _, _, solution in made]
     rules = RULES + EMPTY * any("empty-capture" in question for question, _, _ in made)
     print(PAGE.format(title=html.escape(asked.title), rules=rules, puzzles="\n".join(puzzles), solutions="\n".join(solutions)))
     return has_failed
-
-
-if __name__ == "__main__":
-    run(main)

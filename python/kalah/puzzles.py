@@ -1,6 +1,6 @@
 """Picks puzzles among the positions of a file: those in which exactly one move wins, and others may be chosen. The hardest come first.
 
-    python3 examples/puzzles.py [--depth N] [--again] FILE
+    python3 -m kalah puzzles [--depth N] [--again] FILE
 
 Each line has the number of moves that a plain search must look ahead to find the winning move and to stay with it, by how much the best
 other move falls short, the position, and what its moves are worth. A puzzle looks hard if the search must look far, and then if another
@@ -8,13 +8,13 @@ move is almost as good. A plain search takes the stores for the margin where it 
 search is wrong, the line begins with `more than`. A winning move after which the player moves again is what anybody tries first: such a
 position is no puzzle but with --again.
 
-It needs `kalah`, as examples/kalah.py says. A line with a fault is named on standard error, and the status is then 1. On a terminal that
+It needs `kalah`, as `help(kalah)` says. A line with a fault is named on standard error, and the status is then 1. On a terminal that
 shows how many lines are done.
 """
 
-from kalah import Over, Solver, Values
-from rules import after, read, seen, seen_of_moves
-from script import arguments, of_lines, run
+from .client import Client, Over, Values
+from .rules import after, read, seen, seen_of_moves
+from .script import arguments, of_lines
 
 
 def how_far(position, values, winner, most):
@@ -54,12 +54,8 @@ def main():
     parser.add_argument("--again", action="store_true", help="with winning moves after which the player moves again")
     parser.add_argument("file", metavar="FILE", help="a file of positions")
     asked = parser.parse_args()
-    with Solver(Values) as solver:
+    with Client(Values) as solver:
         puzzles, has_failed = of_lines(asked.file, lambda line: puzzle_of(line, solver, asked.depth, asked.again))
     for _, _, words in sorted(puzzles):
         print(words)
     return has_failed
-
-
-if __name__ == "__main__":
-    run(main)

@@ -1,6 +1,6 @@
 """Checks a certificate: lines that prove the margin of best play of a position, each by lines above it.
 
-    python3 examples/check.py FILE [LINE MARGIN]
+    python3 python3 -m kalah check FILE [LINE MARGIN]
 
 It needs no other program or file. It prints what the lines prove of the last one's position, or which line doesn't follow, and why. With
 LINE and MARGIN it fails unless they prove that this position has this margin. So it refuses a certificate that is cut, or another one.
@@ -126,7 +126,7 @@ def main():
         with open(asked.file, errors="replace") as lines:
             print(check(lines, asked.line, asked.margin), flush=True)
     except (OSError, ValueError) as why:
-        sys.exit(f"check.py: {why}")
+        sys.exit(f"check: {why}")
 
 
 if __name__ == "__main__":

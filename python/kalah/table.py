@@ -1,13 +1,13 @@
 """Makes a table of positions: for each its margin of best play, its lowest-numbered best house, and what the move of each house is worth.
 
-    python3 examples/table.py FILE > table.csv
-    python3 examples/table.py --sqlite DATABASE [--name NAME] FILE
+    python3 -m kalah table FILE > table.csv
+    python3 -m kalah table --sqlite DATABASE [--name NAME] FILE
 
 The columns are position, seeds (in houses), margin, best, and house1 to house6; where there is nothing to say, they are empty. In the database the table
 NAME, or `kalah`, is made anew. With --answers ANSWERS the answers are read from there, in the form of `kalah values`, as another engine
 may have printed them. A line without values, such as one with a fault, has no row; standard error has it, and the status is 1.
 
-It needs `kalah`, as examples/kalah.py says, except with --answers.
+It needs `kalah`, as `help(kalah)` says, except with --answers.
 """
 
 import csv
@@ -16,8 +16,8 @@ import sqlite3
 import subprocess
 import sys
 
-from kalah import Gone, find
-from script import arguments, run
+from .client import Gone, find
+from .script import arguments
 
 HOUSES = range(1, 7)
 COLUMNS = ["position", "seeds", "margin", "best", *(f"house{house}" for house in HOUSES)]
@@ -101,9 +101,5 @@ def main():
     else:
         csv.writer(sys.stdout, lineterminator="\n").writerows([COLUMNS, *found])
     for answer in rest:
-        print(f"table.py: {asked.file}:{answer}", file=sys.stderr)
+        print(f"table: {asked.file}:{answer}", file=sys.stderr)
     return bool(rest)
-
-
-if __name__ == "__main__":
-    run(main)

@@ -1,19 +1,19 @@
 """A game of best play as a page to print: one HTML file with a drawn board for each position.
 
-    python3 examples/handout.py [--first H] LINE > game.html
+    python3 -m kalah handout [--first H] LINE > game.html
 
 South, who moves first, always sits below. Below each board stands the move that leads to the next one, with its value: the margin
 that the move gets in best play, for the player who makes it. The house that is moved is marked. With --first H the game begins with
 house H, to see what that move leads to. There may be any number of seeds, up to 99 in a house. Above 31 in houses a move has no value:
-then each player looks a few moves ahead, and the page says so. It needs `kalah`, as examples/kalah.py says.
+then each player looks a few moves ahead, and the page says so. It needs `kalah`, as `help(kalah)` says.
 """
 
 import html
 
-from board import read, svg
-from kalah import Over, Solver, Values, find
-from rules import LOOKED_AHEAD, MOST_SEEDS, TooMany, ask, guess, start, steps, too_many
-from script import arguments, run
+from .board import read, svg
+from .client import Client, Over, Values, find
+from .rules import LOOKED_AHEAD, MOST_SEEDS, TooMany, ask, guess, start, steps, too_many
+from .script import arguments
 
 PLAYERS = ["South", "North"]
 UNPROVED = f"With more than {MOST_SEEDS} seeds in houses nothing is proved, and no move has a value."
@@ -101,7 +101,7 @@ def result(position, player):
 
 def page(line, first):
     drawn = []
-    with Solver(Values) as solver:
+    with Client(Values) as solver:
         for number, (position, player, move, values) in enumerate(game_of(solver, line, first), 1):
             said = caption(number, position, player, move, values) if move else f"<b>{result(position, player)}</b>"
             drawn.append(step(position, player, said, move and move.house))
@@ -120,7 +120,3 @@ def main():
     asked = parser.parse_args()
     find()
     print(page(start(asked.line), asked.first))
-
-
-if __name__ == "__main__":
-    run(main)

@@ -1,8 +1,8 @@
 """Makes positions of M houses a side with S seeds in houses, in which both players have seeds. S is a number, or a range as 8-20.
 
-    python3 examples/positions.py M S                                    all of them, with empty stores
-    python3 examples/positions.py M S --sample N [--seed K]              N of them, drawn at random
-    python3 examples/positions.py M S --sample N --games [random|good]   N of them, out of games, with their stores
+    python3 -m kalah positions M S                                    all of them, with empty stores
+    python3 -m kalah positions M S --sample N [--seed K]              N of them, drawn at random
+    python3 -m kalah positions M S --sample N --games [random|good]   N of them, out of games, with their stores
 
 Of a range each number of seeds is equally likely to be drawn, and then each position. None is drawn twice. With the same K the same ones
 are drawn. With --games each comes out of a game of its own, from the start board of 4 seeds a house (more if S needs them) or from
@@ -10,7 +10,7 @@ are drawn. With --games each comes out of a game of its own, from the start boar
 random game.
 
 With --balanced B only positions are taken whose margin of best play is at most B for either player. That needs `kalah`, as
-examples/kalah.py says; all else needs none.
+`help(kalah)` says; all else needs none.
 """
 
 import random
@@ -22,9 +22,9 @@ from functools import lru_cache
 from itertools import islice
 from math import comb
 
-import rules
-from kalah import Best, Solver
-from script import arguments, run
+from . import rules
+from .client import Best, Client
+from .script import arguments
 
 # How often a good game has the move that the search finds best, and how far that looks.
 GOOD, AHEAD = 3 / 4, 2
@@ -153,12 +153,8 @@ def main():
     asked = parser.parse_args()
     if (asked.games and asked.sample is None) or (asked.start and not asked.games):
         parser.error("--start needs --games, and --games needs --sample")
-    with nullcontext() if asked.balanced is None else Solver(Best) as solver:
+    with nullcontext() if asked.balanced is None else Client(Best) as solver:
         is_wanted = lambda line: not solver or abs(rules.ask(solver, line).margin) <= asked.balanced
         every = (line for seeds in asked.seeds for line in Positions(asked.houses, seeds))
         for position in filter(is_wanted, every) if asked.sample is None else sample(asked, is_wanted):
             print(position)
-
-
-if __name__ == "__main__":
-    run(main)

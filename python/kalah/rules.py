@@ -1,10 +1,10 @@
 """The rules of Kalah for boards of any number of seeds, and the values of moves as soon as `kalah` solves them.
 
-    from kalah import Solver, Values
-    from rules import ask, steps
+    from kalah.client import Client, Values
+    from kalah.rules import ask, steps
 
     steps("4,4,4,4,4,4/0 4,4,4,4,4,4/0")    # Steps(moves=[Move(house=1, ..), ..])
-    with Solver(Values) as solver:
+    with Client(Values) as solver:
         ask(solver, "1,1/200 1,1/0")        # Values(by_house={1: 198, 2: 202})
         ask(solver, "17,0/0 0,17/0")        # raises TooMany("34 seeds in houses: values from 31 on")
 
@@ -18,7 +18,7 @@ from collections import namedtuple
 from dataclasses import replace
 from functools import lru_cache
 
-from kalah import Fault, Move, Over, Steps, Values, one_line
+from .client import Fault, Move, Over, Steps, Values, one_line
 
 MOST_HOUSES, MOST_BYTES = 6, 80
 # How many seeds in houses `kalah` solves, and the largest number in a line that it reads.
@@ -109,7 +109,7 @@ def after(position, house):
 
 
 def steps(line):
-    """Returns what a `Solver` of `Steps` answers, for any number of seeds. Fails as `read` does."""
+    """Returns what a `Client` of `Steps` answers, for any number of seeds. Fails as `read` does."""
     position = read(line)
     reached = ((house, *after(position, house)) for house in legal(position))
     moves = [Move(house, text(to), word) for house, to, word in reached]

@@ -1,15 +1,15 @@
 """Grades the moves of an engine by what `kalah` finds each move to be worth.
 
-    python3 examples/grade.py --engine 'COMMAND' [--timeout S] [--csv CSV] FILE
-    python3 examples/grade.py --houses HOUSES [--csv CSV] FILE
+    python3 -m kalah grade --engine 'COMMAND' [--timeout S] [--csv CSV] FILE
+    python3 -m kalah grade --houses HOUSES [--csv CSV] FILE
 
 FILE has a position in each line. The command is started once, and answers each of them with a line that has a house, as
-examples/player.py says; or HOUSES has these lines. Printed are the share of best moves among the positions with a choice of moves, the
+`kalah.player` says; or HOUSES has these lines. Printed are the share of best moves among the positions with a choice of moves, the
 margin that they lose on average, both by the number of seeds in houses, and the ten worst moves. CSV gets a row for each position.
 
 An answer that is illegal, missing or late is named on standard error. It counts as no best move, and the run goes on. So it does after a
 line with a fault, or of more than 31 seeds. In both cases the status is 1. A terminal shows how many lines are done. It needs `kalah`, as
-examples/kalah.py says.
+`help(kalah)` says.
 """
 
 import csv
@@ -17,11 +17,11 @@ from collections import namedtuple
 from contextlib import nullcontext
 from itertools import groupby
 
-import rules
-from duel import picture
-from kalah import Over, Solver, Values
-from player import NoMove, player, seconds
-from script import arguments, of_lines, run
+from . import rules
+from .duel import picture
+from .client import Client, Over, Values
+from .player import NoMove, player, seconds
+from .script import arguments, of_lines
 
 WORST = 10
 COLUMNS = ["line", "position", "seeds", "moves", "house", "value", "best", "margin", "lost"]
@@ -127,7 +127,7 @@ def main():
             named = Named(file.read().splitlines())
     else:
         named = player(asked.engine, asked.timeout)
-    with named, Solver(Values) as solver, open(asked.csv, "w", newline="") if asked.csv else nullcontext() as table:
+    with named, Client(Values) as solver, open(asked.csv, "w", newline="") if asked.csv else nullcontext() as table:
         grader = Grader(solver, named)
         _, has_failed = of_lines(asked.file, grader.grade)
         if table:
@@ -136,7 +136,3 @@ def main():
         raise ValueError(f"{asked.houses} has {len(named.words)} lines for {grader.number} positions")
     print(*summary(asked.file, grader.graded, grader.over), sep="\n")
     return has_failed
-
-
-if __name__ == "__main__":
-    run(main)
