@@ -5,15 +5,14 @@
 It needs `kalah`, as `help(kalah)` says.
 """
 
-from kalah import Fault, Over
-from kalah.client import Client
+from kalah import Fault, Over, Solver
 from kalah.script import arguments, run
 
 
 def said(solver, line):
     """What is printed of a line."""
     try:
-        answer = solver.ask(line)
+        answer = solver.best(line)
     except Fault as fault:
         return str(fault)
     return f"{answer.margin} over" if isinstance(answer, Over) else f"{answer.margin} house {answer.house}"
@@ -22,7 +21,7 @@ def said(solver, line):
 def main():
     parser = arguments(__doc__)
     parser.add_argument("line", nargs="+", metavar="LINE")
-    with Client() as solver:
+    with Solver() as solver:
         for line in parser.parse_args().line:
             print(f"{line}: {said(solver, line)}")
 

@@ -24,7 +24,7 @@ USAGE = "usage: python3 -m kalah NAME ..\n\n" + "".join(f"  {name:10} {what}\n" 
 USAGE += "\n`python3 -m kalah NAME --help` says more. In Python, `import kalah` and `help(kalah)`.\n"
 
 
-def main():
+def main() -> None:
     name, *words = sys.argv[1:] or ["--help"]
     if name in TOOLS:
         sys.argv = [f"python3 -m kalah {name}", *words]

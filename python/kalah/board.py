@@ -1,64 +1,132 @@
 """Draws a position as a board in SVG, with the player to move below.
 
-    python3 -m kalah board LINE > board.svg
+    python3 -m kalah board [--values] LINE > board.svg
 
 Each house is a circle with its number of seeds, and a store stands at each end. The small numbers at the edges are those of the houses, as
-their owner counts them. There may be any number of seeds, up to 99 in a house. Other programs call `read` and `svg`. It needs no `kalah`.
+their owner counts them. There may be any number of seeds, up to 99 in a house. It needs no `kalah`, but for --values.
 """
 
-import html
+from __future__ import annotations
 
-from . import rules
-from .script import arguments
+from collections.abc import Mapping
+from dataclasses import dataclass, field, replace
+from typing import Optional, Union
 
-CELL, STORE, MARGIN, EDGE = 60, 54, 10, 16
-# How far the middles of the two rows of houses are from the upper edge.
-ABOVE, BELOW = EDGE + CELL / 2, EDGE + CELL * 3 / 2
-FONT = 'font-family="sans-serif" text-anchor="middle" dominant-baseline="central"'
+from . import drawing, rules
+from .answers import Over, Values
+from .client import Client
+from .script import arguments, position
 
-
-def read(line):
-    """The two sides of a position: that of the player to move, and that of the other player."""
-    return rules.read(line)[:2]
+RULES = ["classic", "empty-capture"]
 
 
-def text(x, y, words, size=20, color="#222"):
-    return f'<text x="{x}" y="{y}" font-size="{size}" fill="{color}" {FONT}>{html.escape(str(words))}</text>'
+@dataclass(frozen=True)
+class Board:
+    """A position of Kalah, made of its line. Boards of the same line are equal. The player to move sees it: in each pair that player's part
+    comes first, and houses count from 1. There may be any number of seeds; numbers have at most three digits.
+
+    Fails with `Fault` if the line has one, with TypeError if it is no text, and with ValueError if it is more than one line."""
+
+    line: str
+    # What each move is worth, drawn below its house.
+    values: Optional[Mapping[int, int]] = field(default=None, compare=False, repr=False)
+    _position: rules.Position = field(init=False, compare=False, repr=False)
+
+    def __post_init__(self) -> None:
+        position = rules.read(self.line)
+        object.__setattr__(self, "line", rules.text(position))
+        object.__setattr__(self, "_position", position)
+
+    @classmethod
+    def start(cls, houses: int = 6, seeds: int = 4, rule: str = "classic") -> Board:
+        """Returns the board with this number of houses a side, and of seeds in each. The rule is `classic` or `empty-capture`."""
+        if houses not in range(1, rules.MOST_HOUSES + 1) or seeds not in range(rules.MOST_IN_A_HOUSE + 1) or rule not in RULES:
+            raise ValueError(f"there is no start of {houses} houses a side, {seeds} seeds in each and the rule {rule!r}")
+        side = rules.Side((seeds,) * houses, 0)
+        return cls(rules.text(rules.Position(side, side, rule != RULES[0])))
+
+    @property
+    def houses(self) -> tuple[tuple[int, ...], tuple[int, ...]]:
+        """The seeds in the houses of the player to move, and in those of the other player."""
+        return self._position.own.houses, self._position.other.houses
+
+    @property
+    def stores(self) -> tuple[int, int]:
+        """The seeds in the store of the player to move, and in that of the other player."""
+        return self._position.own.store, self._position.other.store
+
+    @property
+    def sides(self) -> tuple[rules.Side, rules.Side]:
+        """The houses and the store of the player to move, and those of the other player."""
+        return self._position.own, self._position.other
+
+    @property
+    def seeds(self) -> int:
+        """The number of seeds in houses. `kalah` solves up to 31."""
+        return rules.seeds_in(self._position)
+
+    @property
+    def rule(self) -> str:
+        """`classic`, or `empty-capture`."""
+        return RULES[self._position.takes_empty]
+
+    @property
+    def legal(self) -> list[int]:
+        """The houses that may be moved, ascending."""
+        return rules.legal(self._position)
+
+    @property
+    def is_over(self) -> bool:
+        """Whether a player's houses are all empty."""
+        return rules.is_over(self._position)
+
+    @property
+    def margin(self) -> Optional[int]:
+        """The final margin, for the player who is seen first, if the game is over; otherwise None."""
+        return rules.final_margin(self._position) if self.is_over else None
+
+    def play(self, house: int) -> tuple[Board, bool]:
+        """Returns the board after the move of a house, and whether the mover moves again. If the game is over then, the board is seen by the
+        mover, as `kalah moves` prints it. Fails with ValueError if the house can't be moved."""
+        reached, word = self.after(house)
+        return reached, word == "again"
+
+    def after(self, house: int) -> tuple[Board, str]:
+        """Returns the board after the move of a house, and `again`, `turn` or `over`."""
+        position, word = rules.after(self._position, self.checked(house))
+        return Board(rules.text(position)), word
+
+    def checked(self, house: int) -> int:
+        """Returns a house that can be moved. Fails with ValueError if it can't be."""
+        if house not in self.legal:
+            raise ValueError(f"house {house} can't be moved" + ": the game is over" * self.is_over)
+        return house
+
+    def with_values(self, values: Union[Values, Over, Mapping[int, int], None]) -> Board:
+        """Returns this board, on which each move's value is drawn below its house."""
+        return replace(self, values=values.by_house if isinstance(values, Values) else None if isinstance(values, Over) else values)
+
+    def svg(self, title: Optional[str] = None) -> str:
+        """Returns the board drawn in SVG, with the player to move below."""
+        return drawing.svg(*self.sides, title=title or f"Kalah, the player below moves: {self}", values=self.values)
+
+    def __str__(self) -> str:
+        return self.line
+
+    def __repr__(self) -> str:
+        return f"Board({self.line!r})"
+
+    def _repr_html_(self) -> str:
+        return self.svg()
 
 
-def house(x, y, seeds, is_marked):
-    color = "#e8a33d" if is_marked else "#fff8ea"
-    number = text(x, y, seeds, color="#222" if seeds else "#999")
-    return f'<circle cx="{x}" cy="{y}" r="24" fill="{color}" stroke="#7a5230" stroke-width="2"/>{number}'
-
-
-def store(x, seeds):
-    box = f'<rect x="{x}" y="{EDGE + 4}" width="{STORE}" height="{2 * CELL - 8}" rx="24" fill="#fff8ea" stroke="#7a5230" stroke-width="2"/>'
-    return box + text(x + STORE / 2, EDGE + CELL, seeds, 24)
-
-
-def svg(below, above, marked=None, title="A position of Kalah"):
-    """The board with these sides. The marked house is one of ("below", H) and ("above", H). The houses above go from right to left, as
-    that player sees them."""
-    m = len(below.houses)
-    width, height = 2 * MARGIN + 2 * STORE + CELL * m, 2 * EDGE + 2 * CELL
-    parts = [
-        f'<svg xmlns="http://www.w3.org/2000/svg" width="{width}" height="{height}" viewBox="0 0 {width} {height}" role="img">',
-        f"<title>{html.escape(title)}</title>",
-        f'<rect width="{width}" height="{height}" rx="28" fill="#c98f4e"/>',
-        store(MARGIN, above.store),
-        store(width - MARGIN - STORE, below.store),
-    ]
-    for place in range(m):
-        x = MARGIN + STORE + CELL * place + CELL / 2
-        parts.append(text(x, EDGE / 2 + 2, m - place, 12, "#5a3a1e") + text(x, height - EDGE / 2 - 2, place + 1, 12, "#5a3a1e"))
-        parts.append(house(x, ABOVE, above.houses[m - 1 - place], marked == ("above", m - place)))
-        parts.append(house(x, BELOW, below.houses[place], marked == ("below", place + 1)))
-    return "\n".join([*parts, "</svg>"])
-
-
-def main():
+def main() -> None:
     parser = arguments(__doc__)
+    parser.add_argument("--values", action="store_true", help="with what each move is worth below its house")
     parser.add_argument("line", metavar="LINE")
-    line = rules.start(parser.parse_args().line)
-    print(svg(*read(line), title=f"Kalah, the player below moves: {line}"))
+    asked = parser.parse_args()
+    board = Board(position(asked.line))
+    if asked.values:
+        with Client(Values) as client:
+            board = board.with_values(rules.ask(client, str(board)))
+    print(board.svg())

@@ -7,65 +7,66 @@ input, or with q, the game ends. There may be any number of seeds, up to 99 in a
 looks a few moves ahead, and says so. It needs `kalah`, as `help(kalah)` says.
 """
 
+from __future__ import annotations
+
 import sys
+from typing import Optional
 
-from .board import read
-from .client import Best, Client, Over, find
-from .rules import TooMany, ask, guess, guessed, start, steps
-from .script import arguments
-
-
-def picture(position):
-    """The board, with the player to move below, as `kalah show --plain` draws it."""
-    own, other = read(position)
-    above, below = ("".join(f"{seeds:4}" for seeds in houses) for houses in (other.houses[::-1], own.houses))
-    return f"    {above}\n{other.store:4}{' ' * len(below)}{own.store:4}\n    {below}\n"
+from .answers import Over
+from .board import Board
+from .client import find
+from .drawing import picture
+from .game import Game
+from .rules import TooMany, guess, guessed
+from .script import arguments, position
+from .solver import Solver
 
 
-def typed(possible):
+def typed(possible: list[int]) -> Optional[int]:
     """The house that is typed, one of these, or None if the game is given up."""
+    words = {str(house): house for house in possible}
     while True:
-        print(f"your house, {' '.join(possible)}, or q: ", end="", flush=True)
+        print(f"your house, {' '.join(words)}, or q: ", end="", flush=True)
         word = sys.stdin.readline()
         if not word or word.strip() == "q":
             print("given up")
             return None
-        if word.strip() in possible:
-            return word.strip()
+        if word.strip() in words:
+            return words[word.strip()]
         print("that house can't be moved")
 
 
-def answered(solver, position):
+def answered(solver: Solver, board: Board) -> tuple[int, str]:
     """The house that the solver moves, and what it says of that."""
     try:
-        return str(ask(solver, position).house), ""
+        answer = solver.best(board)
     except TooMany as why:
-        return str(guess(position)), f" ({guessed(why)})"
+        return guess(str(board)), f" ({guessed(why)})"
+    assert not isinstance(answer, Over)
+    return answer.house, ""
 
 
-def duel(solver, position, is_person):
+def duel(solver: Solver, game: Game, person: int) -> None:
     """Plays to the end, and says who won."""
-    word = ""
-    while word != "over" and not isinstance(possible := steps(position), Over):
-        possible = {str(move.house): move for move in possible.moves}
+    while not game.is_over:
+        is_person = game.player == person
         if is_person:
-            print(picture(position), end="")
-        house, said = (typed(possible), "") if is_person else answered(solver, position)
+            print(picture(str(game.board)), end="")
+        house, said = (typed(game.board.legal), "") if is_person else answered(solver, game.board)
         if house is None:
             return
         print(f"{'you' if is_person else 'the solver'}: house {house}{said}")
-        position, word = possible[house].position, possible[house].word
-        is_person ^= word == "turn"
-    own, other = (sum(side.houses) + side.store for side in read(position))
-    margin = own - other if is_person else other - own
+        game.push(house)
+    margin = (game.margin or 0) * (-1 if person else 1)
     print("a draw" if margin == 0 else f"{'you' if margin > 0 else 'the solver'} won by {abs(margin)}")
 
 
-def main():
+def main() -> None:
     parser = arguments(__doc__)
     parser.add_argument("--second", action="store_true", help="the solver begins")
     parser.add_argument("line", metavar="LINE")
     asked = parser.parse_args()
+    line = position(asked.line)
     find()
-    with Client(Best) as solver:
-        duel(solver, start(asked.line), not asked.second)
+    with Solver() as solver:
+        duel(solver, Game(line), int(asked.second))

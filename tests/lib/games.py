@@ -9,7 +9,8 @@ import subprocess
 import sys
 from collections import Counter
 from contextlib import contextmanager
-from itertools import product
+from itertools import groupby, product
+from urllib.parse import quote, quote_plus
 from xml.dom import minidom
 
 from lib import reference
@@ -18,7 +19,9 @@ from lib.drawn import FAULTS, Drawn
 from lib.scripts import HOSTILE, drawn_game, drawn_line, must
 from lib.serving import asked, served
 
-from kalah import handout, positions, review, rules
+from kalah import Board, Game, handout, positions, review, rules
+from kalah.game import Record
+from kalah.played import played_in, values_of
 
 # The positions that are compared with the program's moves, those above its limit, and the lines that may have a fault.
 BELOW, ABOVE, READ = 20_000, 2_000, 1_000
@@ -105,26 +108,26 @@ def seen_of(position, depth):
     return {house: seen(to, depth - 1) * (-1 if word == "turn" else 1) for house, (to, word) in reached.items()}
 
 
-def try_values(draw, solver):
+def try_values(draw, solver, client):
     """Values are those of best play if there are few enough seeds, also with large stores; else there are none, and a guess is what a plain
     search sees."""
     for _ in range(GAMES):
         line = drawn_line(draw, 4, 8)
         position = reference.read(line.encode())
         values = {house: reference.value(position, house) for house in reference.legal(position)}
-        must(handout.values_of(solver, line) == values, f"rules, {line}: {handout.values_of(solver, line)} in place of {values}")
+        must(values_of(solver, Board(line)) == values, f"rules, {line}: {values_of(solver, Board(line))} in place of {values}")
         large = re.sub("/[0-9]+", "/900", line, 1)
         lead = 900 - position.own.store
-        got = rules.ask(solver, large).by_house
+        got = rules.ask(client, large).by_house
         must(got == {house: value + lead for house, value in values.items()}, f"rules, {large}: {got}")
         found = seen_of(position, rules.LOOKED_AHEAD)
         must(rules.seen_of_moves(rules.read(line), rules.LOOKED_AHEAD) == found, f"rules, {line}: it sees something other than {found}")
         must(rules.guess(line) == max(found, key=found.get), f"rules, {line}: it guesses {rules.guess(line)} of {found}")
     for line, seeds in ((USUAL, 48), ("16,0/3 0,16/0 e", 32)):
-        must(handout.values_of(solver, line) is None, f"rules, {line}: it has values")
-        must(rules.too_many(line) == f"{seeds} seeds in houses: values from 31 on", f"rules, {line}: {rules.too_many(line)}")
+        must(values_of(solver, Board(line)) is None, f"rules, {line}: it has values")
+        must(rules.too_many(line) == f"{seeds} seeds in houses: no values above 31 seeds", f"rules, {line}: {rules.too_many(line)}")
     must(rules.too_many("16,0/3 0,15/0") == "", "rules: 31 seeds are too many")
-    must(rules.ask(solver, "0,0/3 40,0/1") == kalah.Over(-38), "rules: the end of a game needs values")
+    must(rules.ask(client, "0,0/3 40,0/1") == kalah.Over(-38), "rules: the end of a game needs values")
 
 
 def try_plain(draw, folder):
@@ -159,32 +162,37 @@ class GameTrials:
         for _ in range(GAMES):
             self.written()
 
+    def reviewed(self, text):
+        return review.Review(Record(1, {}, text), self.solver)
+
     def review(self, line):
-        """Moves have values as soon as the seeds fit, and the curve has each of these, as South sees it."""
+        """Moves have values as soon as the seeds fit, and the curve has each of these, as South sees it. Of the others one sentence says why
+        they have none."""
         moved, margin = drawn_game(self.draw, line)
-        game = review.Game(" ".join([line, *(str(house) for _, house, _ in moved)]), self.solver)
-        must(len(game.played) == len(moved) and game.is_over, f"review: {line} {moved}: {game.flaw}")
-        course = []
+        game = self.reviewed(" ".join([line, *(str(house) for _, house, _ in moved)]))
+        must(len(game.played) == len(moved) and game.game.is_over, f"review: {line} {moved}: {game.flaw}")
+        course, without = [], 0
         for number, (played, said, (player, house, values)) in enumerate(zip(game.played, game.captions(), moved)):
-            seeds = rules.seeds_in(rules.read(played.position))
-            fits = seeds <= LOW
-            must(played.values == (values if fits else None), f"review, {played.position}: {played.values}")
-            worth = f"worth {values[house]:+d}" if fits else f" ({seeds} seeds in houses: values from {LOW} on)"
-            must(worth in said, f"review: {said}")
+            fits = played.board.seeds <= LOW
+            must(played.values == (values if fits else None), f"review, {played.board}: {played.values}")
+            must(("worth " + f"{values[house]:+d}".replace("+0", "0") in said) if fits else "worth" not in said, f"review: {said}")
+            without += not fits
             if fits:
                 best = max(values.values())
                 course.append((number, -best if player else best, best - values[house]))
         course.append((len(moved), margin, 0))
         must([*game.course()] == course, f"review, {line} {moved}: {[*game.course()]} in place of {course}")
         self.curve(game, course)
-        must(("nothing is proved" in game.html()) == bool(rules.too_many(line)), f"review --html: {line}")
+        first, page = game.text().splitlines()[0], game.html()
+        want = f"Moves 1 to {without}: no value above {LOW} seeds." if without > 1 else f"Move 1: no value above {LOW} seeds."
+        must((first == want) == (want in page) == ("nothing is proved" in page) == bool(without), f"review, {line}: {first} in place of {want}")
 
     def curve(self, game, course):
         """The points of the curve rise with their values, and stand in the order of the moves."""
         drawn = minidom.parseString(re.search('<svg class="curve".*?</svg>', game.html(), re.DOTALL)[0])
         points = drawn.getElementsByTagName("circle")
         said = [point.getElementsByTagName("title")[0].firstChild.data for point in points]
-        want = [f"after {number} moves {value:+d}" + f"; the next one loses {lost}" * (lost > 0) for number, value, lost in course]
+        want = [f"after {number} move{'s' * (number != 1)} " + f"{value:+d}".replace("+0", "0") + f"; the next one loses {lost}" * (lost > 0) for number, value, lost in course]
         must(said == want, f"review: the curve says {said} in place of {want}")
         placed = [(float(point.getAttribute("cx")), float(point.getAttribute("cy"))) for point in points]
         line = drawn.getElementsByTagName("polyline")[0].getAttribute("points")
@@ -196,23 +204,26 @@ class GameTrials:
 
     def handout(self, line):
         """Above the limit the moves are those that seem best, and below it best ones."""
-        game = [*handout.game_of(self.solver, line, None)]
-        for (position, player, move, values), (reached, mover, *_) in zip(game, game[1:]):
-            at = rules.read(position)
-            best = reference.best_play(at)[1] if rules.seeds_in(at) <= LOW else rules.guess(position)
-            after, word = reference.after(at, best)
-            is_right = move.house == best and reached == reference.text(after) and mover == player ^ (word == "turn")
-            must(is_right and bool(values) == (rules.seeds_in(at) <= LOW), f"handout, {position}: house {move.house}, {values}")
-        must(reference.is_over(rules.read(game[-1][0])), f"handout, {line}: the game ends at {game[-1][0]}")
+        game = handout.best_game(self.solver, line, None)
+        position = reference.read(line.encode())
+        for played in played_in(game, self.solver):
+            fits = rules.seeds_in(position) <= LOW
+            best = reference.best_play(position)[1] if fits else rules.guess(reference.text(position))
+            is_right = played.house == best and str(played.board) == reference.text(position) and bool(played.values) == fits
+            must(is_right, f"handout, {played.board}: house {played.house}, {played.values}")
+            position, _ = reference.after(position, best)
+        must(reference.is_over(position) and str(game.board) == reference.text(position), f"handout, {line}: the game ends at {game.board}")
 
     def written(self):
-        """A game is the same, however it is written down."""
+        """A game is the same, however it is written down; a letter or a side that isn't the mover's is an error."""
         line = drawn_line(self.draw, 4, 8).replace("/99", "/9")
         moved, _ = drawn_game(self.draw, line)
-        houses = [house for _, house, _ in moved]
-        letters = [self.draw.choice(["ABCDEF", "abcdef"])[house - 1] for house in houses]
-        letters[0] = letters[0].upper()
-        forms = [
+        houses, players = [house for _, house, _ in moved], [player for player, _, _ in moved]
+        letters = [("abcdef" if player else "ABCDEF")[house - 1] for player, house in zip(players, houses)]
+        turns = [[*some] for _, some in groupby(zip(players, houses, letters), key=lambda one: one[0])]
+        game = Game(line, houses)
+        seeds = [board.houses[0][house - 1] for board, house in zip(game.boards, houses)]
+        texts = [
             " ".join(map(str, houses)),
             ", ".join(map(str, houses)),
             " ".join(letters),
@@ -220,12 +231,28 @@ class GameTrials:
             " ".join(f"{number}.{letter}" for number, letter in enumerate(letters, 1)),
             " ".join(f"{number} {letter}," for number, letter in enumerate(letters, 1)),
             " ".join(f"{number}) {letter}" for number, letter in enumerate(letters, 1)),
+            " ".join("".join(letter for _, _, letter in turn) for turn in turns),
+            " ".join("-".join(str(house) for _, house, _ in turn) for turn in turns),
+            " ".join(f"{letter}{count}" for letter, count in zip(letters, seeds)),
+            " ".join(f"{letter}{house}" for letter, house in zip(letters, houses)),
+            " ".join(f"1{'...' if player else '.'} {house} {{so}}" for player, house in zip(players, houses)),
+            game.record(),
+            game.record(numbers=True),
         ]
-        games = [review.Game(f"{line} {form}", self.solver) for form in forms]
-        for form, game in zip(forms, games):
-            got = [played.move.house for played in game.played]
-            must(got == houses and game.is_over and not game.flaw, f"review, {line} {form}: {got}, {game.flaw}")
-        must(len({game.text() for game in games}) == 1, f"review, {line}: {forms} are not one game")
+        games = [self.reviewed(f"{line} {text}") for text in texts]
+        games.append(self.reviewed(f"http://127.0.0.1:8000/#{quote(' '.join([line, *map(str, houses)]), safe=',/')}"))
+        games.append(self.reviewed(f"http://127.0.0.1:8000/?game={quote_plus(str(game))}&x=1"))
+        for text, one in zip([*texts, "an address", "a query"], games):
+            got = [played.house for played in one.played]
+            must(got == houses and one.game.is_over and not one.flaw, f"review, {line} {text}: {got}, {one.flaw}")
+        must(len({one.text() for one in games}) == 1, f"review, {line}: {texts} are not one game")
+        place = self.draw.randrange(len(houses))
+        swapped = [*letters[:place], letters[place].swapcase()]
+        wrong = [" ".join(swapped), " ".join([*map(str, houses[:place]), "1." if players[place] else "1...", str(houses[place])])]
+        mover, other = ["South", "North"][:: -1 if players[place] else 1]
+        for text, word in zip(wrong[: 1 if players[place] else 2], (swapped[-1], str(houses[place]))):
+            want = f"move {place + 1}: {mover} moves, and {word} is a move of {other}"
+            must(self.reviewed(f"{line} {text}").flaw == want, f"review, {line} {text}: {self.reviewed(f'{line} {text}').flaw} in place of {want}")
 
 
 def output(folder, name, *words, text="", status=0):
@@ -242,16 +269,16 @@ def try_usual_board(program, folder):
     _, err = output(folder, "board", "100,4/0 4,4/0", status=1)
     must(err == "board: fault shape\n", f"board: {err}")
     out, _ = output(folder, "duel", "--second", USUAL, text="6\n")
-    said = f"the solver: house {rules.guess(USUAL)} (48 seeds in houses: values from 31 on; it looks 4 moves ahead)\n"
+    said = f"the solver: house {rules.guess(USUAL)} (48 seeds in houses: no values above 31 seeds; it looks 4 moves ahead)\n"
     must(out.startswith(said) and "your house, " in out, f"duel: {out}")
     page, _ = output(folder, "handout", "--first", 1, "9,9/0 9,9/0")
-    for said in ("house 1 (36 seeds in houses: values from 31 on)", "nothing is proved", ", worth "):
+    for said in ("moves house 1.", "no value above 31 seeds", "nothing is proved", ", worth "):
         must(said in page, f"handout: {said} is not in {page}")
     for first, line in ((2, "1,0/0 1,1/0"), (0, "1,1/0 1,1/0"), (1, "0,0/1 1,1/0")):
         out, err = output(folder, "handout", "--first", first, line, status=2)
         must(out == "" and err.startswith(f"handout: house {first} can't be moved"), f"handout --first {first} {line}: {err}")
     out, _ = output(folder, "review", USUAL, "3", "6")
-    must(out.startswith("1. South moves house 3 (48 seeds in houses: values from 31 on), and moves again.\n"), f"review: {out}")
+    must(out.startswith("Moves 1 to 2: no value above 31 seeds.\n1. South moves house 3, and moves again.\n"), f"review: {out}")
     must(out.endswith("South: moves 2, with values 0, mistakes 0, lost 0.\nNorth: moves 0, mistakes 0, lost 0.\n"), f"review: {out}")
     page, _ = output(folder, "review", "--html", USUAL, "3", HOSTILE, status=1)
     must("<script" not in page and "can&#x27;t move house &lt;/title&gt;" in page, f"review --html: {page}")
@@ -259,9 +286,9 @@ def try_usual_board(program, folder):
         reached = asked(server.server_port, "/moves", USUAL)[1]["moves"][2]
         must(reached == {"house": 3, "position": "4,4,0,5,5,5/1 4,4,4,4,4,4/0", "word": "again"}, f"web: {reached}")
         status, answer = asked(server.server_port, "/values", USUAL)
-        must((status, answer) == (422, {"error": "48 seeds in houses: values from 31 on"}), f"web, /values: {status} {answer}")
+        must((status, answer) == (422, {"error": "48 seeds in houses: no values above 31 seeds"}), f"web, /values: {status} {answer}")
         status, answer = asked(server.server_port, "/best", USUAL)
-        want = {"is_over": False, "house": rules.guess(USUAL), "guessed": "48 seeds in houses: values from 31 on; it looks 4 moves ahead"}
+        want = {"is_over": False, "house": rules.guess(USUAL), "guessed": "48 seeds in houses: no values above 31 seeds; it looks 4 moves ahead"}
         must((status, answer) == (200, want), f"web, /best: {status} {answer} in place of {want}")
         status, answer = asked(server.server_port, "/best", "1,1/200 1,1/0")
         must(answer == {"is_over": False, "margin": 202, "house": 2}, f"web, with large stores: {status} {answer}")
@@ -330,8 +357,8 @@ def try_games(program, folder, seed):
     try_rules(program, folder, drawn)
     try_rules_above(drawn.chance)
     try_faults(drawn)
-    with Client(kalah.Values) as solver:
-        try_values(drawn.chance, solver)
+    with kalah.Solver() as solver, Client(kalah.Values) as client:
+        try_values(drawn.chance, solver, client)
         GameTrials(drawn.chance, solver).run()
     try_plain(drawn.chance, folder)
     try_usual_board(program, folder)

@@ -13,9 +13,10 @@ from itertools import product
 from xml.dom import minidom
 
 from lib import reference
-from lib.clients import EXAMPLES, Client, Wrong, command, find, kalah, play
+from lib.clients import EXAMPLES, Client, Wrong, command, find, kalah
 
-from kalah import board, certify, check, duel, positions, review
+from kalah import certify, check, drawing, positions, review
+from kalah.game import Record
 
 CERTIFICATES, CUTS, GAMES = 100, 5, 30
 RULES = ["", " e"]
@@ -136,8 +137,8 @@ def drawn_game(draw, line):
 
 
 class ReviewTrials:
-    def __init__(self, draw, solver, best):
-        self.draw, self.solver, self.best = draw, solver, best
+    def __init__(self, draw, solver):
+        self.draw, self.solver = draw, solver
 
     def run(self):
         for _ in range(GAMES):
@@ -146,20 +147,20 @@ class ReviewTrials:
             self.random_game(line)
 
     def review(self, line, houses):
-        return review.Game(" ".join([line, *map(str, houses)]), self.solver)
+        return review.Review(Record(1, {}, " ".join([line, *map(str, houses)])), self.solver)
 
     def best_game(self, line):
-        game = self.review(line, [move.house for move in play(line)])
-        must(game.is_over and not game.flaw and not any(played.lost for played in game.played), f"review: best play of {line} loses")
+        game = self.review(line, [move.house for move in self.solver.line(line)])
+        must(game.game.is_over and not game.flaw and not any(played.lost for played in game.played), f"review: best play of {line} loses")
 
     def random_game(self, line):
         moved, margin = drawn_game(self.draw, line)
         houses = [house for _, house, _ in moved]
         game = self.review(line, houses)
-        got = [(played.player, played.move.house, played.values) for played in game.played]
-        must(got == moved and game.is_over and not game.flaw, f"review: {line} {houses}: {got}")
+        got = [(played.player, played.house, played.values) for played in game.played]
+        must(got == moved and game.game.is_over and not game.flaw, f"review: {line} {houses}: {got}")
         lost = [sum(played.lost for played in game.of(player)) for player in (0, 1)]
-        must(margin == self.best.ask(line).margin - lost[0] + lost[1], f"review: {line} {houses} loses {lost}")
+        must(margin == self.solver.best(line).margin - lost[0] + lost[1], f"review: {line} {houses} loses {lost}")
         must("draw" in game.end() if margin == 0 else f"{'North' if margin < 0 else 'South'} wins" in game.end(), f"{line}: {game.end()}")
         worst = [max(played.lost for played in game.of(player)) > 0 for player in (0, 1) if game.of(player)]
         must(game.html().count("worst move") == sum(worst), f"review --html: {line} {houses}")
@@ -179,7 +180,7 @@ class ReviewTrials:
 
 def try_board():
     """The numbers of a board, from left to right and downwards: North's houses are counted from the right."""
-    texts = minidom.parseString(board.svg(*board.read("1,2,3/4 5,6,7/8"))).getElementsByTagName("text")
+    texts = minidom.parseString(kalah.Board("1,2,3/4 5,6,7/8").svg()).getElementsByTagName("text")
     placed = sorted((float(text.getAttribute("y")), float(text.getAttribute("x")), text.firstChild.data) for text in texts)
     must("".join(words for _, _, words in placed) == "321" "765" "84" "123" "123", f"board: {placed}")
 
@@ -188,7 +189,7 @@ def try_pictures(draw):
     """duel draws each position as the program does."""
     for _ in range(GAMES):
         line = drawn_line(draw, 6, 31)
-        must(duel.picture(line) == reference.picture(reference.read(line.encode())), f"duel, {line}: {duel.picture(line)}")
+        must(drawing.picture(line) == reference.picture(reference.read(line.encode())), f"duel, {line}: {drawing.picture(line)}")
 
 
 def try_positions():
@@ -370,7 +371,7 @@ def try_scripts(program, folder, seed):
     try_board()
     try_pictures(draw)
     try_positions()
-    with Client(kalah.Values) as solver, Client(kalah.Best) as best:
-        CertificateTrials(draw, solver, best).run()
-        ReviewTrials(draw, solver, best).run()
+    with Client(kalah.Values) as values, Client(kalah.Best) as best, kalah.Solver() as solver:
+        CertificateTrials(draw, values, best).run()
+        ReviewTrials(draw, solver).run()
     ScriptTrials(folder, draw).run()
