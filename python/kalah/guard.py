@@ -7,22 +7,24 @@ import signal
 import subprocess
 from contextlib import suppress
 
-# Waits until nobody can write any more, and ends the group of processes.
-WAIT = 'read -r _; kill -KILL -- "-$1"'
+# Starts the engine with what this shell reads and writes, waits until nobody can write to the other pipe, and ends the group of processes.
+START = 'exec 3<&0; "$@" <&3 3<&- & exec < /dev/null > /dev/null 3<&-; read -r _ < "/dev/fd/$0"; kill -s KILL -- "-$$"'
 
 
 class Guarded(subprocess.Popen[bytes]):
-    """A process that leads a group of its own."""
+    """An engine, in a group of processes that the shell leads."""
 
     def __init__(self, words: list[str]):
-        super().__init__(words, stdin=subprocess.PIPE, stdout=subprocess.PIPE, bufsize=0, start_new_session=True)
-        waits = ["sh", "-c", WAIT, "sh", str(self.pid)]
-        nowhere = subprocess.DEVNULL
-        self.guard = subprocess.Popen(waits, stdin=subprocess.PIPE, stdout=nowhere, stderr=nowhere, start_new_session=True)
+        reader, self._writer = os.pipe()
+        pipe = subprocess.PIPE
+        try:
+            guarded = ["sh", "-c", START, str(reader), *words]
+            super().__init__(guarded, stdin=pipe, stdout=pipe, bufsize=0, start_new_session=True, pass_fds=(reader,))
+        finally:
+            os.close(reader)
 
     def kill(self) -> None:
-        """Ends the group. Its leader was not waited for, so no other group has its number, and the guard is gone before one can have it."""
+        """Ends the group. Its leader was not waited for, so no other group has its number."""
         with suppress(ProcessLookupError):
             os.killpg(self.pid, signal.SIGKILL)
-        with self.guard:
-            self.guard.kill()
+        os.close(self._writer)

@@ -287,7 +287,7 @@ class MatchTrials:
 
     def late(self):
         """Who is late loses, as A and as B, and so does `kalah`."""
-        (self.folder / "a b.txt").write_text("2,2/0 2,2/0\n")
+        (self.folder / "a b.txt").write_text("3,3/0 3,3/0\n")
         (self.folder / "slow.sh").write_text("while read -r line; do sleep 4; echo 1; done\n")
         for players, who in ((["sh slow.sh", self.command(0)], "A"), ([self.command(0), "sh slow.sh"], "B")):
             out, err = output(self.folder, "match", *players, "--positions", "a b.txt", "--timeout", 1, status=1)

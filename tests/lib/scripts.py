@@ -3,19 +3,21 @@ puzzles, booklets and tables.
 """
 
 import csv
+import json
 import os
 import random
 import re
 import sqlite3
 import subprocess
 import sys
+from collections import namedtuple
 from itertools import product
 from xml.dom import minidom
 
 from lib import reference
 from lib.clients import EXAMPLES, Client, Wrong, command, find, kalah
 
-from kalah import certify, check, drawing, positions, review
+from kalah import certify, check, drawing, positions, review, rules
 from kalah.game import Record
 
 CERTIFICATES, CUTS, GAMES = 100, 5, 30
@@ -220,6 +222,42 @@ def solution_of(position):
     return f"H{'; '.join(outcomes)[1:]}.<br>Best play: {'; '.join(turns)}. {won}, {max(south, north)} to {min(south, north)}."
 
 
+Puzzle = namedtuple("Puzzle", "line level far gap again greedy text")
+
+
+def far_of(position, values, most=8):
+    """How many moves a plain search of at most so many looks ahead until its best moves are best, and stay so; None if it never does."""
+    best = {house for house, value in values.items() if value == max(values.values())}
+    wrong = 0
+    for depth in range(1, most + 1):
+        seen = rules.seen_of_moves(position, depth)
+        wrong = wrong if {house for house, value in seen.items() if value == max(seen.values())} <= best else depth
+    return None if wrong == most else wrong + 1
+
+
+def level_of(far, values):
+    """The levels as `puzzles --help` says: by the number of moves ahead and of those that lose."""
+    total = far + len([value for value in values.values() if value < 0])
+    return 1 if total <= 5 else 2 if total <= 8 else 3
+
+
+def puzzle_of(line, most=8):
+    """What is known of a puzzle by the reference; None if the position is none."""
+    position = reference.read(line.encode())
+    values = {} if isinstance(position, str) else {house: reference.value(position, house) for house in reference.legal(position)}
+    far = len(values) > 1 and sum(value > 0 for value in values.values()) == 1 and far_of(rules.read(line), values, most)
+    if not far:
+        return None
+    best, second = sorted(values.values(), reverse=True)[:2]
+    reached = {house: reference.after(position, house) for house in values}
+    gains = {house: to[word == "turn"].store - position.own.store for house, (to, word) in reached.items()}
+    winner = max(values, key=values.get)
+    is_greedy = gains[winner] > max(gains[house] for house in values if house != winner)
+    level, moves = level_of(far, values), f"{far} move{'s' if far > 1 else ''}"
+    text = f"level {level}, {moves} ahead, by {best - second}: {line} {' '.join(f'{house}:{value}' for house, value in values.items())}"
+    return Puzzle(line, level, far, best - second, reached[winner][1] == "again", is_greedy, text)
+
+
 class ScriptTrials:
     """The tools as they are run, in a folder of their own, on files whose names have spaces."""
 
@@ -252,25 +290,20 @@ class ScriptTrials:
         """Each puzzle has exactly one move that wins, and others; no other position has; and faults are named."""
         lines = [*positions.Positions(2, 6), "1,1,1/0 3,0,0/0 e", "2,1/0 3,0/0 e", "1,1/0", "0,0/3 1,2/4"]
         (self.folder / "a b.txt").write_text("".join(line + "\n" for line in lines))
-        out, err = self.script("puzzles", "--again", "a b.txt", status=1)
+        out, err = self.script("puzzles", "--again", "--greedy", "a b.txt", status=1)
         must(err == f"puzzles: a b.txt:{len(lines) - 1}: fault shape\n", f"puzzles: {err}")
-        want, plain = set(), set()
-        for line in lines:
-            position = reference.read(line.encode())
-            legal = [] if isinstance(position, str) else reference.legal(position)
-            values = {house: reference.value(position, house) for house in legal}
-            if len(values) > 1 and sum(value > 0 for value in values.values()) == 1:
-                best, second = sorted(values.values(), reverse=True)[:2]
-                want.add(f"by {best - second}: {line} {' '.join(f'{house}:{value}' for house, value in values.items())}")
-                if reference.after(position, max(values, key=values.get))[1] != "again":
-                    plain.add(line)
-        puzzles = [re.fullmatch("(more than )?([0-9]+) moves? ahead, (by .*)", line) for line in out.splitlines()]
-        must(all(puzzles) and {puzzle[3] for puzzle in puzzles} == want, f"puzzles: {out}")
-        far = [int(puzzle[2]) for puzzle in puzzles]
-        must(far == sorted(far, reverse=True), f"puzzles: the hardest don't come first: {far}")
-        rows, _ = self.script("puzzles", "a b.txt", status=1)
-        kept = [row for row in out.splitlines() if re.search(": ([^:]*?) [1-6]:", row)[1] in plain]
-        must(rows.splitlines() == kept and 0 < len(kept) < len(want), f"puzzles, without --again: {rows} in place of {kept}")
+        rows, near = ([one for line in lines if (one := puzzle_of(line, most))] for most in (8, 2))
+        for some in (rows, near):
+            some.sort(key=lambda one: (-one.level, -one.far, one.gap, one.line))
+        must(out.splitlines() == [one.text for one in rows], f"puzzles: {out} in place of {rows}")
+        for options, kept in (
+            ([], [one for one in rows if not one.again and not one.greedy]),
+            (["--again"], [one for one in rows if not one.greedy]),
+            (["--greedy", "--depth", "2"], [one for one in near if not one.again]),
+        ):
+            got, _ = self.script("puzzles", *options, "a b.txt", status=1)
+            must(got.splitlines() == [one.text for one in kept] != out.splitlines(), f"puzzles {options}: {got} in place of {kept}")
+            must(kept, f"puzzles {options}: no position tries this")
 
     def real_boards(self):
         """Puzzles and certificates of six houses take little time and memory."""
@@ -293,7 +326,7 @@ class ScriptTrials:
 
     def booklet(self):
         """It has a board and a solution for each puzzle, and no text gets in unescaped."""
-        lines = ["4 moves ahead, by 2: 1,3/0 1,1/0 1:2 2:0", "1,3/0 2,0/0", "1,0/0 0,2/0 e", "1 move ahead, by 1: 1,0/0 0,2/0 e 1:-1"]
+        lines = ["level 1, 4 moves ahead, by 2: 1,3/0 1,1/0 1:2 2:0", "1,3/0 2,0/0", "1,0/0 0,2/0 e", "1 move ahead, by 1: 1,0/0 0,2/0 e 1:-1"]
         (self.folder / "a b.txt").write_text("\n".join(lines))
         page, _ = self.script("booklet", "--title", HOSTILE, "a b.txt")
         parts = "<section>", "<svg", "<li>", "moves and wins", "house 2 draws", "North wins, 2 to 1"
@@ -301,17 +334,36 @@ class ScriptTrials:
         must(counts == [4, 4, 4, 2, 2, 2] and "<script" not in page, f"booklet: {counts}")
         (self.folder / "c.txt").write_text("0,0/3 1,2/4\n1,1/0 1,1/0\n1/0\n")
         page, err = self.script("booklet", "c.txt", status=1)
-        want = "booklet: c.txt:1: the game is over\nbooklet.py: c.txt:3: fault shape\n"
+        want = "booklet: c.txt:1: the game is over\nbooklet: c.txt:3: fault shape\n"
         must(page.count("<svg") == 1 and err == want, f"booklet: {err}")
 
     def drawn_booklet(self):
-        """Each solution has the outcome of every move, the best first, and the game of best play: who moves, and who wins."""
+        """The puzzles come by level, numbered from 1, each with its question and its solution: the outcome of every move, the best first, and
+        the game of best play: who moves, and who wins. A page has four of them, and pages are numbered."""
         lines = [drawn_line(self.draw, 4, 8).replace("/99", "/9") for _ in range(GAMES)]
         (self.folder / "drawn.txt").write_text("\n".join(lines))
-        page, _ = self.script("booklet", "drawn.txt")
-        got = re.findall("<li>(.*)</li>", page)
-        for line, solution in zip(lines, got, strict=True):
-            must(solution == solution_of(reference.read(line.encode())), f"booklet, {line}: {solution}")
+        page, _ = self.script("booklet", "--paper", "Letter", "drawn.txt")
+        found = re.findall(r"<section><p><b>(\d+)\.</b> (.*?) <i>Level (\d)\.</i></p>\n.*?<title>(.*?)</title>", page, re.DOTALL)
+        must([int(number) for number, *_ in found] == [*range(1, GAMES + 1)], f"booklet: the numbers of {found}")
+        must(sorted(line for *_, line in found) == sorted(lines), f"booklet: the positions of {found}")
+        levels, solutions = [int(level) for _, _, level, _ in found], re.findall("<li>(.*)</li>", page)
+        must(levels == sorted(levels), f"booklet: the levels {levels}")
+        for (_, question, level, line), solution in zip(found, solutions, strict=True):
+            position = reference.read(line.encode())
+            values = {house: reference.value(position, house) for house in reference.legal(position)}
+            wins = sum(value > 0 for value in values.values())
+            asked = "South moves and wins." if wins == 1 else "South moves. Which house is best?"
+            asked += " The empty-capture rule holds." * line.endswith(" e")
+            must((question, solution) == (asked, solution_of(position)), f"booklet, {line}: {question} {solution}")
+            must(int(level) == level_of(far_of(rules.read(line), values) or 9, values), f"booklet, {line}: level {level}")
+        pages = page.split('<div class="page')[1:]
+        counts = [one.count("<section>") for one in pages]
+        must(counts == [0, *[4] * 7, 2, 0, 0, 0], f"booklet: pages with {counts} puzzles")
+        numbers = [re.findall("<footer>(.*)</footer>", one) for one in pages]
+        must(numbers == [[str(number)] for number in range(1, 13)], f"booklet: the pages are {numbers}")
+        starts = [int(number) for number in re.findall('<ol start="(.*?)">', page)]
+        must(starts == [1, 11, 21] and "size: Letter" in page, f"booklet: solutions begin with {starts}")
+        must(".page { break-after: page; }" in page and 'name="viewport"' in page, "booklet: a page begins nowhere")
 
     def table(self):
         """It has a row for each position, as CSV and in a database, of the answers of kalah or of others."""
@@ -328,6 +380,14 @@ class ScriptTrials:
         ]
         columns = ["position", "seeds", "margin", "best", *(f"house{house}" for house in range(1, 7))]
         must(rows == [columns, *want] and err == "table: a b.txt:4: fault shape\n", f"table: {out}{err}")
+        out, err = self.script("table", "--json", "a b.txt", status=1)
+        objects = [json.loads(line) for line in out.splitlines()]
+        wanted = [{"position": "1/0", "fault": "shape"}]
+        for position, seeds, margin, house, *worth in want:
+            values = {str(number): int(value) for number, value in enumerate(worth, 1) if value}
+            wanted.append({"position": position, "seeds": int(seeds), "margin": int(margin), "house": int(house) if house else None, "values": values})
+        wanted.insert(3, wanted.pop(0))
+        must(objects == wanted and err == "table: a b.txt:4: fault shape\n", f"table --json: {out}{err} in place of {wanted}")
         answers = ["x:1 1:-2 2:2", "y:2 1:-10", "x:3 -4 over", "x:4 too large: 20 seeds", "a b:5 3:6 4:10 6:0", "x:6 1:2 2:2 3:-4"]
         (self.folder / "answers").write_text("\n".join(answers))
         for words in (["--name", "kalah"], ["--name", 'a "b', "--answers", "answers"], ["--name", "kalah"]):
@@ -353,7 +413,7 @@ class ScriptTrials:
         must([lines[0], lines[1], lines[-1]] == want and len(lines) == 12, f"review: {out}")
         want = "1. South moves house 1, worth -2, which loses 4 (house 2 is worth +2).\n"
         must(want in out and "\nSouth: moves 1, mistakes 1, lost 4.\n" in out, f"review: {out}")
-        want = "review: a b.txt:3: move 3: North can't move house 2\nreview.py: a b.txt:4: fault shape\n"
+        want = "review: a b.txt:3: move 3: North can't move house 2\nreview: a b.txt:4: fault shape\n"
         must(err == want, f"review: {err}")
         page, _ = self.script("review", "--html", "--games", "a b.txt", status=1)
         counts = [page.count(part) for part in ("<h2>", "<svg xmlns", '<svg class="curve"', "worst move", "which loses 4")]
