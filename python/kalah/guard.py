@@ -8,7 +8,7 @@ import subprocess
 from contextlib import suppress
 
 # Starts the engine with what this shell reads and writes, waits until nobody can write to the other pipe, and ends the group of processes.
-START = 'exec 3<&0; "$@" <&3 3<&- & exec < /dev/null > /dev/null 3<&-; read -r _ < "/dev/fd/$0"; kill -s KILL -- "-$$"'
+START = 'exec 4< "/dev/fd/$0" 3<&0; "$@" <&3 3<&- 4<&- & exec < /dev/null > /dev/null 3<&-; read -r _ <&4; kill -s KILL -- "-$$"'
 
 
 class Guarded(subprocess.Popen[bytes]):
