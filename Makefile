@@ -18,13 +18,10 @@ kalah: FORCE
 
 FORCE:
 
-# Before the proofs: compiles the program with the toolchain's run-time checks, and runs it on one position and on a file. `--steps 0`
-# leaves out a second run, on an interpreter, which takes as long again.
+# A first answer, before the proofs: compiles the program with the toolchain's run-time checks, and runs it on a position and on a file.
 try:
 	$(NEEDS_RT)
-	@echo "Nothing is proved yet: \`make\` does that. Each of these takes up to a minute."
-	cd crates/kalah_cli && rt try --steps 0 -- moves '1,1/0 1,1/0'
-	cd crates/kalah_cli && rt try --steps 0 --data examples/first.txt=../../examples/first.txt -- solve examples/first.txt
+	@packaging/try
 
 # While you work: proves and tests what has changed, over the results that earlier checks kept; with CRATES=.. up to these crates alone.
 check:
