@@ -148,9 +148,9 @@ def main() -> None:
     try:
         with open(asked.file, errors="replace") as file:
             print(check(lines_in(file), asked.line, asked.margin or ""), flush=True)
-    except FileNotFoundError:
-        sys.exit(f"check: there is no file {asked.file}")
-    except (OSError, ValueError) as why:
+    except OSError as why:
+        sys.exit(f"check: cannot read {asked.file}: {why.strerror}")
+    except ValueError as why:
         sys.exit(f"check: {why}")
 
 

@@ -56,7 +56,8 @@ class Run(Generic[Answer]):
         self.close()
 
     def __del__(self) -> None:
-        self.close()
+        if hasattr(self, "_owner"):
+            self.close()
 
     def close(self) -> None:
         """Ends the program. The next question starts another."""

@@ -20,9 +20,8 @@ from __future__ import annotations
 
 import sys
 import threading
-from argparse import ArgumentTypeError
 from collections import Counter, deque
-from collections.abc import Callable, Iterator
+from collections.abc import Iterator
 from concurrent.futures import Future, ThreadPoolExecutor
 from contextlib import ExitStack
 from math import log
@@ -33,7 +32,7 @@ from . import rules
 from .answers import Gone
 from .grade import error
 from .player import Kalah, NoMove, Player, player, seconds
-from .script import arguments, of_lines, say
+from .script import arguments, of_lines, say, whole
 
 # The log-likelihood ratio at which the test of --sprt is decided, if each error has 5 %.
 DECIDED = log(0.95 / 0.05)
@@ -166,17 +165,6 @@ def playable(line: str) -> str:
     return line
 
 
-def whole(least: int, step: int, most: int, what: str) -> Callable[[str], int]:
-    """Returns what reads such a number."""
-
-    def read(text: str) -> int:
-        if not text.isdecimal() or not least <= int(text[:9]) <= most or int(text) % step:
-            raise ArgumentTypeError(f"{text!r} is not {what}")
-        return int(text)
-
-    return read
-
-
 def run_games(match: Match, players: Players, games: int, concurrency: int, elo: Optional[list[float]]) -> None:
     """Plays and counts the games, in order, up to the last one or until the test is decided."""
     pool, stopped, waiting = ThreadPoolExecutor(concurrency), threading.Event(), deque[Future[Played]]()
@@ -206,8 +194,8 @@ def main() -> bool:
     parser.add_argument("a", metavar="A", help="a command, or kalah")
     parser.add_argument("b", metavar="B", help="a command, or kalah")
     parser.add_argument("--positions", required=True, metavar="FILE", help="has a position in each line")
-    parser.add_argument("--games", type=whole(2, 2, 10**8, "an even number of games"), metavar="N", help="how many games (two a position)")
-    parser.add_argument("--concurrency", type=whole(1, 1, 64, "a number from 1 to 64"), default=1, metavar="N", help="games at a time (1)")
+    parser.add_argument("--games", type=whole(2, 10**8, "an even number of games", 2), metavar="N", help="how many games (two a position)")
+    parser.add_argument("--concurrency", type=whole(1, 64, "a number from 1 to 64"), default=1, metavar="N", help="games at a time (1)")
     parser.add_argument("--sprt", type=float, nargs=2, metavar=("E0", "E1"), help="stops if A is at most E0 or at least E1 Elo better")
     parser.add_argument("--timeout", type=seconds, default=10, metavar="S", help="the seconds that an answer may take (10)")
     parser.add_argument("--record", metavar="RECORD", help="gets the games")

@@ -28,7 +28,7 @@ from typing import Any, Optional
 from . import rules
 from .answers import Best
 from .client import Client
-from .script import arguments, position
+from .script import arguments, position, whole
 
 # How often a good game has the move that the search finds best, and how far that looks.
 GOOD, AHEAD = 3 / 4, 2
@@ -139,21 +139,15 @@ def sample(asked: argparse.Namespace, is_wanted: Callable[[str], bool]) -> list[
     return found
 
 
-def natural(text: str) -> int:
-    if not re.fullmatch("[0-9]+", text):
-        raise ArgumentTypeError(f"{text!r} is not a number from 0 on")
-    return int(text)
-
-
 def main() -> None:
     parser = arguments(__doc__)
     parser.add_argument("houses", type=int, choices=range(1, 7), metavar="M", help="1 to 6")
     parser.add_argument("seeds", type=sizes_in, metavar="S", help="2 to 31, or a range of these")
-    parser.add_argument("--sample", type=natural, metavar="N", help="how many are drawn")
+    parser.add_argument("--sample", type=whole(0, 10**8, "a number from 0 on"), metavar="N", help="how many are drawn")
     parser.add_argument("--seed", type=int, metavar="K", help="draws the same positions each time")
     parser.add_argument("--games", nargs="?", const="good", choices=["random", "good"], help="takes them out of games")
     parser.add_argument("--start", metavar="LINE", help="where games start")
-    parser.add_argument("--balanced", type=natural, metavar="B", help="takes those of a margin of at most B")
+    parser.add_argument("--balanced", type=whole(0, 10**8, "a number from 0 on"), metavar="B", help="takes those of a margin of at most B")
     asked = parser.parse_args()
     if (asked.games and asked.sample is None) or (asked.start and not asked.games):
         parser.error("--start needs --games, and --games needs --sample")

@@ -157,7 +157,7 @@ def main() -> bool:
             reviews.append(review)
             place = f"{asked.games}:{record.line}" if asked.games else ""
             if not asked.html:
-                print(*filter(None, [place and f"{place} {review.line}", review.head(), review.text()]), sep="\n", flush=True)
+                print("".join(f"{said}\n" for said in (place and f"{place} {review.line}", review.head(), review.text()) if said), end="", flush=True)
             if review.flaw:
                 print(name(), *filter(None, [place]), review.flaw, sep=": ", file=sys.stderr)
     if asked.html:

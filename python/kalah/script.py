@@ -62,7 +62,8 @@ def run(main: Callable[[], Any]) -> NoReturn:
     except BrokenPipeError:
         end_by(signal.SIGPIPE)
     except (Gone, OSError, ValueError) as why:
-        print(f"{name()}: {why}", file=sys.stderr, flush=True)
+        said = f"{why.filename}: {str(why.strerror).lower()}" if isinstance(why, OSError) and why.filename else why
+        print(f"{name()}: {said}", file=sys.stderr, flush=True)
         # What is still in a buffer can't be written either.
         os._exit(1 if isinstance(why, Fault) else 2)
 
@@ -77,6 +78,17 @@ def end_by(number: int) -> NoReturn:
 def say(why: object) -> None:
     """Says on standard error what has failed. On a terminal that ends what is shown of the lines that are done."""
     print("\r\033[K" * sys.stderr.isatty() + f"{name()}: {why}", file=sys.stderr, flush=True)
+
+
+def whole(least: int, most: int, what: str, step: int = 1) -> Callable[[str], int]:
+    """Returns what reads such a number."""
+
+    def read(text: str) -> int:
+        if not re.fullmatch("[0-9]{1,9}", text) or not least <= int(text) <= most or int(text) % step:
+            raise argparse.ArgumentTypeError(f"{text!r} is not {what}")
+        return int(text)
+
+    return read
 
 
 def position(text: str) -> str:

@@ -26,7 +26,7 @@ from typing import Any, NamedTuple, Optional, Union
 from . import rules
 from .answers import Fault, Gone, Over, Values, read_fault
 from .client import find
-from .script import arguments, lines_in, opened, say
+from .script import arguments, opened, say, whole
 
 HOUSES = range(1, 7)
 COLUMNS = ["position", "seeds", "margin", "best", *(f"house{house}" for house in HOUSES)]
@@ -117,7 +117,7 @@ def main() -> bool:
     parser.add_argument("--sqlite", metavar="DATABASE", help="a file of SQLite that gets the table, in place of standard output")
     parser.add_argument("--name", default="kalah", help="the name of the table in the database")
     parser.add_argument("--answers", metavar="ANSWERS", help="a file of answers, in place of those of kalah")
-    parser.add_argument("--workers", type=int, default=4, metavar="N", help="how many workers of kalah there are, 1 to 64")
+    parser.add_argument("--workers", type=whole(1, 64, "a number from 1 to 64"), default=4, metavar="N", help="how many workers of kalah there are, 1 to 64")
     parser.add_argument("file", metavar="FILE", help="has a position in each line")
     asked = parser.parse_args()
     data = read(asked.file)
