@@ -123,7 +123,10 @@ def check(lines: Iterable[str], position: Optional[str] = None, margin: str = ""
     is_whole = known.get((claim[0], not claim[1])) == -claim[2]
     proved = re.sub("at (least|most)", "has the margin", said(claim)) if is_whole else said(claim)
     if position is not None:
-        if lacking := [one for one in bounds(position, margin) if known.get(one[:2], one[2] - 1) < one[2]]:
+        claims = bounds(position, margin)
+        if not claims:
+            raise ValueError("LINE is a position, in quotes, and MARGIN a whole number")
+        if lacking := [one for one in claims if known.get(one[:2], one[2] - 1) < one[2]]:
             raise ValueError(f"no line proves {said(lacking[0])}; the last one's position: {proved}")
         proved = f"{position} has the margin {margin}"
     return f"{proved}: all {number} lines follow"

@@ -7,6 +7,7 @@ To have games whose values the reference finds, some trials lower the limit.
 import re
 import subprocess
 import sys
+from argparse import Namespace
 from collections import Counter
 from contextlib import contextmanager
 from itertools import groupby, product
@@ -27,6 +28,10 @@ from kalah.played import played_in, values_of
 BELOW, ABOVE, READ = 20_000, 2_000, 1_000
 GAMES = 20
 USUAL = "4,4,4,4,4,4/0 4,4,4,4,4,4/0"
+# Where searches of 3, 4 and 5 moves see different best houses.
+FAR = "0,2,2,3,2,1/0 4,0,1,0,0,3/0"
+# A start of 32 seeds, games from there of which the first moves are looked at, and positions that are found among many in vain.
+START, SAMPLES, VAIN = "4,4,4,4/0 4,4,4,4/0", 200, 3_000
 # The limit of the trials that lower it, and positions of as many seeds in which a guess is not the best house.
 LOW = 6
 GUESSED_WRONG = ["1,1,1/0 2,1,0/0", "2,1,0/0 0,1,2/0"]
@@ -82,7 +87,7 @@ def try_rules_above(draw):
 def try_faults(drawn):
     """A line has the fault that it has for `kalah`, but for the number of seeds."""
     lines = [drawn.faulty(drawn.card("faults", FAULTS)) for _ in range(READ)]
-    for line in [*lines, b"100,1/0 1,1/0", b"1,1/100 1,1/0", b"1" * 81, b"", b"1/0 1/0 E", b"01/0 1/0", b"1/0 1/0 "]:
+    for line in [*lines, b"100,1/0 1,1/0", b"1,1/100 1,1/0", b"1" * 81, b"", b"1/0 1/0 E", b"01/0 1/0", b"1/0 1/0 ", b"1/0 1/0\r", b"1/0 1/0 e\r", b"1/0 1/0\r\r"]:
         want = reference.read(line)
         try:
             rules.start(line.decode(errors="surrogateescape"))
@@ -123,6 +128,7 @@ def try_values(draw, solver, client):
         found = seen_of(position, rules.LOOKED_AHEAD)
         must(rules.seen_of_moves(rules.read(line), rules.LOOKED_AHEAD) == found, f"rules, {line}: it sees something other than {found}")
         must(rules.guess(line) == max(found, key=found.get), f"rules, {line}: it guesses {rules.guess(line)} of {found}")
+    must(rules.guess(FAR) == max(seen_of(reference.read(FAR.encode()), 4).items(), key=lambda one: one[1])[0], f"rules: {FAR}")
     for line, seeds in ((USUAL, 48), ("16,0/3 0,16/0 e", 32)):
         must(values_of(solver, Board(line)) is None, f"rules, {line}: it has values")
         must(rules.too_many(line) == f"{seeds} seeds in houses: no values above 31 seeds", f"rules, {line}: {rules.too_many(line)}")
@@ -303,6 +309,24 @@ def reachable(line):
     return {reference.text(position) for position in known}
 
 
+def try_good_games(draw):
+    """Three moves of four of a good game are the best that a search of 2 moves sees, and of a random game each is as likely. The first move
+    that puts a seed into a store is such a move, after which its player moves again."""
+    start = rules.read(START)
+    found = seen_of(start, 2)
+    best = max(found, key=found.get)
+    reached, word = reference.after(start, best)
+    must(word == "again" and rules.seeds_in(reached) == 31, f"positions: {START} is no start for this")
+    for kind, least, most in (("good", 0.62, 0.95), ("random", 0, 0.4)):
+        asked = Namespace(houses=4, seeds=[31], sample=1, games=kind, start=START, seed=None)
+        drawn = []
+        for _ in range(SAMPLES):
+            asked.seed = draw.randrange(10**9)
+            drawn += positions.sample(asked, lambda line: True)
+        share = drawn.count(reference.text(reached)) / SAMPLES
+        must(least <= share <= most, f"positions --games {kind}: {share} of the games begin with the best move")
+
+
 def try_drawn_positions(folder, draw):
     """Positions of a range, of games and of a small margin are what they are said to be."""
     lines = output(folder, "positions", 3, "4-6", "--sample", 90, "--seed", draw.randrange(1000))[0].splitlines()
@@ -315,6 +339,12 @@ def try_drawn_positions(folder, draw):
         sizes = {rules.seeds_in(rules.read(line)) for line in lines}
         is_right = len({*lines}) == 8 and sizes <= {3, 4, 5, 6} and {*lines} <= reachable(line)
         must(is_right and not any(reference.is_over(reference.read(one.encode())) for one in lines), f"positions {words}: {lines}")
+    words = 6, "8-14", "--games", "--sample", 5, "--seed", 1
+    one, again = (output(folder, "positions", *words)[0] for _ in range(2))
+    must(one == again != "", f"positions {words}: {one}{again}")
+    try_good_games(draw)
+    lines = output(folder, "positions", 6, 12, "--sample", VAIN, "--balanced", 0, "--seed", 1)[0].splitlines()
+    must(len({*lines}) == VAIN, f"positions --balanced 0: {len(lines)} of {VAIN}")
     start = rules.read(USUAL)
     for often, least, most in ((0, 8, 30), (1, 1, 1)):
         games = positions.of_games(draw, start, [40], often)

@@ -22,6 +22,8 @@ from kalah.game import Record
 
 CERTIFICATES, CUTS, GAMES = 100, 5, 30
 RULES = ["", " e"]
+# A claim of seven houses a side.
+SEVEN = "1,0,0,0,0,0,0/0 1,0,0,0,0,0,0/0 at least -9 house 1"
 HOSTILE = "</title><script>alert(1)</script>"
 # The most memory of a script, in kilobytes.
 KILOBYTES = 100_000
@@ -78,6 +80,8 @@ class CertificateTrials:
                 must(got == f"{line} has the margin {margin}: all {len(lines)} lines follow", f"certificate of {line}: {got}")
             self.change(line, margin, lines)
             self.cut(line, str(margin), lines)
+            for wrong in (f"{margin} house 1", f"{margin}\n", f"{margin} ", f"0{margin}"):
+                self.refuse(lines, "", line, wrong)
 
     def change(self, line, margin, lines):
         most, least = f"{line} at most {margin}", lines[-1]
@@ -88,7 +92,7 @@ class CertificateTrials:
         must(got == f"{weaker}: all {len(lines)} lines follow", f"check: bounds of {line} that don't meet: {got}")
         for root, stronger in ((most, f"{line} at most {margin - 1}"), (least, least.replace(f"least {margin}", f"least {margin + 1}"))):
             self.refuse([stronger if one == root else one for one in lines], "no line proves")
-        for bad in ("", least + " ", least.upper(), least.replace(" at least", ""), least.replace("/", ",0/", 1), f"0{least}", f"{least}0"):
+        for bad in (SEVEN, "", least + " ", least.upper(), least.replace(" at least", ""), least.replace("/", ",0/", 1), f"0{least}", f"{least}0"):
             self.refuse([*lines[:-1], bad, least], "has another form")
         inner = [number for number, one in enumerate(lines[:-1]) if one != most]
         if inner:
