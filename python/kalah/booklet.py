@@ -11,6 +11,7 @@ play. A line without such a position is named on standard error, and the status 
 from __future__ import annotations
 
 import html
+from collections import Counter
 from collections.abc import Iterator, Sequence
 from dataclasses import dataclass
 from itertools import groupby
@@ -33,7 +34,7 @@ PAPERS = {"A4": 262, "Letter": 244}
 STYLE = """.page {{ break-after: page; }}
 .page:last-child {{ break-after: auto; }}
 section {{ break-inside: avoid; margin: 0.6em 0; }}
-section svg {{ width: 100%; max-height: 44mm; }}
+section svg {{ width: 100%; max-height: 50mm; }}
 section p {{ margin: 0 0 0.3em; }}
 li {{ break-inside: avoid; margin-bottom: 0.6em; }}
 footer {{ text-align: center; color: #5a3a1e; }}
@@ -103,9 +104,10 @@ def parts(some: Sequence[One], size: int) -> Iterator[Sequence[One]]:
 def pages(title: str, puzzles: Sequence[Puzzle]) -> Iterator[str]:
     """Yields what stands on each page, but for its number."""
     rules = RULES + EMPTY * any("empty-capture" in one.question for one in puzzles)
-    counts = [f"{LEVELS[level]}: {sum(one.level == level for one in puzzles)} puzzles" for level in sorted({one.level for one in puzzles})]
+    counts = Counter(one.level for one in puzzles)
+    levels = "; ".join(f"{LEVELS[level]}: {count} puzzle{'s' * (count != 1)}" for level, count in sorted(counts.items()))
     intro = "South sits below and moves. Each player's houses have numbers, as that player counts them."
-    yield f"<h1>{html.escape(title)}</h1>\n<p>{intro} {'; '.join(counts)}.</p>\n{rules}"
+    yield f"<h1>{html.escape(title)}</h1>\n<p>{intro} {levels}.</p>\n{rules}"
     numbered = [*enumerate(puzzles, 1)]
     for some in parts(numbered, PUZZLES):
         yield "\n".join(

@@ -29,8 +29,8 @@ from typing import Any, Generic, Optional, TypeVar, Union
 from .answers import Best, Fault, Gone, Late, Move, Over, Steps, Values, one_line, read_fault, read_moves
 
 OLDEST = 1, 2, 0
-# An answer has fewer bytes.
-LONGEST = 1000
+# An answer has fewer bytes, and what `kalah` prints of one position.
+LONGEST, MOST_PRINTED = 1000, 1 << 20
 
 Answer = TypeVar("Answer")
 Kind = TypeVar("Kind", Best, Values, Steps)
@@ -151,17 +151,30 @@ def find(program: Optional[str] = None) -> str:
 def printed(words: list[str], timeout: Optional[float]) -> str:
     """Returns what `kalah` prints for these words. Fails with `Fault` if it reports one, and with `Gone` if it fails."""
     try:
-        done = subprocess.run(words, stdin=subprocess.DEVNULL, capture_output=True, timeout=timeout)
-    except subprocess.TimeoutExpired:
-        raise Late(f"kalah has not answered in {timeout} seconds") from None
+        with subprocess.Popen(words, stdin=subprocess.DEVNULL, stdout=subprocess.PIPE, stderr=subprocess.STDOUT) as process:
+            assert process.stdout
+            timer = threading.Timer(threading.TIMEOUT_MAX if timeout is None else timeout, process.kill)
+            timer.start()
+            try:
+                data = process.stdout.read(MOST_PRINTED)
+                if len(data) < MOST_PRINTED:
+                    process.wait()
+            finally:
+                is_late = not timer.is_alive()
+                timer.cancel()
+                process.kill()
     except OSError as why:
         raise Gone(str(why)) from None
-    out, said = done.stdout.decode(errors="backslashreplace"), done.stderr.decode(errors="backslashreplace").strip()
-    if done.returncode == 1 and (fault := read_fault(said)):
+    said = data.decode(errors="backslashreplace")
+    if is_late:
+        raise Late(f"kalah has not answered in {timeout} seconds")
+    if len(data) == MOST_PRINTED:
+        raise Gone(f"{words[0]} prints more than kalah ever does")
+    if process.returncode == 1 and (fault := read_fault(said.strip())):
         raise fault
-    if done.returncode:
-        raise Gone(said or f"{words[0]} ends with status {done.returncode}")
-    return out
+    if process.returncode:
+        raise Gone(said.strip()[:LONGEST] or f"{words[0]} ends with status {process.returncode}")
+    return said
 
 
 def exchange(process: subprocess.Popen[bytes], question: bytes, timeout: Optional[float], name: str) -> str:

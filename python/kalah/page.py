@@ -28,11 +28,12 @@ svg {{ max-width: 100%; height: auto; }}
 </html>"""
 # A frame lies within its move, so that no edge of the paper cuts it.
 STYLE = """ol.moves { list-style: none; padding: 0; margin-top: 1.5em; display: flex; flex-wrap: wrap; gap: 1em; }
-ol.moves li { break-inside: avoid; box-sizing: border-box; width: 22em; max-width: 100%; padding: 6px; border: 3px solid transparent; }
+ol.moves li { break-inside: avoid; box-sizing: border-box; width: 20.5em; max-width: 100%; padding: 6px; border: 3px solid transparent; }
 p { margin: 0.4em 0 0; }
 .loss { color: #b00020; }
 ol.moves li.worst { border-color: #b00020; border-radius: 6px; }
-.curve { overflow: visible; }"""
+.curve { overflow: visible; }
+@media print { body { margin: 0; padding: 0; } }"""
 
 
 def page(title: str, body: str, style: str = STYLE) -> str:
