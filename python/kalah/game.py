@@ -1,7 +1,7 @@
 """Games: who moves, what was moved, and how games are written down.
 
 A record has the moves by house, South's as letters from A to F and North's from a to f, or all as numbers: `1. CF ba 2. D` and
-`1. 3-6 2-1 2. 4` are one game. The numbers of moves, `1.` or beside letters also `1`, commas and `{comments}` are passed over. `1...` says
+`1. 3-6 2-1 2. 4` are one game. The numbers of moves, `1.` or before letters also `1`, commas and `{comments}` are passed over. `1...` says
 that North moves. `C4` is house C, which has 4 seeds or is the fourth.
 """
 
@@ -22,6 +22,7 @@ USUAL = Board.start()
 POSITION = re.compile("(?<![0-9,])[0-9]{1,3}(?:,[0-9]{1,3}){0,6}/[0-9]{1,3} [0-9]{1,3}(?:,[0-9]{1,3}){0,6}/[0-9]{1,3}(?: e(?![^ ]))?")
 ADDRESS = re.compile("https?://[^ ]*")
 TAG = re.compile(r'\[(\w+) "([^"]*)"\]|(\w+): *(.*)')
+LETTERED = re.compile("[A-Fa-f]+|[A-Fa-f][0-9]+")
 NUMBER_OF_MOVE = re.compile(r"[0-9]+(\.{3}|…|[.)]*)")
 RESULT = re.compile(r"1-0|0-1|1/2-1/2|\*")
 
@@ -174,10 +175,10 @@ def split(text: str) -> tuple[str, str]:
 def written(text: str) -> Iterator[Written]:
     """Yields the moves of a record."""
     words = re.sub(r"\{[^}]*\}|,", " ", re.sub(r"(?<!\S)([0-9]+(?:\.{1,3}|…|\)))", r"\1 ", text)).split()
-    has_letters, player = any(re.fullmatch("[A-Fa-f]+|[A-Fa-f][0-9]+", word) for word in words), None
-    for word in words:
+    player = None
+    for word, following in zip(words, [*words[1:], ""]):
         number = NUMBER_OF_MOVE.fullmatch(word)
-        if number and (number[1] or has_letters):
+        if number and (number[1] or LETTERED.fullmatch(following)):
             player = 1 if number[1] in ("...", "…") else None
             continue
         yield from moves_of(word, player)
