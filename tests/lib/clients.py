@@ -115,8 +115,8 @@ class Wrong(Exception):
 
 
 def command(name):
-    """Returns the words that run a tool, or a script of the examples."""
-    return [sys.executable, "-B", *([str(EXAMPLES / name)] if name.endswith(".py") else ["-m", "kalah", name])]
+    """Returns the words that run a tool, or a script of the examples, with warnings as errors."""
+    return [sys.executable, "-B", "-W", "error", *([str(EXAMPLES / name)] if name.endswith(".py") else ["-m", "kalah", name])]
 
 
 def text_of(answer):
