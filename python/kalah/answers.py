@@ -139,8 +139,8 @@ def read_fault(text: str) -> Optional[Fault]:
 
 
 def one_line(line: str) -> str:
-    """Returns a line that may be asked: a line feed would begin another question, and no argument has a NUL. Fails with TypeError if it is no
-    text, and with ValueError if it isn't one line."""
+    """Returns a line that may be asked: a line feed would begin another question, and no argument has a NUL. Fails with TypeError if it is
+    no text, and with ValueError if it isn't one line."""
     if not isinstance(line, str):
         raise TypeError(f"a position is a line of text, not {type(line).__name__}")
     if re.search("[\n\0\ud800-\udfff]", line):

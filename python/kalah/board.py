@@ -86,8 +86,8 @@ class Board:
         return rules.final_margin(self._position) if self.is_over else None
 
     def play(self, house: int) -> tuple[Board, bool]:
-        """Returns the board after the move of a house, and whether the mover moves again. If the game is over then, the board is seen by the
-        mover, as `kalah moves` prints it. Fails with ValueError if the house can't be moved."""
+        """Returns the board after the move of a house, and whether the mover moves again. If the game is over then, the board is seen by
+        the mover, as `kalah moves` prints it. Fails with ValueError if the house can't be moved."""
         reached, word = self.after(house)
         return reached, word == "again"
 

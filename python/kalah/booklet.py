@@ -128,8 +128,7 @@ def main() -> bool:
     with Solver() as solver:
         made, has_failed = of_lines(asked.file, lambda line: puzzle(line, solver))
     puzzles = sorted(made, key=lambda one: one.level)
-    body = "\n".join(
-        f'<div class="page">\n<div>\n{text}\n</div>\n<footer>{number}</footer>\n</div>' for number, text in enumerate(pages(asked.title, puzzles), 1)
-    )
+    numbered = enumerate(pages(asked.title, puzzles), 1)
+    body = "\n".join(f'<div class="page">\n<div>\n{text}\n</div>\n<footer>{number}</footer>\n</div>' for number, text in numbered)
     print(page(asked.title, body, STYLE.format(paper=asked.paper, high=PAPERS[asked.paper])))
     return has_failed

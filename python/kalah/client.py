@@ -38,8 +38,8 @@ Self = TypeVar("Self", bound="Run[Any]")
 
 
 class Run(Generic[Answer]):
-    """A program that answers each line with a line, and is started if there is none. A question fails if the answer takes more than `timeout`
-    seconds; if that is None, it never does."""
+    """A program that answers each line with a line, and is started if there is none. A question fails if the answer takes more than
+    `timeout` seconds; if that is None, it never does."""
 
     name = "kalah"
 

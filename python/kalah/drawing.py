@@ -1,5 +1,5 @@
-"""Draws a board in SVG, or in text. In SVG each house is a circle with its number of seeds, and a store stands at each end. The small numbers at the edges are
-those of the houses, as their owner counts them, or stand above what the move of each house is worth.
+"""Draws a board in SVG, or in text. In SVG each house is a circle with its number of seeds, and a store stands at each end. The small
+numbers at the edges are those of the houses, as their owner counts them, or stand above what the move of each house is worth.
 """
 
 from __future__ import annotations
@@ -51,8 +51,8 @@ def svg(
     title: str = "A position of Kalah",
     values: Optional[Mapping[int, int]] = None,
 ) -> str:
-    """The board with these sides. The marked house is one of ("below", H) and ("above", H); the values are those of houses below. The houses
-    above go from right to left, as that player sees them."""
+    """The board with these sides. The marked house is one of ("below", H) and ("above", H); the values are those of houses below. The
+    houses above go from right to left, as that player sees them."""
     m, values = len(below.houses), values or {}
     width, high = 2 * MARGIN + 2 * STORE + CELL * m, 2 * EDGE + 2 * CELL
     height = high + VALUES * bool(values)

@@ -47,8 +47,8 @@ class Game:
 
     @classmethod
     def read(cls, record: str) -> Game:
-        """Returns the game of a record, which begins with a position, or else at the usual board. Fails with ValueError at a move that can't
-        be made, or is another player's."""
+        """Returns the game of a record, which begins with a position, or else at the usual board. Fails with ValueError at a move that
+        can't be made, or is another player's."""
         start, moves = split(record)
         game = cls(start)
         for move in written(moves):
@@ -119,7 +119,8 @@ class Game:
         if move.house not in board.legal:
             raise ValueError(f"move {number}: {self.mover} can't move house {move.word}")
         if move.beside not in (None, move.house, board.houses[0][move.house - 1]):
-            raise ValueError(f"move {number}: house {move.word[0]} has {board.houses[0][move.house - 1]} seeds, and its number is {move.house}")
+            seeds = board.houses[0][move.house - 1]
+            raise ValueError(f"move {number}: house {move.word[0]} has {seeds} seeds, and its number is {move.house}")
         self.push(move.house)
 
     def record(self, numbers: bool = False) -> str:
@@ -186,7 +187,9 @@ def written(text: str) -> Iterator[Written]:
 
 
 def moves_of(word: str, player: Optional[int]) -> Iterator[Written]:
-    """Yields the moves of a turn, which is written as one word."""
+    """Yields the moves of a turn, which is written as one word. Fails with ValueError if a number before it is of the other player."""
+    if player is not None and LETTERED.fullmatch(word) and word[0].islower() != player:
+        raise ValueError(f"{word} is a move of {PLAYERS[1 - player]}, and `...` before it says {PLAYERS[player]}")
     if beside := re.fullmatch("([A-Fa-f])([0-9]+)", word):
         yield Written(word, number_of(beside[1]), int(beside[1].islower()), int(beside[2]))
     elif re.fullmatch("[A-Fa-f]+", word):
@@ -213,8 +216,8 @@ class Record:
 
 
 def records(lines: Iterable[str]) -> Iterator[Record]:
-    """Yields the games of a file: each is a line, or, below tags as `[South "Ada"]` or `Date: 2026-11-28`, all lines up to the next tag. The
-    tag Position has where that game starts."""
+    """Yields the games of a file: each is a line, or, below tags as `[South "Ada"]` or `Date: 2026-11-28`, all lines up to the next tag.
+    The tag Position has where that game starts."""
     tags: dict[str, str] = {}
     moves: list[str] = []
     first = 0
@@ -232,7 +235,7 @@ def records(lines: Iterable[str]) -> Iterator[Record]:
                 tags, moves, first = {}, [], number
             tags[tag[1] or tag[3]] = tag[2] if tag[1] else tag[4]
         elif tags:
-            moves += [RESULT.sub("", line) if RESULT.fullmatch(line.split()[-1]) else line] if line.strip() else []
+            moves += [word for word in line.split() if not RESULT.fullmatch(word)]
         elif line.strip():
             yield Record(number, {}, line.strip())
     yield from made()

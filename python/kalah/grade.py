@@ -9,8 +9,8 @@ would have on average, and the margin that the moves lose on average, with an er
 choice: those in which some move is not a best one. The ten worst moves follow. CSV gets a row for each position.
 
 An answer that is illegal, missing or late is named on standard error. It counts as no best move, and the run goes on. So it does after a
-line with a fault, or of more than 31 seeds. In both cases the status is 1. A terminal shows how many lines are done. The engine and all that
-it started end with this tool. It needs `kalah`, as `help(kalah)` says.
+line with a fault, or of more than 31 seeds. In both cases the status is 1. A terminal shows how many lines are done. The engine and all
+that it started end with this tool. It needs `kalah`, as `help(kalah)` says.
 """
 
 from __future__ import annotations
@@ -35,7 +35,8 @@ COLUMNS = ["line", "position", "seeds", "moves", "house", "value", "best", "marg
 
 
 class Graded(NamedTuple):
-    """What is known of a position: its line, by number and text, the seeds in houses, the values of its moves, and the house that was named."""
+    """What is known of a position: its line, by number and text, the seeds in houses, the values of its moves, and the house that was
+    named."""
 
     number: int
     line: str

@@ -23,7 +23,8 @@ from .solver import Solver
 
 
 def best_game(solver: Solver, line: str, first: Optional[int]) -> Game:
-    """Returns the game of best moves, or of those that seem best if there are too many seeds. Fails with ValueError if it can't begin so."""
+    """Returns the game of best moves, or of those that seem best if there are too many seeds. Fails with ValueError if it can't begin
+    so."""
     game = Game(line)
     if first is not None:
         game.push(game.board.checked(first))

@@ -39,8 +39,8 @@ DECIDED = log(0.95 / 0.05)
 
 
 class Played(NamedTuple):
-    """A game: the houses that were moved, the margin of the player who began, and who lost it by no answer, and why. The margin or the loser
-    is None."""
+    """A game: the houses that were moved, the margin of the player who began, and who lost it by no answer, and why. The margin or the
+    loser is None."""
 
     houses: list[int]
     margin: Optional[int]
@@ -137,8 +137,8 @@ def counts(scores: list[float]) -> str:
 
 
 def ratio(pairs: list[float], elo: list[float]) -> float:
-    """Returns the log-likelihood ratio of the second of two differences in Elo to the first, by the normal approximation. Half a pair of each
-    score is added, so that a few equal pairs decide nothing."""
+    """Returns the log-likelihood ratio of the second of two differences in Elo to the first, by the normal approximation. Half a pair of
+    each score is added, so that a few equal pairs decide nothing."""
     first, second = (1 / (1 + 10 ** (-one / 400)) for one in elo)
     seen = Counter(pairs)
     weights = {score / 4: seen[score / 4] + 0.5 for score in range(5)}

@@ -18,8 +18,8 @@ UNPROVED = f"With more than {rules.MOST_SEEDS} seeds in houses nothing is proved
 
 @dataclass(frozen=True)
 class Played:
-    """A move: the board and the player before it, its house, `again`, `turn` or `over`, and the values of all moves there; None if there are
-    too many seeds."""
+    """A move: the board and the player before it, its house, `again`, `turn` or `over`, and the values of all moves there; None if there
+    are too many seeds."""
 
     board: Board
     player: int

@@ -128,7 +128,8 @@ def sample(asked: argparse.Namespace, is_wanted: Callable[[str], bool]) -> list[
     """Returns the positions that are drawn."""
     chance, count = random.Random(asked.seed), sum(len(Positions(asked.houses, seeds)) for seeds in asked.seeds)
     if asked.games:
-        lines: Iterator[Optional[str]] = of_games(chance, start_of(asked.start, asked.houses, asked.seeds), asked.seeds, GOOD if asked.games == "good" else 0)
+        start, often = start_of(asked.start, asked.houses, asked.seeds), GOOD if asked.games == "good" else 0
+        lines: Iterator[Optional[str]] = of_games(chance, start, asked.seeds, often)
     elif asked.sample > count:
         raise ValueError(f"there are {count} positions")
     else:

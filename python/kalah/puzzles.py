@@ -2,9 +2,9 @@
 
     python3 -m kalah puzzles [--depth N] [--again] [--greedy] FILE
 
-Each line has the level, 1 to 3, the number of moves that a plain search must look ahead to find the winning move and to stay with it, by how
-much the best other move falls short, the position, and what its moves are worth. A plain search takes the stores for the margin where it
-stops. It looks at most N moves ahead, or 8: a position in which the last search is wrong is left out. The level adds that number and the
+Each line has the level, 1 to 3, the number of moves that a plain search must look ahead to find the winning move and to stay with it, by
+how much the best other move falls short, the position, and what its moves are worth. A plain search takes the stores for the margin where
+it stops. It looks at most N moves ahead, or 8: a position in which the last search is wrong is left out. The level adds that number and the
 number of moves that lose: 1 up to a sum of 5, 2 up to 8, and 3 above.
 
 What anybody tries first is no puzzle: the winning move must not be one after which the player moves again, but with --again; nor the one
@@ -29,7 +29,8 @@ LEVELS = [5, 8]
 
 
 class Puzzle(NamedTuple):
-    """A puzzle, in the order in which they are printed: its level, how far a search must look, and by how much the other moves fall short."""
+    """A puzzle, in the order in which they are printed: its level, how far a search must look, and by how much the other moves fall
+    short."""
 
     level: int
     far: int
@@ -89,7 +90,7 @@ def puzzle_of(line: str, client: Client[Values], most: int, with_again: bool, wi
 
 def main() -> bool:
     parser = arguments(__doc__)
-    parser.add_argument("--depth", type=int, choices=range(1, 41), default=DEPTH, metavar="N", help="the depth of the search, 1 to 40 moves")
+    parser.add_argument("--depth", type=int, choices=range(1, 41), default=DEPTH, metavar="N", help="how far the search looks (8)")
     parser.add_argument("--again", action="store_true", help="with winning moves after which the player moves again")
     parser.add_argument("--greedy", action="store_true", help="with winning moves that take most at once")
     parser.add_argument("file", metavar="FILE", help="a file of positions")

@@ -4,9 +4,9 @@
     python3 -m kalah review [--html] --games FILE
 
 LINE is the position at the start, in which South moves; without it that is the usual board, of six houses with 4 seeds in each. A MOVE is
-one or more houses, as they are written down: `C` or `3` for South, `c` or `3` for North; `CF ba` and `3-6 2-1` for turns of two moves; `C4`,
-where house C has 4 seeds. An `e` right after LINE names the rule, so a first move there is `E` or 5. Commas and the numbers of moves, `1.` or
-before letters also `1`, are passed over; `1...` says that North moves. The address of the page of `web` is a game, too.
+one or more houses, as they are written down: `C` or `3` for South, `c` or `3` for North; `CF ba` and `3-6 2-1` for turns of two moves;
+`C4`, where house C has 4 seeds. An `e` right after LINE names the rule, so a first move there is `E` or 5. Commas and the numbers of moves,
+`1.` or before letters also `1`, are passed over; `1...` says that North moves. The address of the page of `web` is a game, too.
 
 FILE has a game in each line, in the same form; or above each game tags, as `[South "Ada"]` or `Date: 2026-11-28`, of which Position has
 LINE. With --html the games are a page to print. It marks the worst move of each player, and a curve shows the value through the game. There
@@ -157,7 +157,8 @@ def main() -> bool:
             reviews.append(review)
             place = f"{asked.games}:{record.line}" if asked.games else ""
             if not asked.html:
-                print("".join(f"{said}\n" for said in (place and f"{place} {review.line}", review.head(), review.text()) if said), end="", flush=True)
+                texts = filter(None, [place and f"{place} {review.line}", review.head(), review.text()])
+                print("".join(f"{text}\n" for text in texts), end="", flush=True)
             if review.flaw:
                 print(name(), *filter(None, [place]), review.flaw, sep=": ", file=sys.stderr)
     if asked.html:

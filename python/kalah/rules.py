@@ -137,8 +137,8 @@ def with_stores(position: Position, own: int, other: int) -> Position:
 
 
 def ask(client: Client[Kind], line: str) -> Union[Kind, Over]:
-    """Returns the answer of a client, which is asked with empty stores, as a store may have three digits: what was in them is added. Fails as
-    `read` and the client do, and with `TooMany` if there are too many seeds."""
+    """Returns the answer of a client, which is asked with empty stores, as a store may have three digits: what was in them is added. Fails
+    as `read` and the client do, and with `TooMany` if there are too many seeds."""
     position = read(line)
     if is_over(position):
         return Over(final_margin(position))

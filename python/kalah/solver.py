@@ -67,8 +67,8 @@ class Solver:
         return rules.ask(self._steps, line_of(board))
 
     def line(self, board: Position, first: Optional[int] = None) -> list[Move]:
-        """Returns the moves of best play, of which there are none if the game is over. With `first` the game begins with that house. Fails with
-        ValueError if it can't be moved."""
+        """Returns the moves of best play, of which there are none if the game is over. With `first` the game begins with that house. Fails
+        with ValueError if it can't be moved."""
         start = rules.read(line_of(board))
         if first is not None and first not in rules.legal(start):
             raise ValueError(f"house {first} can't be moved")

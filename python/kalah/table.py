@@ -5,9 +5,9 @@
     python3 -m kalah table --sqlite DATABASE [--name NAME] FILE
 
 The columns are position, seeds (in houses), margin, best, and house1 to house6; where there is nothing to say, they are empty. With --json
-each line of FILE gets an object in one line: position, seeds, margin, house and values, by house; or position and fault. In the database the
-table NAME, or `kalah`, is made anew. With --answers ANSWERS the answers are read from there, in the form of `kalah values`, as another engine
-may have printed them. A line without values, such as one with a fault, has no row; standard error has it, and the status is 1.
+each line of FILE gets an object in one line: position, seeds, margin, house and values, by house; or position and fault. In the database
+the table NAME, or `kalah`, is made anew. With --answers ANSWERS the answers are read from there, in the form of `kalah values`, as another
+engine may have printed them. A line without values, such as one with a fault, has no row; standard error has it, and the status is 1.
 
 It needs `kalah`, as `help(kalah)` says, except with --answers.
 """
@@ -21,6 +21,7 @@ import sqlite3
 import subprocess
 import sys
 from collections.abc import Iterable, Iterator, Sequence
+from contextlib import closing
 from typing import Any, NamedTuple, Optional, Union
 
 from . import rules
@@ -103,7 +104,7 @@ def store(found: Iterable[list[Any]], database: str, name: str) -> None:
     table = '"' + name.replace('"', '""') + '"'
     columns = ", ".join([f"{COLUMNS[0]} TEXT", *(f"{column} INTEGER" for column in COLUMNS[1:])])
     try:
-        with sqlite3.connect(database) as connection:
+        with closing(sqlite3.connect(database)) as connection, connection:
             connection.execute(f"DROP TABLE IF EXISTS {table}")
             connection.execute(f"CREATE TABLE {table} ({columns})")
             connection.executemany(f"INSERT INTO {table} VALUES ({', '.join('?' * len(COLUMNS))})", found)
@@ -117,7 +118,7 @@ def main() -> bool:
     parser.add_argument("--sqlite", metavar="DATABASE", help="a file of SQLite that gets the table, in place of standard output")
     parser.add_argument("--name", default="kalah", help="the name of the table in the database")
     parser.add_argument("--answers", metavar="ANSWERS", help="a file of answers, in place of those of kalah")
-    parser.add_argument("--workers", type=whole(1, 64, "a number from 1 to 64"), default=4, metavar="N", help="how many workers of kalah there are, 1 to 64")
+    parser.add_argument("--workers", type=whole(1, 64, "a number from 1 to 64"), default=4, metavar="N", help="workers of kalah (4)")
     parser.add_argument("file", metavar="FILE", help="has a position in each line")
     asked = parser.parse_args()
     data = read(asked.file)

@@ -146,7 +146,8 @@ class GradeTrials:
         must(rows == [[*map(str, row)] for row in want], f"grade --csv: {rows} in place of {want}")
         first = f"a b.txt: {kinds['a choice']} positions with a choice, {kinds['all best']} in which all moves are best, "
         must(out.splitlines()[0] == f"{first}{kinds['one move']} with one move, 1 over", f"grade: {out} in place of {first}")
-        table = [line.replace(" %", "").replace("± ", "").split() for line in out.partition("worst\n")[2].partition("\n\n")[0].splitlines()]
+        rows = out.partition("worst\n")[2].partition("\n\n")[0].splitlines()
+        table = [row.replace(" %", "").replace("± ", "").split() for row in rows]
         want = [self.row(name, choices) for name in [*sorted({seeds for seeds, *_ in choices}), "all"]]
         must(table == want, f"grade: {out} in place of {want}")
         worst = sorted((-lost, number) for _, lost, number, _ in choices if lost)[:10]
@@ -157,8 +158,8 @@ class GradeTrials:
             position, values = reference.read(lines[number - 1].encode()), values_of(lines[number - 1])
             best, house = reference.best_play(position)[1], int(words[number - 1])
             said = [f"house {one} is worth " + f"{values[one]:+d}".replace("+0", "0") for one in (house, best)]
-            is_right = "\n".join(block[1:4]) + "\n" == reference.picture(position) and block[4] == f"{said[0]}, which loses {-lost}; {said[1]}"
-            must(is_right, f"grade: {block}")
+            must("\n".join(block[1:4]) + "\n" == reference.picture(position), f"grade: {block}")
+            must(block[4] == f"{said[0]}, which loses {-lost}; {said[1]}", f"grade: {block}")
 
     def row(self, name, choices):
         """A row of the table, as words: of a number of seeds, or of all."""
@@ -265,7 +266,8 @@ class MatchTrials:
         """Games in parallel, and more of them than two a position, are those of one by one."""
         (self.folder / "a b.txt").write_text("\n".join(lines))
         out, _, record = self.match(self.command(0), self.command(-1))
-        for options, want in ((["--concurrency", 4], record), (["--games", 2 * len(lines) + 4], record + record[:4]), (["--games", 4], record[:4])):
+        more = ["--games", 2 * len(lines) + 4], record + record[:4]
+        for options, want in ((["--concurrency", 4], record), more, (["--games", 4], record[:4])):
             words = [self.command(0), self.command(-1), "--positions", "a b.txt", "--record", "record", *options]
             again, _ = output(self.folder, "match", *words)
             got = (self.folder / "record").read_text().splitlines()
@@ -305,8 +307,10 @@ class MatchTrials:
         (self.folder / "hangs.sh").write_text("read -r line; echo 2; read -r line; echo 1; read -r line; sleep 600\n")
         words = [*command("match"), "sh hangs.sh", self.command(0), "--positions", "a b.txt", "--record", "record", "--timeout", "500"]
         with subprocess.Popen(words, cwd=self.folder, stdout=subprocess.DEVNULL, stderr=subprocess.DEVNULL) as running:
-            soon(lambda: (self.folder / "record").exists() and (self.folder / "record").read_text() == "1,1/0 1,1/0 2 1\n")
-            running.terminate()
+            try:
+                soon(lambda: (self.folder / "record").exists() and (self.folder / "record").read_text() == "1,1/0 1,1/0 2 1\n")
+            finally:
+                running.kill()
 
 
 class EndTrials:

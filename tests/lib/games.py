@@ -87,7 +87,8 @@ def try_rules_above(draw):
 def try_faults(drawn):
     """A line has the fault that it has for `kalah`, but for the number of seeds."""
     lines = [drawn.faulty(drawn.card("faults", FAULTS)) for _ in range(READ)]
-    for line in [*lines, b"100,1/0 1,1/0", b"1,1/100 1,1/0", b"1" * 81, b"", b"1/0 1/0 E", b"01/0 1/0", b"1/0 1/0 ", b"1/0 1/0\r", b"1/0 1/0 e\r", b"1/0 1/0\r\r"]:
+    ends = [b"1/0 1/0 E", b"1/0 1/0 ", b"1/0 1/0\r", b"1/0 1/0 e\r", b"1/0 1/0\r\r"]
+    for line in [*lines, *ends, b"100,1/0 1,1/0", b"1,1/100 1,1/0", b"1" * 81, b"", b"01/0 1/0"]:
         want = reference.read(line)
         try:
             rules.start(line.decode(errors="surrogateescape"))
@@ -172,8 +173,8 @@ class GameTrials:
         return review.Review(Record(1, {}, text), self.solver)
 
     def review(self, line):
-        """Moves have values as soon as the seeds fit, and the curve has each of these, as South sees it. Of the others one sentence says why
-        they have none."""
+        """Moves have values as soon as the seeds fit, and the curve has each of these, as South sees it. Of the others one sentence says
+        why they have none."""
         moved, margin = drawn_game(self.draw, line)
         game = self.reviewed(" ".join([line, *(str(house) for _, house, _ in moved)]))
         must(len(game.played) == len(moved) and game.game.is_over, f"review: {line} {moved}: {game.flaw}")
@@ -191,14 +192,16 @@ class GameTrials:
         self.curve(game, course)
         first, page = game.text().splitlines()[0], game.html()
         want = f"Moves 1 to {without}: no value above {LOW} seeds." if without > 1 else f"Move 1: no value above {LOW} seeds."
-        must((first == want) == (want in page) == ("nothing is proved" in page) == bool(without), f"review, {line}: {first} in place of {want}")
+        is_said = (first == want) == (want in page) == ("nothing is proved" in page) == bool(without)
+        must(is_said, f"review, {line}: {first} in place of {want}")
 
     def curve(self, game, course):
         """The points of the curve rise with their values, and stand in the order of the moves."""
         drawn = minidom.parseString(re.search('<svg class="curve".*?</svg>', game.html(), re.DOTALL)[0])
         points = drawn.getElementsByTagName("circle")
         said = [point.getElementsByTagName("title")[0].firstChild.data for point in points]
-        want = [f"after {number} move{'s' * (number != 1)} " + f"{value:+d}".replace("+0", "0") + f"; the next one loses {lost}" * (lost > 0) for number, value, lost in course]
+        want = [f"after {number} move{'s' * (number != 1)} " + f"{value:+d}".replace("+0", "0") for number, value, _ in course]
+        want = [one + f"; the next one loses {lost}" * (lost > 0) for one, (_, _, lost) in zip(want, course)]
         must(said == want, f"review: the curve says {said} in place of {want}")
         placed = [(float(point.getAttribute("cx")), float(point.getAttribute("cy"))) for point in points]
         line = drawn.getElementsByTagName("polyline")[0].getAttribute("points")
@@ -258,7 +261,8 @@ class GameTrials:
         mover, other = ["South", "North"][:: -1 if players[place] else 1]
         for text, word in zip(wrong[: 1 if players[place] else 2], (swapped[-1], str(houses[place]))):
             want = f"move {place + 1}: {mover} moves, and {word} is a move of {other}"
-            must(self.reviewed(f"{line} {text}").flaw == want, f"review, {line} {text}: {self.reviewed(f'{line} {text}').flaw} in place of {want}")
+            flaw = self.reviewed(f"{line} {text}").flaw
+            must(flaw == want, f"review, {line} {text}: {flaw} in place of {want}")
 
 
 def output(folder, name, *words, text="", status=0):

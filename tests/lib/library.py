@@ -60,7 +60,7 @@ def try_boards(draw):
         position = position_above(draw) if number % 2 else reference.read(drawn_line(draw, 6, 31).encode())
         line = reference.text(position)
         board, same = Board(line), Board(line + "\r")
-        must(str(board) == line and board == same and hash(board) == hash(same) and eval(repr(board)) == board, f"Board: {board!r} of {line}")
+        must(str(board) == line and board == same and hash(board) == hash(same) and eval(repr(board)) == board, f"Board: {board!r}")
         must(pickle.loads(pickle.dumps(board)) == copy.deepcopy(board) == board, f"Board: {line} is not copied")
         must(board.houses == tuple(side.houses for side in position[:2]), f"Board: {line} has the houses {board.houses}")
         must(board.stores == tuple(side.store for side in position[:2]), f"Board: {line} has the stores {board.stores}")
@@ -72,7 +72,7 @@ def try_boards(draw):
                 reached, word = reference.after(position, house)
                 got = board.play(house)
                 must(got == (Board(reference.text(reached)), word == "again"), f"Board: {line}, house {house}: {got}")
-                must(not got[0].is_over or got[0].margin == reference.best_play(reached)[0], f"Board: {line}, house {house}: {got[0].margin}")
+                must(not got[0].is_over or got[0].margin == reference.best_play(reached)[0], f"Board: {line}, {house}: {got[0].margin}")
             else:
                 refuses(ValueError, lambda: board.play(house), f"house {house} can't be moved")
     must(Board.start() == Board("4,4,4,4,4,4/0 4,4,4,4,4,4/0") and str(Board.start(2, 1, "empty-capture")) == f"{LINE} e", "Board.start")
@@ -94,7 +94,7 @@ def try_pictures():
     must(sorted(texts[1]) == sorted([*texts[0], "-2", "0", "+4"]), f"Board: its picture has {texts}")
     placed = [float(re.search(f'x="([0-9.]+)"[^>]*>{re.escape(value)}<', valued)[1]) for value in ("-2", "0", "+4")]
     must(placed == sorted(placed) and len({*placed}) == 3, f"Board: values at {placed}")
-    must(re.search('font-weight="bold">([^<]+)<', valued)[1] == "+4" and board.with_values(Values({1: 1})) == board, "Board: the best value")
+    must(re.search('font-weight="bold">([^<]+)<', valued)[1] == "+4" and board.with_values({1: 1}) == board, "Board: the best value")
 
 
 def try_game_values(draw):
@@ -122,6 +122,8 @@ def try_game_values(draw):
         ("C F B", "move 3: North moves, and B is a move of South"),
         ("CFD", "move 3: North moves, and D is a move of South"),
         ("3-6-2 x", "move 4: North can't move house x"),
+        ("1. C 1... F", "F is a move of South, and `...` before it says North"),
+        ("1. C F 1... B", "B is a move of South, and `...` before it says North"),
         ("C5", "move 1: house C has 4 seeds, and its number is 3"),
         ("1,1/0 1,1/0 1. 2 1... 1", "move 2: South moves, and 1 is a move of North"),
     ):
@@ -190,14 +192,15 @@ def try_many(draw, program, folder):
 def try_ends(program):
     """Nothing is left and nothing warned of when a solver is dropped; and Ctrl-C ends all processes of a batch."""
     environment = {**os.environ, "KALAH": str(program)}
-    done = subprocess.run([sys.executable, "-B", "-W", "error", "-X", "dev", "-c", DROPPED], env=environment, capture_output=True, text=True)
+    words = [sys.executable, "-B", "-W", "error", "-X", "dev", "-c", DROPPED]
+    done = subprocess.run(words, env=environment, capture_output=True, text=True)
     must((done.stdout, done.stderr) == ("done\n", ""), f"Python: a solver that is dropped: {done}")
     with tempfile.TemporaryDirectory() as folder:
         # The program under a name that no other process has.
         own = Path(folder) / "kalah-of-this-trial"
         own.symlink_to(program)
-        how = {"env": {**environment, "KALAH": str(own)}, "stdout": subprocess.PIPE, "stderr": subprocess.DEVNULL, "start_new_session": True}
-        with subprocess.Popen([sys.executable, "-B", "-c", ENDLESS], **how) as running:
+        how = {"env": {**environment, "KALAH": str(own)}, "stdout": subprocess.PIPE, "stderr": subprocess.DEVNULL}
+        with subprocess.Popen([sys.executable, "-B", "-c", ENDLESS], start_new_session=True, **how) as running:
             must(running.stdout.readline(), "solve_many: no answer")
             running.send_signal(signal.SIGINT)
             running.stdout.read()

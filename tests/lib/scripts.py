@@ -92,7 +92,8 @@ class CertificateTrials:
         must(got == f"{weaker}: all {len(lines)} lines follow", f"check: bounds of {line} that don't meet: {got}")
         for root, stronger in ((most, f"{line} at most {margin - 1}"), (least, least.replace(f"least {margin}", f"least {margin + 1}"))):
             self.refuse([stronger if one == root else one for one in lines], "no line proves")
-        for bad in (SEVEN, "", least + " ", least.upper(), least.replace(" at least", ""), least.replace("/", ",0/", 1), f"0{least}", f"{least}0"):
+        changed = least.replace(" at least", ""), least.replace("/", ",0/", 1)
+        for bad in (SEVEN, "", least + " ", least.upper(), *changed, f"0{least}", f"{least}0"):
             self.refuse([*lines[:-1], bad, least], "has another form")
         inner = [number for number, one in enumerate(lines[:-1]) if one != most]
         if inner:
@@ -330,7 +331,7 @@ class ScriptTrials:
 
     def booklet(self):
         """It has a board and a solution for each puzzle, and no text gets in unescaped."""
-        lines = ["level 1, 4 moves ahead, by 2: 1,3/0 1,1/0 1:2 2:0", "1,3/0 2,0/0", "1,0/0 0,2/0 e", "1 move ahead, by 1: 1,0/0 0,2/0 e 1:-1"]
+        lines = ["level 1, 4 moves ahead, by 2: 1,3/0 1,1/0 1:2 2:0", "1,3/0 2,0/0", "1,0/0 0,2/0 e", "by 1: 1,0/0 0,2/0 e 1:-1"]
         (self.folder / "a b.txt").write_text("\n".join(lines))
         page, _ = self.script("booklet", "--title", HOSTILE, "a b.txt")
         parts = "<section>", "<svg", "<li>", "moves and wins", "house 2 draws", "North wins, 2 to 1"
@@ -342,8 +343,8 @@ class ScriptTrials:
         must(page.count("<svg") == 1 and err == want, f"booklet: {err}")
 
     def drawn_booklet(self):
-        """The puzzles come by level, numbered from 1, each with its question and its solution: the outcome of every move, the best first, and
-        the game of best play: who moves, and who wins. A page has four of them, and pages are numbered."""
+        """The puzzles come by level, numbered from 1, each with its question and its solution: the outcome of every move, the best first,
+        and the game of best play: who moves, and who wins. A page has four of them, and pages are numbered."""
         lines = [drawn_line(self.draw, 4, 8).replace("/99", "/9") for _ in range(GAMES)]
         (self.folder / "drawn.txt").write_text("\n".join(lines))
         page, _ = self.script("booklet", "--paper", "Letter", "drawn.txt")
@@ -389,7 +390,8 @@ class ScriptTrials:
         wanted = [{"position": "1/0", "fault": "shape"}]
         for position, seeds, margin, house, *worth in want:
             values = {str(number): int(value) for number, value in enumerate(worth, 1) if value}
-            wanted.append({"position": position, "seeds": int(seeds), "margin": int(margin), "house": int(house) if house else None, "values": values})
+            known = {"seeds": int(seeds), "margin": int(margin), "house": int(house) if house else None}
+            wanted.append({"position": position, **known, "values": values})
         wanted.insert(3, wanted.pop(0))
         must(objects == wanted and err == "table: a b.txt:4: fault shape\n", f"table --json: {out}{err} in place of {wanted}")
         answers = ["x:1 1:-2 2:2", "y:2 1:-10", "x:3 -4 over", "x:4 too large: 20 seeds", "a b:5 3:6 4:10 6:0", "x:6 1:2 2:2 3:-4"]
