@@ -14,7 +14,7 @@ from pathlib import Path
 from shutil import which
 
 from lib import reference
-from lib.clients import PACKAGE, fake, kalah
+from lib.clients import PACKAGE, Wrong, fake, kalah
 from lib.games import position_above
 from lib.scripts import drawn_game, drawn_line, must
 from lib.trials import soon
@@ -51,7 +51,7 @@ def refuses(kind, make, why=""):
     except kind as error:
         must(why in str(error), f"Python: {error}, in place of {why}")
         return error
-    raise AssertionError(f"Python: {made}, in place of {kind}")
+    raise Wrong(f"Python: {made}, in place of {kind}")
 
 
 def try_boards(draw):
