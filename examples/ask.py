@@ -2,17 +2,17 @@
 
     python3 examples/ask.py LINE..
 
-It needs `kalah`, as examples/kalah.py says.
+It needs `kalah`, as `help(kalah)` says.
 """
 
 from kalah import Fault, Over, Solver
-from script import arguments, run
+from kalah.script import arguments, run
 
 
 def said(solver, line):
     """What is printed of a line."""
     try:
-        answer = solver.ask(line)
+        answer = solver.best(line)
     except Fault as fault:
         return str(fault)
     return f"{answer.margin} over" if isinstance(answer, Over) else f"{answer.margin} house {answer.house}"

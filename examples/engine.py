@@ -6,9 +6,10 @@ which docs/COOKBOOK.md finds. It answers lines of both rules with up to 16 seeds
 It needs no other program.
 """
 
+import argparse
+import signal
+import sys
 from functools import cache
-
-from script import arguments, run
 
 MOST_SEEDS = 16
 
@@ -72,15 +73,21 @@ def answer(line):
 
 
 def main():
-    parser = arguments(__doc__)
+    parser = argparse.ArgumentParser(description=__doc__, formatter_class=argparse.RawDescriptionHelpFormatter)
     parser.add_argument("file", metavar="FILE")
     name = parser.parse_args().file
-    with open(name) as lines:
-        for number, line in enumerate(lines, 1):
-            try:
-                print(f"{name}:{number} {answer(line)}")
-            except (ValueError, IndexError):
-                raise ValueError(f"{name}:{number} is not a position") from None
+    # Ctrl-C ends it, and so does a reader that has seen enough, as `head`.
+    for number in (signal.SIGINT, signal.SIGPIPE):
+        signal.signal(number, signal.SIG_DFL)
+    try:
+        with open(name) as lines:
+            for number, line in enumerate(lines, 1):
+                try:
+                    print(f"{name}:{number} {answer(line)}")
+                except (ValueError, IndexError):
+                    sys.exit(f"engine.py: {name}:{number} is not a position")
+    except OSError as why:
+        sys.exit(f"engine.py: {why}")
 
 
-run(main)
+main()

@@ -6,7 +6,9 @@ docs/COOKBOOK.md finds. It takes lines of both rules.
 It needs no other program.
 """
 
-from script import arguments, run
+import argparse
+import signal
+import sys
 
 
 def read(line):
@@ -59,16 +61,22 @@ def steps(line):
 
 
 def main():
-    parser = arguments(__doc__)
+    parser = argparse.ArgumentParser(description=__doc__, formatter_class=argparse.RawDescriptionHelpFormatter)
     parser.add_argument("file", metavar="FILE")
     name = parser.parse_args().file
-    with open(name) as lines:
-        for number, line in enumerate(lines, 1):
-            try:
-                for words in steps(line):
-                    print(f"{name}:{number} {words}")
-            except (ValueError, IndexError):
-                raise ValueError(f"{name}:{number} is not a position") from None
+    # Ctrl-C ends it, and so does a reader that has seen enough, as `head`.
+    for number in (signal.SIGINT, signal.SIGPIPE):
+        signal.signal(number, signal.SIG_DFL)
+    try:
+        with open(name) as lines:
+            for number, line in enumerate(lines, 1):
+                try:
+                    for words in steps(line):
+                        print(f"{name}:{number} {words}")
+                except (ValueError, IndexError):
+                    sys.exit(f"generator.py: {name}:{number} is not a position")
+    except OSError as why:
+        sys.exit(f"generator.py: {why}")
 
 
-run(main)
+main()

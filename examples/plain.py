@@ -1,4 +1,4 @@
-"""An engine, as examples/grade.py and examples/match.py start one: it names the house that seems best to a plain search.
+"""An engine, as `grade` and `match` start one: it names the house that seems best to a plain search.
 
     python3 examples/plain.py N [FILE]
 
@@ -9,8 +9,8 @@ margin where it stops. It needs no `kalah`.
 import sys
 from contextlib import nullcontext
 
-from rules import read, seen_of_moves
-from script import arguments, run
+from kalah.rules import read, seen_of_moves
+from kalah.script import arguments, run
 
 
 def main():

@@ -1,4 +1,4 @@
-# Plots a table of table.py: the margins by the number of seeds in houses, and the share of positions that the player to move wins.
+# Plots a table of table: the margins by the number of seeds in houses, and the share of positions that the player to move wins.
 #
 #     gnuplot -c examples/seeds.gp TABLE.csv > seeds.svg
 #

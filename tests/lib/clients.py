@@ -1,4 +1,4 @@
-"""The trials of the clients in examples/, for tests/examples: `kalah.py`, `ask.js` and `ask.c` are asked random lines, and run on programs
+"""The trials of the clients, for tests/examples: the Python package, `ask.js` and `ask.c` are asked random lines, and run on programs
 that misbehave. Each question must get its own answer, or fail; the question after a failure must be answered.
 """
 
@@ -15,10 +15,15 @@ from pathlib import Path
 
 from lib.drawn import Drawn
 
-EXAMPLES = Path(__file__).resolve().parents[2] / "examples"
-sys.path.insert(0, str(EXAMPLES))
+TOP = Path(__file__).resolve().parents[2]
+EXAMPLES, PACKAGE = TOP / "examples", TOP / "python"
+sys.path.insert(0, str(PACKAGE))
+# The processes of the trials have the package, and what they print waits in a buffer, as it does for a user.
+os.environ["PYTHONPATH"] = str(PACKAGE)
+os.environ.pop("PYTHONUNBUFFERED", None)
 
 import kalah
+from kalah.client import Client, find
 
 QUESTIONS = 10_000
 LINES = ["1,1/30 1,1/0", "0,0/3 1,2/4", "1/0", "2,2,2/0 2,2,2/0"]
@@ -109,6 +114,11 @@ class Wrong(Exception):
     """A client does something other than it must."""
 
 
+def command(name):
+    """Returns the words that run a tool, or a script of the examples, with warnings as errors."""
+    return [sys.executable, "-B", "-W", "error", *([str(EXAMPLES / name)] if name.endswith(".py") else ["-m", "kalah", name])]
+
+
 def text_of(answer):
     """Returns the line that an answer was read from."""
     if isinstance(answer, kalah.Steps):
@@ -119,7 +129,7 @@ def text_of(answer):
 
 
 def outcome(solver, line):
-    """Returns the outcome of a question to a solver of kalah.py."""
+    """Returns the outcome of a question to a solver of the package."""
     try:
         return text_of(solver.ask(line))
     except kalah.Fault as fault:
@@ -134,7 +144,7 @@ class Python:
     refused, longest = REFUSED, 1_000_000
 
     def __init__(self, kind, form):
-        self.kind, self.form, self.name = kind, form, f"kalah.py, {kind.__name__}"
+        self.kind, self.form, self.name = kind, form, f"Python, {kind.__name__}"
 
     def ask(self, program, lines, seconds=60):
         """Returns the outcome of each question to one solver that runs the program."""
@@ -143,7 +153,7 @@ class Python:
     def ask_and_wait(self, program, lists, seconds=60):
         """Returns the outcomes of lists of questions, between which it waits for a while."""
         said = []
-        with kalah.Solver(self.kind, str(program), seconds) as solver:
+        with Client(self.kind, str(program), seconds) as solver:
             for number, lines in enumerate(lists):
                 time.sleep(0.5 if number else 0)
                 said += [outcome(solver, line) for line in lines]
@@ -287,7 +297,7 @@ class Interrupted(BaseException):
 
 
 class SolverTrials:
-    """The trials of one solver of kalah.py that is interrupted, forked or shared by threads, and of programs of other versions."""
+    """The trials of one solver of the package that is interrupted, forked or shared by threads, and of programs of other versions."""
 
     def __init__(self, program, folder):
         self.client = Python(kalah.Best, "solve")
@@ -309,18 +319,18 @@ class SolverTrials:
 
         signal.signal(signal.SIGALRM, interrupt)
         late = f'echo $$ > "$0.pid"; read -r line; kill -ALRM $PPID; sleep 0.3; echo "$line" | "{self.program}" ask; exec sleep 600'
-        with kalah.Solver(kalah.Best, str(fake(self.folder, self.program, [late]))) as solver:
+        with Client(kalah.Best, str(fake(self.folder, self.program, [late]))) as solver:
             try:
                 raise Wrong(f"{outcome(solver, LINES[-1])} has come in spite of a signal")
             except Interrupted:
                 with suppress(ProcessLookupError):
                     os.kill(int((self.folder / "fake.pid").read_text()), signal.SIGKILL)
-                    raise Wrong("kalah.py: an interrupted question leaves its run")
+                    raise Wrong("Python: an interrupted question leaves its run")
                 compare(self.client, "interrupted", self.want, [outcome(solver, line) for line in LINES])
 
     def forked(self):
         """Both processes ask at once after a fork, and each gets its own answers."""
-        with kalah.Solver(kalah.Best, str(self.program)) as solver:
+        with Client(kalah.Best, str(self.program)) as solver:
             outcome(solver, LINES[0])
             child = os.fork()
             lines, want = (LINES, self.want) if child else (LINES[::-1], self.want[::-1])
@@ -329,12 +339,12 @@ class SolverTrials:
                 os._exit(got != want * 100)
             compare(self.client, "after a fork", want * 100, got)
             if os.waitpid(child, 0)[1]:
-                raise Wrong("kalah.py: a forked process got another answer")
+                raise Wrong("Python: a forked process got another answer")
 
     def shared(self):
         """Threads ask one solver, which is one run."""
         program = fake(self.folder, self.program, [f'exec "{self.program}" "$@"', "exit"])
-        with kalah.Solver(kalah.Best, str(program)) as solver, ThreadPoolExecutor(8) as pool:
+        with Client(kalah.Best, str(program)) as solver, ThreadPoolExecutor(8) as pool:
             lines = LINES * 200
             compare(self.client, "shared by threads", self.want * 200, pool.map(lambda line: outcome(solver, line), lines))
 
@@ -351,6 +361,7 @@ class SolverTrials:
 
     def no_house(self):
         """No game begins with a house that can't be moved."""
-        for house in (0, 3, 7):
-            with suppress(kalah.Gone):
-                raise Wrong(f"kalah.py: a game begins with house {house}: {kalah.play(LINES[0], house, str(self.program))}")
+        with kalah.Solver(str(self.program)) as solver:
+            for house in (-1, 0, 3, 7, 9):
+                with suppress(ValueError):
+                    raise Wrong(f"Python: a game begins with house {house}: {solver.line(LINES[0], house)}")

@@ -1,4 +1,4 @@
-"""The trials of examples/rules.py and of what uses its rules, for tests/examples: games from boards of any number of seeds.
+"""The trials of the package's rules and of what uses its rules, for tests/examples: games from boards of any number of seeds.
 
 The rules are compared with `kalah steps`, and above its limit with tests/lib/reference.py, where each cell gets its seeds by a formula.
 To have games whose values the reference finds, some trials lower the limit.
@@ -7,26 +7,31 @@ To have games whose values the reference finds, some trials lower the limit.
 import re
 import subprocess
 import sys
+from argparse import Namespace
 from collections import Counter
 from contextlib import contextmanager
-from itertools import product
+from itertools import groupby, product
+from urllib.parse import quote, quote_plus
 from xml.dom import minidom
 
 from lib import reference
-from lib.clients import EXAMPLES, kalah
+from lib.clients import Client, command, kalah
 from lib.drawn import FAULTS, Drawn
 from lib.scripts import HOSTILE, drawn_game, drawn_line, must
 from lib.serving import asked, served
 
-import handout
-import positions
-import review
-import rules
+from kalah import Board, Game, handout, positions, review, rules
+from kalah.game import Record
+from kalah.played import played_in, values_of
 
 # The positions that are compared with the program's moves, those above its limit, and the lines that may have a fault.
 BELOW, ABOVE, READ = 20_000, 2_000, 1_000
 GAMES = 20
 USUAL = "4,4,4,4,4,4/0 4,4,4,4,4,4/0"
+# Where searches of 3, 4 and 5 moves see different best houses.
+FAR = "0,2,2,3,2,1/0 4,0,1,0,0,3/0"
+# A start of 32 seeds, games from there of which the first moves are looked at, and positions that are found among many in vain.
+START, SAMPLES, VAIN = "4,4,4,4/0 4,4,4,4/0", 200, 3_000
 # The limit of the trials that lower it, and positions of as many seeds in which a guess is not the best house.
 LOW = 6
 GUESSED_WRONG = ["1,1,1/0 2,1,0/0", "2,1,0/0 0,1,2/0"]
@@ -55,7 +60,7 @@ def try_rules(program, folder, drawn):
         answer = rules.steps(line)
         over = isinstance(answer, kalah.Over)
         got = [f"{answer.margin} over"] if over else [f"{move.house} {move.position} {move.word}" for move in answer.moves]
-        must(got == words, f"rules.py, {line}: {got} in place of {words}")
+        must(got == words, f"rules, {line}: {got} in place of {words}")
 
 
 def position_above(draw):
@@ -72,17 +77,18 @@ def try_rules_above(draw):
     for _ in range(ABOVE):
         position = position_above(draw)
         line = reference.text(position)
-        must(rules.start(line) == line and rules.read(line) == position, f"rules.py, {line}: {rules.read(line)}")
+        must(rules.start(line) == line and rules.read(line) == position, f"rules, {line}: {rules.read(line)}")
         for house in reference.legal(position):
             got, want = rules.after(rules.read(line), house), reference.after(position, house)
-            must(got == want, f"rules.py, {line}, house {house}: {got} in place of {want}")
-            must(rules.read(rules.text(got[0])) == want[0], f"rules.py, {line}, house {house}: {rules.text(got[0])} is not read again")
+            must(got == want, f"rules, {line}, house {house}: {got} in place of {want}")
+            must(rules.read(rules.text(got[0])) == want[0], f"rules, {line}, house {house}: {rules.text(got[0])} is not read again")
 
 
 def try_faults(drawn):
     """A line has the fault that it has for `kalah`, but for the number of seeds."""
     lines = [drawn.faulty(drawn.card("faults", FAULTS)) for _ in range(READ)]
-    for line in [*lines, b"100,1/0 1,1/0", b"1,1/100 1,1/0", b"1" * 81, b"", b"1/0 1/0 E", b"01/0 1/0", b"1/0 1/0 "]:
+    ends = [b"1/0 1/0 E", b"1/0 1/0 ", b"1/0 1/0\r", b"1/0 1/0 e\r", b"1/0 1/0\r\r"]
+    for line in [*lines, *ends, b"100,1/0 1,1/0", b"1,1/100 1,1/0", b"1" * 81, b"", b"01/0 1/0"]:
         want = reference.read(line)
         try:
             rules.start(line.decode(errors="surrogateescape"))
@@ -93,7 +99,7 @@ def try_faults(drawn):
             got = "no question"
         if not isinstance(want, str) or want == "seeds":
             want = None
-        must(got == want or (got == "no question" and b"\xff" in line), f"rules.py, {line}: {got} in place of {want}")
+        must(got == want or (got == "no question" and b"\xff" in line), f"rules, {line}: {got} in place of {want}")
 
 
 def seen(position, depth):
@@ -108,26 +114,27 @@ def seen_of(position, depth):
     return {house: seen(to, depth - 1) * (-1 if word == "turn" else 1) for house, (to, word) in reached.items()}
 
 
-def try_values(draw, solver):
+def try_values(draw, solver, client):
     """Values are those of best play if there are few enough seeds, also with large stores; else there are none, and a guess is what a plain
     search sees."""
     for _ in range(GAMES):
         line = drawn_line(draw, 4, 8)
         position = reference.read(line.encode())
         values = {house: reference.value(position, house) for house in reference.legal(position)}
-        must(handout.values_of(solver, line) == values, f"rules.py, {line}: {handout.values_of(solver, line)} in place of {values}")
+        must(values_of(solver, Board(line)) == values, f"rules, {line}: {values_of(solver, Board(line))} in place of {values}")
         large = re.sub("/[0-9]+", "/900", line, 1)
         lead = 900 - position.own.store
-        got = rules.ask(solver, large).by_house
-        must(got == {house: value + lead for house, value in values.items()}, f"rules.py, {large}: {got}")
+        got = rules.ask(client, large).by_house
+        must(got == {house: value + lead for house, value in values.items()}, f"rules, {large}: {got}")
         found = seen_of(position, rules.LOOKED_AHEAD)
-        must(rules.seen_of_moves(rules.read(line), rules.LOOKED_AHEAD) == found, f"rules.py, {line}: it sees something other than {found}")
-        must(rules.guess(line) == max(found, key=found.get), f"rules.py, {line}: it guesses {rules.guess(line)} of {found}")
+        must(rules.seen_of_moves(rules.read(line), rules.LOOKED_AHEAD) == found, f"rules, {line}: it sees something other than {found}")
+        must(rules.guess(line) == max(found, key=found.get), f"rules, {line}: it guesses {rules.guess(line)} of {found}")
+    must(rules.guess(FAR) == max(seen_of(reference.read(FAR.encode()), 4).items(), key=lambda one: one[1])[0], f"rules: {FAR}")
     for line, seeds in ((USUAL, 48), ("16,0/3 0,16/0 e", 32)):
-        must(handout.values_of(solver, line) is None, f"rules.py, {line}: it has values")
-        must(rules.too_many(line) == f"{seeds} seeds in houses: values from 31 on", f"rules.py, {line}: {rules.too_many(line)}")
-    must(rules.too_many("16,0/3 0,15/0") == "", "rules.py: 31 seeds are too many")
-    must(rules.ask(solver, "0,0/3 40,0/1") == kalah.Over(-38), "rules.py: the end of a game needs values")
+        must(values_of(solver, Board(line)) is None, f"rules, {line}: it has values")
+        must(rules.too_many(line) == f"{seeds} seeds in houses: no values above 31 seeds", f"rules, {line}: {rules.too_many(line)}")
+    must(rules.too_many("16,0/3 0,15/0") == "", "rules: 31 seeds are too many")
+    must(rules.ask(client, "0,0/3 40,0/1") == kalah.Over(-38), "rules: the end of a game needs values")
 
 
 def try_plain(draw, folder):
@@ -162,60 +169,70 @@ class GameTrials:
         for _ in range(GAMES):
             self.written()
 
+    def reviewed(self, text):
+        return review.Review(Record(1, {}, text), self.solver)
+
     def review(self, line):
-        """Moves have values as soon as the seeds fit, and the curve has each of these, as South sees it."""
+        """Moves have values as soon as the seeds fit, and the curve has each of these, as South sees it. Of the others one sentence says
+        why they have none."""
         moved, margin = drawn_game(self.draw, line)
-        game = review.Game(" ".join([line, *(str(house) for _, house, _ in moved)]), self.solver)
-        must(len(game.played) == len(moved) and game.is_over, f"review.py: {line} {moved}: {game.flaw}")
-        course = []
+        game = self.reviewed(" ".join([line, *(str(house) for _, house, _ in moved)]))
+        must(len(game.played) == len(moved) and game.game.is_over, f"review: {line} {moved}: {game.flaw}")
+        course, without = [], 0
         for number, (played, said, (player, house, values)) in enumerate(zip(game.played, game.captions(), moved)):
-            seeds = rules.seeds_in(rules.read(played.position))
-            fits = seeds <= LOW
-            must(played.values == (values if fits else None), f"review.py, {played.position}: {played.values}")
-            worth = f"worth {values[house]:+d}" if fits else f" ({seeds} seeds in houses: values from {LOW} on)"
-            must(worth in said, f"review.py: {said}")
+            fits = played.board.seeds <= LOW
+            must(played.values == (values if fits else None), f"review, {played.board}: {played.values}")
+            must(("worth " + f"{values[house]:+d}".replace("+0", "0") in said) if fits else "worth" not in said, f"review: {said}")
+            without += not fits
             if fits:
                 best = max(values.values())
                 course.append((number, -best if player else best, best - values[house]))
         course.append((len(moved), margin, 0))
-        must([*game.course()] == course, f"review.py, {line} {moved}: {[*game.course()]} in place of {course}")
+        must([*game.course()] == course, f"review, {line} {moved}: {[*game.course()]} in place of {course}")
         self.curve(game, course)
-        must(("nothing is proved" in game.html()) == bool(rules.too_many(line)), f"review.py --html: {line}")
+        first, page = game.text().splitlines()[0], game.html()
+        want = f"Moves 1 to {without}: no value above {LOW} seeds." if without > 1 else f"Move 1: no value above {LOW} seeds."
+        is_said = (first == want) == (want in page) == ("nothing is proved" in page) == bool(without)
+        must(is_said, f"review, {line}: {first} in place of {want}")
 
     def curve(self, game, course):
         """The points of the curve rise with their values, and stand in the order of the moves."""
         drawn = minidom.parseString(re.search('<svg class="curve".*?</svg>', game.html(), re.DOTALL)[0])
         points = drawn.getElementsByTagName("circle")
         said = [point.getElementsByTagName("title")[0].firstChild.data for point in points]
-        want = [f"after {number} moves {value:+d}" + f"; the next one loses {lost}" * (lost > 0) for number, value, lost in course]
-        must(said == want, f"review.py: the curve says {said} in place of {want}")
+        want = [f"after {number} move{'s' * (number != 1)} " + f"{value:+d}".replace("+0", "0") for number, value, _ in course]
+        want = [one + f"; the next one loses {lost}" * (lost > 0) for one, (_, _, lost) in zip(want, course)]
+        must(said == want, f"review: the curve says {said} in place of {want}")
         placed = [(float(point.getAttribute("cx")), float(point.getAttribute("cy"))) for point in points]
         line = drawn.getElementsByTagName("polyline")[0].getAttribute("points")
-        must([tuple(map(float, point.split(","))) for point in line.split()] == placed, f"review.py: the curve goes through {line}")
+        must([tuple(map(float, point.split(","))) for point in line.split()] == placed, f"review: the curve goes through {line}")
         for one, (left, above) in zip(course, placed):
             for other, (right, below) in zip(course, placed):
                 holds = (one[0] < other[0]) == (left < right) and (one[1] > other[1]) == (above < below)
-                must(holds, f"review.py: the curve of {course} is at {placed}")
+                must(holds, f"review: the curve of {course} is at {placed}")
 
     def handout(self, line):
         """Above the limit the moves are those that seem best, and below it best ones."""
-        game = [*handout.game_of(self.solver, line, None)]
-        for (position, player, move, values), (reached, mover, *_) in zip(game, game[1:]):
-            at = rules.read(position)
-            best = reference.best_play(at)[1] if rules.seeds_in(at) <= LOW else rules.guess(position)
-            after, word = reference.after(at, best)
-            is_right = move.house == best and reached == reference.text(after) and mover == player ^ (word == "turn")
-            must(is_right and bool(values) == (rules.seeds_in(at) <= LOW), f"handout.py, {position}: house {move.house}, {values}")
-        must(reference.is_over(rules.read(game[-1][0])), f"handout.py, {line}: the game ends at {game[-1][0]}")
+        game = handout.best_game(self.solver, line, None)
+        position = reference.read(line.encode())
+        for played in played_in(game, self.solver):
+            fits = rules.seeds_in(position) <= LOW
+            best = reference.best_play(position)[1] if fits else rules.guess(reference.text(position))
+            is_right = played.house == best and str(played.board) == reference.text(position) and bool(played.values) == fits
+            must(is_right, f"handout, {played.board}: house {played.house}, {played.values}")
+            position, _ = reference.after(position, best)
+        must(reference.is_over(position) and str(game.board) == reference.text(position), f"handout, {line}: the game ends at {game.board}")
 
     def written(self):
-        """A game is the same, however it is written down."""
+        """A game is the same, however it is written down; a letter or a side that isn't the mover's is an error."""
         line = drawn_line(self.draw, 4, 8).replace("/99", "/9")
         moved, _ = drawn_game(self.draw, line)
-        houses = [house for _, house, _ in moved]
-        letters = [self.draw.choice(["ABCDEF", "abcdef"])[house - 1] for house in houses]
-        letters[0] = letters[0].upper()
-        forms = [
+        houses, players = [house for _, house, _ in moved], [player for player, _, _ in moved]
+        letters = [("abcdef" if player else "ABCDEF")[house - 1] for player, house in zip(players, houses)]
+        turns = [[*some] for _, some in groupby(zip(players, houses, letters), key=lambda one: one[0])]
+        game = Game(line, houses)
+        seeds = [board.houses[0][house - 1] for board, house in zip(game.boards, houses)]
+        texts = [
             " ".join(map(str, houses)),
             ", ".join(map(str, houses)),
             " ".join(letters),
@@ -223,18 +240,34 @@ class GameTrials:
             " ".join(f"{number}.{letter}" for number, letter in enumerate(letters, 1)),
             " ".join(f"{number} {letter}," for number, letter in enumerate(letters, 1)),
             " ".join(f"{number}) {letter}" for number, letter in enumerate(letters, 1)),
+            " ".join("".join(letter for _, _, letter in turn) for turn in turns),
+            " ".join("-".join(str(house) for _, house, _ in turn) for turn in turns),
+            " ".join(f"{letter}{count}" for letter, count in zip(letters, seeds)),
+            " ".join(f"{letter}{house}" for letter, house in zip(letters, houses)),
+            " ".join(f"1{'...' if player else '.'} {house} {{so}}" for player, house in zip(players, houses)),
+            game.record(),
+            game.record(numbers=True),
         ]
-        games = [review.Game(f"{line} {form}", self.solver) for form in forms]
-        for form, game in zip(forms, games):
-            got = [played.move.house for played in game.played]
-            must(got == houses and game.is_over and not game.flaw, f"review.py, {line} {form}: {got}, {game.flaw}")
-        must(len({game.text() for game in games}) == 1, f"review.py, {line}: {forms} are not one game")
+        games = [self.reviewed(f"{line} {text}") for text in texts]
+        games.append(self.reviewed(f"http://127.0.0.1:8000/#{quote(' '.join([line, *map(str, houses)]), safe=',/')}"))
+        games.append(self.reviewed(f"http://127.0.0.1:8000/?game={quote_plus(str(game))}&x=1"))
+        for text, one in zip([*texts, "an address", "a query"], games):
+            got = [played.house for played in one.played]
+            must(got == houses and one.game.is_over and not one.flaw, f"review, {line} {text}: {got}, {one.flaw}")
+        must(len({one.text() for one in games}) == 1, f"review, {line}: {texts} are not one game")
+        place = self.draw.randrange(len(houses))
+        swapped = [*letters[:place], letters[place].swapcase()]
+        wrong = [" ".join(swapped), " ".join([*map(str, houses[:place]), "1." if players[place] else "1...", str(houses[place])])]
+        mover, other = ["South", "North"][:: -1 if players[place] else 1]
+        for text, word in zip(wrong[: 1 if players[place] else 2], (swapped[-1], str(houses[place]))):
+            want = f"move {place + 1}: {mover} moves, and {word} is a move of {other}"
+            flaw = self.reviewed(f"{line} {text}").flaw
+            must(flaw == want, f"review, {line} {text}: {flaw} in place of {want}")
 
 
 def output(folder, name, *words, text="", status=0):
     """Returns what a script prints, on both outputs."""
-    script = [sys.executable, "-B", EXAMPLES / name, *map(str, words)]
-    done = subprocess.run(script, cwd=folder, input=text, capture_output=True, text=True)
+    done = subprocess.run([*command(name), *map(str, words)], cwd=folder, input=text, capture_output=True, text=True)
     said = f"{done.stdout}{done.stderr}"
     must(done.returncode == status and "Traceback" not in said, f"{name} {words}: status {done.returncode}\n{said}")
     return done.stdout, done.stderr
@@ -242,33 +275,33 @@ def output(folder, name, *words, text="", status=0):
 
 def try_usual_board(program, folder):
     """The scripts take the board of 48 seeds, and say where there are no values yet."""
-    must(">99<" in output(folder, "board.py", "99,4/0 4,4/0")[0], "board.py: 99 seeds in a house are not drawn")
-    _, err = output(folder, "board.py", "100,4/0 4,4/0", status=1)
-    must(err == "board.py: fault shape\n", f"board.py: {err}")
-    out, _ = output(folder, "duel.py", "--second", USUAL, text="6\n")
-    said = f"the solver: house {rules.guess(USUAL)} (48 seeds in houses: values from 31 on; it looks 4 moves ahead)\n"
-    must(out.startswith(said) and "your house, " in out, f"duel.py: {out}")
-    page, _ = output(folder, "handout.py", "--first", 1, "9,9/0 9,9/0")
-    for said in ("house 1 (36 seeds in houses: values from 31 on)", "nothing is proved", ", worth "):
-        must(said in page, f"handout.py: {said} is not in {page}")
+    must(">99<" in output(folder, "board", "99,4/0 4,4/0")[0], "board: 99 seeds in a house are not drawn")
+    _, err = output(folder, "board", "100,4/0 4,4/0", status=1)
+    must(err == "board: fault shape\n", f"board: {err}")
+    out, _ = output(folder, "duel", "--second", USUAL, text="6\n")
+    said = f"the solver: house {rules.guess(USUAL)} (48 seeds in houses: no values above 31 seeds; it looks 4 moves ahead)\n"
+    must(out.startswith(said) and "your house, " in out, f"duel: {out}")
+    page, _ = output(folder, "handout", "--first", 1, "9,9/0 9,9/0")
+    for said in ("moves house 1.", "no value above 31 seeds", "nothing is proved", ", worth "):
+        must(said in page, f"handout: {said} is not in {page}")
     for first, line in ((2, "1,0/0 1,1/0"), (0, "1,1/0 1,1/0"), (1, "0,0/1 1,1/0")):
-        out, err = output(folder, "handout.py", "--first", first, line, status=2)
-        must(out == "" and err.startswith(f"handout.py: house {first} can't be moved"), f"handout.py --first {first} {line}: {err}")
-    out, _ = output(folder, "review.py", USUAL, "3", "6")
-    must(out.startswith("1. South moves house 3 (48 seeds in houses: values from 31 on), and moves again.\n"), f"review.py: {out}")
-    must(out.endswith("South: moves 2, with values 0, mistakes 0, lost 0.\nNorth: moves 0, mistakes 0, lost 0.\n"), f"review.py: {out}")
-    page, _ = output(folder, "review.py", "--html", USUAL, "3", HOSTILE, status=1)
-    must("<script" not in page and "can&#x27;t move house &lt;/title&gt;" in page, f"review.py --html: {page}")
+        out, err = output(folder, "handout", "--first", first, line, status=2)
+        must(out == "" and err.startswith(f"handout: house {first} can't be moved"), f"handout --first {first} {line}: {err}")
+    out, _ = output(folder, "review", USUAL, "3", "6")
+    must(out.startswith("Moves 1 to 2: no value above 31 seeds.\n1. South moves house 3, and moves again.\n"), f"review: {out}")
+    must(out.endswith("South: moves 2, with values 0, mistakes 0, lost 0.\nNorth: moves 0, mistakes 0, lost 0.\n"), f"review: {out}")
+    page, _ = output(folder, "review", "--html", USUAL, "3", HOSTILE, status=1)
+    must("<script" not in page and "can&#x27;t move house &lt;/title&gt;" in page, f"review --html: {page}")
     with served(program) as server:
         reached = asked(server.server_port, "/moves", USUAL)[1]["moves"][2]
-        must(reached == {"house": 3, "position": "4,4,0,5,5,5/1 4,4,4,4,4,4/0", "word": "again"}, f"web.py: {reached}")
+        must(reached == {"house": 3, "position": "4,4,0,5,5,5/1 4,4,4,4,4,4/0", "word": "again"}, f"web: {reached}")
         status, answer = asked(server.server_port, "/values", USUAL)
-        must((status, answer) == (422, {"error": "48 seeds in houses: values from 31 on"}), f"web.py, /values: {status} {answer}")
+        must((status, answer) == (422, {"error": "48 seeds in houses: no values above 31 seeds"}), f"web, /values: {status} {answer}")
         status, answer = asked(server.server_port, "/best", USUAL)
-        want = {"is_over": False, "house": rules.guess(USUAL), "guessed": "48 seeds in houses: values from 31 on; it looks 4 moves ahead"}
-        must((status, answer) == (200, want), f"web.py, /best: {status} {answer} in place of {want}")
+        want = {"is_over": False, "house": rules.guess(USUAL), "guessed": "48 seeds in houses: no values above 31 seeds; it looks 4 moves ahead"}
+        must((status, answer) == (200, want), f"web, /best: {status} {answer} in place of {want}")
         status, answer = asked(server.server_port, "/best", "1,1/200 1,1/0")
-        must(answer == {"is_over": False, "margin": 202, "house": 2}, f"web.py, with large stores: {status} {answer}")
+        must(answer == {"is_over": False, "margin": 202, "house": 2}, f"web, with large stores: {status} {answer}")
 
 
 def reachable(line):
@@ -280,29 +313,53 @@ def reachable(line):
     return {reference.text(position) for position in known}
 
 
+def try_good_games(draw):
+    """Three moves of four of a good game are the best that a search of 2 moves sees, and of a random game each is as likely. The first move
+    that puts a seed into a store is such a move, after which its player moves again."""
+    start = rules.read(START)
+    found = seen_of(start, 2)
+    best = max(found, key=found.get)
+    reached, word = reference.after(start, best)
+    must(word == "again" and rules.seeds_in(reached) == 31, f"positions: {START} is no start for this")
+    for kind, least, most in (("good", 0.62, 0.95), ("random", 0, 0.4)):
+        asked = Namespace(houses=4, seeds=[31], sample=1, games=kind, start=START, seed=None)
+        drawn = []
+        for _ in range(SAMPLES):
+            asked.seed = draw.randrange(10**9)
+            drawn += positions.sample(asked, lambda line: True)
+        share = drawn.count(reference.text(reached)) / SAMPLES
+        must(least <= share <= most, f"positions --games {kind}: {share} of the games begin with the best move")
+
+
 def try_drawn_positions(folder, draw):
     """Positions of a range, of games and of a small margin are what they are said to be."""
-    lines = output(folder, "positions.py", 3, "4-6", "--sample", 90, "--seed", draw.randrange(1000))[0].splitlines()
+    lines = output(folder, "positions", 3, "4-6", "--sample", 90, "--seed", draw.randrange(1000))[0].splitlines()
     counts = Counter(rules.seeds_in(rules.read(line)) for line in lines)
-    must(len({*lines}) == 90 and [*sorted(counts)] == [4, 5, 6] and min(counts.values()) >= 10, f"positions.py 3 4-6: {counts}")
+    must(len({*lines}) == 90 and [*sorted(counts)] == [4, 5, 6] and min(counts.values()) >= 10, f"positions 3 4-6: {counts}")
     for rule, kind in product(["", " e"], ["random", "good"]):
         line = "2,2/0 2,2/0" + rule
         words = 2, "3-6", "--games", kind, "--start", line, "--sample", 8, "--seed", draw.randrange(1000)
-        lines = output(folder, "positions.py", *words)[0].splitlines()
+        lines = output(folder, "positions", *words)[0].splitlines()
         sizes = {rules.seeds_in(rules.read(line)) for line in lines}
         is_right = len({*lines}) == 8 and sizes <= {3, 4, 5, 6} and {*lines} <= reachable(line)
-        must(is_right and not any(reference.is_over(reference.read(one.encode())) for one in lines), f"positions.py {words}: {lines}")
+        must(is_right and not any(reference.is_over(reference.read(one.encode())) for one in lines), f"positions {words}: {lines}")
+    words = 6, "8-14", "--games", "--sample", 5, "--seed", 1
+    one, again = (output(folder, "positions", *words)[0] for _ in range(2))
+    must(one == again != "", f"positions {words}: {one}{again}")
+    try_good_games(draw)
+    lines = output(folder, "positions", 6, 12, "--sample", VAIN, "--balanced", 0, "--seed", 1)[0].splitlines()
+    must(len({*lines}) == VAIN, f"positions --balanced 0: {len(lines)} of {VAIN}")
     start = rules.read(USUAL)
     for often, least, most in ((0, 8, 30), (1, 1, 1)):
         games = positions.of_games(draw, start, [40], often)
         found = {next(games) for _ in range(30)}
-        must(least <= len(found) <= most, f"positions.py: games with {often} of best moves reach {found}")
+        must(least <= len(found) <= most, f"positions: games with {often} of best moves reach {found}")
     every = [*positions.Positions(2, 5)]
     margins = {line: reference.best_play(reference.read(line.encode()))[0] for line in every}
     want = [line for line in every if abs(margins[line]) <= 1]
-    must(output(folder, "positions.py", 2, 5, "--balanced", 1)[0].splitlines() == want, "positions.py --balanced")
-    lines = output(folder, "positions.py", 2, "4-7", "--games", "--balanced", 2, "--sample", 10, "--seed", 1)[0].splitlines()
-    must(all(abs(reference.best_play(reference.read(line.encode()))[0]) <= 2 for line in lines), f"positions.py: {lines} are not balanced")
+    must(output(folder, "positions", 2, 5, "--balanced", 1)[0].splitlines() == want, "positions --balanced")
+    lines = output(folder, "positions", 2, "4-7", "--games", "--balanced", 2, "--sample", 10, "--seed", 1)[0].splitlines()
+    must(all(abs(reference.best_play(reference.read(line.encode()))[0]) <= 2 for line in lines), f"positions: {lines} are not balanced")
     for words, why in (
         ((2, "x"), "'x' is not a number from 2 to 31"),
         ((2, "9-8"), "'9-8' is not a number from 2 to 31"),
@@ -314,18 +371,18 @@ def try_drawn_positions(folder, draw):
         ((2, 4, "--balanced", "-1"), "'-1' is not a number from 0 on"),
         ((1, 31, "--sample", 3, "--games", "random"), "only 0 positions are found"),
     ):
-        out, err = output(folder, "positions.py", *words, status=2)
-        must(out == "" and why in err, f"positions.py {words}: {err}")
+        out, err = output(folder, "positions", *words, status=2)
+        must(out == "" and why in err, f"positions {words}: {err}")
 
 
 def try_booklet(folder):
     """The rules stand before the first puzzle; that of the empty capture only where a puzzle has it."""
     for rule in ("", " e"):
         (folder / "puzzles").write_text(f"1,3/0 1,1/0{rule}\n")
-        page, _ = output(folder, "booklet.py", "puzzles")
+        page, _ = output(folder, "booklet", "puzzles")
         first, _, rest = page.partition("<section>")
-        must("<h3>The rules of Kalah</h3>" in first and "<b>Capture.</b>" in first and "<svg" in rest, f"booklet.py: {page}")
-        must(("empty-capture" in first) == bool(rule), f"booklet.py: {page}")
+        must("<h3>The rules of Kalah</h3>" in first and "<b>Capture.</b>" in first and "<svg" in rest, f"booklet: {page}")
+        must(("empty-capture" in first) == bool(rule), f"booklet: {page}")
 
 
 def try_games(program, folder, seed):
@@ -334,8 +391,8 @@ def try_games(program, folder, seed):
     try_rules(program, folder, drawn)
     try_rules_above(drawn.chance)
     try_faults(drawn)
-    with kalah.Solver(kalah.Values) as solver:
-        try_values(drawn.chance, solver)
+    with kalah.Solver() as solver, Client(kalah.Values) as client:
+        try_values(drawn.chance, solver, client)
         GameTrials(drawn.chance, solver).run()
     try_plain(drawn.chance, folder)
     try_usual_board(program, folder)

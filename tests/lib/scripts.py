@@ -1,29 +1,29 @@
-"""The trials of the scripts in examples/ that make something of answers, for tests/examples: certificates, reviews of games, positions,
+"""The trials of the tools that make something of answers, for tests/examples: certificates, reviews of games, positions,
 puzzles, booklets and tables.
 """
 
 import csv
+import json
 import os
 import random
 import re
 import sqlite3
 import subprocess
 import sys
+from collections import namedtuple
 from itertools import product
 from xml.dom import minidom
 
 from lib import reference
-from lib.clients import EXAMPLES, Wrong, kalah
+from lib.clients import EXAMPLES, Client, Wrong, command, find, kalah
 
-import board
-import certify
-import check
-import duel
-import positions
-import review
+from kalah import certify, check, drawing, positions, review, rules
+from kalah.game import Record
 
 CERTIFICATES, CUTS, GAMES = 100, 5, 30
 RULES = ["", " e"]
+# A claim of seven houses a side.
+SEVEN = "1,0,0,0,0,0,0/0 1,0,0,0,0,0,0/0 at least -9 house 1"
 HOSTILE = "</title><script>alert(1)</script>"
 # The most memory of a script, in kilobytes.
 KILOBYTES = 100_000
@@ -62,7 +62,7 @@ def try_each_step():
                 follows = needed != [] and all(check.holds(one, Truth()) for one in needed)
                 is_legal = house in reference.legal(position)
                 is_true = is_legal and reference.value(position, house) >= bound if is_first else margin <= bound
-                must(follows == is_true, f"check.py, {line}{rule}, {is_first}, {bound}, {house}: {follows}")
+                must(follows == is_true, f"check, {line}{rule}, {is_first}, {bound}, {house}: {follows}")
 
 
 class CertificateTrials:
@@ -80,17 +80,20 @@ class CertificateTrials:
                 must(got == f"{line} has the margin {margin}: all {len(lines)} lines follow", f"certificate of {line}: {got}")
             self.change(line, margin, lines)
             self.cut(line, str(margin), lines)
+            for wrong in (f"{margin} house 1", f"{margin}\n", f"{margin} ", f"0{margin}"):
+                self.refuse(lines, "", line, wrong)
 
     def change(self, line, margin, lines):
         most, least = f"{line} at most {margin}", lines[-1]
         half = lines[: lines.index(most) + 1]
-        must(check.check(half) == f"{most}: all {len(half)} lines follow", f"check.py: half a certificate of {line}")
+        must(check.check(half) == f"{most}: all {len(half)} lines follow", f"check: half a certificate of {line}")
         weaker = f"{line} at least {margin - 1}"
         got = check.check([*lines[:-1], least.replace(f"{line} at least {margin}", weaker)])
-        must(got == f"{weaker}: all {len(lines)} lines follow", f"check.py: bounds of {line} that don't meet: {got}")
+        must(got == f"{weaker}: all {len(lines)} lines follow", f"check: bounds of {line} that don't meet: {got}")
         for root, stronger in ((most, f"{line} at most {margin - 1}"), (least, least.replace(f"least {margin}", f"least {margin + 1}"))):
             self.refuse([stronger if one == root else one for one in lines], "no line proves")
-        for bad in ("", least + " ", least.upper(), least.replace(" at least", ""), least.replace("/", ",0/", 1), f"0{least}", f"{least}0"):
+        changed = least.replace(" at least", ""), least.replace("/", ",0/", 1)
+        for bad in (SEVEN, "", least + " ", least.upper(), *changed, f"0{least}", f"{least}0"):
             self.refuse([*lines[:-1], bad, least], "has another form")
         inner = [number for number, one in enumerate(lines[:-1]) if one != most]
         if inner:
@@ -112,7 +115,7 @@ class CertificateTrials:
         self.refuse([*above, *below, one], f"only line {len(lines)} proves")
         weaker = check.said((position, is_first, margin - 1)) + (f" house {house}" if house else "")
         self.refuse([*above, weaker, *below], "no line proves")
-        must("has the margin" in check.check([*above, one, weaker, *below]), f"check.py: a weaker line after {one}")
+        must("has the margin" in check.check([*above, one, weaker, *below]), f"check: a weaker line after {one}")
         self.refuse([*above, re.sub("^[0-9]+", lambda seeds: str(int(seeds[0]) + 1), one), *below], "")
         values = certify.values(self.solver, position) if is_first else {}
         for other in range(1, 7):
@@ -123,9 +126,9 @@ class CertificateTrials:
         try:
             said = check.check(lines, *asked)
         except ValueError as refusal:
-            must(why in str(refusal), f"check.py: {refusal}, in place of {why}")
+            must(why in str(refusal), f"check: {refusal}, in place of {why}")
             return
-        raise Wrong(f"check.py: {said}, for\n" + "\n".join(lines))
+        raise Wrong(f"check: {said}, for\n" + "\n".join(lines))
 
 
 def drawn_game(draw, line):
@@ -141,8 +144,8 @@ def drawn_game(draw, line):
 
 
 class ReviewTrials:
-    def __init__(self, draw, solver, best):
-        self.draw, self.solver, self.best = draw, solver, best
+    def __init__(self, draw, solver):
+        self.draw, self.solver = draw, solver
 
     def run(self):
         for _ in range(GAMES):
@@ -151,23 +154,23 @@ class ReviewTrials:
             self.random_game(line)
 
     def review(self, line, houses):
-        return review.Game(" ".join([line, *map(str, houses)]), self.solver)
+        return review.Review(Record(1, {}, " ".join([line, *map(str, houses)])), self.solver)
 
     def best_game(self, line):
-        game = self.review(line, [move.house for move in kalah.play(line)])
-        must(game.is_over and not game.flaw and not any(played.lost for played in game.played), f"review.py: best play of {line} loses")
+        game = self.review(line, [move.house for move in self.solver.line(line)])
+        must(game.game.is_over and not game.flaw and not any(played.lost for played in game.played), f"review: best play of {line} loses")
 
     def random_game(self, line):
         moved, margin = drawn_game(self.draw, line)
         houses = [house for _, house, _ in moved]
         game = self.review(line, houses)
-        got = [(played.player, played.move.house, played.values) for played in game.played]
-        must(got == moved and game.is_over and not game.flaw, f"review.py: {line} {houses}: {got}")
+        got = [(played.player, played.house, played.values) for played in game.played]
+        must(got == moved and game.game.is_over and not game.flaw, f"review: {line} {houses}: {got}")
         lost = [sum(played.lost for played in game.of(player)) for player in (0, 1)]
-        must(margin == self.best.ask(line).margin - lost[0] + lost[1], f"review.py: {line} {houses} loses {lost}")
+        must(margin == self.solver.best(line).margin - lost[0] + lost[1], f"review: {line} {houses} loses {lost}")
         must("draw" in game.end() if margin == 0 else f"{'North' if margin < 0 else 'South'} wins" in game.end(), f"{line}: {game.end()}")
         worst = [max(played.lost for played in game.of(player)) > 0 for player in (0, 1) if game.of(player)]
-        must(game.html().count("worst move") == sum(worst), f"review.py --html: {line} {houses}")
+        must(game.html().count("worst move") == sum(worst), f"review --html: {line} {houses}")
         self.flaws(line, houses, moved)
 
     def flaws(self, line, houses, moved):
@@ -176,24 +179,24 @@ class ReviewTrials:
         house = self.draw.choice(sorted({*range(8)} - {*values}))
         game = self.review(line, [*houses[:number], house, *houses[number:]])
         want = f"move {number + 1}: {['South', 'North'][player]} can't move house {house}"
-        must(game.flaw == want and len(game.played) == number, f"review.py: {game.flaw} in place of {want}")
+        must(game.flaw == want and len(game.played) == number, f"review: {game.flaw} in place of {want}")
         game = self.review(line, [*houses, 1])
-        must(game.flaw == f"move {len(houses) + 1}, house 1: the game is over", f"review.py: {line} {houses} 1: {game.flaw}")
-        must(not number or "isn't over" in self.review(line, houses[:number]).end(), f"review.py: {line} {houses[:number]}")
+        must(game.flaw == f"move {len(houses) + 1}, house 1: the game is over", f"review: {line} {houses} 1: {game.flaw}")
+        must(not number or "isn't over" in self.review(line, houses[:number]).end(), f"review: {line} {houses[:number]}")
 
 
 def try_board():
     """The numbers of a board, from left to right and downwards: North's houses are counted from the right."""
-    texts = minidom.parseString(board.svg(*board.read("1,2,3/4 5,6,7/8"))).getElementsByTagName("text")
+    texts = minidom.parseString(kalah.Board("1,2,3/4 5,6,7/8").svg()).getElementsByTagName("text")
     placed = sorted((float(text.getAttribute("y")), float(text.getAttribute("x")), text.firstChild.data) for text in texts)
-    must("".join(words for _, _, words in placed) == "321" "765" "84" "123" "123", f"board.py: {placed}")
+    must("".join(words for _, _, words in placed) == "321" "765" "84" "123" "123", f"board: {placed}")
 
 
 def try_pictures(draw):
-    """duel.py draws each position as the program does."""
+    """duel draws each position as the program does."""
     for _ in range(GAMES):
         line = drawn_line(draw, 6, 31)
-        must(duel.picture(line) == reference.picture(reference.read(line.encode())), f"duel.py, {line}: {duel.picture(line)}")
+        must(drawing.picture(line) == reference.picture(reference.read(line.encode())), f"duel, {line}: {drawing.picture(line)}")
 
 
 def try_positions():
@@ -202,7 +205,7 @@ def try_positions():
         every = [row for row in product(range(seeds + 1), repeat=2 * m) if sum(row) == seeds and any(row[:m]) and any(row[m:])]
         want = {" ".join(",".join(map(str, row[place : place + m])) + "/0" for place in (0, m)) for row in every}
         got = [*positions.Positions(m, seeds)]
-        must(len(got) == len(want) and {*got} == want, f"positions.py {m} {seeds}: {len(got)} in place of {len(want)}")
+        must(len(got) == len(want) and {*got} == want, f"positions {m} {seeds}: {len(got)} in place of {len(want)}")
 
 
 def solution_of(position):
@@ -224,8 +227,44 @@ def solution_of(position):
     return f"H{'; '.join(outcomes)[1:]}.<br>Best play: {'; '.join(turns)}. {won}, {max(south, north)} to {min(south, north)}."
 
 
+Puzzle = namedtuple("Puzzle", "line level far gap again greedy text")
+
+
+def far_of(position, values, most=8):
+    """How many moves a plain search of at most so many looks ahead until its best moves are best, and stay so; None if it never does."""
+    best = {house for house, value in values.items() if value == max(values.values())}
+    wrong = 0
+    for depth in range(1, most + 1):
+        seen = rules.seen_of_moves(position, depth)
+        wrong = wrong if {house for house, value in seen.items() if value == max(seen.values())} <= best else depth
+    return None if wrong == most else wrong + 1
+
+
+def level_of(far, values):
+    """The levels as `puzzles --help` says: by the number of moves ahead and of those that lose."""
+    total = far + len([value for value in values.values() if value < 0])
+    return 1 if total <= 5 else 2 if total <= 8 else 3
+
+
+def puzzle_of(line, most=8):
+    """What is known of a puzzle by the reference; None if the position is none."""
+    position = reference.read(line.encode())
+    values = {} if isinstance(position, str) else {house: reference.value(position, house) for house in reference.legal(position)}
+    far = len(values) > 1 and sum(value > 0 for value in values.values()) == 1 and far_of(rules.read(line), values, most)
+    if not far:
+        return None
+    best, second = sorted(values.values(), reverse=True)[:2]
+    reached = {house: reference.after(position, house) for house in values}
+    gains = {house: to[word == "turn"].store - position.own.store for house, (to, word) in reached.items()}
+    winner = max(values, key=values.get)
+    is_greedy = gains[winner] > max(gains[house] for house in values if house != winner)
+    level, moves = level_of(far, values), f"{far} move{'s' if far > 1 else ''}"
+    text = f"level {level}, {moves} ahead, by {best - second}: {line} {' '.join(f'{house}:{value}' for house, value in values.items())}"
+    return Puzzle(line, level, far, best - second, reached[winner][1] == "again", is_greedy, text)
+
+
 class ScriptTrials:
-    """The scripts as they are run, in a folder of their own, on files whose names have spaces."""
+    """The tools as they are run, in a folder of their own, on files whose names have spaces."""
 
     def __init__(self, folder, draw):
         self.folder, self.draw = folder, draw
@@ -241,87 +280,101 @@ class ScriptTrials:
 
     def script(self, name, *words, status=0):
         """Returns what a script prints, on both outputs."""
-        done = subprocess.run([sys.executable, "-B", EXAMPLES / name, *map(str, words)], cwd=self.folder, capture_output=True, text=True)
+        done = subprocess.run([*command(name), *map(str, words)], cwd=self.folder, capture_output=True, text=True)
         must(done.returncode == status and "Traceback" not in done.stderr, f"{name} {words}: status {done.returncode}\n{done.stderr}")
         return done.stdout, done.stderr
 
     def sample(self):
         sizes = 3, 5, "--sample", 100, "--seed"
-        first, again, other = (self.script("positions.py", *sizes, seed)[0].splitlines() for seed in (1, 1, 2))
-        must(first == again != other and len({*first}) == 100, "positions.py: a sample is not that of its seed")
-        _, err = self.script("positions.py", 3, 5, "--sample", 1000, status=2)
-        must(err == "positions.py: there are 210 positions\n", f"positions.py: {err}")
+        first, again, other = (self.script("positions", *sizes, seed)[0].splitlines() for seed in (1, 1, 2))
+        must(first == again != other and len({*first}) == 100, "positions: a sample is not that of its seed")
+        _, err = self.script("positions", 3, 5, "--sample", 1000, status=2)
+        must(err == "positions: there are 210 positions\n", f"positions: {err}")
 
     def puzzles(self):
         """Each puzzle has exactly one move that wins, and others; no other position has; and faults are named."""
         lines = [*positions.Positions(2, 6), "1,1,1/0 3,0,0/0 e", "2,1/0 3,0/0 e", "1,1/0", "0,0/3 1,2/4"]
         (self.folder / "a b.txt").write_text("".join(line + "\n" for line in lines))
-        out, err = self.script("puzzles.py", "--again", "a b.txt", status=1)
-        must(err == f"puzzles.py: a b.txt:{len(lines) - 1}: fault shape\n", f"puzzles.py: {err}")
-        want, plain = set(), set()
-        for line in lines:
-            position = reference.read(line.encode())
-            legal = [] if isinstance(position, str) else reference.legal(position)
-            values = {house: reference.value(position, house) for house in legal}
-            if len(values) > 1 and sum(value > 0 for value in values.values()) == 1:
-                best, second = sorted(values.values(), reverse=True)[:2]
-                want.add(f"by {best - second}: {line} {' '.join(f'{house}:{value}' for house, value in values.items())}")
-                if reference.after(position, max(values, key=values.get))[1] != "again":
-                    plain.add(line)
-        puzzles = [re.fullmatch("(more than )?([0-9]+) moves? ahead, (by .*)", line) for line in out.splitlines()]
-        must(all(puzzles) and {puzzle[3] for puzzle in puzzles} == want, f"puzzles.py: {out}")
-        far = [int(puzzle[2]) for puzzle in puzzles]
-        must(far == sorted(far, reverse=True), f"puzzles.py: the hardest don't come first: {far}")
-        rows, _ = self.script("puzzles.py", "a b.txt", status=1)
-        kept = [row for row in out.splitlines() if re.search(": ([^:]*?) [1-6]:", row)[1] in plain]
-        must(rows.splitlines() == kept and 0 < len(kept) < len(want), f"puzzles.py, without --again: {rows} in place of {kept}")
+        out, err = self.script("puzzles", "--again", "--greedy", "a b.txt", status=1)
+        must(err == f"puzzles: a b.txt:{len(lines) - 1}: fault shape\n", f"puzzles: {err}")
+        rows, near = ([one for line in lines if (one := puzzle_of(line, most))] for most in (8, 2))
+        for some in (rows, near):
+            some.sort(key=lambda one: (-one.level, -one.far, one.gap, one.line))
+        must(out.splitlines() == [one.text for one in rows], f"puzzles: {out} in place of {rows}")
+        for options, kept in (
+            ([], [one for one in rows if not one.again and not one.greedy]),
+            (["--again"], [one for one in rows if not one.greedy]),
+            (["--greedy", "--depth", "2"], [one for one in near if not one.again]),
+        ):
+            got, _ = self.script("puzzles", *options, "a b.txt", status=1)
+            must(got.splitlines() == [one.text for one in kept] != out.splitlines(), f"puzzles {options}: {got} in place of {kept}")
+            must(kept, f"puzzles {options}: no position tries this")
 
     def real_boards(self):
         """Puzzles and certificates of six houses take little time and memory."""
-        (self.folder / "real.txt").write_text(self.script("positions.py", 6, 20, "--sample", 40)[0])
-        self.measured("puzzles.py", "real.txt", seconds=40)
+        (self.folder / "real.txt").write_text(self.script("positions", 6, 20, "--sample", 40)[0])
+        self.measured("puzzles", "real.txt", seconds=40)
         for rule in RULES:
-            position = self.script("positions.py", 6, 20, "--sample", 1)[0].rstrip("\n") + rule
-            (self.folder / "certificate").write_text(self.measured("certify.py", position, seconds=120))
-            must(f"{position} has the margin " in self.script("check.py", "certificate")[0], f"certify.py {position}")
+            position = self.script("positions", 6, 20, "--sample", 1)[0].rstrip("\n") + rule
+            (self.folder / "certificate").write_text(self.measured("certify", position, seconds=120))
+            must(f"{position} has the margin " in self.script("check", "certificate")[0], f"certify {position}")
         (self.folder / "certificate").write_text("1,1/0 1,1/0 at least 3 house 2\n")
-        _, err = self.script("check.py", "certificate", status=1)
-        must(err == "check.py: line 1 doesn't follow: it needs 1,0/1 1,1/0 at least 3, which no line proves\n", f"check.py: {err}")
+        _, err = self.script("check", "certificate", status=1)
+        must(err == "check: line 1 doesn't follow: it needs 1,0/1 1,1/0 at least 3, which no line proves\n", f"check: {err}")
 
     def measured(self, name, *words, seconds):
         """Returns what a script prints within these seconds, with little memory."""
-        words = ["sh", "-c", f'ulimit -d {KILOBYTES}; exec "$@"', "sh", sys.executable, "-B", EXAMPLES / name, *words]
+        words = ["sh", "-c", f'ulimit -d {KILOBYTES}; exec "$@"', "sh", *command(name), *words]
         done = subprocess.run(words, cwd=self.folder, capture_output=True, text=True, timeout=seconds)
         must(done.returncode == 0 and not done.stderr, f"{name}: status {done.returncode}\n{done.stderr}")
         return done.stdout
 
     def booklet(self):
         """It has a board and a solution for each puzzle, and no text gets in unescaped."""
-        lines = ["4 moves ahead, by 2: 1,3/0 1,1/0 1:2 2:0", "1,3/0 2,0/0", "1,0/0 0,2/0 e", "1 move ahead, by 1: 1,0/0 0,2/0 e 1:-1"]
+        lines = ["level 1, 4 moves ahead, by 2: 1,3/0 1,1/0 1:2 2:0", "1,3/0 2,0/0", "1,0/0 0,2/0 e", "by 1: 1,0/0 0,2/0 e 1:-1"]
         (self.folder / "a b.txt").write_text("\n".join(lines))
-        page, _ = self.script("booklet.py", "--title", HOSTILE, "a b.txt")
+        page, _ = self.script("booklet", "--title", HOSTILE, "a b.txt")
         parts = "<section>", "<svg", "<li>", "moves and wins", "house 2 draws", "North wins, 2 to 1"
         counts = [page.count(part) for part in parts]
-        must(counts == [4, 4, 4, 2, 2, 2] and "<script" not in page, f"booklet.py: {counts}")
+        must(counts == [4, 4, 4, 2, 2, 2] and "<script" not in page, f"booklet: {counts}")
         (self.folder / "c.txt").write_text("0,0/3 1,2/4\n1,1/0 1,1/0\n1/0\n")
-        page, err = self.script("booklet.py", "c.txt", status=1)
-        want = "booklet.py: c.txt:1: the game is over\nbooklet.py: c.txt:3: fault shape\n"
-        must(page.count("<svg") == 1 and err == want, f"booklet.py: {err}")
+        page, err = self.script("booklet", "c.txt", status=1)
+        want = "booklet: c.txt:1: the game is over\nbooklet: c.txt:3: fault shape\n"
+        must(page.count("<svg") == 1 and err == want, f"booklet: {err}")
 
     def drawn_booklet(self):
-        """Each solution has the outcome of every move, the best first, and the game of best play: who moves, and who wins."""
+        """The puzzles come by level, numbered from 1, each with its question and its solution: the outcome of every move, the best first,
+        and the game of best play: who moves, and who wins. A page has four of them, and pages are numbered."""
         lines = [drawn_line(self.draw, 4, 8).replace("/99", "/9") for _ in range(GAMES)]
         (self.folder / "drawn.txt").write_text("\n".join(lines))
-        page, _ = self.script("booklet.py", "drawn.txt")
-        got = re.findall("<li>(.*)</li>", page)
-        for line, solution in zip(lines, got, strict=True):
-            must(solution == solution_of(reference.read(line.encode())), f"booklet.py, {line}: {solution}")
+        page, _ = self.script("booklet", "--paper", "Letter", "drawn.txt")
+        found = re.findall(r"<section><p><b>(\d+)\.</b> (.*?) <i>Level (\d)\.</i></p>\n.*?<title>(.*?)</title>", page, re.DOTALL)
+        must([int(number) for number, *_ in found] == [*range(1, GAMES + 1)], f"booklet: the numbers of {found}")
+        must(sorted(line for *_, line in found) == sorted(lines), f"booklet: the positions of {found}")
+        levels, solutions = [int(level) for _, _, level, _ in found], re.findall("<li>(.*)</li>", page)
+        must(levels == sorted(levels), f"booklet: the levels {levels}")
+        for (_, question, level, line), solution in zip(found, solutions, strict=True):
+            position = reference.read(line.encode())
+            values = {house: reference.value(position, house) for house in reference.legal(position)}
+            wins = sum(value > 0 for value in values.values())
+            asked = "South moves and wins." if wins == 1 else "South moves. Which house is best?"
+            asked += " The empty-capture rule holds." * line.endswith(" e")
+            must((question, solution) == (asked, solution_of(position)), f"booklet, {line}: {question} {solution}")
+            must(int(level) == level_of(far_of(rules.read(line), values) or 9, values), f"booklet, {line}: level {level}")
+        pages = page.split('<div class="page')[1:]
+        counts = [one.count("<section>") for one in pages]
+        must(counts == [0, *[4] * 7, 2, 0, 0, 0], f"booklet: pages with {counts} puzzles")
+        numbers = [re.findall("<footer>(.*)</footer>", one) for one in pages]
+        must(numbers == [[str(number)] for number in range(1, 13)], f"booklet: the pages are {numbers}")
+        starts = [int(number) for number in re.findall('<ol start="(.*?)">', page)]
+        must(starts == [1, 11, 21] and "size: Letter" in page, f"booklet: solutions begin with {starts}")
+        must(".page { break-after: page; }" in page and 'name="viewport"' in page, "booklet: a page begins nowhere")
 
     def table(self):
         """It has a row for each position, as CSV and in a database, of the answers of kalah or of others."""
         lines = ["1,1/0 1,1/0", "1,0/0 0,2/9 e\r", "0,0/3 1,2/4", "1/0", "0,0,1,2,0,3/7 1,0,0,0,0,2/0", "3,3,3/0 3,3,3/0"]
         (self.folder / "a b.txt").write_bytes("\n".join(lines).encode())
-        out, err = self.script("table.py", "a b.txt", status=1)
+        out, err = self.script("table", "a b.txt", status=1)
         rows = [*csv.reader(out.splitlines())]
         want = [
             [lines[0], "4", "2", "2", "-2", "2", "", "", "", ""],
@@ -331,51 +384,60 @@ class ScriptTrials:
             [lines[5], "18", "2", "1", "2", "2", "-4", "", "", ""],
         ]
         columns = ["position", "seeds", "margin", "best", *(f"house{house}" for house in range(1, 7))]
-        must(rows == [columns, *want] and err == "table.py: a b.txt:4: fault shape\n", f"table.py: {out}{err}")
+        must(rows == [columns, *want] and err == "table: a b.txt:4: fault shape\n", f"table: {out}{err}")
+        out, err = self.script("table", "--json", "a b.txt", status=1)
+        objects = [json.loads(line) for line in out.splitlines()]
+        wanted = [{"position": "1/0", "fault": "shape"}]
+        for position, seeds, margin, house, *worth in want:
+            values = {str(number): int(value) for number, value in enumerate(worth, 1) if value}
+            known = {"seeds": int(seeds), "margin": int(margin), "house": int(house) if house else None}
+            wanted.append({"position": position, **known, "values": values})
+        wanted.insert(3, wanted.pop(0))
+        must(objects == wanted and err == "table: a b.txt:4: fault shape\n", f"table --json: {out}{err} in place of {wanted}")
         answers = ["x:1 1:-2 2:2", "y:2 1:-10", "x:3 -4 over", "x:4 too large: 20 seeds", "a b:5 3:6 4:10 6:0", "x:6 1:2 2:2 3:-4"]
         (self.folder / "answers").write_text("\n".join(answers))
         for words in (["--name", "kalah"], ["--name", 'a "b', "--answers", "answers"], ["--name", "kalah"]):
-            self.script("table.py", "--sqlite", "data.db", *words, "a b.txt", status=1)
+            self.script("table", "--sqlite", "data.db", *words, "a b.txt", status=1)
         for name in ("kalah", 'a "b'):
             quoted = name.replace('"', '""')
             stored = sqlite3.connect(self.folder / "data.db").execute(f'SELECT {", ".join(columns)} FROM "{quoted}"')
             found = [["" if cell is None else str(cell) for cell in row] for row in stored]
-            must(found == want, f"table.py, {name}: {found}")
+            must(found == want, f"table, {name}: {found}")
         for wrong in (answers[:5], [*answers, "x:7 0 over"], [answers[1], answers[0], *answers[2:]]):
             (self.folder / "answers").write_text("\n".join(wrong))
-            must(self.script("table.py", "--answers", "answers", "a b.txt", status=2)[0] == "", f"table.py: {wrong}")
+            must(self.script("table", "--answers", "answers", "a b.txt", status=2)[0] == "", f"table: {wrong}")
         (self.folder / "a b.txt").write_text(f"{lines[5]}\n\n")
-        out, err = self.script("table.py", "a b.txt", status=1)
+        out, err = self.script("table", "a b.txt", status=1)
         rows = [*csv.reader(out.splitlines())]
-        must(rows == [columns, want[4]] and err == "table.py: a b.txt:2: fault empty\n", f"table.py, an empty line at the end: {out}{err}")
+        must(rows == [columns, want[4]] and err == "table: a b.txt:2: fault empty\n", f"table, an empty line at the end: {out}{err}")
 
     def games(self):
         (self.folder / "a b.txt").write_text("1,1/0 1,1/0 2 1\n\n1,1/0 1,1/0 1 2 2\n1/0 1 2\n")
-        out, err = self.script("review.py", "--games", "a b.txt", status=1)
+        out, err = self.script("review", "--games", "a b.txt", status=1)
         lines = out.splitlines()
         want = ["a b.txt:1 1,1/0 1,1/0", "1. South moves house 2, worth +2, and moves again.", "a b.txt:4 1/0 1"]
-        must([lines[0], lines[1], lines[-1]] == want and len(lines) == 12, f"review.py: {out}")
+        must([lines[0], lines[1], lines[-1]] == want and len(lines) == 12, f"review: {out}")
         want = "1. South moves house 1, worth -2, which loses 4 (house 2 is worth +2).\n"
-        must(want in out and "\nSouth: moves 1, mistakes 1, lost 4.\n" in out, f"review.py: {out}")
-        want = "review.py: a b.txt:3: move 3: North can't move house 2\nreview.py: a b.txt:4: fault shape\n"
-        must(err == want, f"review.py: {err}")
-        page, _ = self.script("review.py", "--html", "--games", "a b.txt", status=1)
+        must(want in out and "\nSouth: moves 1, mistakes 1, lost 4.\n" in out, f"review: {out}")
+        want = "review: a b.txt:3: move 3: North can't move house 2\nreview: a b.txt:4: fault shape\n"
+        must(err == want, f"review: {err}")
+        page, _ = self.script("review", "--html", "--games", "a b.txt", status=1)
         counts = [page.count(part) for part in ("<h2>", "<svg xmlns", '<svg class="curve"', "worst move", "which loses 4")]
-        must(counts == [3, 6, 2, 1, 1], f"review.py --html: {counts}")
-        page, _ = self.script("review.py", "--html", HOSTILE, status=1)
-        must("<script" not in page, f"review.py --html: {page}")
+        must(counts == [3, 6, 2, 1, 1], f"review --html: {counts}")
+        page, _ = self.script("review", "--html", HOSTILE, status=1)
+        must("<script" not in page, f"review --html: {page}")
 
 
 def try_scripts(program, folder, seed):
     """Makes all trials."""
     os.environ["KALAH"] = str(program)
-    kalah.find.cache_clear()
+    find.cache_clear()
     draw = random.Random(seed)
     try_each_step()
     try_board()
     try_pictures(draw)
     try_positions()
-    with kalah.Solver(kalah.Values) as solver, kalah.Solver(kalah.Best) as best:
-        CertificateTrials(draw, solver, best).run()
-        ReviewTrials(draw, solver, best).run()
+    with Client(kalah.Values) as values, Client(kalah.Best) as best, kalah.Solver() as solver:
+        CertificateTrials(draw, values, best).run()
+        ReviewTrials(draw, solver).run()
     ScriptTrials(folder, draw).run()

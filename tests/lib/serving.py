@@ -1,4 +1,4 @@
-"""The trials of examples/web.py over HTTP, for tests/examples: each question gets its own answer or a clear error, also between bad requests.
+"""The trials of `web` over HTTP, for tests/examples: each question gets its own answer or a clear error, also between bad requests.
 """
 
 import io
@@ -14,10 +14,10 @@ from concurrent.futures import ThreadPoolExecutor
 from contextlib import contextmanager, redirect_stderr
 
 from lib import reference
-from lib.clients import EXAMPLES, LINES, MISBEHAVING, SHORT, fake
+from lib.clients import LINES, MISBEHAVING, SHORT, command, fake
 from lib.scripts import drawn_line, must
 
-import web
+from kalah import web
 
 DRAWN, THREADS, MOST = 200, 40, 10
 SOON = 30
@@ -44,7 +44,7 @@ def served(program, timeout=60, host=None):
 
 
 def look_at_errors(said):
-    must(all(line.startswith("web.py: a client has gone away: ") for line in said.splitlines()), f"web.py prints {said}")
+    must(all(line.startswith("web: a client has gone away: ") for line in said.splitlines()), f"web prints {said}")
 
 
 def sent(port, data, to="127.0.0.1", source=""):
@@ -65,7 +65,7 @@ def request(port, body, path="/best", method="POST", host=None, more=()):
 
 def asked(port, path, line):
     status, headers, body = sent(port, request(port, line.encode(), path))
-    must(headers["Content-Type"] == "application/json", f"web.py, {path}, {line}: {headers}")
+    must(headers["Content-Type"] == "application/json", f"web, {path}, {line}: {headers}")
     return status, json.loads(body)
 
 
@@ -87,7 +87,7 @@ def wanted(path, line):
 
 
 def compare(path, line, got):
-    must(got == wanted(path, line), f"web.py, {path}, {line}: {got} in place of {wanted(path, line)}")
+    must(got == wanted(path, line), f"web, {path}, {line}: {got} in place of {wanted(path, line)}")
 
 
 def refusals(port):
@@ -141,9 +141,9 @@ class ServerTrials:
     def page(self, port):
         for host in (f"127.0.0.1:{port}", f"localhost:{port}"):
             status, headers, body = sent(port, request(port, b"", "/", "GET", host))
-            must(status == 200 and body == web.PAGE.read_bytes(), f"web.py, the page: status {status}")
+            must(status == 200 and body == web.PAGE.read_bytes(), f"web, the page: status {status}")
             is_html = headers["Content-Type"] == "text/html; charset=utf-8"
-            must(is_html and headers["Content-Security-Policy"].startswith("default-src 'none'; "), f"web.py: {headers}")
+            must(is_html and headers["Content-Security-Policy"].startswith("default-src 'none'; "), f"web: {headers}")
         text = body.decode()
         risky = [word for word in RISKY if word in text] + re.findall("(?:src|href|action)=\"(?!data:,)|https?:|url\\(|import", text)
         must(not risky, f"web.html: {risky}")
@@ -152,7 +152,7 @@ class ServerTrials:
         for data, status, part in refusals(port):
             got, headers, body = sent(port, data)
             is_right = status in (got, None) and got >= 400 and headers["Content-Type"] == "application/json" and b"<" not in body
-            must(is_right and part in json.loads(body)["error"] if body else is_right, f"web.py: {got} {body} for {data[:300]}")
+            must(is_right and part in json.loads(body)["error"] if body else is_right, f"web: {got} {body} for {data[:300]}")
             compare("/best", LINE, asked(port, "/best", LINE))
 
     def answers(self, port):
@@ -183,7 +183,7 @@ class ServerTrials:
         with served(fake(self.folder, self.program, MISBEHAVING), SHORT) as server:
             for _ in MISBEHAVING:
                 status, answer = asked(server.server_port, "/best", LINE)
-                must(status == 503 and "kalah" in answer["error"], f"web.py, misbehaving: {status}, {answer}")
+                must(status == 503 and "kalah" in answer["error"], f"web, misbehaving: {status}, {answer}")
             for line in LINES:
                 compare("/best", line, asked(server.server_port, "/best", line))
 
@@ -194,8 +194,8 @@ class ServerTrials:
             lines = [drawn_line(self.draw, 3, 8) for _ in range(THREADS)]
             got = [*pool.map(lambda line: asked(server.server_port, "/best", line), lines)]
             answered = [(line, one) for line, one in zip(lines, got) if one[0] != 503]
-            must(len(answered) >= web.MOST_AT_ONCE, f"web.py: of {THREADS} at once {len(answered)} are answered")
-            must(len(answered) < THREADS, f"web.py: all of {THREADS} at once wait")
+            must(len(answered) >= web.MOST_AT_ONCE, f"web: of {THREADS} at once {len(answered)} are answered")
+            must(len(answered) < THREADS, f"web: all of {THREADS} at once wait")
             for line, one in answered:
                 compare("/best", line, one)
 
@@ -209,56 +209,56 @@ class ServerTrials:
                 return status, json.loads(body)
 
             late = asks(CLIENT)
-            must(late == (503, {"error": "too large here: kalah has not answered in 1 seconds"}), f"web.py --host: {late}")
+            must(late == (503, {"error": "too large here: kalah has not answered in 1 seconds"}), f"web --host: {late}")
             for host in (f"127.0.0.1:{port}", f"localhost:{port}", OTHER):
-                must(asks(CLIENT, host)[0] == 403, f"web.py --host serves {host}")
+                must(asks(CLIENT, host)[0] == 403, f"web --host serves {host}")
             # A minute may end in between.
             got = [asks() for _ in range(2 * MOST + 1)]
             refused = 429, {"error": f"too many questions from here: at most {MOST} a minute"}
             answered = [one for one in got if one != refused]
-            must(MOST <= len(answered) < len(got), f"web.py --host answers {len(answered)} of {len(got)} questions")
+            must(MOST <= len(answered) < len(got), f"web --host answers {len(answered)} of {len(got)} questions")
             for one in [*answered, asks(CLIENT)]:
                 compare("/best", LINE, one)
         script = self.start(self.program, "--port=0", f"--host={OTHER}", LINE)
         address = script.stdout.readline()
-        must(re.fullmatch(rf"http://{OTHER}:[0-9]+/#1,1/0%201,1/0\n", address), f"web.py --host prints {address!r}")
+        must(re.fullmatch(rf"http://{OTHER}:[0-9]+/#1,1/0%201,1/0\n", address), f"web --host prints {address!r}")
         self.ends(script)
         for address in ("0.0.0.0", "::"):
             _, err = self.start(self.program, f"--host={address}", LINE).communicate(timeout=SOON)
-            must("usage:" in err and "reach this machine" in err and "Traceback" not in err, f"web.py --host {address}: {err}")
+            must("usage:" in err and "reach this machine" in err and "Traceback" not in err, f"web --host {address}: {err}")
 
     def as_script(self):
         """It says where the page is. If a client goes away it goes on; and it ends on Ctrl-C, also while a question is under way."""
         script = self.start(self.program, "--port=0", LINE)
         address = script.stdout.readline()
         port = re.fullmatch(r"http://127\.0\.0\.1:([0-9]+)/#1,1/0%201,1/0\n", address)
-        must(port, f"web.py prints {address!r}")
+        must(port, f"web prints {address!r}")
         usual, (_, _, page) = web.PAGE.read_bytes(), sent(int(port[1]), request(int(port[1]), b"", "/", "GET"))
-        must(page == usual.replace(web.USUAL, f'"{LINE}"'.encode()) != usual, "web.py: the page does not begin with the position")
+        must(page == usual.replace(web.USUAL, f'"{LINE}"'.encode()) != usual, "web: the page does not begin with the position")
         _, err = self.start(self.program, f"--port={port[1]}", LINE).communicate(timeout=SOON)
-        must(err.startswith("web.py: ") and err.count("\n") == 1, f"web.py, with a port that is taken: {err}")
+        must(err.startswith("web: ") and err.count("\n") == 1, f"web, with a port that is taken: {err}")
         for word in ("65536", "-1", "x"):
             _, err = self.start(self.program, f"--port={word}", LINE).communicate(timeout=SOON)
-            must("usage:" in err and "Traceback" not in err, f"web.py --port {word}: {err}")
+            must("usage:" in err and "Traceback" not in err, f"web --port {word}: {err}")
         self.ends(script, int(port[1]))
         script = self.start(fake(self.folder, self.program, [': > "$0.begun"; exec sleep 600']), "--port=0", LINE)
         port = int(re.search(":([0-9]+)/", script.stdout.readline())[1])
         with socket.create_connection(("127.0.0.1", port)) as client:
             client.sendall(request(port, LINE.encode()))
             while not (self.folder / "fake.begun").exists():
-                must(script.poll() is None, "web.py has ended")
+                must(script.poll() is None, "web has ended")
             self.ends(script)
 
     def start(self, program, *words):
         how = {"env": {**os.environ, "KALAH": str(program)}, "stdout": subprocess.PIPE, "stderr": subprocess.PIPE, "text": True}
-        return subprocess.Popen([sys.executable, "-B", EXAMPLES / "web.py", *words], start_new_session=True, **how)
+        return subprocess.Popen([*command("web"), *words], start_new_session=True, **how)
 
     def ends(self, script, port=None):
         if port:
             compare("/moves", LINE, asked(port, "/moves", LINE))
         os.killpg(script.pid, signal.SIGINT)
         _, err = script.communicate(timeout=SOON)
-        must(script.returncode == -signal.SIGINT, f"web.py, on Ctrl-C: status {script.returncode}\n{err}")
+        must(script.returncode == -signal.SIGINT, f"web, on Ctrl-C: status {script.returncode}\n{err}")
         look_at_errors(err)
 
 

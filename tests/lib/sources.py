@@ -107,7 +107,7 @@ def excerpts_differ():
 
 def files_differ():
     """Each file of the repository that a page names in backticks is there, with as many of its folders as are named."""
-    tops = [TOP / folder for folder in ("crates", "tests", "docs", "examples", "bench", "packaging", "completions")]
+    tops = [TOP / folder for folder in ("crates", "tests", "docs", "examples", "python", "bench", "packaging", "completions")]
     paths = [f"/{path.relative_to(TOP)}" for top in tops for path in top.rglob("*.*") if "/out/" not in f"{path}"]
     for page in [*TOP.glob("*.md"), *(TOP / "docs").glob("*.md")]:
         for name in set(re.findall(r"`([\w/.]+\.(?:rt|antt|py|c|js|txt|md|edit))`", page.read_text())):
@@ -120,7 +120,7 @@ def names_differ():
     """Each name that a page has in backticks, and that has the form of a lemma, a type or a call, occurs in the sources. Blocks of code
     don't count, nor does the page of changes."""
     kinds = ("*.rt", "*.antt", "*.py", "*.c", "*.js")
-    files = [path for top in ("crates", "tests", "examples", "bench") for kind in kinds for path in (TOP / top).rglob(kind)]
+    files = [path for top in ("crates", "tests", "examples", "python", "bench") for kind in kinds for path in (TOP / top).rglob(kind)]
     files += [path for path in (TOP / "tests").iterdir() if path.is_file()]
     words = set(re.findall(r"\w+", "\n".join(path.read_text() for path in files if "/out/" not in f"{path}")))
     for page in [*TOP.glob("*.md"), *(TOP / "docs").glob("*.md")]:

@@ -1,24 +1,24 @@
 """The rules of Kalah for boards of any number of seeds, and the values of moves as soon as `kalah` solves them.
 
-    from kalah import Solver, Values
-    from rules import ask, steps
-
     steps("4,4,4,4,4,4/0 4,4,4,4,4,4/0")    # Steps(moves=[Move(house=1, ..), ..])
-    with Solver(Values) as solver:
-        ask(solver, "1,1/200 1,1/0")        # Values(by_house={1: 198, 2: 202})
-        ask(solver, "17,0/0 0,17/0")        # raises TooMany("34 seeds in houses: values from 31 on")
+    with Client(Values) as client:
+        ask(client, "1,1/200 1,1/0")        # Values(by_house={1: 198, 2: 202})
+        ask(client, "17,0/0 0,17/0")        # raises TooMany("34 seeds in houses: no values above 31 seeds")
 
-docs/RULES.md has the rules in words. A line is one of docs/FORMAT.md, but for two limits: there may be any number of seeds, and, in the
-course of a game, numbers of three digits. What these functions find is tested, but proved of no position: what `kalah` answers is.
+There may be any number of seeds, and, in the course of a game, numbers of three digits; in all else a line is one that `kalah` reads. What
+these functions find is tested, but proved of no position: what `kalah` answers is.
 """
+
+from __future__ import annotations
 
 import os
 import re
-from collections import namedtuple
 from dataclasses import replace
 from functools import lru_cache
+from typing import NamedTuple, Union
 
-from kalah import Fault, Move, Over, Steps, Values, one_line
+from .answers import Fault, Move, Over, Steps, one_line
+from .client import Client, Kind
 
 MOST_HOUSES, MOST_BYTES = 6, 80
 # How many seeds in houses `kalah` solves, and the largest number in a line that it reads.
@@ -30,19 +30,35 @@ NUMBER = "(?:0|[1-9][0-9]{0,2})"
 SIDE = f"({NUMBER}(?:,{NUMBER})*)/({NUMBER})"
 FORM = re.compile(f"{SIDE} {SIDE}( e)?")
 
-# A position is seen by the player to move. The empty-capture rule holds if `takes_empty`.
-Side = namedtuple("Side", "houses store")
-Position = namedtuple("Position", "own other takes_empty")
+
+class Side(NamedTuple):
+    houses: tuple[int, ...]
+    store: int
 
 
-class TooMany(ValueError):
+class Position(NamedTuple):
+    """A position as the player to move sees it. The empty-capture rule holds if `takes_empty`."""
+
+    own: Side
+    other: Side
+    takes_empty: bool
+
+
+class TooMany(Fault):
     """There are more seeds in houses than `kalah` solves."""
 
+    def __init__(self, seeds: int):
+        super().__init__("seeds")
+        self.args = (seeds,)
 
-def read(line, largest=999):
+    def __str__(self) -> str:
+        return f"{self.args[0]} seeds in houses: no values above {MOST_SEEDS} seeds"
+
+
+def read(line: str, largest: int = 999) -> Position:
     """Returns the position that a line writes, with no number above the largest. Fails with `Fault`, as `kalah` does but for the number of
-    seeds, and with ValueError if it isn't one line of text."""
-    line = one_line(line).removesuffix("\r")
+    seeds, and with TypeError or ValueError if it isn't one line of text."""
+    line = one_line(line)[: 4 * MOST_BYTES].removesuffix("\r")
     form = FORM.fullmatch(line)
     if len(os.fsencode(line)) > MOST_BYTES:
         raise Fault("long")
@@ -56,38 +72,38 @@ def read(line, largest=999):
     return Position(own, other, form[5] is not None)
 
 
-def start(line):
-    """Returns a line in which a game may start: one whose numbers are those of docs/FORMAT.md. Fails as `read` does."""
+def start(line: str) -> str:
+    """Returns a line in which a game may start: one whose numbers have at most two digits. Fails as `read` does."""
     return text(read(line, MOST_IN_A_HOUSE))
 
 
-def text(position):
+def text(position: Position) -> str:
     """Returns the line that writes a position."""
     own, other = (",".join(map(str, side.houses)) + f"/{side.store}" for side in position[:2])
     return f"{own} {other}" + " e" * position.takes_empty
 
 
-def seeds_in(position):
+def seeds_in(position: Position) -> int:
     """Returns the number of seeds in houses."""
     return sum(position.own.houses) + sum(position.other.houses)
 
 
-def is_over(position):
+def is_over(position: Position) -> bool:
     return not any(position.own.houses) or not any(position.other.houses)
 
 
-def final_margin(position):
+def final_margin(position: Position) -> int:
     """Returns the margin if all seeds in houses go to the stores of their owners."""
     own, other = (sum(side.houses) + side.store for side in position[:2])
     return own - other
 
 
-def legal(position):
+def legal(position: Position) -> list[int]:
     """Returns the houses that may be moved, ascending."""
     return [] if is_over(position) else [house for house, seeds in enumerate(position.own.houses, 1) if seeds]
 
 
-def after(position, house):
+def after(position: Position, house: int) -> tuple[Position, str]:
     """Returns the position after a move, and `again`, `turn` or `over`. If the game is over, the player who moved is the first."""
     own, other, takes_empty = position
     m = len(own.houses)
@@ -108,44 +124,54 @@ def after(position, house):
     return (Position(own, other, takes_empty), "again") if at == m else (Position(other, own, takes_empty), "turn")
 
 
-def steps(line):
-    """Returns what a `Solver` of `Steps` answers, for any number of seeds. Fails as `read` does."""
+def steps(line: str) -> Union[Steps, Over]:
+    """Returns what a `Client` of `Steps` answers, for any number of seeds. Fails as `read` does."""
     position = read(line)
     reached = ((house, *after(position, house)) for house in legal(position))
     moves = [Move(house, text(to), word) for house, to, word in reached]
     return Steps(moves) if moves else Over(final_margin(position))
 
 
-def ask(solver, line):
-    """Returns the answer of a solver of `Best` or `Values`, which is asked with empty stores: their difference is added. Fails as `read`
-    and the solver do, and with `TooMany` if there are too many seeds."""
+def with_stores(position: Position, own: int, other: int) -> Position:
+    return Position(Side(position.own.houses, own), Side(position.other.houses, other), position.takes_empty)
+
+
+def ask(client: Client[Kind], line: str) -> Union[Kind, Over]:
+    """Returns the answer of a client, which is asked with empty stores, as a store may have three digits: what was in them is added. Fails
+    as `read` and the client do, and with `TooMany` if there are too many seeds."""
     position = read(line)
-    own, other = position.own, position.other
     if is_over(position):
         return Over(final_margin(position))
     if seeds_in(position) > MOST_SEEDS:
-        raise TooMany(too_many(line))
-    answer, lead = solver.ask(text(Position(own._replace(store=0), other._replace(store=0), position.takes_empty))), own.store - other.store
-    if isinstance(answer, Values):
-        return Values({house: value + lead for house, value in answer.by_house.items()})
-    return replace(answer, margin=answer.margin + lead)
+        raise TooMany(seeds_in(position))
+    answer, lead = client.ask(text(with_stores(position, 0, 0))), position.own.store - position.other.store
+    if isinstance(answer, Steps):
+        return Steps([filled(move, position, move.word == "turn") for move in answer.moves])
+    return answer.plus(lead)
 
 
-def too_many(line):
+def filled(move: Move, start: Position, is_other: bool) -> Move:
+    """Returns a move that was made with empty stores, with those of this start. `is_other` says that the other player is first after it."""
+    reached, stores = read(move.position), (start.own.store, start.other.store)
+    own, other = stores[::-1] if is_other else stores
+    return replace(move, position=text(with_stores(reached, reached.own.store + own, reached.other.store + other)))
+
+
+def too_many(line: str) -> str:
     """Returns why the moves of a position have no values yet, or an empty text if they have some."""
     seeds = seeds_in(read(line))
-    return f"{seeds} seeds in houses: values from {MOST_SEEDS} on" if seeds > MOST_SEEDS else ""
+    return str(TooMany(seeds)) if seeds > MOST_SEEDS else ""
 
 
 @lru_cache(MOST_MARGINS)
-def seen(position, depth):
+def seen(position: Position, depth: int) -> int:
     """Returns the margin as it is seen by a plain search that looks this many moves ahead: where it stops, it takes that of the stores."""
     if is_over(position):
         return final_margin(position)
     return max(seen_of_moves(position, depth).values()) if depth else position.own.store - position.other.store
 
 
-def seen_of_moves(position, depth):
+def seen_of_moves(position: Position, depth: int) -> dict[int, int]:
     """Returns what the move of each house seems to be worth to that search."""
     found = {}
     for house in legal(position):
@@ -155,12 +181,16 @@ def seen_of_moves(position, depth):
     return found
 
 
-def guess(line):
+def best_of(found: dict[int, int]) -> int:
+    """Returns the lowest-numbered house of the greatest value."""
+    return max(found, key=lambda house: (found[house], -house))
+
+
+def guess(line: str) -> int:
     """Returns the house that seems best to a search of `LOOKED_AHEAD` moves, the lowest-numbered one of those."""
-    found = seen_of_moves(read(line), LOOKED_AHEAD)
-    return max(found, key=found.get)
+    return best_of(seen_of_moves(read(line), LOOKED_AHEAD))
 
 
-def guessed(why):
+def guessed(why: object) -> str:
     """Returns what is said of a guess, and why there are no values."""
     return f"{why}; it looks {LOOKED_AHEAD} moves ahead"

@@ -1,8 +1,8 @@
 """Makes positions of M houses a side with S seeds in houses, in which both players have seeds. S is a number, or a range as 8-20.
 
-    python3 examples/positions.py M S                                    all of them, with empty stores
-    python3 examples/positions.py M S --sample N [--seed K]              N of them, drawn at random
-    python3 examples/positions.py M S --sample N --games [random|good]   N of them, out of games, with their stores
+    python3 -m kalah positions M S                                    all of them, with empty stores
+    python3 -m kalah positions M S --sample N [--seed K]              N of them, drawn at random
+    python3 -m kalah positions M S --sample N --games [random|good]   N of them, out of games, with their stores
 
 Of a range each number of seeds is equally likely to be drawn, and then each position. None is drawn twice. With the same K the same ones
 are drawn. With --games each comes out of a game of its own, from the start board of 4 seeds a house (more if S needs them) or from
@@ -10,21 +10,25 @@ are drawn. With --games each comes out of a game of its own, from the start boar
 random game.
 
 With --balanced B only positions are taken whose margin of best play is at most B for either player. That needs `kalah`, as
-examples/kalah.py says; all else needs none.
+`help(kalah)` says; all else needs none.
 """
 
+from __future__ import annotations
+
+import argparse
 import random
 import re
 from argparse import ArgumentTypeError
-from collections.abc import Sequence
-from contextlib import nullcontext
+from collections.abc import Callable, Iterable, Iterator, Sequence
 from functools import lru_cache
 from itertools import islice
 from math import comb
+from typing import Any, Optional
 
-import rules
-from kalah import Best, Solver
-from script import arguments, run
+from . import rules
+from .answers import Best
+from .client import Client
+from .script import arguments, position, whole
 
 # How often a good game has the move that the search finds best, and how far that looks.
 GOOD, AHEAD = 3 / 4, 2
@@ -32,13 +36,13 @@ GOOD, AHEAD = 3 / 4, 2
 PATIENCE = 20_000
 
 
-def ways(houses, seeds):
+def ways(houses: int, seeds: int) -> int:
     """How many ways there are to put the seeds into the houses."""
     return comb(seeds + houses - 1, houses - 1)
 
 
 @lru_cache(1 << 16)
-def side(houses, seeds, rank):
+def side(houses: int, seeds: int, rank: int) -> str:
     """The way of this rank, counted from 0, as a side with an empty store."""
     row = []
     while houses > 1:
@@ -51,17 +55,17 @@ def side(houses, seeds, rank):
     return ",".join(map(str, [*row, seeds])) + "/0"
 
 
-class Positions(Sequence):
+class Positions(Sequence[str]):
     """All positions of a number of houses and of seeds, by their ranks: they are sorted by how many seeds the player to move has."""
 
-    def __init__(self, houses, seeds):
+    def __init__(self, houses: int, seeds: int):
         self.houses = houses
         self.splits = [(own, seeds - own, ways(houses, own) * ways(houses, seeds - own)) for own in range(1, seeds)]
 
-    def __len__(self):
+    def __len__(self) -> int:
         return sum(count for _, _, count in self.splits)
 
-    def __getitem__(self, rank):
+    def __getitem__(self, rank: Any) -> Any:
         for own, other, count in self.splits:
             if rank < count:
                 own_rank, other_rank = divmod(rank, ways(self.houses, other))
@@ -70,29 +74,29 @@ class Positions(Sequence):
         raise IndexError("there is no position of this rank")
 
 
-def drawn(chance, houses, sizes):
+def drawn(chance: random.Random, houses: int, sizes: Sequence[int]) -> Iterator[str]:
     """Yields positions of these numbers of seeds, without end."""
     populations = [Positions(houses, seeds) for seeds in sizes]
     while True:
         yield chance.choice(chance.choice(populations))
 
 
-def of_games(chance, start, sizes, often):
+def of_games(chance: random.Random, start: rules.Position, sizes: Sequence[int], often: float) -> Iterator[Optional[str]]:
     """Yields a position with one of these numbers of seeds for each game that reaches it, and None for each other game, without end.
     `often` is how often a move is what a search finds best."""
     while True:
         seeds, position, word = chance.choice(sizes), start, ""
         while word != "over" and rules.seeds_in(position) > seeds:
             found = rules.seen_of_moves(position, AHEAD) if chance.random() < often else None
-            position, word = rules.after(position, max(found, key=found.get) if found else chance.choice(rules.legal(position)))
+            position, word = rules.after(position, rules.best_of(found) if found else chance.choice(rules.legal(position)))
         yield rules.text(position) if word != "over" and rules.seeds_in(position) == seeds else None
 
 
-def different(lines, is_wanted):
+def different(lines: Iterable[Optional[str]], is_wanted: Callable[[str], bool]) -> Iterator[str]:
     """Yields the wanted ones of these lines, each once, until too many are drawn in vain."""
-    known, vain = {None}, 0
+    known, vain = set[Optional[str]](), 0
     for line in lines:
-        if line in known or not is_wanted(line):
+        if line is None or line in known or not is_wanted(line):
             vain += 1
             if vain == PATIENCE:
                 return
@@ -102,29 +106,30 @@ def different(lines, is_wanted):
         known.add(line)
 
 
-def sizes_in(text):
+def sizes_in(text: str) -> Sequence[int]:
     """Returns the numbers of seeds that a number or a range names."""
     form = re.fullmatch("([0-9]{1,2})(?:-([0-9]{1,2}))?", text)
-    sizes = range(int(form[1]), int(form[2] or form[1]) + 1) if form else []
+    sizes: Sequence[int] = range(int(form[1]), int(form[2] or form[1]) + 1) if form else []
     if not sizes or not 2 <= sizes[0] <= sizes[-1] <= rules.MOST_SEEDS:
         raise ArgumentTypeError(f"{text!r} is not a number from 2 to {rules.MOST_SEEDS}, or a range of these as 8-20")
     return sizes
 
 
-def start_of(line, houses, sizes):
+def start_of(line: Optional[str], houses: int, sizes: Sequence[int]) -> rules.Position:
     """Returns the position in which games start."""
     filled = rules.Side((max(4, -(-sizes[-1] // (2 * houses))),) * houses, 0)
-    start = rules.read(line, rules.MOST_IN_A_HOUSE) if line else rules.Position(filled, filled, False)
+    start = rules.read(position(line)) if line else rules.Position(filled, filled, False)
     if rules.is_over(start) or len(start.own.houses) != houses or rules.seeds_in(start) < sizes[-1]:
         raise ValueError(f"no game starts there with {houses} houses a side and {sizes[-1]} seeds or more")
     return start
 
 
-def sample(asked, is_wanted):
+def sample(asked: argparse.Namespace, is_wanted: Callable[[str], bool]) -> list[str]:
     """Returns the positions that are drawn."""
     chance, count = random.Random(asked.seed), sum(len(Positions(asked.houses, seeds)) for seeds in asked.seeds)
     if asked.games:
-        lines = of_games(chance, start_of(asked.start, asked.houses, asked.seeds), asked.seeds, GOOD if asked.games == "good" else 0)
+        start, often = start_of(asked.start, asked.houses, asked.seeds), GOOD if asked.games == "good" else 0
+        lines: Iterator[Optional[str]] = of_games(chance, start, asked.seeds, often)
     elif asked.sample > count:
         raise ValueError(f"there are {count} positions")
     else:
@@ -135,30 +140,20 @@ def sample(asked, is_wanted):
     return found
 
 
-def natural(text):
-    if not re.fullmatch("[0-9]+", text):
-        raise ArgumentTypeError(f"{text!r} is not a number from 0 on")
-    return int(text)
-
-
-def main():
+def main() -> None:
     parser = arguments(__doc__)
     parser.add_argument("houses", type=int, choices=range(1, 7), metavar="M", help="1 to 6")
     parser.add_argument("seeds", type=sizes_in, metavar="S", help="2 to 31, or a range of these")
-    parser.add_argument("--sample", type=natural, metavar="N", help="how many are drawn")
+    parser.add_argument("--sample", type=whole(0, 10**8, "a number from 0 on"), metavar="N", help="how many are drawn")
     parser.add_argument("--seed", type=int, metavar="K", help="draws the same positions each time")
     parser.add_argument("--games", nargs="?", const="good", choices=["random", "good"], help="takes them out of games")
     parser.add_argument("--start", metavar="LINE", help="where games start")
-    parser.add_argument("--balanced", type=natural, metavar="B", help="takes those of a margin of at most B")
+    parser.add_argument("--balanced", type=whole(0, 10**8, "a number from 0 on"), metavar="B", help="takes those of a margin of at most B")
     asked = parser.parse_args()
     if (asked.games and asked.sample is None) or (asked.start and not asked.games):
         parser.error("--start needs --games, and --games needs --sample")
-    with nullcontext() if asked.balanced is None else Solver(Best) as solver:
-        is_wanted = lambda line: not solver or abs(rules.ask(solver, line).margin) <= asked.balanced
+    with Client(Best) as client:
+        is_wanted = lambda line: asked.balanced is None or abs(rules.ask(client, line).margin) <= asked.balanced
         every = (line for seeds in asked.seeds for line in Positions(asked.houses, seeds))
-        for position in filter(is_wanted, every) if asked.sample is None else sample(asked, is_wanted):
-            print(position)
-
-
-if __name__ == "__main__":
-    run(main)
+        for line in filter(is_wanted, every) if asked.sample is None else sample(asked, is_wanted):
+            print(line)

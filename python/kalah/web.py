@@ -1,6 +1,6 @@
 """A board to click, in a browser.
 
-    python3 examples/web.py [--port N] [--host ADDRESS] LINE
+    python3 -m kalah web [--port N] [--host ADDRESS] LINE
 
 It prints the address of a page that shows this position, and serves it to this machine alone until Ctrl-C. There one plays, alone or
 against the solver, takes moves back, and sees what each move is worth. The address has the first position and the houses that were moved
@@ -11,7 +11,7 @@ are more than 120 questions a minute from one address.
 
 The page posts lines to /moves, /values and /best. Each of these gets one JSON object: an answer, or an `error` and a status that is not
 200. There may be any number of seeds, up to 99 in a house at the start. With more than 31 in houses /values is refused, and /best names the
-house that seems best to a search of a few moves, and says so. It needs `kalah`, as examples/kalah.py says.
+house that seems best to a search of a few moves, and says so. It needs `kalah`, as `help(kalah)` says.
 """
 
 import argparse
@@ -29,9 +29,9 @@ from http.server import BaseHTTPRequestHandler, ThreadingHTTPServer
 from pathlib import Path
 from urllib.parse import quote
 
-import rules
-from kalah import Best, Fault, Gone, Late, Over, Solver, Values, find
-from script import arguments, run
+from . import rules
+from .client import Best, Client, Fault, Gone, Late, Over, Values, find
+from .script import arguments
 
 PAGE = Path(__file__).with_name("web.html")
 # What the page shows if its address has no position, as it stands there.
@@ -47,7 +47,7 @@ HEADERS = {
     "Referrer-Policy": "no-referrer",
     "Cache-Control": "no-store",
 }
-# The answers to the questions of the page. Each of these kinds has a run of `kalah` of its own; examples/rules.py answers /moves.
+# The answers to the questions of the page. Each of these kinds has a run of `kalah` of its own; `rules` answers /moves.
 KINDS = {"/values": Values, "/best": Best}
 # The most bytes of a question, and of one that is too long the most that are read before it is refused.
 LONGEST, MOST_READ = 200, 1 << 20
@@ -187,7 +187,7 @@ class Server(ThreadingHTTPServer):
 
     def __init__(self, port, program=None, timeout=60, host=None):
         timeout, self.quota = (SECONDS, Quota(MOST_IN_A_MINUTE)) if host else (timeout, Quota(None))
-        self.page, self.solvers = PAGE.read_bytes(), {path: Solver(kind, program, timeout) for path, kind in KINDS.items()}
+        self.page, self.solvers = PAGE.read_bytes(), {path: Client(kind, program, timeout) for path, kind in KINDS.items()}
         self.ask = {
             "/moves": rules.steps,
             "/values": partial(rules.ask, self.solvers["/values"]),
@@ -202,13 +202,13 @@ class Server(ThreadingHTTPServer):
     def server_close(self):
         super().server_close()
         for solver in self.solvers.values():
-            solver.__exit__()
+            solver.close()
 
     def handle_error(self, request, client_address):
         why = sys.exc_info()[1]
         if not isinstance(why, OSError):
             return super().handle_error(request, client_address)
-        print(f"web.py: a client has gone away: {why}", file=sys.stderr, flush=True)
+        print(f"web: a client has gone away: {why}", file=sys.stderr, flush=True)
 
     def address(self, line):
         return f"http://{self.names[0]}:{self.server_port}/#{quote(line, safe=',/')}"
@@ -251,7 +251,3 @@ def main():
         server.page = server.page.replace(USUAL, as_json(line))
         print(server.address(line), flush=True)
         server.serve_forever()
-
-
-if __name__ == "__main__":
-    run(main)

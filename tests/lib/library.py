@@ -1,0 +1,239 @@
+"""The trials of the Python library, for tests/examples: boards, games, solvers, and many boards at once."""
+
+import copy
+import os
+import pickle
+import re
+import signal
+import subprocess
+import sys
+import tempfile
+import time
+from itertools import count, islice
+from pathlib import Path
+from shutil import which
+
+from lib import reference
+from lib.clients import PACKAGE, Wrong, fake, kalah
+from lib.games import position_above
+from lib.scripts import drawn_game, drawn_line, must
+from lib.trials import soon
+
+from kalah import Best, Board, Fault, Game, Gone, Over, Solver, Values, solve_many
+
+DRAWN, MANY, SOLVED = 300, 3_000, 60
+LINE = "1,1/0 1,1/0"
+NO_LINES = [None, b"1/0 1/0", 7, ["1/0 1/0"]]
+# What a user runs with warnings as errors: a solver is dropped, and boards are solved that nobody waits for.
+DROPPED = """
+from kalah import Solver, solve_many
+solver = Solver()
+solver.best("1,1/0 1,1/0"), solver.values("1,1/0 1,1/0")
+del solver
+answers = solve_many(["1,1/0 1,1/0"] * 5000)
+next(answers)
+del answers
+print("done")
+"""
+# Takes answers of hard boards until it is ended.
+ENDLESS = """
+from itertools import repeat
+from kalah import solve_many
+for answer in solve_many(repeat("3,2,1,4,4,3/0 1,0,1,3,4,5/0"), workers=2):
+    print(answer, flush=True)
+"""
+
+
+def refuses(kind, make, why=""):
+    """Returns the error of this kind that a call fails with."""
+    try:
+        made = make()
+    except kind as error:
+        must(why in str(error), f"Python: {error}, in place of {why}")
+        return error
+    raise Wrong(f"Python: {made}, in place of {kind}")
+
+
+def try_boards(draw):
+    """A board has what its line has, and its moves are those of the reference."""
+    for number in range(DRAWN):
+        position = position_above(draw) if number % 2 else reference.read(drawn_line(draw, 6, 31).encode())
+        line = reference.text(position)
+        board, same = Board(line), Board(line + "\r")
+        must(str(board) == line and board == same and hash(board) == hash(same) and eval(repr(board)) == board, f"Board: {board!r}")
+        must(pickle.loads(pickle.dumps(board)) == copy.deepcopy(board) == board, f"Board: {line} is not copied")
+        must(board.houses == tuple(side.houses for side in position[:2]), f"Board: {line} has the houses {board.houses}")
+        must(board.stores == tuple(side.store for side in position[:2]), f"Board: {line} has the stores {board.stores}")
+        must(board.seeds == sum(map(sum, board.houses)) and board.legal == reference.legal(position), f"Board: {line}: {board.legal}")
+        must(board.rule == ("empty-capture" if line.endswith(" e") else "classic"), f"Board: {line}: {board.rule}")
+        must(board.is_over == reference.is_over(position) and (board.margin is None) != board.is_over, f"Board: {line}: {board.margin}")
+        for house in range(8):
+            if house in board.legal:
+                reached, word = reference.after(position, house)
+                got = board.play(house)
+                must(got == (Board(reference.text(reached)), word == "again"), f"Board: {line}, house {house}: {got}")
+                must(not got[0].is_over or got[0].margin == reference.best_play(reached)[0], f"Board: {line}, {house}: {got[0].margin}")
+            else:
+                refuses(ValueError, lambda: board.play(house), f"house {house} can't be moved")
+    must(Board.start() == Board("4,4,4,4,4,4/0 4,4,4,4,4,4/0") and str(Board.start(2, 1, "empty-capture")) == f"{LINE} e", "Board.start")
+    for wrong in ((0,), (7,), (2, -1), (2, 100), (2, 2, "other"), ("2",)):
+        refuses(ValueError, lambda: Board.start(*wrong), "there is no start")
+    for line in NO_LINES:
+        refuses(TypeError, lambda: Board(line), "a position is a line of text")
+    must(refuses(Fault, lambda: Board("1/0 1,1/0")).word == "houses", "Board: a fault has no word")
+    for line in ("1/0\n1/0", "1/0 1/0\0"):
+        refuses(ValueError, lambda: Board(line), "one line")
+    refuses(AttributeError, lambda: setattr(Board(LINE), "line", ""))
+
+
+def try_pictures():
+    """A notebook shows the board, and with its values what each move is worth below its house."""
+    board = Board("1,2,3/4 5,6,7/8")
+    plain, valued = board._repr_html_(), board.with_values(Values({1: -2, 2: 0, 3: 4}))._repr_html_()
+    texts = [re.findall(">([^<]+)</text>", picture) for picture in (plain, valued)]
+    must(sorted(texts[1]) == sorted([*texts[0], "-2", "0", "+4"]), f"Board: its picture has {texts}")
+    placed = [float(re.search(f'x="([0-9.]+)"[^>]*>{re.escape(value)}<', valued)[1]) for value in ("-2", "0", "+4")]
+    must(placed == sorted(placed) and len({*placed}) == 3, f"Board: values at {placed}")
+    must(re.search('font-weight="bold">([^<]+)<', valued)[1] == "+4" and board.with_values({1: 1}) == board, "Board: the best value")
+
+
+def try_game_values(draw):
+    """A game has who moves, the moves so far and the margin of its end; moves are taken back; and a record is read back."""
+    for _ in range(SOLVED):
+        line = drawn_line(draw, 4, 8).replace("/99", "/9")
+        moved, margin = drawn_game(draw, line)
+        game, seen = Game(line), []
+        for player, house, _ in moved:
+            seen.append((game.mover, str(game.board), game.moves))
+            must(game.mover == ["South", "North"][player] and not game.is_over and game.margin is None, f"Game: {game}: {game.mover}")
+            refuses(ValueError, lambda: game.push(9), f"{game.mover} can't move house 9")
+            game.push(house)
+        must(game.is_over and game.margin == margin, f"Game: {game} ends with {game.margin}, not {margin}")
+        refuses(ValueError, lambda: game.push(1), "the game is over")
+        records = [Game.read(text) for text in (str(game), f"{line} {game.record()}", f"{line} {game.record(numbers=True)}")]
+        must(all(one.moves == game.moves and str(one.board) == str(game.board) for one in records), f"Game: {game} is not read back")
+        must(eval(repr(game)).moves == game.moves, f"Game: {game!r}")
+        for (_, house, _), want in zip(moved[::-1], seen[::-1]):
+            must(game.pop() == house and (game.mover, str(game.board), game.moves) == want, f"Game: {game} after pop")
+        refuses(IndexError, game.pop)
+    must(str(Game.read("1. CF ba 2. D")) == "4,4,4,4,4,4/0 4,4,4,4,4,4/0 1. CF ba 2. D", "Game: the usual board")
+    for record, why in (
+        ("1.C 1...b", "move 2: South moves, and b is a move of North"),
+        ("C F B", "move 3: North moves, and B is a move of South"),
+        ("CFD", "move 3: North moves, and D is a move of South"),
+        ("3-6-2 x", "move 4: North can't move house x"),
+        ("1. C 1... F", "F is a move of South, and `...` before it says North"),
+        ("1. C F 1... B", "B is a move of South, and `...` before it says North"),
+        ("C5", "move 1: house C has 4 seeds, and its number is 3"),
+        ("1,1/0 1,1/0 1. 2 1... 1", "move 2: South moves, and 1 is a move of North"),
+    ):
+        refuses(ValueError, lambda: Game.read(record), why)
+
+
+def try_solver(draw):
+    """A solver answers as the reference does, also with large stores, and says what is wrong with a question."""
+    with Solver() as solver:
+        for _ in range(SOLVED):
+            line = drawn_line(draw, 4, 8)
+            position = reference.read(line.encode())
+            margin, house = reference.best_play(position)
+            values = {legal: reference.value(position, legal) for legal in reference.legal(position)}
+            for text, more in ((line, 0), (Board(line), 0), (re.sub("/[0-9]+", "/300", line, 1), 300 - position.own.store)):
+                got = solver.best(text), solver.values(text)
+                want = Best(margin + more, house), Values({legal: value + more for legal, value in values.items()})
+                must(got == want and got[1].margin == margin + more and got[1].house == house, f"Solver: {text}: {got}")
+                steps = [(move.house, move.position, move.word) for move in solver.steps(text).moves]
+                reached = ((legal, *Board(str(text)).after(legal)) for legal in values)
+                must(steps == [(legal, str(to), word) for legal, to, word in reached], f"Solver: {text}: {steps}")
+                game = Game(text)
+                for move in solver.line(text):
+                    must(solver.best(game.board).house == move.house, f"Solver: {text}: {move} is not best")
+                    game.push(move.house)
+                    must(str(game.board) == move.position, f"Solver: {text}: {move} leads to {game.board}")
+                must(game.is_over and game.margin == margin + more, f"Solver: {text}: best play ends with {game.margin}")
+        must(solver.line(LINE, first=1)[0].house == 1 and solver.line("0,0/3 1,2/4") == [], "Solver: the first house of a game")
+        for question in (solver.best, solver.values, solver.steps, solver.line):
+            must(refuses(Fault, lambda: question("1/0")).word == "shape", "Solver: a fault has no word")
+            must(refuses(Fault, lambda: question(Board.start()), "48 seeds").word == "seeds", "Solver: too many seeds")
+            for line in NO_LINES:
+                refuses(TypeError, lambda: question(line), "a position is a line of text")
+        for question in (solver.best, solver.values, solver.steps):
+            must(question("0,0/3 1,2/4") == Over(-4), "Solver: a game that is over")
+        solver.close()
+        must(solver.best(LINE) == Best(2, 2), "Solver: after close")
+
+
+def try_many(draw, program, folder):
+    """Answers to many boards come in order, with faults, of any number and in any form; and others are refused."""
+    lines = [draw.choice([drawn_line(draw, 3, 7), drawn_line(draw, 6, 12), "1/0", "", "0,0/3 1,2/4", "1,1/300 1,1/0"]) for _ in range(MANY)]
+    with Solver() as solver:
+
+        def wanted(question, line):
+            try:
+                return question(line)
+            except Fault as fault:
+                return str(fault)
+
+        known = {line: (wanted(solver.best, line), wanted(solver.values, line)) for line in {*lines}}
+    for place, question in enumerate(("best", "values")):
+        got = [str(one) if isinstance(one, Fault) else one for one in solve_many(iter(lines), workers=3, question=question)]
+        must(got == [known[line][place] for line in lines], f"solve_many, {question}: {got}")
+    boards = (Board(LINE) for _ in count())
+    must([*islice(solve_many(boards), 12_000)] == [Best(2, 2)] * 12_000 and [*solve_many([])] == [], "solve_many: many boards")
+    some = solve_many([LINE, LINE, None, LINE])
+    must([next(some), next(some)] == [Best(2, 2)] * 2, "solve_many: what comes before a mistake")
+    refuses(TypeError, lambda: next(some), "a position is a line of text")
+    for words in ({"workers": 0}, {"workers": 65}, {"question": "moves"}):
+        refuses(ValueError, lambda: solve_many([LINE], **words))
+    for text in ("exit 3", f"echo '{'/dev/stdin'}:2 2 house 2'", "echo '/dev/stdin:1 2 hou'", "echo 'kalah: cannot' >&2; exit 2"):
+        refuses(Gone, lambda: [*solve_many([LINE, LINE], program=str(fake(folder, program, [text])))])
+
+
+def try_ends(program):
+    """Nothing is left and nothing warned of when a solver is dropped; and Ctrl-C ends all processes of a batch."""
+    environment = {**os.environ, "KALAH": str(program)}
+    words = [sys.executable, "-B", "-W", "error", "-X", "dev", "-c", DROPPED]
+    done = subprocess.run(words, env=environment, capture_output=True, text=True)
+    must((done.stdout, done.stderr) == ("done\n", ""), f"Python: a solver that is dropped: {done}")
+    with tempfile.TemporaryDirectory() as folder:
+        # The program under a name that no other process has.
+        own = Path(folder) / "kalah-of-this-trial"
+        own.symlink_to(program)
+        how = {"env": {**environment, "KALAH": str(own)}, "stdout": subprocess.PIPE, "stderr": subprocess.DEVNULL}
+        with subprocess.Popen([sys.executable, "-B", "-c", ENDLESS], start_new_session=True, **how) as running:
+            must(running.stdout.readline(), "solve_many: no answer")
+            running.send_signal(signal.SIGINT)
+            running.stdout.read()
+            running.wait()
+        soon(lambda: not [path for path in Path("/proc").glob("[0-9]*/cmdline") if str(own).encode() in read(path)])
+
+
+def read(path):
+    try:
+        return path.read_bytes()
+    except OSError:
+        return b""
+
+
+def try_types():
+    """The types hold, if there is a checker, and all that is public has a name."""
+    must({*kalah.__all__} <= {*dir(kalah)} and (PACKAGE / "kalah/py.typed").exists(), "Python: __all__")
+    pages = re.findall(r"[\w/]+\.md", kalah.__doc__)
+    must(not pages, f"help(kalah) names {pages}")
+    if not which("mypy"):
+        return "the types were not checked, as there is no mypy"
+    with tempfile.TemporaryDirectory() as folder:
+        done = subprocess.run(["mypy", "--strict", "--cache-dir", folder, "kalah"], cwd=PACKAGE, capture_output=True, text=True)
+    must(done.returncode == 0, f"mypy --strict: {done.stdout}{done.stderr}")
+    return "the types of the package hold"
+
+
+def try_library(program, folder, draw):
+    """Makes all trials, and returns what is said of types."""
+    try_boards(draw)
+    try_pictures()
+    try_game_values(draw)
+    try_solver(draw)
+    try_many(draw, program, folder)
+    try_ends(program)
+    return try_types()
