@@ -31,6 +31,7 @@ fn caught(rule: Rule, single: bool, across: u64, seeds: u64) -> (u64, u64)
     ensures few { result.1 ≤ 32 }
 {
     let captures = rule.captures(across as u8);
+    // All bits if the seeds are captured, otherwise none.
     let mask = 0u64.wrapping_sub(u64::from(single & captures));
     (seeds & mask, (1 + across) & mask)
 }
