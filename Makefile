@@ -64,7 +64,7 @@ install:
 	install -m 644 completions/kalah.zsh $(DESTDIR)$(PREFIX)/share/zsh/site-functions/_kalah
 	install -m 644 completions/kalah.fish $(DESTDIR)$(PREFIX)/share/fish/vendor_completions.d/kalah.fish
 	install -m 644 packaging/README.md packaging/copyright LICENSE-APACHE LICENSE-MIT $(DESTDIR)$(PREFIX)/$(PAGES)
-	install -m 644 docs/*.md $(DESTDIR)$(PREFIX)/$(PAGES)/docs
+	install -m 644 docs/*.md docs/growth.svg $(DESTDIR)$(PREFIX)/$(PAGES)/docs
 	install -m 644 $(wildcard examples/*.*) $(DESTDIR)$(PREFIX)/$(PAGES)/examples
 	install -m 644 $(wildcard python/kalah/*.*) $(DESTDIR)$(PREFIX)/$(PYTHON)/kalah
 

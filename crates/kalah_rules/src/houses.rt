@@ -240,8 +240,8 @@ impl Houses {
         }
     }
 
-    // Returns houses of the same number and rule without seeds.
-    pub(crate) fn without_seeds(&self) -> Houses
+    /// Returns houses of the same number and rule without seeds.
+    pub fn without_seeds(&self) -> Houses
         ensures { result ≡ without_seeds self.now }
     {
         Houses {

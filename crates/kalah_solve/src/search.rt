@@ -270,7 +270,7 @@ impl<A: Allocator + Clone> Search<A> {
             return again;
         }
         let mut priorities = [0u16; 8];
-        let mut turns = [houses; 6];
+        let mut turns = [houses.without_seeds(); 6]; // Of a known game they are a constant.
         let others = self.others_waiting::<GAME>(&houses, bar, &mut priorities, &mut turns);
         if bar <= others {
             return others;

@@ -20,9 +20,6 @@ pub(super) struct RowNumbers {
     store: u32,
 }
 
-// All bits if a condition holds. Read from a table, they stay a number: a compiler makes no branch of it.
-static ALL_IF: [u64; 2] = [0, u64::MAX];
-
 // Returns what is captured of both rows, `seeds` and in all `count` seeds, or nothing. Seeds are captured if the last one is alone in an
 // own house, which `single` states, and the rule lets it capture the `across` seeds across. Which is hard to predict, so the seeds are
 // masked, without a branch.
@@ -34,7 +31,8 @@ fn caught(rule: Rule, single: bool, across: u64, seeds: u64) -> (u64, u64)
     ensures few { result.1 ≤ 32 }
 {
     let captures = rule.captures(across as u8);
-    let mask = ALL_IF[usize::from(single & captures)];
+    // All bits if the seeds are captured, otherwise none.
+    let mask = 0u64.wrapping_sub(u64::from(single & captures));
     (seeds & mask, (1 + across) & mask)
 }
 
