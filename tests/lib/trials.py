@@ -24,6 +24,7 @@ from lib.asked import ASK_KINDS, AskTrials
 from lib.differing import SOON, Differs, piece_in, read_piece, read_soon
 from lib.drawn import BYTES, DEPTHS, FILES, LINES, LINES_OF_MOVES, LONG_GAME, NO_FILES, PLAIN, SEARCHING, SUBCOMMANDS, TABLES, Drawn
 from lib.reference import Run
+from lib.waits import EASY, HARD_LINE, WAIT_KINDS, WaitTrials, ticks_of
 
 TESTS = Path(__file__).resolve().parents[1]
 
@@ -255,12 +256,6 @@ NO_READER_IS_LEFT = list(product(SEARCHING, ["1", "4"], ["pipe", "/dev/full"]))
 # The numbers of workers of a run whose reader leaves late.
 LEFT_AFTER_A_PAUSE = [64, 8]
 
-# The numbers of workers of a run whose reader leaves after a second at most, and how many hard lines it has.
-LEFT_WITH_LINES_UNDER_WAY = [*[(4, 10), (8, 10)] * 7, *[(4, 0), (8, 0)] * 2, *[(64, 10), (64, 0)]]
-
-# A line that takes no time.
-EASY = b"1,1/0 1,1/0\n"
-
 # Where the first position of a game, or a picture, is read; its first move takes a second with a table of one entry.
 FIRST_PICTURES = list(product(["pipe", "terminal", "file"], [["play", "--boards"], ["show"]]))
 
@@ -306,8 +301,7 @@ LITTLE_SPACE = 24_000
 SPACE_OF_MANY = 64_000
 MEMORY_OF_MANY = 16_000
 
-# With a table of one entry each of these lines takes long, so no run finishes a thousand of them.
-HARD_LINE = b"2,3,2,3,2,3/0 3,2,3,2,3,3/0\n"
+# With a table of one entry no run finishes these lines.
 HARD = HARD_LINE * 1000
 
 # The seconds after which a run counts as endless.
@@ -390,16 +384,6 @@ def read_all(reader, process):
     return got
 
 
-def ticks_of(process):
-    """Returns the processor time of each thread of the process, in ticks of the clock."""
-    ticks = {}
-    for thread in Path(f"/proc/{process.pid}/task").iterdir():
-        with suppress(FileNotFoundError):
-            numbers = (thread / "stat").read_text().rpartition(")")[2].split()
-            ticks[int(thread.name)] = int(numbers[11]) + int(numbers[12])
-    return ticks
-
-
 def spent_by(process):
     """Returns the processor time of the process's first thread, in nanoseconds."""
     return int(Path(f"/proc/{process.pid}/schedstat").read_text().split()[0])
@@ -462,7 +446,7 @@ def fill(pipe, data, process):
     soon(lambda: not has_open(process, pipe))
 
 
-class Trials(AskTrials):
+class Trials(AskTrials, WaitTrials):
     """Trials of a program, of these kinds or of all. Each draws arguments and files, runs the program and compares the result."""
 
     def __init__(self, program, seed, folder, kinds=()):
@@ -685,18 +669,6 @@ class Trials(AskTrials):
             time.sleep(1)
             os.close(reader)
             self.compare(Run(b"", b"kalah: write failed\n", 2), self.end_of(process)._replace(out=b""))
-
-    def left_with_lines_under_way(self):
-        """A run ends soon once its reader has left, whatever its workers do then: they wait for room, or solve a line that takes long while
-        the calling thread sleeps."""
-        workers, hard = self.drawn.card("left with lines under way", LEFT_WITH_LINES_UNDER_WAY)
-        self.put({"a": EASY * 4000 + (HARD_LINE + EASY * 200) * hard + EASY * 100_000})
-        reader, writer = os.pipe()
-        with self.start(["solve", "--table=1", f"--workers={workers}", "a"], stdout=writer) as process:
-            os.close(writer)
-            time.sleep(self.drawn.chance.uniform(0.1, 1))
-            os.close(reader)
-            self.compare(Run(b"", b"kalah: write failed\n", 2), self.end_of(process, SOON)._replace(out=b""))
 
     def timed(self, run):
         """Returns the result of a run, and the processor time that it took, in seconds."""
@@ -1087,7 +1059,7 @@ KINDS = {
     "streams": len(STREAMS_OF_RUNS),
     "no_reader_is_left": len(NO_READER_IS_LEFT),
     "left_after_a_pause": 2 * len(LEFT_AFTER_A_PAUSE),
-    "left_with_lines_under_way": 2 * len(LEFT_WITH_LINES_UNDER_WAY),
+    **WAIT_KINDS,
     "first_answers": len(FIRST_ANSWERS),
     "first_picture": len(FIRST_PICTURES),
     "first_move": len(FIRST_MOVES),

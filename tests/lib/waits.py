@@ -1,0 +1,115 @@
+"""The trials of runs whose threads wait for one another: no thread sleeps on beside what it waits for."""
+
+import fcntl
+import os
+import re
+import subprocess
+import sys
+import time
+from contextlib import contextmanager, suppress
+from pathlib import Path
+
+from lib import reference
+from lib.differing import SOON, piece_in
+from lib.reference import Run
+
+# A line that takes no time.
+EASY = b"1,1/0 1,1/0\n"
+
+# With a table of one entry this line takes long.
+HARD_LINE = b"2,3,2,3,2,3/0 3,2,3,2,3,3/0\n"
+
+# The numbers of workers of a run whose reader leaves after a second at most, and how many hard lines it has.
+LEFT_WITH_LINES_UNDER_WAY = [*[(4, 10), (8, 10)] * 7, *[(4, 0), (8, 0)] * 2, *[(64, 10), (64, 0)]]
+
+# How often outcomes are put late, by how many workers, and for how many ticks of the clock these may be at work until all have come.
+LATE_OUTCOMES, LATE_WORKERS, LATE_TICKS = 12, 4, 20
+
+# The places of the results queue.
+LIMITS = Path(__file__).resolve().parents[2] / "crates/kalah_run/src/limits.rt"
+PLACES = int(re.search(r"const QUEUE_PLACES: u32 = (\d+);", LIMITS.read_text())[1])
+
+# The call that sets the size of a pipe, and the least and a great size.
+F_SETPIPE_SZ, SMALL, LARGE = 1031, 1 << 12, 1 << 20
+
+
+def ticks_of(process):
+    """Returns the processor time of each thread of the process, in ticks of the clock."""
+    ticks = {}
+    for thread in Path(f"/proc/{process.pid}/task").iterdir():
+        with suppress(FileNotFoundError):
+            numbers = (thread / "stat").read_text().rpartition(")")[2].split()
+            ticks[int(thread.name)] = int(numbers[11]) + int(numbers[12])
+    return ticks
+
+
+def workers_of(process):
+    """Returns the processor time of each thread of the process but its first."""
+    return {thread: ticks for thread, ticks in ticks_of(process).items() if thread != process.pid}
+
+
+@contextmanager
+def hardly_runs(threads):
+    """Lets these threads run only where another program is at work, and only if that lets them."""
+    processor = {max(os.sched_getaffinity(0))}
+    for thread in threads:
+        os.sched_setaffinity(thread, processor)
+        os.sched_setscheduler(thread, os.SCHED_IDLE, os.sched_param(0))
+    with subprocess.Popen([sys.executable, "-c", "while True: pass"], preexec_fn=lambda: os.sched_setaffinity(0, processor)) as other:
+        try:
+            time.sleep(0.1)
+            yield
+        finally:
+            other.kill()
+
+
+class WaitTrials:
+    """Trials of runs whose threads wait."""
+
+    def left_with_lines_under_way(self):
+        """A run ends soon once its reader has left, whatever its workers do then: they wait for room, or solve a line that takes long while
+        the calling thread sleeps."""
+        workers, hard = self.drawn.card("left with lines under way", LEFT_WITH_LINES_UNDER_WAY)
+        self.put({"a": EASY * 4000 + (HARD_LINE + EASY * 200) * hard + EASY * 100_000})
+        reader, writer = os.pipe()
+        with self.start(["solve", "--table=1", f"--workers={workers}", "a"], stdout=writer) as process:
+            os.close(writer)
+            time.sleep(self.drawn.chance.uniform(0.1, 1))
+            os.close(reader)
+            self.compare(Run(b"", b"kalah: write failed\n", 2), self.end_of(process, SOON)._replace(out=b""))
+
+    def late_outcomes(self):
+        """Easy lines are answered though the last outcomes were put late, as there was no room, and the workers are at work on hard lines
+        then. Once there is room, the workers hardly run, so that the calling thread finds the queue empty and sleeps before."""
+        easy = 1 + PLACES + LATE_WORKERS
+        self.put({"a": EASY * easy + HARD_LINE * 40})
+        want = reference.answers("solve", [(b"a", EASY * easy)]).out
+        for _ in range(LATE_OUTCOMES):
+            reader, writer = os.pipe()
+            os.write(writer, bytes(fcntl.fcntl(writer, F_SETPIPE_SZ, SMALL)))
+            with self.start(["solve", "--table=1", f"--workers={LATE_WORKERS}", "a"], stdout=writer) as process:
+                os.close(writer)
+                try:
+                    got = self.read_late(process, reader, SMALL + len(want))
+                finally:
+                    process.kill()
+                    os.close(reader)
+            self.compare(Run(want, b"", 0), Run(got[SMALL:], b"", 0))
+
+    def read_late(self, process, reader, size):
+        """Reads so much of a full pipe and of what is written to it, once the workers wait for room, for as long as they take little time."""
+        time.sleep(0.5)
+        with hardly_runs(workers_of(process)):
+            fcntl.fcntl(reader, F_SETPIPE_SZ, LARGE)
+            time.sleep(0.1)
+        got, end, until = b"", sum(workers_of(process).values()) + LATE_TICKS, time.monotonic() + SOON
+        while len(got) < size and sum(workers_of(process).values()) < end and time.monotonic() < until:
+            got += piece_in(reader, 0.01)
+        return got[:size]
+
+
+# How often each of these trials is made in one round of all of them.
+WAIT_KINDS = {
+    "left_with_lines_under_way": 2 * len(LEFT_WITH_LINES_UNDER_WAY),
+    "late_outcomes": 1,
+}
