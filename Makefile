@@ -51,13 +51,13 @@ INSTALLED = bin/kalah share/man/man1/kalah.1 share/bash-completion/completions/k
 	share/fish/vendor_completions.d/kalah.fish
 PAGES = share/doc/kalah
 # The folder of the Python package: Debian's python3 looks there if PREFIX is /usr, any other if PYTHONPATH names it.
-PYTHON = lib/python3/dist-packages
+PYTHON_PACKAGES = lib/python3/dist-packages
 
 # Installs the program as `make` built it, its manual page, the completions for bash, zsh and fish, the Python package, and
 # its pages. It needs no prover.
 install:
 	@test -x kalah || { echo 'make install: there is no ./kalah yet: `make` builds it, with `rt` of the Rattle toolchain' >&2; exit 1; }
-	install -d $(addprefix $(DESTDIR)$(PREFIX)/,$(dir $(INSTALLED)) $(PAGES)/docs $(PAGES)/examples $(PYTHON)/kalah)
+	install -d $(addprefix $(DESTDIR)$(PREFIX)/,$(dir $(INSTALLED)) $(PAGES)/docs $(PAGES)/examples $(PYTHON_PACKAGES)/kalah)
 	install -m 755 kalah $(DESTDIR)$(PREFIX)/bin/kalah
 	install -m 644 docs/kalah.1 $(DESTDIR)$(PREFIX)/share/man/man1/kalah.1
 	install -m 644 completions/kalah.bash $(DESTDIR)$(PREFIX)/share/bash-completion/completions/kalah
@@ -66,14 +66,14 @@ install:
 	install -m 644 packaging/README.md packaging/copyright LICENSE-APACHE LICENSE-MIT $(DESTDIR)$(PREFIX)/$(PAGES)
 	install -m 644 docs/*.md docs/growth.svg $(DESTDIR)$(PREFIX)/$(PAGES)/docs
 	install -m 644 $(wildcard examples/*.*) $(DESTDIR)$(PREFIX)/$(PAGES)/examples
-	install -m 644 $(wildcard python/kalah/*.*) $(DESTDIR)$(PREFIX)/$(PYTHON)/kalah
+	install -m 644 $(wildcard python/kalah/*.*) $(DESTDIR)$(PREFIX)/$(PYTHON_PACKAGES)/kalah
 
 uninstall:
 	rm -f $(addprefix $(DESTDIR)$(PREFIX)/,$(INSTALLED))
-	rm -rf $(DESTDIR)$(PREFIX)/$(PAGES) $(DESTDIR)$(PREFIX)/$(PYTHON)/kalah
+	rm -rf $(DESTDIR)$(PREFIX)/$(PAGES) $(DESTDIR)$(PREFIX)/$(PYTHON_PACKAGES)/kalah
 
 # The program as `make` built it, packed for machines without the toolchain: dist/ gets an archive, a package for Debian, or a wheel
-# for Python, which has its package for Python, too.
+# for Python, which has the Python package, too.
 dist:
 	@packaging/pack tar
 

@@ -157,12 +157,6 @@ def filled(move: Move, start: Position, is_other: bool) -> Move:
     return replace(move, position=text(with_stores(reached, reached.own.store + own, reached.other.store + other)))
 
 
-def too_many(line: str) -> str:
-    """Returns why the moves of a position have no values yet, or an empty text if they have some."""
-    seeds = seeds_in(read(line))
-    return str(TooMany(seeds)) if seeds > MOST_SEEDS else ""
-
-
 @lru_cache(MOST_MARGINS)
 def seen(position: Position, depth: int) -> int:
     """Returns the margin as it is seen by a plain search that looks this many moves ahead: where it stops, it takes that of the stores."""

@@ -8,13 +8,15 @@ import re
 import signal
 import sys
 from collections.abc import Iterator
+from itertools import islice
 from typing import Any, Callable, NoReturn, Optional, TextIO, TypeVar
 
 from . import rules
 from .answers import Fault, Gone
 
-# The most characters of a line that are read, and where an argument is a side or a position.
-LONGEST = 4096
+# The most characters of a line that are read, and the most lines of a file.
+LONGEST, MOST_LINES = 4096, 1_000_000
+# A side of a position.
 SIDE = re.compile("[0-9,]+/[0-9]+")
 
 Made = TypeVar("Made")
@@ -122,9 +124,12 @@ def lines_in(file: TextIO) -> Iterator[str]:
 
 
 def lines_of(name: str) -> list[str]:
-    """Returns the lines of a file."""
+    """Returns the lines of a file. Fails with ValueError if there are too many."""
     with opened(name) as file:
-        return [*lines_in(file)]
+        lines = [*islice(lines_in(file), MOST_LINES + 1)]
+    if len(lines) > MOST_LINES:
+        raise ValueError(f"{name} has more than {MOST_LINES} lines")
+    return lines
 
 
 def of_lines(name: str, make: Callable[[str], Optional[Made]]) -> tuple[list[Made], bool]:

@@ -30,6 +30,8 @@ from .client import find
 from .script import arguments, opened, say, whole
 
 HOUSES = range(1, 7)
+# The most bytes of a file that `kalah` reads.
+MOST_BYTES = 1 << 26
 COLUMNS = ["position", "seeds", "margin", "best", *(f"house{house}" for house in HOUSES)]
 
 
@@ -79,9 +81,12 @@ def answers_to(data: bytes, workers: int) -> list[str]:
     return lines_of(done.stdout)
 
 
-def read(name: str) -> bytes:
+def read(name: str, most: int) -> bytes:
     with opened(name) as file:
-        return file.buffer.read()
+        data = file.buffer.read(most + 1)
+    if len(data) > most:
+        raise ValueError(f"{name} has more than {most} bytes")
+    return data
 
 
 def answer_of(text: str) -> Union[Values, Over, Fault, str]:
@@ -121,8 +126,8 @@ def main() -> bool:
     parser.add_argument("--workers", type=whole(1, 64, "a number from 1 to 64"), default=4, metavar="N", help="workers of kalah (4)")
     parser.add_argument("file", metavar="FILE", help="has a position in each line")
     asked = parser.parse_args()
-    data = read(asked.file)
-    found = [*rows(lines_of(data), lines_of(read(asked.answers)) if asked.answers else answers_to(data, asked.workers))]
+    data = read(asked.file, MOST_BYTES)
+    found = [*rows(lines_of(data), lines_of(read(asked.answers, 4 * MOST_BYTES)) if asked.answers else answers_to(data, asked.workers))]
     made = [(row, row.cells()) for row in found]
     if asked.sqlite:
         store([cells for _, cells in made if cells], asked.sqlite, asked.name)

@@ -290,16 +290,16 @@ class MatchTrials:
     def late(self):
         """Who is late loses, as A and as B, and so does `kalah`."""
         (self.folder / "a b.txt").write_text("3,3/0 3,3/0\n")
-        (self.folder / "slow.sh").write_text("while read -r line; do sleep 4; echo 1; done\n")
+        (self.folder / "slow.sh").write_text("while read -r line; do sleep 30; echo 1; done\n")
         for players, who in ((["sh slow.sh", self.command(0)], "A"), ([self.command(0), "sh slow.sh"], "B")):
-            out, err = output(self.folder, "match", *players, "--positions", "a b.txt", "--timeout", 1, status=1)
-            said = f"and {who} loses: sh slow.sh has not answered in 1.0 seconds\n"
+            out, err = output(self.folder, "match", *players, "--positions", "a b.txt", "--timeout", 3, status=1)
+            said = f"and {who} loses: sh slow.sh has not answered in 3.0 seconds\n"
             must(err.count(said) == 2 and {"A": "(0-0-2)", "B": "(2-0-0)"}[who] in out, f"match --timeout: {out}{err}")
         program = os.environ["KALAH"]
         os.environ["KALAH"] = str(fake(self.folder, program, ["exec sleep 600"] * 2))
-        _, err = output(self.folder, "match", "kalah", self.command(0), "--positions", "a b.txt", "--timeout", 1, status=1)
+        _, err = output(self.folder, "match", "kalah", self.command(0), "--positions", "a b.txt", "--timeout", 3, status=1)
         os.environ["KALAH"] = program
-        must("A loses: kalah has not answered in 1.0 seconds" in err, f"match --timeout, kalah: {err}")
+        must("A loses: kalah has not answered in 3.0 seconds" in err, f"match --timeout, kalah: {err}")
 
     def record(self):
         """A game is in the record as soon as it is played, though the next one hangs."""

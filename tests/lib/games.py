@@ -15,7 +15,7 @@ from urllib.parse import quote, quote_plus
 from xml.dom import minidom
 
 from lib import reference
-from lib.clients import Client, command, kalah
+from lib.clients import Client, Wrong, command, kalah
 from lib.drawn import FAULTS, Drawn
 from lib.scripts import HOSTILE, drawn_game, drawn_line, must
 from lib.serving import asked, served
@@ -132,8 +132,11 @@ def try_values(draw, solver, client):
     must(rules.guess(FAR) == max(seen_of(reference.read(FAR.encode()), 4).items(), key=lambda one: one[1])[0], f"rules: {FAR}")
     for line, seeds in ((USUAL, 48), ("16,0/3 0,16/0 e", 32)):
         must(values_of(solver, Board(line)) is None, f"rules, {line}: it has values")
-        must(rules.too_many(line) == f"{seeds} seeds in houses: no values above 31 seeds", f"rules, {line}: {rules.too_many(line)}")
-    must(rules.too_many("16,0/3 0,15/0") == "", "rules: 31 seeds are too many")
+        try:
+            raise Wrong(f"rules, {line}: {rules.ask(client, line)}")
+        except rules.TooMany as why:
+            must(str(why) == f"{seeds} seeds in houses: no values above 31 seeds" and why.word == "seeds", f"rules, {line}: {why}")
+    must(rules.ask(client, "16,0/3 0,15/0").by_house == {1: -4}, f"rules: {rules.ask(client, '16,0/3 0,15/0')}")
     must(rules.ask(client, "0,0/3 40,0/1") == kalah.Over(-38), "rules: the end of a game needs values")
 
 
