@@ -32,5 +32,5 @@ fn a_position_without_quotes_is_pointed_out(rt: HostRuntime) {
 
 #[test]
 fn the_version_is_one_line(rt: HostRuntime) {
-    assert_answers(&rt, &["--version"], Clean, ("kalah 1.3.0\n", ""));
+    assert_answers(&rt, &["--version"], Clean, ("kalah 1.4.0\n", ""));
 }
