@@ -36,8 +36,8 @@ _kalah() {
     esac
     case ${COMP_WORDS[1]}:$current in
         solve:-* | values:-*) _kalah_options '--workers --table --progress -h --help' ;;
-        show:-*) _kalah_options '--plain --table -h --help' ;;
-        play:-*) _kalah_options '--table --boards --first -h --help' ;;
+        show:-*) _kalah_options '--plain --lines --table -h --help' ;;
+        play:-*) _kalah_options '--table --boards --values --first -h --help' ;;
         moves:-*) _kalah_options '--boards -h --help' ;;
         ask:-*) _kalah_options '--values --steps --table -h --help' ;;
         steps:-*) _kalah_options '--workers --progress -h --help' ;;

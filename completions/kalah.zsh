@@ -26,8 +26,12 @@ _kalah() {
             local table='--table=[use tables of N entries, 1 to 1048576]:entries: '
             case $line[1] in
                 solve | values) _arguments $help $workers $table $progress '*:file of positions:_files' ;;
-                show) _arguments $help '--plain[draw the position alone]' $table '1:position in quotes: ' ;;
-                play) _arguments $help $table $boards '--first=[begin with this house, 1 to 6]:house:(1 2 3 4 5 6)' '1:position in quotes: ' ;;
+                show) _arguments $help '--plain[draw the position alone]' '--lines[print the best play after each move]' $table '1:position in quotes: ' ;;
+                play)
+                    local margins='--values[print after each move the margin of best play before it]'
+                    local first='--first=[begin with this house, 1 to 6]:house:(1 2 3 4 5 6)'
+                    _arguments $help $table $boards $margins $first '1:position in quotes: '
+                    ;;
                 moves) _arguments $help $boards '1:position in quotes: ' ;;
                 ask)
                     local values='(--steps)--values[print what each move is worth, as values does]'

@@ -70,6 +70,9 @@ FIRST = [None, "a house with seeds", *range(1, 7)]
 # How `--plain` stands among the words of `show`.
 PLAIN = [None, 0, 1]
 
+# Whether `show --lines` or `play --values` is asked for.
+MORE = [False, True]
+
 # How many moves are played on where ways are counted: the reference is quick up to 5.
 DEPTHS = range(6)
 

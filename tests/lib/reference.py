@@ -141,9 +141,9 @@ def picture(position):
     return f"    {above}\n{other.store:4}{' ' * len(below)}{own.store:4}\n    {below}\n"
 
 
-def move_text(house, reached, word, boards):
-    """Returns what `moves` and `play` print of a move, and the board below it if boards are drawn."""
-    return f"{house} {text(reached)} {word}\n" + picture(reached) * boards
+def move_text(house, reached, word, boards, worth=None):
+    """Returns what `moves` and `play` print of a move, with this value if there is one, and the board below it if boards are drawn."""
+    return f"{house} {text(reached)} {word}" + ("" if worth is None else f" {worth}") + "\n" + picture(reached) * boards
 
 
 def moves(line, boards=False):
@@ -165,12 +165,33 @@ def line_below(position):
     return "".join(row).rstrip() + "\n"
 
 
-def show(line, plain=False):
+def played(position):
+    """Yields the house of each move of best play from a position on, with the margin of best play before it, and what it leads to."""
+    word = ""
+    while word != "over" and not is_over(position):
+        margin, house = best_play(position)
+        position, word = after(position, house)
+        yield house, margin, position, word
+
+
+def variation(position, house):
+    """The line of `show --lines` for a move."""
+    reached, word = after(position, house)
+    houses = [house, *(move[0] for move in (played(reached) if word != "over" else []))]
+    return f"{house}  {value(position, house)}  {' '.join(map(str, houses))}\n"
+
+
+def show(line, plain=False, lines=False):
     """`kalah show LINE`."""
     position = read(line)
     if isinstance(position, str):
         return Run(b"", f"fault {position}\n".encode(), 1)
-    return Run((picture(position) + ("" if plain else line_below(position))).encode(), b"", 0)
+    said = picture(position)
+    if not plain:
+        said += line_below(position)
+        if lines:
+            said += "".join(variation(position, house) for house in sorted(legal(position), key=lambda house: -value(position, house)))
+    return Run(said.encode(), b"", 0)
 
 
 @lru_cache(maxsize=1 << 16)
@@ -193,7 +214,7 @@ def count(line, depth):
     return Run(("".join(lines) + f"total {ways(depth, position)}\n").encode(), b"", 0)
 
 
-def play(line, boards=False, first=None):
+def play(line, boards=False, first=None, values=False):
     """`kalah play LINE`, which begins with house `first` if there is one."""
     position = read(line)
     if isinstance(position, str):
@@ -202,12 +223,10 @@ def play(line, boards=False, first=None):
         return failed(b"house %d can't be moved" % first)
     said, word = picture(position) * boards, ""
     if first is not None:
-        position, word = after(position, first)
-        said += move_text(first, position, word, boards)
-    while word != "over" and not is_over(position):
-        _, house = best_play(position)
-        position, word = after(position, house)
-        said += move_text(house, position, word, boards)
+        margin, (position, word) = best_play(position)[0], after(position, first)
+        said += move_text(first, position, word, boards, margin if values else None)
+    for house, margin, reached, end in played(position) if word != "over" else []:
+        said += move_text(house, reached, end, boards, margin if values else None)
     return Run(said.encode(), b"", 0)
 
 

@@ -22,7 +22,7 @@ from pathlib import Path
 from lib import reference
 from lib.asked import ASK_KINDS, AskTrials
 from lib.differing import SOON, Differs, piece_in, read_piece, read_soon
-from lib.drawn import BYTES, DEPTHS, FILES, LINES, LINES_OF_MOVES, LONG_GAME, NO_FILES, PLAIN, SEARCHING, SUBCOMMANDS, TABLES, Drawn
+from lib.drawn import BYTES, DEPTHS, FILES, LINES, LINES_OF_MOVES, LONG_GAME, MORE, NO_FILES, PLAIN, SEARCHING, SUBCOMMANDS, TABLES, Drawn
 from lib.reference import Run
 from lib.waits import EASY, HARD_LINE, WAIT_KINDS, WaitTrials, ticks_of
 
@@ -43,6 +43,8 @@ MISTAKES = [
     *(["play", "--first", "1/0 1/0"], ["play", "--first=1", "--first=1", "1/0 1/0"], ["moves", "--first=1", "1/0 1/0"], ["show", "--first=1", "1/0 1/0"]),
     *(["show"], ["show", "--"], ["show", "-1/0 1/0"], ["show", "1/0 1/0", "1/0 1/0"], ["show", "--boards", "1/0 1/0"], ["show", "--plain=1", "1/0 1/0"]),
     *(["show", "--plain", "--plain", "1/0 1/0"], ["show", "--table=0", "1/0 1/0"], ["show", "--workers", "1", "1/0 1/0"], ["show", b"1/0 1/0\x80"]),
+    *(["show", "--lines=1", "1/0 1/0"], ["show", "--lines", "--lines", "1/0 1/0"], ["show", "--values", "1/0 1/0"], ["moves", "--lines", "1/0 1/0"]),
+    *(["play", "--values=1", "1/0 1/0"], ["play", "--values", "--values", "1/0 1/0"], ["play", "--lines", "1/0 1/0"], ["moves", "--values", "1/0 1/0"]),
     *(["count", str(depth), "1/0 1/0"] for depth in ("", "21", "-1", "a", "1.0", " 1", "1 ", "0x1", "++1", "１", 256, 2**32, 2**64, 2**64 + 1)),
     *(["count"], ["count", "1"], ["count", "--", "1"], ["count", "1/0 1/0"], ["count", "1/0 1/0", "1"], ["count", "1", "1/0 1/0", "1/0 1/0"]),
     *(["count", "--", "-1", "1/0 1/0"], ["count", "1", "-1/0 1/0"], ["count", "--table=1", "1", "1/0 1/0"], ["count", "1", b"1/0 1/0\x80"]),
@@ -234,8 +236,10 @@ RUNS = [
     (["play", "1/0"], reference.play(b"1/0")),
     (["play", "--first=2", "3,3/0 3,3/0"], reference.play(b"3,3/0 3,3/0", False, 2)),
     (["play", "--first=1", "0,3/0 3,3/0"], reference.play(b"0,3/0 3,3/0", False, 1)),
+    (["play", "--values", "--first=2", "3,3/0 3,3/0"], reference.play(b"3,3/0 3,3/0", False, 2, True)),
     (["show", "3,3/0 3,3/0"], reference.show(b"3,3/0 3,3/0")),
     (["show", "--plain", "3,3/0 3,3/0"], reference.show(b"3,3/0 3,3/0", True)),
+    (["show", "--lines", "3,3/0 3,3/0"], reference.show(b"3,3/0 3,3/0", False, True)),
     (["show", "1/0"], reference.show(b"1/0")),
     (["count", "3", "3,3/0 3,3/0"], reference.count(b"3,3/0 3,3/0", 3)),
     (["count", "0", "3,3/0 3,3/0"], reference.count(b"3,3/0 3,3/0", 0)),
@@ -257,7 +261,7 @@ NO_READER_IS_LEFT = list(product(SEARCHING, ["1", "4"], ["pipe", "/dev/full"]))
 LEFT_AFTER_A_PAUSE = [64, 8]
 
 # Where the first position of a game, or a picture, is read; its first move takes a second with a table of one entry.
-FIRST_PICTURES = list(product(["pipe", "terminal", "file"], [["play", "--boards"], ["show"]]))
+FIRST_PICTURES = list(product(["pipe", "terminal", "file"], [["play", "--boards"], ["play", "--boards", "--values"], ["show"], ["show", "--lines"]]))
 
 # Where the first move of a game is read: one that is found, and one that is given, after which the long game is played.
 # Of the first, the second move takes half as long to find as the first one, and the third no time.
@@ -567,14 +571,17 @@ class Trials(AskTrials, WaitTrials):
         options = [] if table is None else [f"--table={table}"]
         first = self.drawn.first(line)
         options += [] if first is None else self.drawn.chance.choice([[f"--first={first}"], ["--first", f"{first}"]])
-        self.run_on_line(line, self.drawn.words_of_line("play", line, options), reference.play, first)
+        values = self.drawn.card("values of play", MORE)
+        options += ["--values"] * values
+        self.run_on_line(line, self.drawn.words_of_line("play", line, options), reference.play, first, values)
 
     def show(self):
         line = self.drawn.line_of_play(self.drawn.card("lines of show", LINES_OF_MOVES))
         line = self.drawn.wide(line) if self.drawn.happens(0.5) else line
         table = self.drawn.card("tables of show", TABLES)
-        options = [] if table is None else [f"--table={table}"]
-        self.run_on_line(line, self.drawn.words_of_line("show", line, options, "plain", PLAIN), reference.show)
+        lines = self.drawn.card("lines of best play", MORE)
+        options = ["--lines"] * lines + ([] if table is None else [f"--table={table}"])
+        self.run_on_line(line, self.drawn.words_of_line("show", line, options, "plain", PLAIN), reference.show, lines)
 
     def count(self):
         """Of lines of both rules, up to five moves on."""

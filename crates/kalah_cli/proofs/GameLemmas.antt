@@ -1,12 +1,12 @@
 -- The game of best play, move by move.
-use Rattle.std.proofs.Common.{◌⊎◌, ◌<◌, ◌≤◌, ◌-◌, ◌≡◌, ℕ, zero, suc, List, [], ◌∷◌, ◌++◌, Bool, true, false, inl, inr, refl, sym, subst, ap, ◌∙◌, arith}
+use Rattle.std.proofs.Common.{◌⊎◌, ◌<◌, ◌≤◌, ◌-◌, ◌≡◌, ℕ, zero, suc, List, [], ◌∷◌, ◌++◌, Bool, true, false, inl, inr, of_z, refl, sym, subst, to_z, w32, ap, append_assoc, ◌∙◌, arith}
 use Rattle.std.specs.Prelude.{Contains, Option, ℤ, if◌then◌else◌}
 use Rattle.std.proofs.lemmas.Bool.{cases_Bool}
-use Rattle.std.proofs.lemmas.Int.{ints}
-use Rattle.kalah_rules.specs.Position.{Position, HasEqualSides, final_margin, is_over, swapped, swept}
+use Rattle.std.proofs.lemmas.Int.{ints, to_z-of_z}
+use Rattle.kalah_rules.specs.Position.{Position, HasEqualSides, IsSmallMargin, final_margin, is_over, swapped, swept}
 use Rattle.kalah_rules.specs.Sowing.{after, is_again}
 use Rattle.kalah_rules.specs.Measure.{moves_left}
-use Rattle.kalah_rules.proofs.PlayLemmas.{after_equal_sides, row_distance_le, sum-zeros}
+use Rattle.kalah_rules.proofs.PlayLemmas.{after_equal_sides, legal_going, row_distance_le, sum-zeros}
 use Rattle.kalah_rules.specs.Play.{legal_houses, position_after, step_of}
 use Rattle.kalah_rules.specs.declared.step.Step.TheVariants as step
 use Rattle.kalah_rules.specs.declared.step.Step.{Step}
@@ -16,13 +16,18 @@ use Rattle.kalah_solve.specs.Solver.Verdict.{verdict_of}
 use Rattle.kalah_solve.specs.Solver.Worth.{best_house, worth}
 use Rattle.kalah_solve.specs.declared.solver.Verdict.TheVariants.{Best, Over}
 use Rattle.std.proofs.lemmas.List.Elements.{Contains-push}
-use Rattle.kalah_solve.proofs.SolverLemmas.{strategy_keeps, best_is_strategy, best_plays, bounds}
-use Rattle.kalah_solve.proofs.WorthLemmas.{over_for_other, again_fewer, again_step, over_at_end, over_ends, over_step, swapped_equal_sides, turn_fewer, turn_step}
+use Rattle.kalah_solve.proofs.SolverLemmas.{best_is_strategy, best_plays, bounds, strategy_keeps, strategy_within, widened}
+use Rattle.kalah_solve.proofs.WorthLemmas.{final_swapped, value_going_on, value_of_again, value_of_turn, value_passing, worth_of_over, over_for_other, again_fewer, again_step, over_at_end, over_ends, over_step, swapped_equal_sides, turn_fewer, turn_step}
 use Rattle.kalah_jobs.specs.Writing.Given.{WasGiven}
-use Rattle.kalah_jobs.proofs.WritingLemmas.{given_flushed}
-use Rattle.kalah_cli.specs.Moves.{board_lines, move_lines}
-use Rattle.kalah_cli.specs.Play.{PlaysBestGames, best_game, best_moves, game_lines}
-use Rattle.kalah_cli.specs.Solver.{Begun, IsShown}
+use Rattle.kalah_jobs.specs.Writing.Shown.{shown_of}
+use Rattle.kalah_jobs.specs.Writing.Variation.{variation_start}
+use Rattle.kalah_jobs.proofs.WritingLemmas.{given_flushed, given_off, given_then}
+use Rattle.kalah_solve.specs.declared.solver.move_values.MoveValue.{MoveValue}
+use Rattle.kalah_cli.specs.Game.{IsVariation, PlaysBestGames, VariationsEndWithTheirValue, best_game, best_moves, game_text, move_text}
+use Rattle.kalah_cli.specs.Moves.{board_lines}
+use Rattle.kalah_cli.specs.Solver.{Begins, Begun, IsOfVariations, IsShown}
+use Rattle.kalah_cli.specs.declared.game.Form.{Form}
+use Rattle.kalah_cli.specs.declared.game.Form.TheVariants.{Houses, Lines}
 use Rattle.kalah_cli.specs.Solver.IsShown.{begins, moves}
 
 -- both players always move the lowest best house
@@ -40,13 +45,13 @@ pub record IsFirst (p : Position) (h : ℕ) (s : Step) : Type 0 where
 first_is_legal : {p : Position} {h : ℕ} {s : Step} → IsFirst p h s → Contains (legal_houses p) h
 first_is_legal {p} first = rw first.best (best_is_strategy.moves p first.even first.going)
 
--- the solver's verdict has the best house, if the game goes on
+-- the solver's verdict has the worth and the best house, if the game goes on
 pub best_told : (p : Position) (margin : ℤ) (house : ℕ) → is_over p ≡ false → Best margin house ≡ verdict_of p
-    → house ≡ best_house p
+    → (margin ≡ worth p) × (house ≡ best_house p)
 best_told p margin house going is =
     let told : Best margin house ≡ Best (worth p) (best_house p) =
     is ∙ ap (λ b. if b then Over (final_margin p) else Best (worth p) (best_house p)) going in
-    cc
+    (cc, cc)
 
 -- the position after a step, in each case
 pub after_step : (s : Step) (p : Position) → (s ≡ step.Again p) ⊎ ((s ≡ step.Turn p) ⊎ (s ≡ step.Over p))
@@ -159,18 +164,18 @@ game_goes_on p even going =
     let next = same_moves n _ _ (even_next p even going _ refl) (omega (arith, fewer_next p even going)) (omega arith) in
     ap (λ k. best_moves k p) more ∙ one_left n p going ∙ ap (λ moves. best_house p ∷ moves) next
 
--- and so are their lines
-pub lines_go_on : (boards : Bool) {p : Position} {h : ℕ} {s : Step} → IsFirst p h s → game_lines boards p (best_game p)
-    ≡ move_lines boards h s ++ game_lines boards (position_after s) (best_game (position_after s))
-lines_go_on boards {p} {h} {s} first =
-    ap (game_lines boards p) (game_goes_on p first.even first.going)
-    ∙ ap (λ k. lines_from k (step_of p k)) (sym first.best) ∙ ap (lines_from h) (sym first.step)
+-- and so is their text
+pub text_goes_on : (form : Form) {p : Position} {h : ℕ} {s : Step} → IsFirst p h s → game_text form p (best_game p)
+    ≡ move_text form (worth p) h s ++ game_text form (position_after s) (best_game (position_after s))
+text_goes_on form {p} {h} {s} first =
+    ap (game_text form p) (game_goes_on p first.even first.going)
+    ∙ ap (λ k. text_from k (step_of p k)) (sym first.best) ∙ ap (text_from h) (sym first.step)
   where
-    lines_from : ℕ → Step → List ℕ
-    lines_from k x = move_lines boards k x ++ game_lines boards (position_after x) (best_game (position_after x))
+    text_from : ℕ → Step → List ℕ
+    text_from k x = move_text form (worth p) k x ++ game_text form (position_after x) (best_game (position_after x))
 
-pub no_lines : (boards : Bool) (p : Position) → is_over p ≡ true → game_lines boards p (best_game p) ≡ []
-no_lines boards p over = ap (game_lines boards p) (none_left (moves_left p) p over)
+pub no_text : (form : Form) (p : Position) → is_over p ≡ true → game_text form p (best_game p) ≡ []
+no_text form p over = ap (game_text form p) (none_left (moves_left p) p over)
 
 -- ---- the law on it
 
@@ -214,14 +219,118 @@ plays_best p even =
     let bounded = bounds keeps keeps even game.1 in
     (game.0, record { game = game.1; margin = omega (ints, arith, bounded.low best_plays, bounded.high best_plays) })
 
+-- ---- the law on variations
+
+-- a game of best play is one by the rules
+legally : {p : Position} {houses : List ℕ} {final : Position} → HasEqualSides p → BestGame p houses final
+    → Game legal_houses legal_houses p houses final
+legally even game = widened (strategy_within best_is_strategy) (strategy_within best_is_strategy) even game
+
+-- the game after a move ends with the value of that move
+pub variations_end : VariationsEndWithTheirValue
+variations_end p h even legal = go (step_of p h) refl
+  where
+    going : is_over p ≡ false
+    going = legal_going p h legal
+
+    go : (s : Step) → s ≡ step_of p h → (final : Position) × IsVariation p h (h ∷ best_game (position_after s)) final
+    go (step.Again q) is =
+        let moved_to = again_step (is_over (after p h)) (is_again p h) (after p h) q is in
+        let even_q = subst HasEqualSides (sym (ap position_after is)) (even_after p h) in
+        let game = plays_best q even_q in (
+          game.0,
+          record {
+            game = moves_on going legal moved_to.1
+                (subst (λ r. Game legal_houses legal_houses r (best_game q) game.0) moved_to.2 (legally even_q game.1.game));
+            margin = game.1.margin ∙ value_of_again p h q is;
+          },
+        )
+    go (step.Turn q) is =
+        let moved_to = turn_step (is_over (after p h)) (is_again p h) (after p h) q is in
+        let even_q = subst HasEqualSides (sym (ap position_after is)) (even_after p h) in
+        let game = plays_best q even_q in (
+          swapped game.0,
+          record {
+            game = passes_turn going legal moved_to.1
+                (subst (λ r. Game legal_houses legal_houses r (best_game q) game.0) moved_to.2 (legally even_q game.1.game));
+            margin = omega (arith, ints, final_swapped game.0, game.1.margin, value_of_turn p h q is);
+          },
+        )
+    go (step.Over q) is =
+        let over = (over_step (is_over (after p h)) (is_again p h) (after p h) q is).0 in
+        let none = sym (none_left (moves_left q) q (over_ends p h q is)) in
+        elim (cases_Bool (is_again p h)) [
+          | inl again ↦ (
+            after p h,
+            record {
+              game = subst (λ houses. Game legal_houses legal_houses p (h ∷ houses) (after p h)) none
+                  (moves_on going legal again (is_at_end over));
+              margin = sym (value_going_on p h again ∙ worth_of_over (after p h) over);
+            },
+          )
+          | inr turn ↦
+              let end = over_for_other (after p h) over in (
+                swapped (swapped (after p h)),
+                record {
+                  game = subst (λ houses. Game legal_houses legal_houses p (h ∷ houses) (swapped (swapped (after p h)))) none
+                      (passes_turn going legal turn (is_at_end end));
+                  margin = omega (
+                    arith,
+                    ints,
+                    final_swapped (swapped (after p h)),
+                    value_passing p h turn,
+                    worth_of_over (swapped (after p h)) end,
+                  );
+                },
+              )
+        ]
+
 -- ---- the positions that are shown
+
+-- a margin is kept in thirty-two bits
+pub kept : {z : ℤ} → IsSmallMargin z → to_z w32 (of_z w32 z) ≡ z
+kept {z} small = to_z-of_z w32 z (omega (arith, ints, small.low, small.high))
 
 module _ {O : Type 0} (written : O → Option (List ℕ)) (has_failed : O → Bool) where
   -- the first one, once it was given
-  pub shown_first : {game : Begun O} {boards : Bool} {p : Position} {old new : O}
-      → game ≡ record { boards = boards; first = p; sink = old } → WasGiven written has_failed old new (board_lines boards p)
+  pub shown_first : {game : Begun O} {boards values : Bool} {p : Position} {old new : O}
+      → game ≡ record { form = Lines boards values; first = p; sink = old } → WasGiven written has_failed old new (board_lines boards p)
       → IsShown written has_failed game new p
-  shown_first {p = p} {new = new} begun given = subst (λ game. IsShown written has_failed game new p) (sym begun) (begins given)
+  shown_first {p = p} {new = new} begun given = subst (λ game. IsShown written has_failed game new p) (sym begun) (begins (refl, given))
+
+  -- the one after the first move of a variation, once its line began
+  pub shown_after : {game now : Begun O} {p q : Position} {between new : O} (v : MoveValue)
+      → IsOfVariations written has_failed game p between → WasGiven written has_failed between new (variation_start v)
+      → q ≡ position_after (step_of p v.house) → now ≡ game → IsShown written has_failed now new q
+  shown_after {game} {now} {p} {q} {between} {new} v below given next same =
+      subst (λ game. IsShown written has_failed game new q) (sym same)
+      (begins (subst (λ f. Begins written has_failed game f new q) (sym below.form) (
+        between,
+        v,
+        subst (λ r. IsOfVariations written has_failed game r between) (sym below.first) below,
+        given,
+        next ∙ ap (λ r. position_after (step_of r v.house)) (sym below.first),
+      )))
+
+  -- more of the variations was given
+  pub variations_go_on : {game now : Begun O} {p : Position} {between new : O} (text : List ℕ) → now ≡ game
+      → IsOfVariations written has_failed game p between → WasGiven written has_failed between new text
+      → IsOfVariations written has_failed now p new
+  variations_go_on {game} {now} {p} {between} {new} text same below given = rw same (record {
+    form = below.form;
+    first = below.first;
+    more = below.more ++ text;
+    shown = subst (WasGiven written has_failed game.sink new) (append_assoc (shown_of p) below.more text)
+        (given_then written has_failed game.sink between new (shown_of p ++ below.more) text below.shown given);
+  })
+
+  -- how a game began, after a flush
+  begins_flushed : (game : Begun O) (form : Form) (p : Position) (between new : O) → Begins written has_failed game form between p
+      → WasGiven written has_failed between new [] → Begins written has_failed game form new p
+  begins_flushed game (Lines boards values) p between new (is, given) flushed =
+      (is, given_flushed written has_failed _ _ _ _ given flushed)
+  begins_flushed game Houses p between new (o, v, below, given, next) flushed =
+      (o, v, below, given_flushed written has_failed _ _ _ _ given flushed, next)
 
   module _ {game : Begun O} {p : Position} {between new : O} (shown : IsShown written has_failed game between p) where
     -- one that was shown, after a flush
@@ -229,13 +338,26 @@ module _ {O : Type 0} (written : O → Option (List ℕ)) (has_failed : O → Bo
     shown_flushed flushed = by shown flushed where
       by : {q : Position} {o : O} → IsShown written has_failed game o q → WasGiven written has_failed o new []
           → IsShown written has_failed game new q
-      by (begins given) flushed = begins (given_flushed written has_failed _ _ _ _ given flushed)
+      by (begins begun) flushed = begins (begins_flushed game game.form _ _ _ begun flushed)
       by (moves o q h shown given) flushed = moves o q h shown (given_flushed written has_failed _ _ _ _ given flushed)
 
     -- the next one, once its move was given
-    pub shown_next : {now : Begun O} {boards : Bool} {s : Step} {q : Position} (h : ℕ) → game.boards ≡ boards → s ≡ step_of p h
-        → q ≡ position_after s → now ≡ game → WasGiven written has_failed between new (move_lines boards h s)
+    pub shown_next : {now : Begun O} {form : Form} {margin : ℤ} {s : Step} {q : Position} (h : ℕ) → game.form ≡ form → s ≡ step_of p h
+        → q ≡ position_after s → now ≡ game → margin ≡ worth p → WasGiven written has_failed between new (move_text form margin h s)
         → IsShown written has_failed now new q
-    shown_next {boards = boards} {s = s} h drawn step next same given = rw (same, next, step)
-        (moves between p h shown (subst (λ b. WasGiven written has_failed between new (move_lines b h (step_of p h))) (sym drawn)
-        (subst (λ s. WasGiven written has_failed between new (move_lines boards h s)) step given)))
+    shown_next {form = form} {margin = margin} {s = s} h written_in step next same most given = rw (same, next, step)
+        (moves between p h shown (subst (λ f. WasGiven written has_failed between new (move_text f (worth p) h (step_of p h)))
+        (sym written_in) (subst (λ z. WasGiven written has_failed between new (move_text form z h (step_of p h))) most
+        (subst (λ s. WasGiven written has_failed between new (move_text form margin h s)) step given))))
+
+  -- a move, with the margin of best play of its position if that is shown and no call had failed
+  pub valued_move : (boards values : Bool) (h : ℕ) (s : Step) {margin most : ℤ} {between new : O}
+      → (values ≡ true → has_failed between ≡ false → margin ≡ most)
+      → WasGiven written has_failed between new (move_text (Lines boards values) margin h s)
+      → WasGiven written has_failed between new (move_text (Lines boards values) most h s)
+  valued_move boards false h s is given = given
+  valued_move boards true h s {margin} {most} {between} {new} is given = elim (cases_Bool (has_failed between)) [
+    | inl failed ↦ subst (λ o. WasGiven written has_failed between o (move_text (Lines boards true) most h s)) (sym (given.quiet failed))
+        (given_off written has_failed between (move_text (Lines boards true) most h s) failed)
+    | inr sound ↦ subst (λ z. WasGiven written has_failed between new (move_text (Lines boards true) z h s)) (is refl sound) given
+  ]

@@ -5,3 +5,4 @@ pub mod RunLemmas
 pub mod GameLemmas
 pub mod FilesLemmas
 pub mod KnownLemmas
+pub mod ShowLemmas

@@ -81,8 +81,8 @@ module _ {O : Type 0} (written : O → Option (List ℕ)) (has_failed is_handed_
       → ((p : Position) → Reads line p → (MayPrint command p → ⊥) → FailsWithoutOutput old new status)
       → Does written has_failed is_handed_on old new status any_bytes (command_asks command line)
   line_done (Moves boards) is fails = is
-  line_done (Play table boards first) is fails = (is, fails)
-  line_done (Show table plain) is fails = is
+  line_done (Play table boards values first) is fails = (is, fails)
+  line_done (Show table plain lines) is fails = is
   line_done (Count depth) is fails = is
 
   module _ (command : LineCommand) {line bytes : List ℕ} (same : bytes ≡ line) where
@@ -136,8 +136,8 @@ pub reads_nothing : {O : Type 0} (written : O → Option (List ℕ)) (has_failed
     → Does written has_failed is_handed_on old new status any_bytes (command_asks command line)
     → Does written has_failed is_handed_on old new status may_give (command_asks command line)
 reads_nothing written has_failed is_handed_on old new status may_give (Moves boards) line does = does
-reads_nothing written has_failed is_handed_on old new status may_give (Play table boards first) line does = does
-reads_nothing written has_failed is_handed_on old new status may_give (Show table plain) line does = does
+reads_nothing written has_failed is_handed_on old new status may_give (Play table boards values first) line does = does
+reads_nothing written has_failed is_handed_on old new status may_give (Show table plain lines) line does = does
 reads_nothing written has_failed is_handed_on old new status may_give (Count depth) line does = does
 
 -- ---- what is answered of files
@@ -274,10 +274,10 @@ module _ {O : Type 0} (written : O → Option (List ℕ)) (has_failed is_handed_
   pub run_ends : (may_give : Source → List ℕ → Type 0) (a : Asked) → IsOfNoInput a
       → Does written has_failed is_handed_on old new status may_give a → Ends written has_failed is_handed_on old new status
   run_ends may_give (moves boards line) _ does = does.ends
-  run_ends may_give (play first table boards line) _ does = does.0.ends
+  run_ends may_give (play first table boards values line) _ does = does.0.ends
   run_ends may_give (answers question workers table progress names) _ does = does.ends
   run_ends may_give (ask question table) none does = absurd none
-  run_ends may_give (show plain table line) _ does = does.ends
+  run_ends may_give (show plain lines table line) _ does = does.ends
   run_ends may_give (count depth line) _ does = does.ends
   run_ends may_give conflict _ does = ends_without_output does
 

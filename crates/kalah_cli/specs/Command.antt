@@ -70,10 +70,11 @@ file_rule = record (value_rule (codes "file")) { required = true; action = Some 
 abbrev pub moves_app : App
 moves_app = with_rule (with_rule (new_app (codes "moves")) (flag_rule (codes "boards"))) line_rule
 
--- `play [--table N] [--boards] [--first H] LINE`
+-- `play [--table N] [--boards] [--values] [--first H] LINE`
 abbrev pub play_app : App
-play_app = with_rule (with_rule (with_rule (with_rule (new_app (codes "play")) table_rule) (flag_rule (codes "boards"))) first_rule)
-    line_rule
+play_app =
+    with_rule (with_rule (with_rule (with_rule (with_rule (new_app (codes "play")) table_rule) (flag_rule (codes "boards")))
+    (flag_rule (codes "values"))) first_rule) line_rule
 
 -- `NAME [--workers N] [--table N] [--progress] FILE..`
 abbrev pub answers_app : Text → App
@@ -96,9 +97,11 @@ ask_app =
 abbrev pub steps_app : App
 steps_app = with_rule (with_rule (with_rule (new_app (codes "steps")) workers_rule) (flag_rule (codes "progress"))) file_rule
 
--- `show [--plain] [--table N] LINE`
+-- `show [--plain] [--lines] [--table N] LINE`
 abbrev pub show_app : App
-show_app = with_rule (with_rule (with_rule (new_app (codes "show")) (flag_rule (codes "plain"))) table_rule) line_rule
+show_app =
+    with_rule (with_rule (with_rule (with_rule (new_app (codes "show")) (flag_rule (codes "plain"))) (flag_rule (codes "lines"))) table_rule)
+    line_rule
 
 -- `count DEPTH LINE`
 abbrev pub count_app : App

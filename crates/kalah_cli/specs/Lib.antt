@@ -4,7 +4,9 @@ pub mod Status
 pub mod Failure
 pub mod Ends
 pub mod Moves
+pub mod Game
 pub mod Play
+pub mod Show
 pub mod Solver
 pub mod Line
 pub mod Count

@@ -1,20 +1,27 @@
 -- What `kalah moves` and `kalah play` print of a move.
-use Rattle.std.specs.Prelude.{ℕ, List, [], ◌∷◌, ◌++◌, Bool, flat_map, if◌then◌else◌}
+use Rattle.std.specs.Prelude.{ℕ, ℤ, List, [], ◌∷◌, ◌++◌, Bool, Option, None, Some, flat_map, if◌then◌else◌}
 use Rattle.kalah_rules.specs.Position.{Position}
 use Rattle.kalah_rules.specs.Play.{legal_houses, position_after, step_of}
 use Rattle.kalah_rules.specs.declared.step.Step.{Step}
 use Rattle.kalah_jobs.specs.Line.Line.{step_text_of}
 use Rattle.kalah_jobs.specs.Files.Lines.{line_feed}
 use Rattle.kalah_jobs.specs.Writing.Picture.{picture_of}
+use Rattle.kalah_jobs.specs.Writing.Variation.{value_after}
 
 -- the picture of a position, if boards are drawn
 abbrev pub board_lines : Bool → Position → List ℕ
 board_lines boards p = if boards then picture_of p else []
 
--- the line of a move, and below it the position after it, if boards are drawn
-abbrev pub move_lines : Bool → ℕ → Step → List ℕ
-move_lines boards house step = step_text_of house step ++ line_feed ∷ board_lines boards (position_after step)
+-- what stands after a move: a space and a value, if there is one
+abbrev pub value_words : Option ℤ → List ℕ
+value_words None = []
+value_words (Some value) = value_after value
+
+-- the line of a move, with this value or none, and below it the position after it, if boards are drawn
+abbrev pub move_lines : Bool → Option ℤ → ℕ → Step → List ℕ
+move_lines boards value house step =
+    step_text_of house step ++ (value_words value ++ line_feed ∷ board_lines boards (position_after step))
 
 -- the moves of the legal houses, in ascending order
 abbrev pub moves_output : Bool → Position → List ℕ
-moves_output boards p = flat_map (λ h. move_lines boards h (step_of p h)) (legal_houses p)
+moves_output boards p = flat_map (λ h. move_lines boards None h (step_of p h)) (legal_houses p)

@@ -27,18 +27,19 @@ module _ {A : Type 0} where
 
 -- What can be asked, where a table has the given size:
 -- - the moves of a line, with boards drawn or not
--- - the game of best play from a line, or after its move of a house, found with a table, with boards drawn or not
+-- - the game of best play from a line, or after its move of a house, found with a table, with boards drawn or not, and with the values of
+--   its positions or not
 -- - something of each position in files, by a number of workers with tables, with progress shown or not
 -- - something of each line of the standard input, with a table
--- - a picture of a line, plain or with what its moves are worth, found with a table
+-- - a picture of a line, plain or with what its moves are worth, with the variations of these or not, found with a table
 -- - the number of ways of that many moves to play on from a line
 -- - nothing, by options that exclude each other
 pub data Asked : Type 0 where
   moves : Bool → Text → Asked
-  play : Option ℕ → ℕ → Bool → Text → Asked
+  play : Option ℕ → ℕ → Bool → Bool → Text → Asked
   answers : Question → ℕ → ℕ → Bool → List Text → Asked
   ask : Question → ℕ → Asked
-  show : Bool → ℕ → Text → Asked
+  show : Bool → Bool → ℕ → Text → Asked
   count : ℕ → Text → Asked
   conflict : Asked
 
@@ -75,8 +76,8 @@ moves_asks rows = option_map (moves (is_set (codes "boards") rows)) (first_of (c
 -- what the matches of `play` ask for
 abbrev pub play_asks : List Row → Option Asked
 play_asks rows = option_and_then (λ table.
-    option_map (play (number_given (codes "first") rows) table (is_set (codes "boards") rows)) (first_of (codes "line") rows))
-    (number_given (codes "table") rows)
+    option_map (play (number_given (codes "first") rows) table (is_set (codes "boards") rows) (is_set (codes "values") rows))
+    (first_of (codes "line") rows)) (number_given (codes "table") rows)
 
 -- the size of the tables that the matches of a subcommand with files ask for
 abbrev pub table_asked : Question → List Row → Option ℕ
@@ -105,7 +106,8 @@ ask_asks rows = flags_ask (is_set (codes "values") rows) (is_set (codes "steps")
 
 -- what the matches of `show` ask for
 abbrev pub show_asks : List Row → Option Asked
-show_asks rows = option_and_then (λ table. option_map (show (is_set (codes "plain") rows) table) (first_of (codes "line") rows))
+show_asks rows = option_and_then (λ table.
+    option_map (show (is_set (codes "plain") rows) (is_set (codes "lines") rows) table) (first_of (codes "line") rows))
     (number_given (codes "table") rows)
 
 -- what the matches of `count` ask for
@@ -145,8 +147,8 @@ AsksNot kind words = IsAmong kind (fault_of kalah_app words) → ⊥
 -- what a command asks for, of this line
 abbrev pub command_asks : LineCommand → Text → Asked
 command_asks (Moves boards) = moves boards
-command_asks (Play table boards first) = play first table boards
-command_asks (Show table plain) = show plain table
+command_asks (Play table boards values first) = play first table boards values
+command_asks (Show table plain lines) = show plain lines table
 command_asks (Count depth) = count depth
 
 -- what a request asks for
@@ -169,8 +171,8 @@ HasTable entries solver = solver.search.table ≡ empty_table entries
 -- numbers are in their ranges
 abbrev pub IsCommandInRange : LineCommand → Type 0
 IsCommandInRange (Moves boards) = ⊤
-IsCommandInRange (Play table boards first) = IsTableSize table
-IsCommandInRange (Show table plain) = IsTableSize table
+IsCommandInRange (Play table boards values first) = IsTableSize table
+IsCommandInRange (Show table plain lines) = IsTableSize table
 IsCommandInRange (Count depth) = depth ≤ most_depth
 
 abbrev pub IsInRange : Request → Type 0

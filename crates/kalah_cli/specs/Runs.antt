@@ -10,7 +10,7 @@ use Rattle.kalah_cli.specs.Moves.{moves_output}
 use Rattle.kalah_cli.specs.Play.{MayBegin, play_output}
 use Rattle.kalah_cli.specs.Count.{count_output}
 use Rattle.kalah_cli.specs.Request.{Asked, AsksNot, IsPlainWord, IsRefused, IsTakenAs, moves, play, answers, ask, show, count, conflict}
-use Rattle.kalah_cli.specs.Line.{show_output}
+use Rattle.kalah_cli.specs.Show.{show_output}
 use Rattle.kalah_cli.specs.Ask.{AnswersInput}
 use Rattle.kalah_cli.specs.SolveFiles.{AnswersFiles}
 use Rattle.kalah_cli.specs.Sources.{MayBeLeft, Source, standard_input}
@@ -25,7 +25,7 @@ IsOfNoInput _ = ⊤
 
 -- what is written if the version is asked for: the program's name, its version and a line feed
 abbrev pub version_line : Text
-version_line = codes "kalah 1.3.0" ++ line_feed ∷ []
+version_line = codes "kalah 1.4.0" ++ line_feed ∷ []
 
 module _ {O : Type 0} (written : O → Option (List ℕ)) (has_failed is_handed_on : O → Bool) (old new : O) (status : ExitStatus)
     (may_give : Source → List ℕ → Type 0) where
@@ -33,13 +33,13 @@ module _ {O : Type 0} (written : O → Option (List ℕ)) (has_failed is_handed_
   -- so do options that exclude each other
   abbrev pub Does : Asked → Type 0
   Does (moves boards line) = AnswersLine written has_failed is_handed_on old new status line (moves_output boards)
-  Does (play first table boards line) =
-      AnswersLine written has_failed is_handed_on old new status line (play_output first boards)
+  Does (play first table boards values line) =
+      AnswersLine written has_failed is_handed_on old new status line (play_output first boards values)
       × ((p : Position) → Reads line p → (MayBegin first p → ⊥) → FailsWithoutOutput old new status)
   Does (answers question workers table progress names) = AnswersFiles written has_failed is_handed_on old new status may_give question names
   Does (ask question table) = (unread : Option (List ℕ))
       × (MayBeLeft (may_give standard_input) unread × AnswersInput written has_failed is_handed_on old new status question unread)
-  Does (show plain table line) = AnswersLine written has_failed is_handed_on old new status line (show_output plain)
+  Does (show plain lines table line) = AnswersLine written has_failed is_handed_on old new status line (show_output plain lines)
   Does (count depth line) = AnswersLine written has_failed is_handed_on old new status line (count_output depth)
   Does conflict = FailsWithoutOutput old new status
 

@@ -17,10 +17,6 @@ abbrev pub MayBeLeft : (List ℕ → Type 0) → Option (List ℕ) → Type 0
 MayBeLeft may_give None = (bytes : List ℕ) → may_give bytes
 MayBeLeft may_give (Some bytes) = may_give bytes
 
--- a file of this name and these bytes
-abbrev pub file_of : List ℕ → List ℕ → NamedBytes
-file_of name bytes = record { name = name; bytes = bytes }
-
 -- the bytes of the first file of a disk that has this name
 abbrev pub bytes_on : List NamedBytes → List ℕ → Option (List ℕ)
 bytes_on disk name = option_map (λ file. file.bytes) (find (λ file. bytes_eq file.name name) disk)

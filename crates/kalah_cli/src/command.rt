@@ -79,8 +79,8 @@ fn commands_of<'a>(
 ///
 /// It asks for one of eight subcommands, or for help or the version:
 /// - `solve [--workers N] [--table N] [--progress] FILE..`, and `values` with the same arguments
-/// - `show [--plain] [--table N] LINE`
-/// - `play [--table N] [--boards] [--first H] LINE`
+/// - `show [--plain] [--lines] [--table N] LINE`
+/// - `play [--table N] [--boards] [--values] [--first H] LINE`
 /// - `moves [--boards] LINE`
 /// - `ask [--values] [--steps] [--table N]`
 /// - `steps [--workers N] [--progress] FILE..`

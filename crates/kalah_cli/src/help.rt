@@ -110,7 +110,9 @@ pub(crate) const LONG_OF_MOVES: &str = of_a_move!("");
 pub(crate) const LONG_OF_PLAY: &str = of_a_move!(
     "\
 With --first H the first line is the move of house H. It fails if that house
-can't be moved.
+can't be moved. With --values each line ends in the margin of best play of the
+position that the move is made in, seen by the player who moves:
+    1 1,1/0 0,2/0 turn 2
 "
 );
 
@@ -127,6 +129,10 @@ Nothing stands below a house that can't be moved. If the game is over, the last
 line has its margin:
     over, margin 3
 A margin below -99 fills its column and touches the one before it.
+With --lines a line for each house that can be moved follows, the best first:
+the house, its margin, and the houses that are moved from it on, up to the end
+of the game, if best play follows:
+    2  2  2 1 1 1 2 2 3 2 2 3 1 3 3 1 2 3
 `kalah --help` has the rules and the form of positions."
 );
 

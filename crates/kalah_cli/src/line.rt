@@ -39,9 +39,14 @@ fn print<O: Sink>(
         LineCommand::Play {
             table,
             boards,
+            values,
             first,
-        } => return run_play(alloc, board, *table, *boards, *first, out),
-        LineCommand::Show { table, plain } => return run_show(alloc, board, *table, *plain, out),
+        } => return run_play(alloc, board, *table, *boards, *values, *first, out),
+        LineCommand::Show {
+            table,
+            plain,
+            lines,
+        } => return run_show(alloc, board, *table, *plain, *lines, out),
         LineCommand::Count { depth } => write_count(board, *depth, out),
     }
     Ok(())

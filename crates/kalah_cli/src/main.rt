@@ -10,6 +10,7 @@ mod count;
 mod failure;
 mod files;
 mod fused;
+mod game;
 mod help;
 mod line;
 mod moves;

@@ -1,9 +1,12 @@
 //! `kalah moves LINE`.
+ghost use Rattle.std.specs.Prelude.{[], ◌∷◌, ◌++◌};
+ghost use Rattle.kalah_jobs.specs.Files.Lines.{line_feed};
+ghost use Rattle.kalah_jobs.specs.Line.Line.{step_text_of};
 ghost use Rattle.kalah_jobs.specs.Writing.Given.{WasGiven};
 ghost use Rattle.kalah_cli.specs.Ends.{IsPrinted};
-ghost use Rattle.kalah_cli.specs.Moves.{board_lines, move_lines, moves_output};
+ghost use Rattle.kalah_cli.specs.Moves.{board_lines, move_lines, moves_output, value_words};
 
-use kalah_jobs::{Sink, flush_unless_failed, write_picture, write_step};
+use kalah_jobs::{Sink, flush_unless_failed, write_picture, write_step, write_valued_step};
 use kalah_rules::{Board, Step};
 
 // Draws the board, if boards are drawn.
@@ -16,11 +19,27 @@ pub(crate) fn write_board<O: Sink>(board: &Board, boards: bool, out: &mut O)
     }
 }
 
-// Writes the line of a move, and below it the board after it, if boards are drawn.
-pub(crate) fn write_move<O: Sink>(house: u8, step: &Step, boards: bool, out: &mut O)
-    ensures { WasGiven O.written O.has_failed out.old out.new (move_lines boards house step.now) }
+// Writes the line of a move, with a value after it or without.
+fn write_line<O: Sink>(house: u8, step: &Step, value: Option<i32>, out: &mut O)
+    ensures { WasGiven O.written O.has_failed out.old out.new (step_text_of house step.now ++ (value_words value ++ line_feed ∷ [])) }
 {
-    write_step(out, house, step);
+    match value {
+        Some(value) => write_valued_step(out, house, step, value),
+        None => write_step(out, house, step),
+    }
+}
+
+// Writes the line of a move, and below it the board after it, if boards are drawn.
+pub(crate) fn write_move<O: Sink>(
+    house: u8,
+    step: &Step,
+    value: Option<i32>,
+    boards: bool,
+    out: &mut O,
+)
+    ensures { WasGiven O.written O.has_failed out.old out.new (move_lines boards value house step.now) }
+{
+    write_line(house, step, value, out);
     match step {
         Step::Again(board) | Step::Turn(board) | Step::Over(board) => {
             write_board(board, boards, out);
@@ -35,7 +54,7 @@ pub(crate) fn write_moves<O: Sink>(board: &Board, boards: bool, out: &mut O)
     let moves = board.legal();
     for i in 0..moves.len() {
         let house = moves.get(i);
-        write_move(house, &board.apply(house), boards, out);
+        write_move(house, &board.apply(house), None, boards, out);
     }
     flush_unless_failed(out);
 }

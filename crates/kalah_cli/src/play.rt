@@ -1,39 +1,46 @@
 //! `kalah play LINE`.
-ghost use Rattle.std.specs.Prelude.{◌≡◌, IfNone, IfSome, MatchResult, OnOk};
+ghost use Rattle.std.specs.Prelude.{◌≡◌, [], false, true, IfNone, IfSome, MatchResult, OnOk};
+ghost use Rattle.kalah_rules.specs.Position.{IsSmallMargin};
+ghost use Rattle.kalah_solve.specs.Solver.Worth.{worth};
+ghost use Rattle.kalah_jobs.specs.Writing.Given.{WasGiven};
 ghost use Rattle.kalah_run.specs.Limits.{IsTableSize};
 ghost use Rattle.kalah_cli.specs.Ends.{IsPrinted};
-ghost use Rattle.kalah_cli.specs.Play.{MayBegin, best_game, game_lines, play_output};
+ghost use Rattle.kalah_cli.specs.Play.{MayBegin, play_output};
 ghost use Rattle.kalah_cli.specs.Solver.{IsShown, begun};
 
 use crate::failure::Failure;
-use crate::moves::{write_board, write_move};
+use crate::game::{Form, write_game, write_in_form};
+use crate::moves::write_board;
 use crate::solver::GameSolver;
 use kalah_jobs::{Sink, flush_unless_failed};
 use kalah_rules::{Board, Step};
 use kalah_solve::Verdict;
 use std::alloc::Global;
 
-// Writes the moves of the game of best play from a board on, each as soon as it is found. If the output has failed, none is sought.
-#[cycle(game)]
-fn write_game<O: Sink>(solver: &mut GameSolver<O>, board: &Board, boards: bool, out: &mut O)
-    requires boards { solver.old.boards ≡ boards }
+// Returns the margin of best play of a board, if values are shown. All that leads to the board is flushed before the search. If the output
+// has failed, nothing is searched.
+fn margin_shown<O: Sink>(
+    solver: &mut GameSolver<O>,
+    board: &Board,
+    values: bool,
+    out: &mut O,
+) -> i32
     requires shown { IsShown O.written O.has_failed (begun solver.old) out.old board.now }
-    ensures { IsPrinted O.written O.has_failed O.is_handed_on out.old out.new (game_lines boards board.now (best_game board.now)) }
+    ensures begun { begun solver.new ≡ begun solver.old }
+    ensures flushed { WasGiven O.written O.has_failed out.old out.new [] }
+    ensures margin { values ≡ true → O.has_failed out.new ≡ false → result ≡ worth board.now }
+    ensures small { IsSmallMargin result }
 {
+    if !values {
+        return 0;
+    }
     flush_unless_failed(out);
     if out.failed() {
-        return;
+        return 0;
     }
-    let house = match solver.solve(board, out) {
-        Verdict::Over { .. } => return,
-        Verdict::Best { house, .. } => house,
-    };
-    let step = board.apply(house);
-    write_move(house, &step, boards, out);
-    match step {
-        Step::Again(next) | Step::Turn(next) | Step::Over(next) => {
-            write_game(solver, &next, boards, out);
-        }
+    match solver.solve(board, out) {
+        Verdict::Best { margin, .. } => margin,
+        Verdict::Over { margin } => margin,
     }
 }
 
@@ -43,21 +50,24 @@ fn play<O: Sink>(
     board: &Board,
     first: Option<u8>,
     boards: bool,
+    values: bool,
     out: &mut O,
 )
     requires begins { MayBegin first board.now }
-    requires begun { begun solver.old ≡ record { boards = boards; first = board.now; sink = out.old } }
-    ensures { IsPrinted O.written O.has_failed O.is_handed_on out.old out.new (play_output first boards board.now) }
+    requires begun { begun solver.old ≡ record { form = Form.Lines boards values; first = board.now; sink = out.old } }
+    ensures { IsPrinted O.written O.has_failed O.is_handed_on out.old out.new (play_output first boards values board.now) }
 {
+    let form = Form::Lines { boards, values };
     write_board(board, boards, out);
     let Some(h) = first else {
-        return write_game(solver, board, boards, out);
+        return write_game(solver, board, form, out);
     };
+    let margin = margin_shown(solver, board, values, out);
     let step = board.apply(h);
-    write_move(h, &step, boards, out);
+    write_in_form(form, margin, h, &step, out);
     match step {
         Step::Again(next) | Step::Turn(next) | Step::Over(next) => {
-            write_game(solver, &next, boards, out);
+            write_game(solver, &next, form, out);
         }
     }
 }
@@ -74,28 +84,32 @@ fn unmoved_house(board: &Board, first: Option<u8>) -> Option<u8>
 }
 
 /// Prints the game that best play leads to from a board, each move as soon as it is found. If `first` is a house, its move comes first,
-/// and then the game of best play after it. Fails, and writes nothing, with `Unmoved` if that house may not be moved, or with
-/// `OutOfMemory` if memory was refused. Memory is requested before anything is written, except for what the table takes as it grows.
+/// and then the game of best play after it. If `values`, each move has the margin of best play of the position that it is made in.
+///
+/// Fails, and writes nothing, with `Unmoved` if that house may not be moved, or with `OutOfMemory` if memory was refused. Memory is
+/// requested before anything is written, except for what the table takes as it grows.
 pub(crate) fn run_play<O: Sink>(
     alloc: Global,
     board: &Board,
     table: u32,
     boards: bool,
+    values: bool,
     first: Option<u8>,
     out: &mut O,
 ) -> Result<(), Failure<'static>>
     requires { IsTableSize table }
     ensures printed { MatchResult result
-        (λ _. IsPrinted O.written O.has_failed O.is_handed_on out.old out.new (play_output first boards board.now))
+        (λ _. IsPrinted O.written O.has_failed O.is_handed_on out.old out.new (play_output first boards values board.now))
         (λ _. out.new ≡ out.old) }
     ensures begins { OnOk result (MayBegin first board.now) }
 {
     if let Some(h) = unmoved_house(board, first) {
         return Err(Failure::Unmoved(h));
     }
-    let Ok(mut solver) = GameSolver::new(alloc, table, board, boards, out) else {
+    let form = Form::Lines { boards, values };
+    let Ok(mut solver) = GameSolver::new(alloc, table, board, form, out) else {
         return Err(Failure::OutOfMemory);
     };
-    play(&mut solver, board, first, boards, out);
+    play(&mut solver, board, first, boards, values, out);
     Ok(())
 }

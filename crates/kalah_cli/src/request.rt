@@ -40,12 +40,16 @@ pub enum LineCommand {
     Play {
         table: u32,
         boards: bool,
+        /// Whether each move has the margin of best play of the position that it is made in.
+        values: bool,
         first: Option<u8>,
     },
     /// A picture, plain or with what its moves are worth.
     Show {
         table: u32,
         plain: bool,
+        /// Whether the best play after each move stands below it, unless it is plain.
+        lines: bool,
     },
     /// The number of ways of `depth` moves, 0 to 20, to play on from it.
     Count {
@@ -169,11 +173,13 @@ fn requested<'a>(alloc: Global, name: &str, found: &ArgMatches<'a>) -> Result<Re
         "play" => LineCommand::Play {
             table: number_of(found, "table"),
             boards: is_set(found, "boards"),
+            values: is_set(found, "values"),
             first: given_byte(found, "first"),
         },
         "show" => LineCommand::Show {
             table: number_of(found, "table"),
             plain: is_set(found, "plain"),
+            lines: is_set(found, "lines"),
         },
         "count" => LineCommand::Count {
             depth: given_byte(found, "depth").unwrap(),

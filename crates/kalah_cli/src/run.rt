@@ -6,8 +6,7 @@ ghost use Rattle.clap.specs.declared.error.kind.ErrorKind.TheVariants.{DisplayHe
 ghost use Rattle.kalah_jobs.specs.declared.files.question.Question.{Question};
 ghost use Rattle.kalah_cli.specs.Ask.{StopsBetweenLines};
 ghost use Rattle.kalah_cli.specs.Ends.{FailsWithoutOutput, IsPrinted, ended_by};
-ghost use Rattle.kalah_cli.specs.KnownRuns.{SolvesByItsWords};
-ghost use Rattle.kalah_cli.specs.Play.{PlaysBestGames};
+ghost use Rattle.kalah_cli.specs.Game.{PlaysBestGames, VariationsEndWithTheirValue};
 ghost use Rattle.kalah_cli.specs.Request.{Asked, IsInRange, IsTakenAs, ask, request_asks, texts_of};
 ghost use Rattle.kalah_cli.specs.Runs.{Does, DoesWhatIsAsked, IsOfNoInput, MovesByItsWords, RefusesArguments, version_line};
 
@@ -127,13 +126,13 @@ pub fn run_words<R: Sources + Clock + Terminal + Threads + Wait + Sync, O: Sink,
 ) -> ExitStatus
     requires sink { O.has_failed out.old ≡ false }
     requires named { 0 < vec_len words }
-    // Accepted arguments, in general; those of `moves LINE` and `solve FILE` also by their words.
+    // Accepted arguments, in general; those of `moves LINE` also by their words.
     ensures accepted { DoesWhatIsAsked O.written O.has_failed O.is_handed_on out.old out.new result (R.may_give rt.now)
         (texts_of words.items) }
     ensures by_words { MovesByItsWords O.written (texts_of words.items) out.old out.new result }
-    ensures solved { SolvesByItsWords O.written out.old out.new result (texts_of words.items) (R.may_give rt.now) }
-    // The game of `play` is one of best play.
+    // The game of `play` is one of best play, and a line of `show --lines` ends with the value of its move.
     ensures best_play { PlaysBestGames }
+    ensures variations { VariationsEndWithTheirValue }
     // Arguments that are refused, as those that ask for help or for the version.
     ensures refused { RefusesArguments O.written (texts_of words.items) out.old out.new result }
     // If a write failed, the program failed. If it failed for another cause, nothing was written, except for answers of `ask`.

@@ -1,15 +1,23 @@
 //! `kalah show LINE`.
-ghost use Rattle.std.specs.Prelude.{◌≡◌, IsErr, MatchResult, true};
+ghost use Rattle.std.specs.Prelude.{◌≡◌, Contains, IsErr, MatchResult, false, true};
+ghost use Rattle.kalah_rules.specs.Play.{legal_houses};
+ghost use Rattle.kalah_solve.specs.Solver.MoveValues.{values_of};
+ghost use Rattle.kalah_jobs.specs.Writing.Given.{WasGiven};
 ghost use Rattle.kalah_jobs.specs.Writing.Picture.{picture_of};
-ghost use Rattle.kalah_jobs.specs.Writing.Shown.{shown_of};
 ghost use Rattle.kalah_run.specs.Limits.{IsTableSize};
 ghost use Rattle.kalah_cli.specs.Ends.{IsPrinted};
-ghost use Rattle.kalah_cli.specs.Line.{show_output};
+ghost use Rattle.kalah_cli.specs.Show.{is_better, lines_asked, of_rank, rank_in, ranked_line, show_output, variation_line};
+ghost use Rattle.kalah_cli.specs.Solver.{IsOfVariations, begun};
 
 use crate::failure::Failure;
+use crate::game::{Form, write_game};
 use crate::solver::GameSolver;
-use kalah_jobs::{Sink, flush_unless_failed, write_picture, write_values};
-use kalah_rules::Board;
+use kalah_jobs::{
+    Sink, flush_unless_failed, write_picture, write_unless_failed, write_values,
+    write_variation_start,
+};
+use kalah_rules::{Board, Step};
+use kalah_solve::{MoveValue, MoveValues};
 use std::alloc::Global;
 
 // Draws a board, and flushes.
@@ -21,11 +29,101 @@ fn write_plain<O: Sink>(board: &Board, out: &mut O)
     flush_unless_failed(out);
 }
 
-// Draws a board, which is flushed before the search begins, and writes below it what each move is worth. If the output has failed,
-// nothing is searched.
-fn write_shown<O: Sink>(solver: &mut GameSolver<O>, board: &Board, out: &mut O)
-    requires { solver.old.sink.value ≡ out.old }
-    ensures { IsPrinted O.written O.has_failed O.is_handed_on out.old out.new (shown_of board.now) }
+// Returns whether the move of `v` is better than that of `w`: its value is greater, or the same, and its house is the lower-numbered one.
+#[tactic(auto, unfolding(crate::specs::Show::is_better))]
+fn is_better(v: MoveValue, w: MoveValue) -> bool
+    ensures { result ≡ is_better v w }
+{
+    v.value > w.value || v.value == w.value && v.house < w.house
+}
+
+// Returns how many of the moves are better than this one.
+fn rank_in(values: &MoveValues, value: MoveValue) -> u8
+    ensures { result ≡ rank_in values.now value }
+{
+    let mut rank = 0;
+    for i in 0..values.len() {
+        if is_better(values.get(i), value) {
+            rank += 1;
+        }
+    }
+    rank
+}
+
+// Returns the move of this rank.
+fn of_rank(values: &MoveValues, rank: u8) -> Option<MoveValue>
+    ensures { result ≡ of_rank values.now rank }
+{
+    values
+        .iter()
+        .find(|v| rank_in(values, **v) == rank)
+        .copied()
+}
+
+// Writes the line of a move: its house, its value and the houses that are moved from it on, each as soon as it is found.
+fn write_variation<O: Sink>(
+    solver: &mut GameSolver<O>,
+    board: &Board,
+    value: MoveValue,
+    out: &mut O,
+)
+    requires legal { Contains (legal_houses board.now) value.house }
+    requires shown { IsOfVariations O.written O.has_failed (begun solver.old) board.now out.old }
+    ensures begun { begun solver.new ≡ begun solver.old }
+    ensures line { WasGiven O.written O.has_failed out.old out.new (variation_line board.now value) }
+{
+    write_variation_start(out, value);
+    match board.apply(value.house) {
+        Step::Again(next) | Step::Turn(next) | Step::Over(next) => {
+            write_game(solver, &next, Form::Houses, out);
+        }
+    }
+    write_unless_failed(out, b"\n");
+}
+
+// Writes the line of the move of this rank, if there is one.
+fn write_ranked<O: Sink>(
+    solver: &mut GameSolver<O>,
+    board: &Board,
+    values: &MoveValues,
+    rank: u8,
+    out: &mut O,
+)
+    requires values { values.now ≡ values_of board.now }
+    requires shown { IsOfVariations O.written O.has_failed (begun solver.old) board.now out.old }
+    ensures begun { begun solver.new ≡ begun solver.old }
+    ensures line { WasGiven O.written O.has_failed out.old out.new (ranked_line board.now rank) }
+{
+    if let Some(value) = of_rank(values, rank) {
+        write_variation(solver, board, value, out);
+    }
+}
+
+// Writes the line of each move, the best first, if they are asked for.
+fn write_lines<O: Sink>(
+    solver: &mut GameSolver<O>,
+    board: &Board,
+    values: &MoveValues,
+    lines: bool,
+    out: &mut O,
+)
+    requires values { values.now ≡ values_of board.now }
+    requires shown { IsOfVariations O.written O.has_failed (begun solver.old) board.now out.old }
+    ensures { WasGiven O.written O.has_failed out.old out.new (lines_asked lines board.now) }
+{
+    if !lines {
+        return;
+    }
+    for rank in 0..values.len() {
+        write_ranked(solver, board, values, rank, out);
+    }
+}
+
+// Draws a board, which is flushed before the search begins, and writes below it what each move is worth, and then, if asked for, the best
+// play after each. If the output has failed, nothing is searched.
+fn write_shown<O: Sink>(solver: &mut GameSolver<O>, board: &Board, lines: bool, out: &mut O)
+    requires { begun solver.old ≡ record { form = Form.Houses; first = board.now; sink = out.old } }
+    ensures { IsPrinted O.written O.has_failed O.is_handed_on out.old out.new (show_output false lines board.now) }
 {
     write_plain(board, out);
     if out.failed() {
@@ -33,22 +131,24 @@ fn write_shown<O: Sink>(solver: &mut GameSolver<O>, board: &Board, out: &mut O)
     }
     let values = solver.values(board, out);
     write_values(out, board, &values);
+    write_lines(solver, board, &values, lines, out);
     flush_unless_failed(out);
 }
 
-/// Draws a board and, unless `plain`, writes below it what each move is worth. Fails with `OutOfMemory`, and writes nothing, if memory
-/// was refused. A plain picture allocates nothing. Otherwise memory is requested before anything is written, except for what the table
-/// takes as it grows.
+/// Draws a board and, unless `plain`, writes below it what each move is worth and, if `lines`, the best play after each move. Fails with
+/// `OutOfMemory`, and writes nothing, if memory was refused. A plain picture allocates nothing. Otherwise memory is requested before
+/// anything is written, except for what the table takes as it grows.
 pub(crate) fn run_show<O: Sink>(
     alloc: Global,
     board: &Board,
     table: u32,
     plain: bool,
+    lines: bool,
     out: &mut O,
 ) -> Result<(), Failure<'static>>
     requires { IsTableSize table }
     ensures printed { MatchResult result
-        (λ _. IsPrinted O.written O.has_failed O.is_handed_on out.old out.new (show_output plain board.now))
+        (λ _. IsPrinted O.written O.has_failed O.is_handed_on out.old out.new (show_output plain lines board.now))
         (λ _. out.new ≡ out.old) }
     ensures searchless { plain ≡ true → IsErr result → ⊥ }
 {
@@ -56,9 +156,9 @@ pub(crate) fn run_show<O: Sink>(
         write_plain(board, out);
         return Ok(());
     }
-    let Ok(mut solver) = GameSolver::new(alloc, table, board, true, out) else {
+    let Ok(mut solver) = GameSolver::new(alloc, table, board, Form::Houses, out) else {
         return Err(Failure::OutOfMemory);
     };
-    write_shown(&mut solver, board, out);
+    write_shown(&mut solver, board, lines, out);
     Ok(())
 }

@@ -1,13 +1,14 @@
 //! The solvers of `ask`, `play` and `show`.
 ghost use Rattle.std.specs.Prelude.{◌≡◌, IfOk, true};
 ghost use Rattle.kalah_solve.specs.Solver.MoveValues.{values_of};
-ghost use Rattle.kalah_solve.specs.Solver.Verdict.{TellsBestPlay, verdict_of};
+ghost use Rattle.kalah_solve.specs.Solver.Verdict.{IsSmallVerdict, TellsBestPlay, verdict_of};
 ghost use Rattle.kalah_jobs.specs.Writing.Given.{WasGiven};
 ghost use Rattle.kalah_jobs.specs.Writing.Picture.{picture_of};
 ghost use Rattle.kalah_run.specs.Limits.{IsTableSize};
 ghost use Rattle.kalah_cli.specs.Request.{HasTable};
 ghost use Rattle.kalah_cli.specs.Solver.{IsShown, begun};
 
+use crate::game::Form;
 use kalah_jobs::Sink;
 use kalah_rules::Board;
 use kalah_solve::{MoveValues, Solver, Table, Verdict};
@@ -19,7 +20,7 @@ use std::snapshot::Snapshot;
 #[derive(Drop)]
 pub(crate) struct GameSolver<O> {
     solver: Solver,
-    boards: bool,
+    form: Form,
     // The first position, and the sink before any of the game was written.
     first: Board,
     sink: Snapshot<O>,
@@ -34,35 +35,36 @@ pub(crate) fn new_solver(alloc: Global, entries: u32) -> Result<Solver, AllocErr
 }
 
 impl<O: Sink> GameSolver<O> {
-    /// Returns a solver, as `new_solver` does, of a game that begins with this board, and of which nothing is written yet. `boards` says
-    /// whether boards are drawn.
+    /// Returns a solver, as `new_solver` does, of a game that begins with this board and is written in this form, and of which nothing is
+    /// written yet.
     pub(crate) fn new(
         alloc: Global,
         entries: u32,
         board: &Board,
-        boards: bool,
+        form: Form,
         out: &O,
     ) -> Result<GameSolver<O>, AllocError>
         requires { IsTableSize entries }
         ensures table { IfOk result (λ s. HasTable entries s.solver) }
-        ensures begun { IfOk result (λ s. begun s ≡ record { boards = boards; first = board.now; sink = out.now }) }
+        ensures begun { IfOk result (λ s. begun s ≡ record { form = form; first = board.now; sink = out.now }) }
     {
         Ok(GameSolver {
             solver: new_solver(alloc, entries)?,
-            boards,
+            form,
             first: *board,
             sink: Snapshot::of(out),
         })
     }
 
-    /// Finds the best move of a board, as `Solver::solve` does. All that leads to the board is written and flushed: the first board, if
-    /// boards are drawn, and each move.
+    /// Finds the best move of a board, as `Solver::solve` does. All that leads to the board is written and flushed: how its game begins, and
+    /// each move.
     pub(crate) fn solve(&mut self, board: &Board, _out: &O) -> Verdict
         requires handed_on { O.is_handed_on _out.now ≡ true }
         requires shown { IsShown O.written O.has_failed (begun self.old) _out.now board.now }
         ensures begun { begun self.new ≡ begun self.old }
         ensures verdict { result ≡ verdict_of board.now }
         ensures best_play { TellsBestPlay board.now result }
+        ensures small { IsSmallVerdict result }
     {
         self.solver.solve(board)
     }
@@ -71,7 +73,8 @@ impl<O: Sink> GameSolver<O> {
     pub(crate) fn values(&mut self, board: &Board, _out: &O) -> MoveValues
         requires handed_on { O.is_handed_on _out.now ≡ true }
         requires shown { WasGiven O.written O.has_failed self.old.sink.value _out.now (picture_of board.now) }
-        ensures { result ≡ values_of board.now }
+        ensures begun { begun self.new ≡ begun self.old }
+        ensures values { result ≡ values_of board.now }
     {
         self.solver.values(board)
     }

@@ -125,6 +125,11 @@ pub(crate) const SHOW: &Subcommand = &Subcommand {
             help: "Draw the position alone, and search nothing",
             kind: Kind::Flag,
         },
+        Argument {
+            name: "lines",
+            help: "Print the best play after each move, the best move first",
+            kind: Kind::Flag,
+        },
         TABLE,
         LINE,
     ],
@@ -137,6 +142,11 @@ pub(crate) const PLAY: &Subcommand = &Subcommand {
     arguments: &[
         TABLE,
         BOARDS,
+        Argument {
+            name: "values",
+            help: "Print after each move the margin of best play before it",
+            kind: Kind::Flag,
+        },
         Argument {
             name: "first",
             help: "Begin with house H, 1 to 6, and go on with best play",

@@ -6,4 +6,5 @@ pub mod Given
 pub mod Counts
 pub mod Picture
 pub mod Shown
+pub mod Variation
 pub mod Splitting

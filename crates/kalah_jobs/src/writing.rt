@@ -13,3 +13,4 @@ pub(crate) mod stack_text;
 pub(crate) mod steps;
 pub(crate) mod steps_in_line;
 pub(crate) mod stream;
+pub(crate) mod variation;

@@ -9,11 +9,14 @@ fn told(rt: &(impl Abort + AllocGlobal), request: &Request<'_>) -> String {
             LineCommand::Play {
                 table,
                 boards,
+                values,
                 first,
-            } => format!(in rt.alloc(); "play {line} {table} {boards} {first:?}"),
-            LineCommand::Show { table, plain } => {
-                format!(in rt.alloc(); "show {line} {table} {plain}")
-            }
+            } => format!(in rt.alloc(); "play {line} {table} {boards} {values} {first:?}"),
+            LineCommand::Show {
+                table,
+                plain,
+                lines,
+            } => format!(in rt.alloc(); "show {line} {table} {plain} {lines}"),
             LineCommand::Count { depth } => format!(in rt.alloc(); "count {line} {depth}"),
         },
         Request::Files(b) => format!(in rt.alloc();
@@ -42,13 +45,21 @@ fn assert_asks(rt: &(impl Abort + AllocGlobal), text: &str, asked: &str) {
 const ASKED: &[(&str, &str)] = &[
     ("moves x", "moves x false"),
     ("moves x --boards", "moves x true"),
-    ("play x", "play x 65536 false None"),
-    ("play --table=1048576 -- -x", "play -x 1048576 false None"),
-    ("play x --boards --first=1", "play x 65536 true Some(1)"),
-    ("play --first 6 --table 1 x", "play x 1 false Some(6)"),
-    ("show x", "show x 65536 false"),
-    ("show --plain x", "show x 65536 true"),
-    ("show x --table=1", "show x 1 false"),
+    ("play x", "play x 65536 false false None"),
+    (
+        "play --table=1048576 -- -x",
+        "play -x 1048576 false false None",
+    ),
+    (
+        "play x --boards --first=1",
+        "play x 65536 true false Some(1)",
+    ),
+    ("play --first 6 --table 1 x", "play x 1 false false Some(6)"),
+    ("play --values x", "play x 65536 false true None"),
+    ("show x", "show x 65536 false false"),
+    ("show --plain x", "show x 65536 true false"),
+    ("show x --table=1", "show x 1 false false"),
+    ("show --lines x", "show x 65536 false true"),
     ("count 0 x", "count x 0"),
     ("count 20 x", "count x 20"),
     ("count +007 x", "count x 7"),

@@ -6,10 +6,11 @@ mod known;
 mod solving;
 
 use super::run_words;
+use crate::sources::Sources;
 use crate::status::ExitStatus;
 use crate::terminal::Terminal;
 use kalah_jobs::{Sink, Stream};
-use std::io::{ErrorKind, Input, Write};
+use std::io::{ErrorKind, Write};
 use std::process::Abort;
 use std::rt::{Clock, Files};
 use std::sync::Wait;
@@ -17,9 +18,9 @@ use std::thread::Threads;
 use std::{fs, io, str};
 
 /// What a run needs of its runtime, and what a test does with it.
-trait Host: Abort + AllocGlobal + Files + Input + Clock + Terminal + Threads + Wait + Sync {}
+trait Host: Abort + AllocGlobal + Files + Sources + Clock + Terminal + Threads + Wait + Sync {}
 
-impl<R: Abort + AllocGlobal + Files + Input + Clock + Terminal + Threads + Wait + Sync> Host
+impl<R: Abort + AllocGlobal + Files + Sources + Clock + Terminal + Threads + Wait + Sync> Host
     for R {}
 
 /// Returns an error at its `fails_at`th call, counted from 1, and at each later one.
@@ -130,6 +131,18 @@ const WRITTEN: &[(&[&str], &str)] = &[
     (
         &["play", "--first", "1", "1,1/0 1,1/0"],
         "1 1,1/0 0,2/0 turn\n1 0,2/0 0,2/0 turn\n2 0,0/1 0,0/3 over\n",
+    ),
+    (
+        &["play", "--values", "--first", "1", "1,1/0 1,1/0"],
+        "1 1,1/0 0,2/0 turn 2\n1 0,2/0 0,2/0 turn 2\n2 0,0/1 0,0/3 over -2\n",
+    ),
+    (
+        &["show", "--lines", "1,1/0 1,1/0"],
+        "       1   1\n   0           0\n       1   1\n      -2   2\n2  2  2 1\n1  -2  1 1 2\n",
+    ),
+    (
+        &["show", "--lines", "0/3 2/4"],
+        "       2\n   4       3\n       0\nover, margin -3\n",
     ),
     (
         &["show", "0,1,1/0 1,1,3/99"],

@@ -7,6 +7,7 @@ ghost use Rattle.kalah_rules.specs.Position.{IsWithinLimits, side_length};
 ghost use Rattle.kalah_jobs.specs.Files.Lines.{line_feed};
 ghost use Rattle.kalah_jobs.specs.Line.Line.{Reads, ending_of, side_text, line_text_of, word_of_step, step_text_of};
 ghost use Rattle.kalah_jobs.specs.Writing.Player.{houses_of, store_of};
+ghost use Rattle.kalah_jobs.specs.Writing.Variation.{value_after};
 
 use crate::writing::player::Player;
 use crate::writing::sink::{Sink, write_unless_failed};
@@ -90,9 +91,9 @@ fn parts_of_step(step: &Step) -> (&Board, &'static str)
 // Puts the text of a move in front of the text.
 #[tactic(auto, unfolding(crate::specs::Line::Line::step_text_of))]
 fn prepend_step(text: &mut StackText, h: u8, step: &Step)
-    requires { length text.old ≤ 1 }
+    requires { length text.old ≤ 13 }
     ensures step { text.new ≡ step_text_of h step.now ++ text.old }
-    ensures short { length text.new ≤ 68 }
+    ensures short { length text.new ≤ length text.old + 67 }
 {
     let (board, word) = parts_of_step(step);
     text.prepend(word);
@@ -130,4 +131,17 @@ pub fn write_step<W: Sink>(out: &mut W, h: u8, step: &Step)
     ensures { WasGiven W.written W.has_failed out.old out.new (step_text_of h step.now ++ line_feed ∷ []) }
 {
     write_unless_failed(out, text_of_step(h, step, "\n").bytes());
+}
+
+/// Writes the text of a move, as `step_text` returns it, a space, a value and a line feed. It allocates nothing. If the sink has failed it
+/// is not called. If it fails, a prefix of the line was written, and nothing else.
+pub fn write_valued_step<W: Sink>(out: &mut W, h: u8, step: &Step, value: i32)
+    ensures { WasGiven W.written W.has_failed out.old out.new (step_text_of h step.now ++ (value_after value ++ line_feed ∷ [])) }
+{
+    let mut text = StackText::new();
+    text.prepend("\n");
+    text.prepend_margin(value);
+    text.prepend(" ");
+    prepend_step(&mut text, h, step);
+    write_unless_failed(out, text.bytes());
 }

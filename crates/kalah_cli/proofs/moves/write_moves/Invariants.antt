@@ -1,4 +1,4 @@
-use Rattle.std.proofs.Common.{◌≡◌, flat_map, take}
+use Rattle.std.proofs.Common.{◌≡◌, None, flat_map, take}
 use Rattle.kalah_rules.specs.Play.{legal_houses, step_of}
 use Rattle.kalah_jobs.specs.Writing.Given.{WasGiven}
 use Rattle.kalah_cli.specs.Moves.{move_lines}
@@ -8,5 +8,5 @@ abbrev pub invariant-loop-i : goal.invariant-loop-i
 invariant-loop-i g l = record {
   same : l.moves ≡ legal_houses l.board;
   given : WasGiven g.O.Sink.written g.O.Sink.has_failed l.initial.out l.out
-      (flat_map (λ h. move_lines l.fn.boards h (step_of l.board h)) (take l.i l.moves));
+      (flat_map (λ h. move_lines l.fn.boards None h (step_of l.board h)) (take l.i l.moves));
 }

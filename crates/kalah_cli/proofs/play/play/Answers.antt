@@ -1,40 +1,53 @@
 use Rattle.std.proofs.Common.{◌++◌, ◌∙◌, ap, refl, subst, sym}
 use Rattle.kalah_rules.specs.Play.{position_after}
+use Rattle.kalah_solve.specs.Solver.Worth.{worth}
 use Rattle.kalah_jobs.specs.Writing.Given.{WasGiven}
-use Rattle.kalah_jobs.proofs.WritingLemmas.{given_then}
+use Rattle.kalah_jobs.proofs.WritingLemmas.{given_after, given_then}
 use Rattle.kalah_cli.specs.Ends.{IsPrinted}
-use Rattle.kalah_cli.specs.Moves.{board_lines, move_lines}
-use Rattle.kalah_cli.specs.Play.{best_game, game_lines, play_output}
-use Rattle.kalah_cli.proofs.GameLemmas.{after_step, shown_first, shown_next}
+use Rattle.kalah_cli.specs.Game.{best_game, game_text, move_text}
+use Rattle.kalah_cli.specs.Moves.{board_lines}
+use Rattle.kalah_cli.specs.Play.{play_output}
+use Rattle.kalah_cli.specs.declared.game.Form.TheVariants.{Lines}
+use Rattle.kalah_cli.proofs.GameLemmas.{after_step, kept, shown_first, shown_flushed, shown_next, valued_move}
 use Rattle.kalah_cli.proofs.play.play.Goals as goal
 
 pub write_game-requires-clause-shown : goal.write_game-requires-clause-shown
 write_game-requires-clause-shown g c = shown_first _ _ c.requires.begun c.write_board.ensures
 
+pub margin_shown-margin-requires : goal.margin_shown-margin-requires
+margin_shown-margin-requires g c = record { shown = shown_first _ _ c.requires.begun c.write_board.ensures }
+
 pub write_game-requires-in-Again-clause-shown : goal.write_game-requires-in-Again-clause-shown
 write_game-requires-in-Again-clause-shown g c =
-    shown_next _ _ (shown_first _ _ c.requires.begun c.write_board.ensures) c.in-Some.h (ap (λ game. game.boards) c.requires.begun)
-    c.apply-step.ensures.step (after_step c.apply-step.result c.in-Again.next c.in-Again.is) refl c.write_move.ensures
+    shown_next _ _ (shown_flushed _ _ (shown_first _ _ c.requires.begun c.write_board.ensures) c.margin_shown-margin.ensures.flushed)
+    c.in-Some.h (ap (λ game. game.form) c.requires.begun) c.apply-step.ensures.step
+    (after_step c.apply-step.result c.in-Again.next c.in-Again.is) c.margin_shown-margin.ensures.begun refl
+    (valued_move _ _ c.args.boards c.args.values _ _ (λ shown sound. kept c.margin_shown-margin.ensures.small
+    ∙ c.margin_shown-margin.ensures.margin shown sound) c.write_in_form.ensures)
 
 pub returns-in_default : goal.returns-in_default
 returns-in_default g c =
     subst (λ first. IsPrinted g.O.Sink.written g.O.Sink.has_failed g.O.Sink.is_handed_on c.args.out.now c.write_game.new.out
-    (play_output first c.args.boards c.args.board.now)) (sym c.in_default.is) (record {
-      given = given_then _ _ _ _ _ _ _ c.write_board.ensures c.write_game.ensures.given;
-      handed_on = c.write_game.ensures.handed_on;
+    (play_output first c.args.boards c.args.values c.args.board.now)) (sym c.in_default.is) (record {
+      given = given_then _ _ _ _ _ _ _ c.write_board.ensures c.write_game.ensures.printed.given;
+      handed_on = c.write_game.ensures.printed.handed_on;
     })
 
 pub returns : goal.returns
 returns g c =
-    let boards = c.args.boards in
+    let form = Lines c.args.boards c.args.values in
+    let p = c.args.board.now in
+    let h = c.in-Some.h in
     let next = after_step c.apply-step.result c.in-Again.next c.in-Again.is in
-    let game = ap (λ q. move_lines boards c.in-Some.h c.apply-step.result ++ game_lines boards q (best_game q)) next
-    ∙ ap (λ s. move_lines boards c.in-Some.h s ++ game_lines boards (position_after s) (best_game (position_after s)))
-    c.apply-step.ensures.step in
+    let move = valued_move _ _ c.args.boards c.args.values _ _ (λ shown sound. kept c.margin_shown-margin.ensures.small
+    ∙ c.margin_shown-margin.ensures.margin shown sound) c.write_in_form.ensures in
+    let game = ap (λ q. move_text form (worth p) h c.apply-step.result ++ game_text form q (best_game q)) next
+    ∙ ap (λ s. move_text form (worth p) h s ++ game_text form (position_after s) (best_game (position_after s))) c.apply-step.ensures.step in
     subst (λ first. IsPrinted g.O.Sink.written g.O.Sink.has_failed g.O.Sink.is_handed_on c.args.out.now c.write_game-in-Again.new.out
-    (play_output first boards c.args.board.now)) (sym c.in-Some.is) (record {
-      given = subst (λ lines. WasGiven g.O.Sink.written g.O.Sink.has_failed c.args.out.now c.write_game-in-Again.new.out
-          (board_lines boards c.args.board.now ++ lines)) game (given_then _ _ _ _ _ _ _ c.write_board.ensures
-          (given_then _ _ _ _ _ _ _ c.write_move.ensures c.write_game-in-Again.ensures.given));
-      handed_on = c.write_game-in-Again.ensures.handed_on;
+    (play_output first c.args.boards c.args.values p)) (sym c.in-Some.is) (record {
+      given = subst (λ text. WasGiven g.O.Sink.written g.O.Sink.has_failed c.args.out.now c.write_game-in-Again.new.out
+          (board_lines c.args.boards p ++ text)) game (given_then _ _ _ _ _ _ _ c.write_board.ensures
+          (given_after _ _ _ _ _ _ c.margin_shown-margin.ensures.flushed
+          (given_then _ _ _ _ _ _ _ move c.write_game-in-Again.ensures.printed.given)));
+      handed_on = c.write_game-in-Again.ensures.printed.handed_on;
     })

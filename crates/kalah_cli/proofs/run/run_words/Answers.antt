@@ -6,10 +6,9 @@ use Rattle.kalah_cli.specs.Command.{kalah_app}
 use Rattle.kalah_cli.specs.Ends.{FailsWithoutOutput}
 use Rattle.kalah_cli.specs.Request.{Asked, AsksNot, IsTakenAs, ask, request_asks, texts_of}
 use Rattle.kalah_cli.specs.Runs.{Does}
-use Rattle.kalah_cli.proofs.KnownLemmas.{solves_by_words}
 use Rattle.kalah_cli.proofs.RunLemmas.{stops_at_once, by_words, no_request, run_ends, run_fails, run_hands_on}
 use Rattle.kalah_cli.proofs.RequestLemmas.{taken_at, taken_once}
-use Rattle.kalah_cli.proofs.GameLemmas.{plays_best}
+use Rattle.kalah_cli.proofs.GameLemmas.{plays_best, variations_end}
 use Rattle.kalah_cli.proofs.run.run_words.Goals.{After-drop-words, After-drop-words-2}
 use Rattle.kalah_cli.proofs.run.run_words.Given.{Over}
 use Rattle.kalah_cli.proofs.run.run_words.Goals as goal
@@ -39,11 +38,11 @@ returns-in-Ok-clause-accepted g c = λ a taken. inl (does g c a (is_asked g c a 
 pub returns-in-Ok-clause-by_words : goal.returns-in-Ok-clause-by_words
 returns-in-Ok-clause-by_words g c = by_words _ _ _ _ _ _ _ _ (returns-in-Ok-clause-accepted g c)
 
-pub returns-in-Ok-clause-solved : goal.returns-in-Ok-clause-solved
-returns-in-Ok-clause-solved g c = solves_by_words _ _ _ _ _ _ (g.R.Sources.may_give c.args.rt.now) _ (returns-in-Ok-clause-accepted g c)
-
 pub returns-in-Ok-clause-best_play : goal.returns-in-Ok-clause-best_play
 returns-in-Ok-clause-best_play g c = plays_best
+
+pub returns-in-Ok-clause-variations : goal.returns-in-Ok-clause-variations
+returns-in-Ok-clause-variations g c = variations_end
 
 -- they have no fault
 no_fault : (g : Over) (c : After-drop-words g) → fault_of kalah_app (texts_of c.args.words.items) ≡ []
@@ -101,11 +100,11 @@ returns-clause-accepted g c = λ a taken. inr (failed g c a taken)
 pub returns-clause-by_words : goal.returns-clause-by_words
 returns-clause-by_words g c = by_words _ _ _ _ _ _ _ _ (returns-clause-accepted g c)
 
-pub returns-clause-solved : goal.returns-clause-solved
-returns-clause-solved g c = solves_by_words _ _ _ _ _ _ (g.R.Sources.may_give c.args.rt.now) _ (returns-clause-accepted g c)
-
 pub returns-clause-best_play : goal.returns-clause-best_play
 returns-clause-best_play g c = plays_best
+
+pub returns-clause-variations : goal.returns-clause-variations
+returns-clause-variations g c = variations_end
 
 pub returns-clause-refused : goal.returns-clause-refused
 returns-clause-refused g c = record {

@@ -1,5 +1,5 @@
-use Rattle.std.proofs.lemmas.Grind.{common_steps}
-use Rattle.std.proofs.Common.{◌≡◌, ◌∷◌, [], ◌++◌, ◌∙◌, refl, subst, sym, arith}
+use Rattle.std.proofs.Common.{◌≡◌, ◌∷◌, [], ◌++◌, ◌∙◌, Bool, ap, append_assoc, refl, subst, sym}
+use Rattle.std.specs.Prelude.{false}
 use Rattle.kalah_rules.specs.Position.{Position}
 use Rattle.kalah_jobs.specs.Files.Lines.{line_feed}
 use Rattle.kalah_jobs.specs.Writing.Given.{WasGiven}
@@ -7,17 +7,27 @@ use Rattle.kalah_jobs.specs.Writing.Picture.{picture_of}
 use Rattle.kalah_jobs.specs.Writing.Shown.{shown_of, values_line}
 use Rattle.kalah_jobs.proofs.WritingLemmas.{given_cut_off, given_then}
 use Rattle.kalah_cli.specs.Ends.{IsPrinted}
+use Rattle.kalah_cli.specs.Show.{lines_asked, show_output}
 use Rattle.kalah_cli.proofs.RunLemmas.{printed_flushed}
+use Rattle.kalah_cli.proofs.ShowLemmas.{variations_begin}
 use Rattle.kalah_cli.proofs.show.write_shown.Goals as goal
 
--- the picture, and then the line below it
+-- the picture, and the line below it
 shown_parts : (p : Position) → shown_of p ≡ picture_of p ++ (values_line p ++ line_feed ∷ [])
 unfolding shown_of
 shown_parts p = refl
 
+-- and the lines after that
+output_parts : (lines : Bool) (p : Position)
+    → show_output false lines p ≡ picture_of p ++ ((values_line p ++ line_feed ∷ []) ++ lines_asked lines p)
+output_parts lines p =
+    ap (λ text. text ++ lines_asked lines p) (shown_parts p)
+    ∙ append_assoc (picture_of p) (values_line p ++ line_feed ∷ []) (lines_asked lines p)
+
 pub returns-then-failed : goal.returns-then-failed
 returns-then-failed g c = record {
-  given = subst (WasGiven g.O.Sink.written g.O.Sink.has_failed c.args.out.now c.write_plain.new.out) (sym (shown_parts c.args.board.now))
+  given = subst (WasGiven g.O.Sink.written g.O.Sink.has_failed c.args.out.now c.write_plain.new.out)
+      (sym (output_parts c.args.lines c.args.board.now))
       (given_cut_off _ _ _ _ _ _ c.write_plain.ensures.given (sym c.failed.ensures ∙ c.if-failed.true));
   handed_on = c.write_plain.ensures.handed_on;
 }
@@ -25,9 +35,18 @@ returns-then-failed g c = record {
 pub returns : goal.returns
 returns g c =
     subst (IsPrinted g.O.Sink.written g.O.Sink.has_failed g.O.Sink.is_handed_on c.args.out.now c.flush_unless_failed.new.out)
-    (sym (shown_parts c.args.board.now))
-    (printed_flushed _ _ _ _ _ _ _ (given_then _ _ _ _ _ _ _ c.write_plain.ensures.given c.write_values.ensures)
+    (sym (output_parts c.args.lines c.args.board.now))
+    (printed_flushed _ _ _ _ _ _ _ (given_then _ _ _ _ _ _ _ c.write_plain.ensures.given
+    (given_then _ _ _ _ _ _ _ c.write_values.ensures c.write_lines.ensures))
     c.flush_unless_failed.ensures.given c.flush_unless_failed.ensures.handed_on)
 
+-- the picture is drawn before the search
 pub values-values-requires-clause-shown : goal.values-values-requires-clause-shown
-values-values-requires-clause-shown g c = grind (arith, common_steps)
+values-values-requires-clause-shown g c =
+    subst (λ o. WasGiven g.O.Sink.written g.O.Sink.has_failed o c.write_plain.new.out (picture_of c.args.board.now))
+    (sym (ap (λ game. game.sink) c.requires)) c.write_plain.ensures.given
+
+-- and the lines are written below the line of values
+pub write_lines-requires-clause-shown : goal.write_lines-requires-clause-shown
+write_lines-requires-clause-shown g c =
+    variations_begin _ _ c.requires c.values-values.ensures.begun c.write_plain.ensures.given c.write_values.ensures

@@ -100,9 +100,17 @@ fn file(rt: &impl Host, name: &str, bytes: &[u8]) -> FileText {
 }
 
 const RUNS: &[(&[&str], ExitStatus, &str)] = &[
-    (&["solve", "a"], LineFaults, "a:1 2 house 2\na:2 fault shape\n"),
+    (
+        &["solve", "a"],
+        LineFaults,
+        "a:1 2 house 2\na:2 fault shape\n",
+    ),
     (&["values", "b", "b"], Clean, "b:1 1:0\nb:1 1:0\n"),
-    (&["solve", "b", "a"], LineFaults, "b:1 0 house 1\na:1 2 house 2\na:2 fault shape\n"),
+    (
+        &["solve", "b", "a"],
+        LineFaults,
+        "b:1 0 house 1\na:1 2 house 2\na:2 fault shape\n",
+    ),
     (&["solve", "a", "c"], Failed, ""),
     (&["ask"], LineFaults, "6 house 1\nfault empty\n"),
 ];

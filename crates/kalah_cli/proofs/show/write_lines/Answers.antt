@@ -1,0 +1,30 @@
+use Rattle.std.proofs.Common.{◌≡◌, ◌<◌, ◌≤◌, ◌+◌, ◌∙◌, ap, arith, length, refl, subst, sym}
+use Rattle.std.specs.List.{range_with_len}
+use Rattle.std.proofs.lemmas.List.FromFn.{get_or-range_with_len, length-range_with_len}
+use Rattle.kalah_solve.specs.Solver.MoveValues.{values_of}
+use Rattle.kalah_jobs.specs.Writing.Given.{WasGiven}
+use Rattle.kalah_jobs.proofs.WritingLemmas.{given_all, given_more}
+use Rattle.kalah_cli.specs.Show.{lines_asked, ranked_line}
+use Rattle.kalah_cli.proofs.GameLemmas.{variations_go_on}
+use Rattle.kalah_cli.proofs.show.write_lines.Goals as goal
+
+pub loop-rank-preserved : goal.loop-rank-preserved
+loop-rank-preserved g c =
+    let n = length (values_of c.args.board.now) in
+    let few : c.loop-rank.rank < n = omega (arith, c.loop-rank-test.true, c.len-rank-end.ensures.is, ap length c.requires.values) in
+    let all : length (range_with_len 0 n) ≡ n = length-range_with_len 0 n in
+    let this : c.loop-rank.rank ≡ 0 + c.loop-rank.rank = omega arith in
+    record {
+      shown = variations_go_on _ _ _ c.write_ranked.ensures.begun c.loop-rank.invariant.shown c.write_ranked.ensures.line;
+      given = given_more _ _ (ranked_line c.args.board.now) refl c.loop-rank.rank _ _ c.loop-rank.invariant.given _ c.loop-rank.rank
+          (omega (arith, few, all)) (this ∙ sym (get_or-range_with_len 0 n c.loop-rank.rank 0 few)) c.write_ranked.ensures.line;
+    }
+
+pub returns : goal.returns
+returns g c =
+    let n = length (values_of c.args.board.now) in
+    let all : length (range_with_len 0 n) ≡ n = length-range_with_len 0 n in
+    let done : n ≤ c.loop-rank.rank = omega (arith, c.loop-rank-test.false, c.len-rank-end.ensures.is, ap length c.requires.values) in
+    subst (λ b. WasGiven g.O.Sink.written g.O.Sink.has_failed c.args.out.now c.loop-rank.out (lines_asked b c.args.board.now))
+    (sym c.if-not-lines.false)
+    (given_all _ _ (ranked_line c.args.board.now) refl c.loop-rank.rank _ _ c.loop-rank.invariant.given (omega (arith, done, all)))

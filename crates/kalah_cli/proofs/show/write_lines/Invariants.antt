@@ -1,0 +1,14 @@
+use Rattle.std.proofs.Common.{◌≡◌, flat_map, length, take}
+use Rattle.std.specs.List.{range_with_len}
+use Rattle.kalah_solve.specs.Solver.MoveValues.{values_of}
+use Rattle.kalah_jobs.specs.Writing.Given.{WasGiven}
+use Rattle.kalah_cli.specs.Show.{ranked_line}
+use Rattle.kalah_cli.specs.Solver.{IsOfVariations, begun}
+use Rattle.kalah_cli.proofs.show.write_lines.Given as goal
+
+abbrev pub invariant-loop-rank : goal.invariant-loop-rank
+invariant-loop-rank g l = record {
+  shown : IsOfVariations g.O.Sink.written g.O.Sink.has_failed (begun l.solver) l.board l.out;
+  given : WasGiven g.O.Sink.written g.O.Sink.has_failed l.initial.out l.out
+      (flat_map (ranked_line l.board) (take l.rank (range_with_len 0 (length (values_of l.board)))));
+}

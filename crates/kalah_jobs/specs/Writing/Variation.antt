@@ -1,0 +1,16 @@
+-- How a variation is printed: a move, what it is worth, and the moves of best play after it.
+use Rattle.std.specs.Prelude.{ℕ, ℤ, List, ◌++◌, codes, decimal}
+use Rattle.std.specs.Fmt.{signed_decimal}
+use Rattle.kalah_solve.specs.declared.solver.move_values.MoveValue.{MoveValue}
+
+-- `2  -4  2`: a house, the value of its move, and the house once more, as the first of the variation
+abbrev pub variation_start : MoveValue → List ℕ
+variation_start v = decimal v.house ++ (codes "  " ++ (signed_decimal v.value ++ (codes "  " ++ decimal v.house)))
+
+-- ` 1`: a further house of it
+abbrev pub next_house : ℕ → List ℕ
+next_house house = codes " " ++ decimal house
+
+-- ` -4`: what a move or a position is worth, after a text
+abbrev pub value_after : ℤ → List ℕ
+value_after value = codes " " ++ signed_decimal value

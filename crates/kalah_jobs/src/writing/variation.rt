@@ -1,0 +1,32 @@
+//! The variation of a move: the houses that are moved from it on to the end of the game, in best play.
+ghost use Rattle.kalah_jobs.specs.Writing.Given.{WasGiven};
+ghost use Rattle.kalah_jobs.specs.Writing.Variation.{next_house, variation_start};
+
+use crate::writing::sink::{Sink, write_unless_failed};
+use crate::writing::stack_text::StackText;
+use kalah_solve::MoveValue;
+
+/// Writes how the line of a variation begins, as `2  -4  2`: the house of its first move, the value of that move, and the house again. It
+/// allocates nothing. If the sink has failed it is not called. If it fails, a prefix of the text was written, and nothing else.
+pub fn write_variation_start<W: Sink>(out: &mut W, value: MoveValue)
+    ensures { WasGiven W.written W.has_failed out.old out.new (variation_start value) }
+{
+    let mut text = StackText::new();
+    text.prepend_byte(value.house);
+    text.prepend("  ");
+    text.prepend_margin(i32::from(value.value));
+    text.prepend("  ");
+    text.prepend_byte(value.house);
+    write_unless_failed(out, text.bytes());
+}
+
+/// Writes a space and the next house of a variation. It allocates nothing. If the sink has failed it is not called. If it fails, a prefix
+/// of the text was written, and nothing else.
+pub fn write_next_house<W: Sink>(out: &mut W, house: u8)
+    ensures { WasGiven W.written W.has_failed out.old out.new (next_house house) }
+{
+    let mut text = StackText::new();
+    text.prepend_byte(house);
+    text.prepend(" ");
+    write_unless_failed(out, text.bytes());
+}
