@@ -1,0 +1,129 @@
+"""What `web` allows its clients: how many questions a minute, how many connections, how much time for a request, and which address."""
+
+from __future__ import annotations
+
+import argparse
+import fcntl
+import io
+import ipaddress
+import socket
+import struct
+import sys
+import threading
+import time
+from collections import Counter
+from contextlib import suppress
+from typing import Any, Callable, Optional
+
+# What all clients together may ask, as a multiple of what one may.
+IN_ALL = 10
+# The most connections of one client, and of all: a process has at least 256 files, and the runs of `kalah` need some.
+MOST_OF_ONE, MOST_CONNECTIONS = 150, 200
+# The request of Linux for the address of a network interface.
+SIOCGIFADDR = 0x8915
+TYPED = "ADDRESS is the one by which the others reach this machine"
+
+
+class Quota:
+    """How many questions each client has asked in this minute, of `most` that it may ask; None is any number."""
+
+    def __init__(self, most: Optional[int], clock: Callable[[], float] = time.monotonic):
+        self.most, self.clock, self.lock = most, clock, threading.Lock()
+        self.minute: Optional[float] = None
+        self.asked: Counter[str] = Counter()
+
+    def takes(self, client: str) -> bool:
+        """Returns whether a client may ask one more. What it asks in vain doesn't count for the others."""
+        with self.lock:
+            minute = self.clock() // 60
+            if minute != self.minute:
+                self.minute, self.asked = minute, Counter()
+            if self.most is not None and (self.asked[client] >= self.most or sum(self.asked.values()) >= IN_ALL * self.most):
+                return False
+            self.asked[client] += 1
+            return True
+
+
+class Connections:
+    """The connections of each client that are open."""
+
+    def __init__(self, of_one: int = MOST_OF_ONE, in_all: int = MOST_CONNECTIONS):
+        self.of_one, self.in_all, self.lock = of_one, in_all, threading.Lock()
+        self.open: Counter[str] = Counter()
+
+    def takes(self, client: str) -> bool:
+        """Returns whether a client may open one more, and counts it then."""
+        with self.lock:
+            if self.open[client] >= self.of_one or sum(self.open.values()) >= self.in_all:
+                return False
+            self.open[client] += 1
+            return True
+
+    def ends(self, client: str) -> None:
+        with self.lock:
+            self.open[client] -= 1
+            # Clients that are gone are not kept.
+            self.open += Counter()
+
+
+class Notices:
+    """What is said on standard error of clients that get no answer: the same of one client once a minute."""
+
+    def __init__(self, clock: Callable[[], float] = time.monotonic):
+        self.clock, self.lock = clock, threading.Lock()
+        self.minute: Optional[float] = None
+        self.said: set[str] = set()
+
+    def say(self, text: str) -> None:
+        with self.lock:
+            minute = self.clock() // 60
+            if minute != self.minute:
+                self.minute, self.said = minute, set()
+            if text not in self.said:
+                self.said.add(text)
+                print(f"web: {text}", file=sys.stderr, flush=True)
+
+
+class Timed(io.RawIOBase):
+    """What comes over a connection, which has this many seconds for all of it."""
+
+    def __init__(self, connection: socket.socket, seconds: float):
+        self.connection, self.end = connection, time.monotonic() + seconds
+
+    def readable(self) -> bool:
+        return True
+
+    def readinto(self, buffer: Any) -> int:
+        left = self.end - time.monotonic()
+        if left <= 0:
+            raise socket.timeout("timed out")
+        self.connection.settimeout(left)
+        return self.connection.recv_into(buffer)
+
+
+def addresses() -> list[str]:
+    """Returns the addresses of this machine, those for itself alone last."""
+    found = set()
+    with socket.socket(socket.AF_INET, socket.SOCK_DGRAM) as one:
+        for _, name in socket.if_nameindex():
+            with suppress(OSError):
+                answer = fcntl.ioctl(one, SIOCGIFADDR, struct.pack("256s", name.encode()[:15]))
+                found.add(socket.inet_ntoa(answer[20:24]))
+    return sorted(found, key=lambda address: (ipaddress.ip_address(address).is_loopback, address))
+
+
+def host(text: str) -> str:
+    """Returns an address of this machine that others can type, or its name. Any spelling of all addresses is none."""
+    there = ", ".join(addresses()) or "none that is known"
+    try:
+        found = {ipaddress.ip_address(info[4][0]) for info in socket.getaddrinfo(text or "0", None, socket.AF_INET)}
+    except (OSError, UnicodeError):
+        raise argparse.ArgumentTypeError(f"{TYPED}: it has {there}, and no {text!r}") from None
+    if any(address.is_unspecified or address.is_multicast for address in found):
+        raise argparse.ArgumentTypeError(f"{TYPED}: it has {there}, and {text!r} is none of them")
+    try:
+        with socket.socket(socket.AF_INET, socket.SOCK_STREAM) as one:
+            one.bind((text, 0))
+    except OSError:
+        raise argparse.ArgumentTypeError(f"{TYPED}: it has {there}, and no {text!r}") from None
+    return text.lower()
