@@ -235,9 +235,11 @@ class Server(ThreadingHTTPServer):
         self.pages["/"] = self.pages["/"].replace(USUAL, f'data-start="{html.escape(line)}"'.encode())
 
     def review(self, record: str) -> bytes:
-        """Returns the page of a review to print."""
+        """Returns the page of a review to print. A review calls the player who moves first South."""
+        record, _, first = record.partition("&first=")
         game = review.Game(record, self.solvers[Values])
-        return review.PAGE.format(title=html.escape(f"Kalah: {game.line}"), games=game.html()).encode()
+        said = "<p>North moved first in this game: here South and North are exchanged.</p>\n" * (first == "North")
+        return review.PAGE.format(title=html.escape(f"Kalah: {game.line}"), games=said + game.html()).encode()
 
     def process_request(self, request: Any, client_address: Any) -> None:
         """Begins a thread for a connection, if there may be one more."""
