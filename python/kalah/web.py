@@ -36,10 +36,11 @@ from pathlib import Path
 from typing import Any, Callable, Optional
 from urllib.parse import quote, unquote
 
-from . import __version__, review, rules
-from .client import Best, Client, Fault, Gone, Late, Values, find
-from .script import arguments
-from .web_answers import Busy, Runs, ahead, as_dict, best, line_of, opened
+from . import __version__, rules
+from .answers import Best, Fault, Gone, Late, Values
+from .client import Client, Run, find
+from .script import arguments, position
+from .web_answers import Busy, Pool, ahead, as_dict, best, best_play, opened, review
 from .web_limits import Connections, Notices, Quota, Timed, host
 
 # The files of the page, each with its kind.
@@ -115,7 +116,7 @@ class Handler(BaseHTTPRequestHandler):
 
     def body(self) -> bytes:
         """Returns the bytes after the headers. They are read even if the request is refused then, as many clients read no reply before."""
-        lengths = self.headers.get_all("Content-Length", [])
+        lengths: list[str] = self.headers.get_all("Content-Length", [])
         if self.command == "GET" and not lengths:
             return b""
         if "Transfer-Encoding" in self.headers or len(lengths) != 1 or not re.fullmatch("[0-9]{1,18}", lengths[0]):
@@ -133,14 +134,15 @@ class Handler(BaseHTTPRequestHandler):
 
     def check_sender(self) -> None:
         """Another page may have this machine's address under a name of its own, or post to it."""
-        hosts, origins = self.headers.get_all("Host", []), self.headers.get_all("Origin", [])
+        hosts: list[str] = self.headers.get_all("Host", [])
+        origins: list[str] = self.headers.get_all("Origin", [])
         if len(hosts) != 1 or hosts[0].lower() not in self.server.hosts:
             raise Refused(403, "this host is not served")
         if any(origin not in [f"http://{host}" for host in self.server.hosts] for origin in origins):
             raise Refused(403, "a page of another origin gets no answer")
 
-    def page(self, _: bytes) -> tuple[str, bytes]:
-        path, _, record = self.path.partition("?")
+    def page(self, body: bytes) -> tuple[str, bytes]:
+        path, _, record = str(self.path).partition("?")
         if path == "/review" and record:
             return "text/html; charset=utf-8", self.asked(self.server.review, unquote(record))
         if self.path not in FILES:
@@ -209,20 +211,23 @@ class Server(ThreadingHTTPServer):
     def __init__(
         self, port: int, program: Optional[str] = None, timeout: Optional[float] = None, host: Optional[str] = None, most: Optional[int] = None
     ):
-        seconds, usual = OF_A_CLASS if host else OF_THIS_MACHINE
-        seconds = timeout or seconds
+        of_one, usual = OF_A_CLASS if host else OF_THIS_MACHINE
+        seconds = timeout or of_one
         self.quota, self.connections, self.notices = Quota(most or usual), Connections(), Notices()
         # While one question has all the time of this machine, others wait for it.
         patience = max(PATIENCE, seconds)
-        self.solvers = {kind: Runs([Client(kind, program, seconds) for _ in range(RUNS)], patience) for kind in (Values, Best)}
+        values = Pool([Client(Values, program, seconds) for _ in range(RUNS)], patience)
+        bests = Pool([Client(Best, program, seconds) for _ in range(RUNS)], patience)
+        self.pools: list[Run[Any]] = [values, bests]
         self.ask: dict[str, Callable[[str], Any]] = {
             "/game": opened,
             "/moves": rules.steps,
-            "/values": partial(rules.ask, self.solvers[Values]),
-            "/best": partial(best, self.solvers[Best]),
-            "/line": partial(line_of, self.solvers[Best], seconds),
+            "/values": partial(rules.ask, values),
+            "/best": partial(best, bests),
+            "/line": partial(best_play, bests, seconds),
             "/ahead": ahead,
         }
+        self.review = partial(review, values)
         self.pages = {path: page.replace(UNKNOWN, f'data-version="{VERSION}"'.encode()) for path, page in PAGES.items()}
         self.names = [host.lower()] if host else NAMES
         super().__init__((self.names[0], port), Handler)
@@ -233,13 +238,6 @@ class Server(ThreadingHTTPServer):
     def begin_with(self, line: str) -> None:
         """Makes this the position of the page whose address has none."""
         self.pages["/"] = self.pages["/"].replace(USUAL, f'data-start="{html.escape(line)}"'.encode())
-
-    def review(self, record: str) -> bytes:
-        """Returns the page of a review to print. A review calls the player who moves first South."""
-        record, _, first = record.partition("&first=")
-        game = review.Game(record, self.solvers[Values])
-        said = "<p>North moved first in this game: here South and North are exchanged.</p>\n" * (first == "North")
-        return review.PAGE.format(title=html.escape(f"Kalah: {game.line}"), games=said + game.html()).encode()
 
     def process_request(self, request: Any, client_address: Any) -> None:
         """Begins a thread for a connection, if there may be one more."""
@@ -271,8 +269,8 @@ class Server(ThreadingHTTPServer):
 
     def server_close(self) -> None:
         super().server_close()
-        for solver in self.solvers.values():
-            solver.close()
+        for pool in self.pools:
+            pool.close()
 
     def handle_error(self, request: Any, client_address: Any) -> None:
         why = sys.exc_info()[1]
@@ -307,7 +305,7 @@ def main() -> None:
     parser.add_argument("--port", type=port, default=8000, metavar="N", help="the port of the address (8000); with 0 any that is free")
     parser.add_argument("line", metavar="LINE")
     asked = parser.parse_args()
-    line = rules.start(asked.line)
+    line = position(asked.line)
     find()
     with Server(asked.port, host=asked.host, most=asked.per_minute) as server:
         server.begin_with(line)

@@ -2,19 +2,24 @@
 
 from __future__ import annotations
 
+import html
 import queue
-import re
 import time
 from dataclasses import asdict, dataclass, field
-from typing import Any, Iterator, Union
+from typing import Any, Union
 
 from . import rules
-from .client import Best, Client, Gone, Move, Over
+from .answers import Best, Gone, Move, Over, Values
+from .client import Client, Kind, Run
+from .game import Record, split, written
+from .page import page
+from .review import Review, body
+from .solver import Position, Solver, line_of
 
 # How many moves the weakest of the solver's strengths looks ahead.
 AHEAD = 2
-POSITION = re.compile("[0-9,]+/[0-9]+ [0-9,]+/[0-9]+(?: e(?![^ ]))?")
-USUAL = "4,4,4,4,4,4/0 4,4,4,4,4,4/0"
+# What stands after a record if North moves first, and at the first move of one in letters.
+NORTH_FIRST, NORTH_MOVES = "&first=North", "1..."
 
 
 @dataclass(frozen=True)
@@ -64,57 +69,70 @@ class Busy(Exception):
     """All runs have questions, and have had for long."""
 
 
-class Runs:
-    """Runs of `kalah` that answer questions of one kind, each one at a time. A question waits for a free one, so many seconds at most."""
+class Pool(Client[Kind]):
+    """Some runs of `kalah`. A question waits for one that is free, so many seconds at most, and fails with `Busy` then."""
 
-    def __init__(self, clients: list[Client], patience: float):
-        self.clients, self.patience = clients, patience
+    def __init__(self, clients: list[Client[Kind]], patience: float):
+        Run.__init__(self, None)
+        self._clients: list[Client[Kind]] = clients
+        self.patience = patience
         # The one that was used last is used next, as it has learnt most.
-        self.free: queue.LifoQueue[Client] = queue.LifoQueue()
-        for client in reversed(clients):
-            self.free.put(client)
+        self._free: queue.LifoQueue[Client[Kind]] = queue.LifoQueue()
+        for client in reversed(self._clients):
+            self._free.put(client)
 
-    def ask(self, line: str) -> Any:
+    def ask(self, line: str) -> Union[Kind, Over]:
         try:
-            client = self.free.get(timeout=self.patience)
+            client = self._free.get(timeout=self.patience)
         except queue.Empty:
             raise Busy from None
         try:
             return client.ask(line)
         finally:
-            self.free.put(client)
+            self._free.put(client)
 
     def close(self) -> None:
-        for client in self.clients:
+        for client in self._clients:
             client.close()
 
 
-def best(solver: Runs, line: str) -> Union[Best, Over, Guess]:
+class Shared(Solver):
+    """A solver that asks a pool for values."""
+
+    def __init__(self, pool: Client[Values]):
+        super().__init__()
+        self.pool = pool
+
+    def values(self, board: Position) -> Union[Values, Over]:
+        return rules.ask(self.pool, line_of(board))
+
+
+def best(client: Client[Best], line: str) -> Union[Best, Over, Guess]:
     """Returns the best house, or a guess if there are too many seeds."""
     try:
-        return rules.ask(solver, line)
+        return rules.ask(client, line)
     except rules.TooMany as why:
         return Guess(rules.guess(line), rules.guessed(why))
 
 
 def ahead(line: str) -> Union[Ahead, Over]:
+    """Returns the house that seems best to a search of `AHEAD` moves."""
     position = rules.read(line)
     if rules.is_over(position):
         return Over(rules.final_margin(position))
-    seems = rules.seen_of_moves(position, AHEAD)
-    return Ahead(max(seems, key=seems.__getitem__))
+    return Ahead(rules.best_of(rules.seen_of_moves(position, AHEAD)))
 
 
-def line_of(solver: Runs, seconds: float, line: str) -> Line:
+def best_play(client: Client[Best], seconds: float, line: str) -> Line:
     """Returns the moves of best play from a position, as many as are found in these seconds, and one at least."""
     moves: list[Move] = []
     end, is_whole = time.monotonic() + seconds, False
     try:
         while time.monotonic() <= end and not is_whole:
-            answer = rules.ask(solver, line)
+            answer = rules.ask(client, line)
             is_whole = isinstance(answer, Over)
-            if not is_whole:
-                moves.append(next(move for move in rules.steps(line).moves if move.house == answer.house))
+            if isinstance(answer, Best):
+                moves.append(next(move for move in place(line, 0).moves if move.house == answer.house))
                 line = moves[-1].position
     except Gone:
         if not moves:
@@ -128,33 +146,30 @@ def place(line: str, player: int) -> Place:
 
 
 def opened(text: str) -> Opened:
-    """Returns the game of a record, as far as its moves are legal. Fails with `Fault` if its position has one. South moves first; North
-    does if `&first=North` stands at the end, or `1...` at the first move."""
-    text, _, first = " ".join(text.split()).partition("&first=")
-    form = POSITION.match(text)
-    looks_so = not form and "/" in text[:80]
-    line, moves = (form[0], text[form.end() :]) if form else (text, "") if looks_so else (USUAL, text)
-    game = Opened([place(rules.start(line), int(first == "North" or moves.strip().startswith("1...")))])
-    for word, house, player in written(moves):
-        now, number = game.positions[-1], len(game.houses) + 1
-        move = next((move for move in now.moves if move.house == house), None)
-        if now.is_over or not move or player not in (None, now.player):
-            game.flaw = f"move {number}: " + ("the game is over" if now.is_over else f"house {word} can't be moved")
-            return game
-        game.houses.append(house)
-        game.positions.append(place(move.position, now.player ^ (move.word == "turn")))
+    """Returns the game of a record, as far as its moves can be made. Fails with `Fault` if its position has one. South moves first; North
+    does if `NORTH_FIRST` stands at the end, or `NORTH_MOVES` at the first move."""
+    record, north, _ = " ".join(text.split()).partition(NORTH_FIRST)
+    line, moves = split(record)
+    game = Opened([place(rules.start(line), int(bool(north) or moves.strip().startswith(NORTH_MOVES)))])
+    for move in written(moves):
+        now = game.positions[-1]
+        found = next((one for one in now.moves if one.house == move.house), None)
+        if not found or move.player not in (None, now.player):
+            why = "the game is over" if now.is_over else f"house {move.word} can't be moved"
+            game.flaw = f"move {len(game.houses) + 1}: {why}"
+            break
+        game.houses.append(move.house)
+        game.positions.append(place(found.position, now.player ^ (found.word == "turn")))
     return game
 
 
-def written(text: str) -> Iterator[tuple[str, int, Union[int, None]]]:
-    """Yields the moves of a record, each with its house, and its player if a letter names one."""
-    words = re.sub(r"[0-9]+[.)]+|,", " ", text).split()
-    has_letters = any(re.fullmatch("[A-Fa-f]+", word) for word in words)
-    for word in words:
-        if re.fullmatch("[A-Fa-f]+", word):
-            yield from ((letter, "ABCDEF".index(letter.upper()) + 1, int(letter.islower())) for letter in word)
-        elif not has_letters or not word.isdigit():
-            yield from ((part, int(part) if re.fullmatch("[1-6]", part) else 0, None) for part in word.split("-"))
+def review(client: Client[Values], text: str) -> bytes:
+    """Returns the page of a review of a record, to print. A review calls the player who moves first South."""
+    record, north, _ = text.partition(NORTH_FIRST)
+    one = Review(Record(1, {}, record), Shared(client))
+    title = f"Kalah: {one.line}"
+    exchanged = "<p>North moved first in this game: here South and North are exchanged.</p>\n" * bool(north)
+    return page(title, f"<h1>{html.escape(title)}</h1>\n{exchanged}{body([one])}").encode()
 
 
 def as_dict(answer: Any) -> dict[str, Any]:

@@ -307,12 +307,12 @@ class ServerTrials:
         """While runs are busy, questions wait for some time; and only so many do. What is refused is refused by that."""
         slow = fake(self.folder, self.program, [f'while read -r line; do sleep 0.3; echo "$line" | "{self.program}" ask; done'] * web.RUNS)
         for most, patience in ((web.MOST_AT_ONCE, 0.7), (5, 60)):
-            with served(slow) as server, ThreadPoolExecutor(THREADS) as pool:
+            with served(slow) as server, ThreadPoolExecutor(THREADS) as threads:
                 server.room = threading.BoundedSemaphore(most)
-                for runs in server.solvers.values():
-                    runs.patience = patience
+                for pool in server.pools:
+                    pool.patience = patience
                 lines = [drawn_line(self.draw, 3, 8) for _ in range(THREADS)]
-                got = [*pool.map(lambda line: asked(server.server_port, "/best", line), lines)]
+                got = [*threads.map(lambda line: asked(server.server_port, "/best", line), lines)]
                 refused = 503, {"error": "too many questions at once"}
                 answered = [(line, one) for line, one in zip(lines, got) if one != refused]
                 must(web.RUNS <= len(answered) < THREADS, f"web: of {THREADS} at once {len(answered)} are answered")
