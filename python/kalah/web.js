@@ -3,7 +3,7 @@
 
 const element = (id) => document.getElementById(id);
 const { version: VERSION, start: START } = document.body.dataset;
-const MOST_SEEDS = 31, AT_ONCE = 2, LONGEST_LINE = 14, LETTERS = "ABCDEF", CHANCE = 0.25;
+const MOST_SEEDS = 31, AT_ONCE = 2, LONGEST_LINE = 14, LETTERS = "ABCDEF", CHANCE = 0.25, NORTH_FIRST = "&first=North";
 const RULES = {
   "": "Classic rule: a last seed that falls into an empty house of one's own captures if the house across has seeds.",
   " e": "Empty-capture rule: a last seed that falls into an empty house of one's own is captured even if the house across is empty.",
@@ -46,7 +46,7 @@ function go(at, isTrial = state.isTrial) {
 // Makes a move at the place that is shown. If another one follows there, a variation begins, and the game stays.
 function play(house, guessed) {
   const place = now(), { game, trial, isTrial, at } = state, line = lineOf(state);
-  const move = about(place.line).moves?.moves.find((one) => one.house === house);
+  const move = about(place.line).moves?.moves?.find((one) => one.house === house);
   if (!move) return;
   if (line[at + 1]?.by.house === house) return go(at + 1);
   const isShared = !isTrial || at <= trial.from, reached = after(place, move, guessed);
@@ -122,21 +122,15 @@ function need(question, line) {
 
 // Asks what is unknown: first of the place that is shown, then the values of all others, from the end on.
 function askAll() {
-  const place = now(), it = about(place.line), busy = () => [...pending].filter((key) => key.startsWith("values")).length;
-  need("moves", place.line);
-  if (!it.moves || it.moves.is_over) return askOthers(busy);
+  const { line } = now(), { moves } = about(line), isAsked = (one) => isSolvable(one) && !about(one).moves?.is_over;
+  const busy = () => [...pending].filter((key) => key.startsWith("values")).length;
+  need("moves", line);
   if (mode() === "hidden") return;
-  if (!isSolvable(place.line)) need("best", place.line);
-  else if (busy() < AT_ONCE) need("values", place.line);
-  if (element("lines").open && isRevealed(place.line) && isSolvable(place.line))
-    for (const { position, word } of it.moves.moves) if (word !== "over") need("line", position);
-  askOthers(busy);
-}
-
-function askOthers(busy) {
-  if (mode() === "hidden") return;
-  for (const { line } of [...new Set([...state.game, ...lineOf(state)])].reverse())
-    if (!busy() && isSolvable(line) && !about(line).moves?.is_over) need("values", line);
+  if (!isSolvable(line)) need("best", line);
+  if (moves && isAsked(line) && busy() < AT_ONCE) need("values", line);
+  if (moves && isAsked(line) && isRevealed(line) && element("lines").open)
+    for (const { position, word } of moves.moves) if (word !== "over") need("line", position);
+  for (const other of [...state.game, ...lineOf(state)].reverse()) if (isAsked(other.line) && !busy()) need("values", other.line);
 }
 
 function tryAgain() {
@@ -149,6 +143,7 @@ function tryAgain() {
 // VALUES. They are shown, or only those of places where a person has guessed, or none.
 const guesses = new Map();
 const mode = () => element("values").value;
+const isLate = (why) => why.startsWith("too large here");
 const seedsIn = (line) => read(line).sides.flatMap(({ houses }) => houses).reduce((sum, seeds) => sum + seeds, 0);
 const isSolvable = (line) => seedsIn(line) <= MOST_SEEDS;
 const isRevealed = (line) => mode() === "shown" || (mode() === "guess" && guesses.has(line));
@@ -172,8 +167,9 @@ function marginOf(place) {
 
 // Returns how many guesses were best moves, of those where not every move is one.
 function scoreOf() {
-  const counted = [...guesses].filter(([line]) => new Set(Object.values(about(line).values?.by_house || {})).size > 1);
-  return { all: counted.length, right: counted.filter(([line, house]) => about(line).values.by_house[house] === bestOf(about(line).values.by_house)).length };
+  const guessed = [...guesses].map(([line, house]) => ({ house, values: about(line).values?.by_house || {} }));
+  const counted = guessed.filter(({ values }) => new Set(Object.values(values)).size > 1);
+  return { all: counted.length, right: counted.filter(({ values, house }) => values[house] === bestOf(values)).length };
 }
 
 // THE SOLVER. It moves where it is to move, at the end of the line that is shown, once the seeds of the last move have fallen.
@@ -188,6 +184,10 @@ function isSolversTurn(one) {
 function solversMove(place) {
   const it = about(place.line), strength = element("strength").value, question = strength === "ahead" ? "ahead" : "best";
   need(question, place.line);
+  if (it.failed.best) {
+    need("ahead", place.line);
+    return it.ahead && { ...it.ahead, guessed: "best play takes too long here; it looks 2 moves ahead" };
+  }
   if (strength !== "some" || !isSolvable(place.line)) return it[question];
   need("values", place.line);
   if (!it.values || !it.best) return undefined;
@@ -216,23 +216,31 @@ function show() {
 }
 
 function draw() {
-  const place = now(), { moves, failed } = about(place.line), values = valuesOf(place.line), m = read(place.line).sides[0].houses.length;
-  const canMove = (player, house) => player === place.player && !isSolversTurn(state) && Boolean(moves?.moves?.some((one) => one.house === house));
-  if (element("board").children.length !== 2 * m + 2) layBoard(element("board"), m, choose);
-  const way = fillBoard(element("board"), place, { by: place.by, values: isSolversTurn(state) ? null : values, canMove });
-  if (drawn !== place && drawn && place.by) animate(element("board"), way);
+  const place = now(), { moves, failed } = about(place.line), board = element("board"), m = read(place.line).sides[0].houses.length;
+  const isOpen = (player) => player === place.player && !isSolversTurn(state);
+  const canMove = (player, house) => isOpen(player) && Boolean(moves?.moves?.some((one) => one.house === house));
+  if (board.children.length !== 2 * m + 2) layBoard(board, m, choose);
+  const way = fillBoard(board, place, { by: place.by, values: isSolversTurn(state) ? null : valuesOf(place.line), canMove });
+  if (drawn !== place && drawn && place.by) animate(board, way);
   drawn = place;
   drawArrow(place);
-  element("said").textContent = `${saidOfMove(place)}${saidOfTurn(place)}`;
+  say("said", `${saidOfMove(place)}${saidOfTurn(place)}`);
   drawComment(place);
-  element("remark").textContent = remarkOf(place);
-  if (failed.moves) wrong(failed.moves, true);
+  say("remark", remarkOf(place));
+  const why = Object.values(failed).find((text) => !isLate(text));
+  if (why) wrong(why, true);
   drawControls();
   drawMoves();
   drawWorst();
   drawCurve();
   drawLines(place);
-  history.replaceState(null, "", `#${addressOf(state).replaceAll(" ", "%20")}`);
+  const address = `#${addressOf(state).replaceAll(" ", "%20")}`;
+  if (location.hash !== address) history.replaceState(null, "", address);
+}
+
+// Says a text, once: a screen reader says again what is written again.
+function say(id, text) {
+  if (element(id).textContent !== text) element(id).textContent = text;
 }
 
 const ENDS = { again: " and moves again. ", turn: ". ", over: ". " };
@@ -244,7 +252,8 @@ function saidOfMove({ by }) {
 }
 
 function saidOfTurn(place) {
-  if (!about(place.line).moves?.is_over) return isSolversTurn(state) ? `The solver moves for ${NAMES[place.player]}.` : `${NAMES[place.player]} is to move.`;
+  if (isSolversTurn(state)) return `The solver moves for ${NAMES[place.player]}.`;
+  if (!about(place.line).moves?.is_over) return `${NAMES[place.player]} is to move.`;
   const [own, other] = sidesOf(place).map((side) => side.houses.reduce((sum, seeds) => sum + seeds, side.store));
   const won = own === other ? "It is a draw" : `${NAMES[Number(own < other)]} wins`;
   return `The game is over. ${won}, ${Math.max(own, other)} to ${Math.min(own, other)}.`;
@@ -252,34 +261,35 @@ function saidOfTurn(place) {
 
 // Says what the last move was worth, and what would have been better.
 function drawComment(place) {
-  const worth = worthOf(place), [text, button] = element("comment").children;
-  text.className = worth ? (worth.lost ? "bad" : "good") : "";
-  button.hidden = !worth?.lost;
-  if (!worth) text.textContent = place.by?.guessed ? `(${place.by.guessed})` : "";
-  else if (worth.lost) text.textContent = `Worth ${signed(worth.value)}: it loses ${worth.lost}. House ${worth.best} is worth ${signed(worth.all[worth.best])}.`;
-  else text.textContent = `Worth ${signed(worth.value)}: ${Object.keys(worth.all).length > 1 ? "a best move" : "the only move"}.`;
-  if (worth?.lost) button.textContent = `Show house ${worth.best}`;
+  const worth = worthOf(place), guessed = place.by?.guessed ? `(${place.by.guessed})` : "";
+  element("judged").className = worth ? (worth.lost ? "bad" : "good") : "";
+  element("better").hidden = !worth?.lost;
+  say("judged", worth ? `Worth ${signed(worth.value)}: ${judged(worth)}` : guessed);
+  say("better", worth?.lost ? `Show house ${worth.best}` : "");
+}
+
+function judged({ lost, best, all }) {
+  if (lost) return `it loses ${lost}. House ${best} is worth ${signed(all[best])}.`;
+  return Object.keys(all).length > 1 ? "a best move." : "the only move.";
 }
 
 function remarkOf(place) {
-  const { moves, failed, best } = about(place.line);
-  if (!moves || moves.is_over) return "";
-  if (failed.values && mode() !== "hidden") return `No values here: ${failed.values}.`;
-  if (isSolvable(place.line)) return "";
+  const { moves, failed, best } = about(place.line), isGuessed = mode() === "shown" && best && !isSolversTurn(state);
+  if (!moves || moves.is_over || mode() === "hidden") return "";
+  if (isSolvable(place.line)) return isLate(failed.values || "") ? "No values here: they take too long." : "";
   const said = `No values above ${MOST_SEEDS} seeds: ${seedsIn(place.line)} are in houses.`;
-  return mode() === "shown" && best && !isSolversTurn(state) ? `${said} Looking 4 moves ahead, house ${best.house} seems best.` : said;
+  return isGuessed ? `${said} Looking 4 moves ahead, house ${best.house} seems best.` : said;
 }
 
 function drawControls() {
   const end = lineOf(state).length - 1, { right, all } = scoreOf();
-  for (const id of ["first", "back"]) element(id).disabled = state.at === 0;
-  for (const id of ["next", "last"]) element(id).disabled = state.at === end;
+  const disabled = { first: !state.at, back: !state.at, next: state.at === end, last: state.at === end, redo: !future.length };
+  for (const [id, is] of Object.entries(disabled)) element(id).disabled = is;
   element("undo").disabled = !past.some((one) => !isSolversTurn(one));
-  element("redo").disabled = !future.length;
-  element("score").textContent = mode() === "guess" ? `Right guesses: ${right} of ${all}` : "";
+  say("score", mode() === "guess" ? `Right guesses: ${right} of ${all}` : "");
   element("by").hidden = element("solver").value === "";
-  element("strength-said").textContent = element("solver").value === "" ? "" : STRENGTHS[element("strength").value];
-  element("rule-said").textContent = RULES[read(now().line).rule];
+  say("strength-said", element("solver").value === "" ? "" : STRENGTHS[element("strength").value]);
+  say("rule-said", RULES[read(now().line).rule]);
   element("review").href = `/review?${encodeURIComponent(recordOf(state.game))}`;
   element("review").hidden = state.game.length < 2;
 }
@@ -290,16 +300,16 @@ function drawArrow(place) {
   const guess = mode() === "shown" && !isSolvable(place.line) ? best?.house : undefined, house = values ? bestHouse(values) : guess;
   svg.replaceChildren();
   if (!house || !moves || moves.is_over || isSolversTurn(state)) return;
-  const from = middle(board, place.player, house), last = sow(place, house).way.at(-1), to = middle(board, last.player, last.house);
+  const last = sow(place, house).way.at(-1), from = middle(board, place.player, house), to = middle(board, last.player, last.house);
   const [dx, dy] = [to.x - from.x, to.y - from.y], far = Math.hypot(dx, dy);
   if (!far) return;
   const [x, y] = [dx / far, dy / far], bend = place.player ? -0.18 : 0.18, edge = Math.min(18, far / 4);
   for (const [end, sign] of [[from, 1], [to, -1]]) Object.assign(end, { x: end.x + sign * edge * x, y: end.y + sign * edge * y });
   const tip = { x: to.x - 12 * x, y: to.y - 12 * y };
   svg.classList.toggle("guess", !values);
-  const path = `M${from.x} ${from.y} Q${(from.x + tip.x) / 2 + bend * dy} ${(from.y + tip.y) / 2 - bend * dx} ${tip.x} ${tip.y}`;
-  const head = `M${to.x} ${to.y} L${tip.x - 7 * x - 8 * y} ${tip.y - 7 * y + 8 * x} L${tip.x - 7 * x + 8 * y} ${tip.y - 7 * y - 8 * x} Z`;
-  svg.append(drawing("path", { d: path }), drawing("path", { d: head, class: "head" }));
+  const over = [(from.x + tip.x) / 2 + bend * dy, (from.y + tip.y) / 2 - bend * dx], wings = [tip.x - 7 * x, tip.y - 7 * y];
+  const head = `M${to.x} ${to.y}L${wings[0] - 8 * y} ${wings[1] + 8 * x}L${wings[0] + 8 * y} ${wings[1] - 8 * x}Z`;
+  svg.append(drawing("path", { d: `M${from.x} ${from.y}Q${over} ${tip.x} ${tip.y}` }), drawing("path", { d: head, class: "head" }));
 }
 
 function drawing(name, attributes, text = "") {
@@ -311,77 +321,80 @@ function drawing(name, attributes, text = "") {
 
 // The list of moves, with the variation after the move at which it begins.
 function drawMoves() {
-  const list = element("played"), focused = document.activeElement?.id, { game, trial, isTrial } = state, [top, isNew] = [list.scrollTop, list.place !== now()];
-  const row = (place, number, isOfTrial) => {
-    const worth = worthOf(place), button = made("button", "", { type: "button", id: `move-${isOfTrial ? "v" : ""}${number}`, onclick: () => go(number, isOfTrial) });
-    const lost = worth?.lost ? `loses ${worth.lost}` : "", item = made("li", "", { className: isOfTrial ? "try" : "" });
-    button.append(made("span", `${number}.`), made("span", NAMES[place.by.player]), made("span", `house ${place.by.house}`),
-      made("span", worth ? signed(worth.value) : ""), made("span", lost, { className: "bad" }));
-    if (place === now()) button.setAttribute("aria-current", "true");
-    if (!isOfTrial && worstOf(place.by.player)?.place === place) button.classList.add("worst");
-    item.append(button);
-    return item;
-  };
-  const rows = game.slice(1).map((place, number) => row(place, number + 1, false));
-  if (trial) rows.splice(Math.min(trial.from + 1, rows.length), 0, ...trial.places.map((place, number) => row(place, trial.from + number + 1, true)));
-  list.replaceChildren(...rows);
+  const list = element("played"), { game, trial } = state, top = list.scrollTop, isNew = list.place !== now();
+  const rows = game.slice(1).map((place, number) => moveRow(place, number + 1, false));
+  const tried = trial ? trial.places.map((place, number) => moveRow(place, trial.from + number + 1, true)) : [];
+  if (trial) rows.splice(Math.min(trial.from + 1, rows.length), 0, ...tried);
+  keepingFocus(() => list.replaceChildren(...rows));
   const current = list.querySelector("[aria-current]");
   list.scrollTop = isNew && current ? current.offsetTop - list.clientHeight / 2 : top;
   list.place = now();
-  if (focused?.startsWith("move-")) element(focused)?.focus();
+}
+
+function moveRow(place, number, isOfTrial) {
+  const worth = worthOf(place), item = made("li", "", { className: isOfTrial ? "try" : "" });
+  const button = made("button", "", { type: "button", id: `move-${isOfTrial ? "v" : ""}${number}`, onclick: () => go(number, isOfTrial) });
+  const parts = [`${number}.`, NAMES[place.by.player], `house ${place.by.house}`, worth ? signed(worth.value) : ""];
+  button.append(...parts.map((part) => made("span", part)), made("span", worth?.lost ? `loses ${worth.lost}` : "", { className: "bad" }));
+  if (place === now()) button.setAttribute("aria-current", "true");
+  if (!isOfTrial && worstOf(place.by.player)?.place === place) button.classList.add("worst");
+  item.append(button);
+  return item;
+}
+
+// Does what puts new elements in the place of old ones, one of which may have the focus.
+function keepingFocus(draw) {
+  const { id } = document.activeElement || {};
+  draw();
+  if (id && element(id) !== document.activeElement) element(id)?.focus();
 }
 
 // Returns the move of this player in the game that lost most, if one lost something.
 function worstOf(player) {
-  const lost = state.game.map((place, number) => ({ place, number, lost: place.by?.player === player ? worthOf(place)?.lost || 0 : 0 }));
-  const worst = lost.reduce((most, one) => (one.lost > most.lost ? one : most));
+  const moves = state.game.map((place, number) => ({ place, number, lost: (place.by?.player === player && worthOf(place)?.lost) || 0 }));
+  const worst = moves.reduce((most, one) => (one.lost > most.lost ? one : most));
   return worst.lost ? worst : null;
 }
 
 function drawWorst() {
-  const buttons = [0, 1].flatMap((player) => {
-    const worst = worstOf(player);
-    if (!worst) return [];
-    return [made("button", `${NAMES[player]}: move ${worst.number} loses ${worst.lost}`, { type: "button", id: `worst-${player}`, onclick: () => go(worst.number, false) })];
-  });
-  const focused = document.activeElement?.id;
-  element("worst").replaceChildren(...(buttons.length ? ["Worst moves: ", ...buttons] : []));
-  if (focused?.startsWith("worst-")) element(focused)?.focus();
+  const worst = [0, 1].map((player) => ({ player, ...worstOf(player) })).filter(({ lost }) => lost);
+  const buttons = worst.map(({ player, number, lost }) => made("button", `${NAMES[player]}: move ${number} loses ${lost}`,
+    { type: "button", id: `worst-${player}`, onclick: () => go(number, false) }));
+  keepingFocus(() => element("worst").replaceChildren(...(buttons.length ? ["Worst moves: ", ...buttons] : [])));
 }
 
 // South's margin through the line that is shown. A red point is a place whose next move loses something.
 function drawCurve() {
-  const line = lineOf(state), svg = element("curve"), margins = line.map(marginOf), points = [], hits = [];
-  element("graph").hidden = line.length < 2 || margins.every((margin) => margin === null);
+  const line = lineOf(state), svg = element("curve"), margins = line.map(marginOf), isKnown = margins.some((margin) => margin !== null);
+  element("graph").hidden = line.length < 2 || !isKnown;
   if (element("graph").hidden) return;
   const [width, height, left] = [svg.clientWidth || 300, svg.clientHeight || 130, 30];
   const most = Math.max(1, ...margins.map(Math.abs)), step = (width - left - 12) / (line.length - 1);
   const x = (number) => left + step * number, y = (margin) => height / 2 - (margin / most) * (height / 2 - 12);
-  svg.setAttribute("viewBox", `0 0 ${width} ${height}`);
-  svg.setAttribute("aria-label", `South's margin: ${margins.map((one, number) => (one === null ? "" : `${number}: ${signed(one)}`)).filter(Boolean).join(", ")}`);
-  line.forEach((place, number) => {
-    const hit = drawing("rect", { class: "at", x: x(number) - step / 2, y: 0, width: step, height });
-    hit.onclick = () => go(number);
-    hits.push(hit);
-    if (margins[number] === null) return;
-    const isBad = number + 1 < line.length && worthOf(line[number + 1])?.lost > 0;
-    points.push({ at: `${x(number)},${y(margins[number])}`, dot: drawing("circle", { cx: x(number), cy: y(margins[number]), r: isBad ? 4 : 2.5, class: isBad ? "bad" : "" }) });
+  const points = margins.flatMap((margin, number) => (margin === null ? [] : [{ margin, number }]));
+  const dots = points.map(({ margin, number }) => {
+    const isBad = worthOf(line[number + 1] || line[0])?.lost > 0;
+    return drawing("circle", { cx: x(number), cy: y(margin), r: isBad ? 4 : 2.5, class: isBad ? "bad" : "" });
   });
+  const hits = line.map((_, number) => drawing("rect", { class: "at", x: x(number) - step / 2, y: 0, width: step, height }));
+  hits.forEach((hit, number) => (hit.onclick = () => go(number)));
+  const here = drawing("rect", { class: "here", x: x(state.at) - 4, y: 0, width: 8, height });
   const scale = [most, 0, -most].map((margin) => drawing("text", { x: 2, y: y(margin) + 4 }, signed(margin)));
-  svg.replaceChildren(drawing("rect", { class: "here", x: x(state.at) - 4, y: 0, width: 8, height }), drawing("path", { class: "middle", d: `M${left} ${height / 2}H${width}` }),
-    ...scale, drawing("polyline", { points: points.map(({ at }) => at).join(" ") }), ...points.map(({ dot }) => dot), ...hits);
+  const course = drawing("polyline", { points: points.map(({ margin, number }) => `${x(number)},${y(margin)}`).join(" ") });
+  svg.setAttribute("viewBox", `0 0 ${width} ${height}`);
+  svg.setAttribute("aria-label", `South's margin: ${points.map(({ margin, number }) => `${number}: ${signed(margin)}`).join(", ")}`);
+  svg.replaceChildren(here, drawing("path", { class: "middle", d: `M${left} ${height / 2}H${width}` }), ...scale, course, ...dots, ...hits);
 }
 
 // Best play after each move, if that is asked for.
 function drawLines(place) {
-  const { moves } = about(place.line), values = valuesOf(place.line), list = element("lines").querySelector("ol");
+  const { moves } = about(place.line), values = valuesOf(place.line);
   element("lines").hidden = !isSolvable(place.line) || !moves || moves.is_over || mode() === "hidden";
   if (element("lines").hidden || !element("lines").open) return;
-  list.replaceChildren(...moves.moves.map(({ house, position, word }) => {
-    const line = about(position).line, worth = values ? signed(values[house]) : "..";
-    if (!values || (word !== "over" && !line)) return made("li", `${house}: ${about(position).failed.line || worth}`, { value: house });
-    const then = word === "over" ? ", and the game is over" : `, then ${saidOfLine(line, after(place, { house, position, word }).player)}`;
-    return made("li", `${house}: ${worth}${then}`);
+  element("lines").lastElementChild.replaceChildren(...moves.moves.map((move) => {
+    const { line, failed } = about(move.position), worth = values ? signed(values[move.house]) : "..";
+    const then = line ? `, then ${saidOfLine(line, after(place, move).player)}` : failed.line ? "; the rest takes too long" : " ..";
+    return made("li", `${move.house}: ${worth}${move.word === "over" ? ", and the game is over" : then}`);
   }));
 }
 
@@ -397,14 +410,14 @@ function saidOfLine({ houses, words, is_whole: isWhole }, player) {
 }
 
 function wrong(text, canRetry = false) {
-  element("wrong").firstElementChild.textContent = text;
+  say("fault", text);
   element("retry").hidden = !canRetry;
 }
 
 // ADDRESSES AND RECORDS. The address has the first position and the houses that were moved; if North moves first, that; the variation, as
 // the number of moves before it and its houses; and how many moves are before the place that is shown, with a v if it is of the variation.
 const housesOf = (places) => places.filter(({ by }) => by).map(({ by }) => by.house);
-const recordOf = (game) => [game[0].line, ...housesOf(game)].join(" ") + (game[0].player ? "&first=North" : "");
+const recordOf = (game) => [game[0].line, ...housesOf(game)].join(" ") + (game[0].player ? NORTH_FIRST : "");
 
 function addressOf({ game, trial, isTrial, at }) {
   const tried = trial ? `&try=${trial.from}:${housesOf(trial.places).join(",")}` : "";
@@ -422,8 +435,9 @@ function decoded(text) {
 // Returns the record in an address or in a text that was typed, and what is to be shown of it.
 function parsed(text) {
   const [record, ...rest] = text.split("&"), parts = Object.fromEntries(rest.map((part) => part.split("=")));
-  const [, from, houses] = /^([0-9]+):([1-6](?:,[1-6])*)$/.exec(parts.try || "") || [], [, at, mark] = /^([0-9]+)(v?)$/.exec(parts.at || "") || [];
-  return { record, first: parts.first === "North" ? "&first=North" : "", from: Number(from), tried: houses?.split(",") || [], at, isTrial: mark === "v" };
+  const [, from, houses] = /^([0-9]+):([1-6](?:,[1-6])*)$/.exec(parts.try || "") || [];
+  const [, at, mark] = /^([0-9]+)(v?)$/.exec(parts.at || "") || [], first = parts.first === "North" ? NORTH_FIRST : "";
+  return { record, first, from: Number(from), tried: houses?.split(",") || [], at, isTrial: mark === "v" };
 }
 
 function placesOf({ positions, houses }) {
@@ -431,7 +445,7 @@ function placesOf({ positions, houses }) {
   positions.forEach(({ line, player, is_over, moves }, number) => {
     about(line).moves = { is_over, moves };
     const from = places[number - 1], word = is_over ? "over" : from?.player === player ? "again" : "turn";
-    places.push({ line, player, by: from ? { from, player: from.player, house: houses[number - 1], word, guessed: "" } : null });
+    places.push(from ? after(from, { house: houses[number - 1], position: line, word }) : { line, player, by: null });
   });
   return places;
 }
@@ -456,11 +470,12 @@ async function open(text) {
   if (mine !== starts) return;
   if (game) {
     if (state) past.push(state);
+    const upTo = (end) => ({ game: game.slice(0, end + 1), trial: null, isTrial: false, at: end });
     // Moves up to the end can be taken back.
-    if (at === undefined) past.push(...game.slice(1).map((_, number) => ({ game: game.slice(0, number + 1), trial: null, isTrial: false, at: number })));
+    if (at === undefined) past.push(...game.slice(1).map((_, number) => upTo(number)));
     future = [];
-    state = { game, trial, isTrial: false, at: game.length - 1 };
-    go(at === undefined ? state.at : Number(at), isTrial && trial !== null);
+    state = { ...upTo(game.length - 1), trial };
+    go(Number(at ?? game.length - 1), isTrial && trial !== null);
   } else if (!state && text !== START) await open(START);
   if (why) wrong(why);
 }
@@ -482,13 +497,13 @@ function copy(text, what) {
   box.hidden = false;
   input.value = text;
   input.select();
-  box.querySelector("span").textContent = document.execCommand("copy") ? `${what} copied:` : `${what}, to be copied:`;
+  say("copied-said", document.execCommand("copy") ? `${what} copied:` : `${what}, to be copied:`);
 }
 
 // BUTTONS, FORMS AND KEYS.
 const CLICKS = {
-  undo, redo, first: () => go(0), back: () => go(state.at - 1), next: () => go(state.at + 1), last: () => go(lineOf(state).length - 1),
-  better: () => showBetter(), retry: tryAgain, link: () => copy(location.href, "Link"), record: () => copy(written(state.game), "Record"),
+  first: () => go(0), back: () => go(state.at - 1), next: () => go(state.at + 1), last: () => go(lineOf(state).length - 1), undo, redo,
+  better: showBetter, retry: tryAgain, link: () => copy(location.href, "Link"), record: () => copy(written(state.game), "Record"),
   new: () => element("new-game").showModal(), enter: () => element("enter-game").showModal(),
 };
 const KEYS = { u: "undo", r: "redo", ArrowLeft: "back", ArrowRight: "next", Home: "first", End: "last" };
@@ -503,7 +518,7 @@ function showBetter() {
 
 function sayOfNew() {
   const seeds = 2 * Number(element("houses").value) * Number(element("seeds").value);
-  element("new-said").textContent = seeds > MOST_SEEDS ? `${seeds} seeds: there are values once at most ${MOST_SEEDS} are left in houses.` : "";
+  say("new-said", seeds > MOST_SEEDS ? `${seeds} seeds: there are values once at most ${MOST_SEEDS} are left in houses.` : "");
 }
 
 for (const [id, click] of Object.entries(CLICKS)) element(id).onclick = click;
@@ -513,7 +528,7 @@ for (const cancel of document.querySelectorAll(".cancel")) cancel.onclick = () =
 element("lines").ontoggle = show;
 element("new-game").onsubmit = () => {
   const side = `${Array(Number(element("houses").value)).fill(Number(element("seeds").value)).join(",")}/0`;
-  open(`${side} ${side}${element("rule").value}${element("mover").value === "1" ? "&first=North" : ""}`);
+  open(`${side} ${side}${element("rule").value}${element("mover").value === "1" ? NORTH_FIRST : ""}`);
 };
 element("enter-game").onsubmit = () => {
   const text = element("text").value.trim();

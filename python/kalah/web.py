@@ -7,9 +7,9 @@ against the solver, tries other moves, opens a game that was played, and sees wh
 the game after its `#`, so a link opens it at the move that is shown. The page links the rules, and a review of the game to print.
 
 With --host it serves a class: all who reach this machine by ADDRESS. Then a position that takes more than a second is refused, and so
-are more than 120 questions a minute from one address, and ten times as many from all; --per-minute N sets that number for one address. A
-move of a game costs one to four questions. A class behind one address, as in many schools, needs some 100 for each pupil.
-A client has ten seconds to write a request, and 150 connections; 200 are open at most. Standard error says whom that shuts out.
+are more than 300 questions a minute from one address, and twenty times as many from all; --per-minute N sets that number for one address.
+A move of a game costs one to four questions, so a class behind one address, as in many schools, needs some 100 for each pupil. A client has
+ten seconds for a request, and 150 connections; 200 are open at most. Standard error says whom that shuts out.
 
 The page posts lines to /moves, /values, /best, /line and /ahead, and records to /game. Each of these gets one JSON object: an answer, or
 an `error` and a status that is not 200. There may be any number of seeds, up to 99 in a house at the start. With more than 31 in houses
@@ -50,6 +50,7 @@ FILES = {
     "/web.css": ("web.css", "text/css"),
     "/web_board.js": ("web_board.js", "text/javascript"),
     "/web.js": ("web.js", "text/javascript"),
+    "/web_rules.js": ("web_rules.js", "text/javascript"),
 }
 PAGES = {path: Path(__file__).with_name(name).read_bytes() for path, (name, _) in FILES.items()}
 # A page that was kept takes no answers of a program that serves another one.
@@ -59,7 +60,7 @@ USUAL, UNKNOWN = b'data-start="4,4,4/0 4,4,4/0"', b'data-version=""'
 # Only this machine gets an answer, if no other host is named, and of its pages only the one that is served here.
 NAMES = ["127.0.0.1", "localhost"]
 # The seconds of a question, and the questions of a client in a minute: of a class, and of this machine.
-OF_A_CLASS, OF_THIS_MACHINE = (1, 120), (60, None)
+OF_A_CLASS, OF_THIS_MACHINE = (1, 300), (60, None)
 # The seconds that a client has for its whole request, and for taking the reply.
 SECONDS_OF_A_REQUEST = 10
 HEADERS = {
@@ -209,7 +210,12 @@ class Server(ThreadingHTTPServer):
     seconds_of_a_request: float = SECONDS_OF_A_REQUEST
 
     def __init__(
-        self, port: int, program: Optional[str] = None, timeout: Optional[float] = None, host: Optional[str] = None, most: Optional[int] = None
+        self,
+        port: int,
+        program: Optional[str] = None,
+        timeout: Optional[float] = None,
+        host: Optional[str] = None,
+        most: Optional[int] = None,
     ):
         of_one, usual = OF_A_CLASS if host else OF_THIS_MACHINE
         seconds = timeout or of_one
@@ -301,7 +307,7 @@ def number(text: str) -> int:
 def main() -> None:
     parser = arguments(__doc__)
     parser.add_argument("--host", type=host, metavar="ADDRESS", help="the address of this machine, or its name, for a class")
-    parser.add_argument("--per-minute", type=number, metavar="N", help="the questions of one address in a minute (120 with --host)")
+    parser.add_argument("--per-minute", type=number, metavar="N", help="the questions of one address in a minute (300 with --host)")
     parser.add_argument("--port", type=port, default=8000, metavar="N", help="the port of the address (8000); with 0 any that is free")
     parser.add_argument("line", metavar="LINE")
     asked = parser.parse_args()

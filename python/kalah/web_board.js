@@ -1,4 +1,4 @@
-// Draws a board, and the way of the seeds of a move. The pages of the game and of the rules share it.
+// Draws a board, and the way of the seeds of a move, for the pages of the game and of the rules.
 "use strict";
 
 const NAMES = ["South", "North"];
@@ -106,19 +106,4 @@ function animate(board, way) {
 function middle(board, player, house) {
   const cell = cellOn(board, player, house);
   return { x: cell.offsetLeft + cell.offsetWidth / 2, y: cell.offsetTop + cell.offsetHeight / 2 };
-}
-
-// The pictures of the rules: a position, and the one after a move, both as South sees them.
-for (const picture of document.querySelectorAll(".picture")) {
-  const { line, after, house } = picture.dataset, place = { line, player: 0 };
-  const draw = (one, more) => {
-    const board = made("div", "", { className: "board" });
-    picture.insertBefore(board, picture.lastElementChild);
-    layBoard(board, read(line).sides[0].houses.length);
-    fillBoard(board, one, more);
-    return board;
-  };
-  const board = draw(place, {});
-  if (house) cellOn(board, 0, Number(house)).classList.add("moved");
-  if (after) draw({ line: after, player: 0 }, { by: { from: place, house: Number(house) } });
 }

@@ -16,7 +16,7 @@ from contextlib import suppress
 from typing import Any, Callable, Optional
 
 # What all clients together may ask, as a multiple of what one may.
-IN_ALL = 10
+IN_ALL = 20
 # The most connections of one client, and of all: a process has at least 256 files, and the runs of `kalah` need some.
 MOST_OF_ONE, MOST_CONNECTIONS = 150, 200
 # The request of Linux for the address of a network interface.

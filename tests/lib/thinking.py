@@ -200,6 +200,11 @@ class PageTrials:
         self.draw.choice([lambda: self.page.click(f"house-{player}-{house}"), lambda: self.page.key(str(house))])()
         self.played.append(house)
 
+    def click(self, id_):
+        """Clicks a button once the page has all its answers, as they may move it."""
+        self.soon("pending.size", 0)
+        self.page.click(id_)
+
     def drawn(self):
         """A line in which both players have seeds, and a game from it of three moves at least."""
         while True:
@@ -235,7 +240,7 @@ class PageTrials:
         self.shows(START, values=False)
         self.page.key("w")
         self.shows(START)
-        self.page.click("house-0-2")
+        self.click("house-0-2")
         self.played.append(2)
         self.shows("1,0/1 1,1/0")
         self.says("South moves house 2 and moves again. South is to move.")
@@ -245,14 +250,14 @@ class PageTrials:
         self.played.append(1)
         self.says("South moves house 1, captures 2 seeds. The game is over. South wins, 3 to 1.")
         self.soon(ROWS, ["|1.|South|house 2|+2|", "|2.|South|house 1|+2|"])
-        self.page.click("undo")
+        self.click("undo")
         self.played.pop()
         self.shows("1,0/1 1,1/0")
         self.page.key("u")
         self.played.pop()
         self.shows(START)
         self.soon("[element('undo').disabled, element('redo').disabled]", [True, False])
-        for press in (lambda: self.page.click("redo"), lambda: self.page.key("r")):
+        for press in (lambda: self.click("redo"), lambda: self.page.key("r")):
             press()
         self.played += [2, 1]
         self.says_last("South wins, 3 to 1.")
@@ -315,11 +320,12 @@ class PageTrials:
         for _ in range(4):
             at = self.draw.randrange(len(course))
             if at and self.draw.random() < 0.5:
-                self.page.click(f"move-{at}")
+                self.click(f"move-{at}")
             else:
+                self.soon("pending.size", 0)
                 self.page.click_at(f"document.querySelectorAll('#curve .at')[{at}]")
             self.at(course, at, north)
-        self.page.click("first")
+        self.click("first")
         self.at(course, 0, north)
         for at in range(1, len(course)):
             self.page.key("ArrowRight")
@@ -348,9 +354,9 @@ class PageTrials:
         """Another move at an earlier place begins a variation, and the game stays. What would have been better is one."""
         self.open(START, 1, 1, 2)
         self.soon(ROWS, ["|1.|South|house 1|-2|loses 4", "|2.|North|house 1|+2|", "|3.|South|house 2|-2|"])
-        self.page.click("worst-0")
+        self.click("worst-0")
         self.shows("1,1/0 0,2/0", player=1, rest="&at=1")
-        self.page.click("better")
+        self.click("better")
         self.shows("1,0/1 1,1/0", rest="&try=0:2&at=1v")
         game = ["|1.|South|house 1|-2|loses 4", "try|1.|South|house 2|+2|", "|2.|North|house 1|+2|", "|3.|South|house 2|-2|"]
         self.soon(ROWS, game)
@@ -361,9 +367,9 @@ class PageTrials:
         self.open(START, 1, 1, 2, rest="&try=0:2,1&at=2v")
         self.says_last("South wins, 3 to 1.")
         self.soon(ROWS, [*game[:2], "try|2.|South|house 1|+2|", *game[2:]])
-        self.page.click("move-3")
+        self.click("move-3")
         self.says_last("North wins, 3 to 1.")
-        self.page.click("move-v2")
+        self.click("move-v2")
         self.says_last("South wins, 3 to 1.")
         self.page.key("ArrowLeft")
         self.page.key("ArrowLeft")
@@ -375,11 +381,11 @@ class PageTrials:
         """A new game has the houses, seeds, rule and first player that are chosen; Undo brings the game before it back."""
         self.open(START, 1)
         self.shows("1,1/0 0,2/0", player=1)
-        self.page.click("new")
+        self.click("new")
         self.page.eval("element('houses').value = 2; element('seeds').value = 3; element('seeds').oninput();"
                        "element('rule').value = ' e'; element('mover').value = '1'")
         self.soon("element('new-said').textContent", "")
-        self.page.click("begin")
+        self.click("begin")
         self.played = ["3,3/0 3,3/0 e"]
         self.shows("3,3/0 3,3/0 e", player=1, rest="&first=North")
         self.says("North is to move.")
@@ -388,10 +394,10 @@ class PageTrials:
         must(word == "turn", word)
         self.shows(reference.text(reached), rest="&first=North")
         for _ in range(2):
-            self.page.click("undo")
+            self.click("undo")
         self.played = [START, 1]
         self.shows("1,1/0 0,2/0", player=1)
-        self.page.click("new")
+        self.click("new")
         self.page.eval("element('houses').value = 6; element('seeds').value = 4; element('seeds').oninput()")
         self.soon("element('new-said').textContent", "48 seeds: there are values once at most 31 are left in houses.")
         self.page.key("Escape")
@@ -411,11 +417,11 @@ class PageTrials:
         self.shows("1,0/0 0,2/0 e")
 
     def enter(self, text):
-        self.page.click("enter")
+        self.click("enter")
         self.page.eval("element('text').value = ''")
-        self.page.click("text")
+        self.click("text")
         self.page.type(text)
-        self.page.click("open")
+        self.click("open")
 
     def links(self):
         """An address opens the game that it has at its move, up to a move that can't be made, and moves can be taken back."""
@@ -441,11 +447,11 @@ class PageTrials:
         self.open(START, 1, 1, 2)
         self.says_last("North wins, 3 to 1.")
         for button, text in (("link", self.server.address(f"{START} 1 1 2")), ("record", f"{START} 1. A a 2. B")):
-            self.page.click(button)
+            self.click(button)
             self.soon("document.querySelector('#copied input').value", text)
         self.open("3,3/0 3,3/0", 2, 1, rest="&first=North")
         self.soon("element('undo').disabled", False)
-        self.page.click("record")
+        self.click("record")
         self.soon("document.querySelector('#copied input').value", "3,3/0 3,3/0 1... b 2. A")
 
     # A move, seen.
@@ -505,7 +511,7 @@ class PageTrials:
         self.choose(0, 1)
         reached = rules.text(rules.after(rules.read(USUAL), 1)[0])
         self.soon("element('played').children[1]?.innerText.replace(/\\s+/g, ' ').trim()", f"2. North house {rules.guess(reached)}")
-        self.page.click("move-2")
+        self.click("move-2")
         self.soon("element('comment').innerText.includes('it looks 4 moves ahead')", True)
 
     # For a lesson.
