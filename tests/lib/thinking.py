@@ -135,6 +135,7 @@ class PageTrials:
                 trial()
             for number in range(GAMES):
                 self.game(number % 2)
+            self.taken_back()
             self.strengths()
             self.late_best()
             self.late_clicks()
@@ -564,6 +565,29 @@ class PageTrials:
             self.played = played
             self.shows(line, person)
 
+    def taken_back(self):
+        """Undo after the solver's move goes back to where the person was to move, and stays there; Redo has both moves again."""
+        line = "3,3,3/0 3,3,3/0"
+        self.open(line)
+        self.set("solver", 1)
+        self.choose(0, 2)
+        moved = course_of(line, [2])[1]
+        must(moved.player == 1, f"house 2 of {line} does not pass the turn")
+        while moved.player:
+            self.played.append(moved.best)
+            moved = course_of(line, self.played[1:])[-1]
+        self.shows(moved.line)
+        both = self.played
+        for _ in range(2):
+            self.page.key("u")
+            self.played = [line]
+            self.shows(line)
+            time.sleep(0.3)
+            self.shows(line)
+            self.click("redo")
+            self.played = both
+            self.shows(moved.line)
+
     def strengths(self):
         """The solver looks 2 ahead, or leaves best play at some moves; and each strength is said."""
         self.open("3,3,3/0 3,3,3/0")
@@ -765,11 +789,23 @@ class PageTrials:
             self.soon("element('played').children.length", 1)
             got = self.page.eval("element('board').getAnimations({ subtree: true }).length > 0")
             must(got == moves, f"the page, with {setting}: seeds are {'' if got else 'not '}moving")
-        self.open(START)
         self.page.settings(prefers_reduced_motion="no-preference")
+        self.open(START)
         self.set("solver", 1)
         self.choose(0, 1)
         self.soon("element('played').children.length > 1", True)
+        # While seeds fall, the solver waits, and the move is taken back.
+        line = "3,3,3/0 3,3,3/0"
+        self.open(line)
+        self.set("solver", 1)
+        self.page.eval("need('best', '4,3,3/0 3,0,4/1')")
+        self.soon("Boolean(about('4,3,3/0 3,0,4/1').best)", True)
+        self.choose(0, 2)
+        self.soon("isSolversTurn(state) && Boolean(about(now().line).moves) && Boolean(solversMove(now()))", True)
+        self.page.key("u")
+        self.played = [line]
+        time.sleep(1.5)
+        self.shows(line)
         self.page.settings(prefers_reduced_motion="reduce")
 
     def rules(self, screenshots):
@@ -796,6 +832,7 @@ class PageTrials:
         self.soon("element('review').checkVisibility()", True)
         address = self.page.eval("element('review').href")
         must(unquote(address).endswith(f"/review?{line} {' '.join(map(str, houses))}"), f"the page: the review is at {address}")
+        self.soon("pending.size", 0)
         if screenshots:
             self.page.pdf(screenshots / "page.pdf")
         self.page.send("Page.navigate", url=address)
