@@ -186,7 +186,7 @@ function solversMove(place) {
   need(question, place.line);
   if (it.failed.best) {
     need("ahead", place.line);
-    return it.ahead && { ...it.ahead, guessed: "best play takes too long here; it looks 2 moves ahead" };
+    return it.ahead && { ...it.ahead, guessed: `best play takes too long here; ${it.ahead.guessed}` };
   }
   if (strength !== "some" || !isSolvable(place.line)) return it[question];
   need("values", place.line);
@@ -389,7 +389,7 @@ function drawCurve() {
 // Best play after each move, if that is asked for.
 function drawLines(place) {
   const { moves } = about(place.line), values = valuesOf(place.line);
-  element("lines").hidden = !isSolvable(place.line) || !moves || moves.is_over || mode() === "hidden";
+  element("lines").hidden = !isSolvable(place.line) || !moves || moves.is_over || !isRevealed(place.line);
   if (element("lines").hidden || !element("lines").open) return;
   element("lines").lastElementChild.replaceChildren(...moves.moves.map((move) => {
     const { line, failed } = about(move.position), worth = values ? signed(values[move.house]) : "..";

@@ -59,8 +59,8 @@ VERSION = f"{__version__}-{hashlib.sha256(b''.join(PAGES.values())).hexdigest()[
 USUAL, UNKNOWN = b'data-start="4,4,4/0 4,4,4/0"', b'data-version=""'
 # Only this machine gets an answer, if no other host is named, and of its pages only the one that is served here.
 NAMES = ["127.0.0.1", "localhost"]
-# The seconds of a question, and the questions of a client in a minute: of a class, and of this machine.
-OF_A_CLASS, OF_THIS_MACHINE = (1, 300), (60, None)
+# The seconds of a question, and the questions of a client in a minute, of which 0 is any number: of a class, and of this machine.
+OF_A_CLASS, OF_THIS_MACHINE = (1, 300), (60, 0)
 # The seconds that a client has for its whole request, and for taking the reply.
 SECONDS_OF_A_REQUEST = 10
 HEADERS = {
@@ -209,14 +209,7 @@ class Server(ThreadingHTTPServer):
     request_queue_size = 128
     seconds_of_a_request: float = SECONDS_OF_A_REQUEST
 
-    def __init__(
-        self,
-        port: int,
-        program: Optional[str] = None,
-        timeout: Optional[float] = None,
-        host: Optional[str] = None,
-        most: Optional[int] = None,
-    ):
+    def __init__(self, port: int, program: Optional[str] = None, timeout: float = 0, host: str = "", most: int = 0):
         of_one, usual = OF_A_CLASS if host else OF_THIS_MACHINE
         seconds = timeout or of_one
         self.quota, self.connections, self.notices = Quota(most or usual), Connections(), Notices()
@@ -292,28 +285,28 @@ def as_json(answer: Any) -> bytes:
     return json.dumps(answer).encode()
 
 
-def port(text: str) -> int:
-    if not 0 <= int(text) < 1 << 16:
-        raise ValueError
-    return int(text)
+def whole(least: int, most: int) -> Callable[[str], int]:
+    """Returns what reads a number from an argument."""
 
+    def number(text: str) -> int:
+        if not least <= int(text) <= most:
+            raise ValueError
+        return int(text)
 
-def number(text: str) -> int:
-    if not 1 <= int(text) <= 1_000_000:
-        raise ValueError
-    return int(text)
+    return number
 
 
 def main() -> None:
     parser = arguments(__doc__)
+    of_class, of_port = "the questions of one address in a minute (300 with --host)", "the port of the address (8000); with 0 any that is free"
     parser.add_argument("--host", type=host, metavar="ADDRESS", help="the address of this machine, or its name, for a class")
-    parser.add_argument("--per-minute", type=number, metavar="N", help="the questions of one address in a minute (300 with --host)")
-    parser.add_argument("--port", type=port, default=8000, metavar="N", help="the port of the address (8000); with 0 any that is free")
+    parser.add_argument("--per-minute", type=whole(1, 1_000_000), default=0, metavar="N", help=of_class)
+    parser.add_argument("--port", type=whole(0, 65_535), default=8000, metavar="N", help=of_port)
     parser.add_argument("line", metavar="LINE")
     asked = parser.parse_args()
     line = position(asked.line)
     find()
-    with Server(asked.port, host=asked.host, most=asked.per_minute) as server:
+    with Server(asked.port, host=asked.host or "", most=asked.per_minute) as server:
         server.begin_with(line)
         print(server.address(line), flush=True)
         server.serve_forever()

@@ -24,17 +24,10 @@ NORTH_FIRST, NORTH_MOVES = "&first=North", "1..."
 
 @dataclass(frozen=True)
 class Guess:
-    """The house that seems best where there are too many seeds, and what is said of that."""
+    """The house that seems best to a search of a few moves, and what is said of that."""
 
     house: int
     guessed: str
-
-
-@dataclass(frozen=True)
-class Ahead:
-    """The house that seems best to a search of `AHEAD` moves."""
-
-    house: int
 
 
 @dataclass(frozen=True)
@@ -66,11 +59,11 @@ class Opened:
 
 
 class Busy(Exception):
-    """All runs have questions, and have had for long."""
+    """No run is free."""
 
 
 class Pool(Client[Kind]):
-    """Some runs of `kalah`. A question waits for one that is free, so many seconds at most, and fails with `Busy` then."""
+    """Some runs of `kalah`. A question waits up to `patience` seconds for a free one, and then fails with `Busy`."""
 
     def __init__(self, clients: list[Client[Kind]], patience: float):
         Run.__init__(self, None)
@@ -115,12 +108,12 @@ def best(client: Client[Best], line: str) -> Union[Best, Over, Guess]:
         return Guess(rules.guess(line), rules.guessed(why))
 
 
-def ahead(line: str) -> Union[Ahead, Over]:
+def ahead(line: str) -> Union[Guess, Over]:
     """Returns the house that seems best to a search of `AHEAD` moves."""
     position = rules.read(line)
     if rules.is_over(position):
         return Over(rules.final_margin(position))
-    return Ahead(rules.best_of(rules.seen_of_moves(position, AHEAD)))
+    return Guess(rules.best_of(rules.seen_of_moves(position, AHEAD)), f"it looks {AHEAD} moves ahead")
 
 
 def best_play(client: Client[Best], seconds: float, line: str) -> Line:

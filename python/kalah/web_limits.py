@@ -13,7 +13,7 @@ import threading
 import time
 from collections import Counter
 from contextlib import suppress
-from typing import Any, Callable, Optional
+from typing import Any, Callable
 
 # What all clients together may ask, as a multiple of what one may.
 IN_ALL = 20
@@ -25,23 +25,21 @@ TYPED = "ADDRESS is the one by which the others reach this machine"
 
 
 class Quota:
-    """How many questions each client has asked in this minute, of `most` that it may ask; None is any number."""
+    """Counts the questions of each client in a minute. `most` is what one client may ask; 0 is any number."""
 
-    def __init__(self, most: Optional[int], clock: Callable[[], float] = time.monotonic):
-        self.most, self.clock, self.lock = most, clock, threading.Lock()
-        self.minute: Optional[float] = None
+    def __init__(self, most: int, clock: Callable[[], float] = time.monotonic):
+        self.most, self.clock, self.minute, self.lock = most, clock, 0.0, threading.Lock()
         self.asked: Counter[str] = Counter()
 
     def takes(self, client: str) -> bool:
-        """Returns whether a client may ask one more. What it asks in vain doesn't count for the others."""
+        """Returns whether a client may ask one more, and counts it then."""
         with self.lock:
             minute = self.clock() // 60
             if minute != self.minute:
                 self.minute, self.asked = minute, Counter()
-            if self.most is not None and (self.asked[client] >= self.most or sum(self.asked.values()) >= IN_ALL * self.most):
-                return False
-            self.asked[client] += 1
-            return True
+            may = not self.most or (self.asked[client] < self.most and sum(self.asked.values()) < IN_ALL * self.most)
+            self.asked[client] += may
+            return may
 
 
 class Connections:
@@ -54,10 +52,9 @@ class Connections:
     def takes(self, client: str) -> bool:
         """Returns whether a client may open one more, and counts it then."""
         with self.lock:
-            if self.open[client] >= self.of_one or sum(self.open.values()) >= self.in_all:
-                return False
-            self.open[client] += 1
-            return True
+            may = self.open[client] < self.of_one and sum(self.open.values()) < self.in_all
+            self.open[client] += may
+            return may
 
     def ends(self, client: str) -> None:
         with self.lock:
@@ -67,16 +64,15 @@ class Connections:
 
 
 class Notices:
-    """What is said on standard error of clients that get no answer: the same of one client once a minute."""
+    """Says on standard error who gets no answer, of each client the same thing once a minute."""
 
-    def __init__(self, clock: Callable[[], float] = time.monotonic):
-        self.clock, self.lock = clock, threading.Lock()
-        self.minute: Optional[float] = None
+    def __init__(self) -> None:
+        self.minute, self.lock = 0.0, threading.Lock()
         self.said: set[str] = set()
 
     def say(self, text: str) -> None:
         with self.lock:
-            minute = self.clock() // 60
+            minute = time.monotonic() // 60
             if minute != self.minute:
                 self.minute, self.said = minute, set()
             if text not in self.said:
@@ -85,7 +81,7 @@ class Notices:
 
 
 class Timed(io.RawIOBase):
-    """What comes over a connection, which has this many seconds for all of it."""
+    """Reads from a connection. All that is read must come within this many seconds."""
 
     def __init__(self, connection: socket.socket, seconds: float):
         self.connection, self.end = connection, time.monotonic() + seconds

@@ -41,7 +41,7 @@ RISKY = ["innerHTML", "outerHTML", "insertAdjacentHTML", "document.write", "eval
 
 
 @contextmanager
-def served(program, timeout=None, host=None, most=None):
+def served(program, timeout=0, host="", most=0):
     """A server in this process, on a port that is free. It may say only that clients have gone away, or are shut out."""
     with redirect_stderr(io.StringIO()) as said, web.Server(0, str(program), timeout, host, most) as server:
         thread = threading.Thread(target=server.serve_forever)
@@ -146,7 +146,8 @@ def compare_ahead(line, got):
     position = reference.read(line.encode())
     reached = {house: reference.after(position, house) for house in reference.legal(position)}
     seems = {house: seen(to, 1) * (-1 if word == "turn" else 1) for house, (to, word) in reached.items()}
-    must(got == (200, {"is_over": False, "house": max(seems, key=seems.get)}), f"web, /ahead, {line}: {got}, and {seems}")
+    want = {"is_over": False, "house": max(seems, key=seems.get), "guessed": "it looks 2 moves ahead"}
+    must(got == (200, want), f"web, /ahead, {line}: {got}, and {seems}")
 
 
 def is_host(address):
@@ -330,7 +331,7 @@ class ServerTrials:
             taken = [quota.takes(f"client {number}") for number in range(IN_ALL * MOST)]
             must(taken.count(True) == (IN_ALL - 1) * MOST, f"web: {taken.count(True)} questions of others in a minute")
             now[0] += 60
-        must(all(Quota(None).takes("one") for _ in range(1000)), "web: this machine may ask any number of questions")
+        must(all(Quota(0).takes("one") for _ in range(1000)), "web: this machine may ask any number of questions")
 
     def slow_clients(self):
         """A client has some time for its request, however it spends that. Then it hears so, and is gone."""
