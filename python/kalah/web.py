@@ -298,7 +298,8 @@ def whole(least: int, most: int) -> Callable[[str], int]:
 
 def main() -> None:
     parser = arguments(__doc__)
-    of_class, of_port = "the questions of one address in a minute (300 with --host)", "the port of the address (8000); with 0 any that is free"
+    of_class = "the questions of one address in a minute (300 with --host)"
+    of_port = "the port of the address (8000); with 0 any that is free"
     parser.add_argument("--host", type=host, metavar="ADDRESS", help="the address of this machine, or its name, for a class")
     parser.add_argument("--per-minute", type=whole(1, 1_000_000), default=0, metavar="N", help=of_class)
     parser.add_argument("--port", type=whole(0, 65_535), default=8000, metavar="N", help=of_port)

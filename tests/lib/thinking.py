@@ -2,123 +2,36 @@
 
 import time
 from contextlib import contextmanager
-from dataclasses import dataclass
 from urllib.parse import quote, unquote
 
 from lib import browser, reference
 from lib.scripts import drawn_game, drawn_line, must
+from lib.shown import (
+    BUTTON,
+    CLASSED,
+    CONTRAST,
+    LABELS,
+    LINES_SHOWN,
+    NAMES,
+    ROWS,
+    SECOND,
+    SOWN,
+    board_of,
+    counted,
+    course_of,
+    signed,
+    values_of,
+    way_of,
+)
 
 from kalah import rules, web
 
-NAMES = ["South", "North"]
 START, USUAL = "1,1/0 1,1/0", "4,4,4,4,4,4/0 4,4,4,4,4,4/0"
 # Addresses that are no position, and what is said of them.
 HOSTILE = ["<img src=x onerror=alert(1)>", "<script>alert(1)</script>", "%", "1,1/0\n1,1", "x" * 300]
 LINES, GAMES = 12, 2
 # The widths of a small telephone's window and of a computer's, in points; and how long a slow server takes, in seconds.
 WIDTHS, SLOW = [360, 1280], 2
-LABELS = "[...document.querySelectorAll('#board > *')].map((one) => one.ariaLabel)"
-ROWS = "[...document.querySelectorAll('#played li')].map((one) => [one.className, ...[...one.firstChild.children].map((part) => part.textContent)].join('|'))"
-# The names of the cells that have a class, or a number of sown seeds.
-CLASSED = "[...document.querySelectorAll('#board > .{}')].map((one) => one.id)"
-SOWN = "Object.fromEntries([...document.querySelectorAll('#board > *')].map((one) => [one.id, one.lastChild.textContent]).filter(([, sown]) => sown))"
-# The lowest contrast of a text with what is behind it, and that text. What can't be used needs none.
-CONTRAST = """(() => {
-  const channels = (color) => color.match(/[0-9.]+/g).map(Number);
-  const light = (color) => channels(color).slice(0, 3).map((one) => one / 255).map((one) => (one <= 0.04045 ? one / 12.92 : ((one + 0.055) / 1.055) ** 2.4))
-    .reduce((sum, one, place) => sum + one * [0.2126, 0.7152, 0.0722][place], 0);
-  const behind = (one) => { const color = getComputedStyle(one).backgroundColor, [, , , alpha = 1] = channels(color);
-    return alpha === 1 || !one.parentElement ? color : behind(one.parentElement); };
-  const texts = [...document.querySelectorAll('body *')].filter((one) => one.checkVisibility() && !one.closest(':disabled') && !one.closest('svg')
-    && [...one.childNodes].some((node) => node.nodeType === 3 && node.data.trim()));
-  const ratio = (one) => { const both = [light(getComputedStyle(one).color), light(behind(one))].sort((a, b) => b - a); return (both[0] + 0.05) / (both[1] + 0.05); };
-  return texts.map((one) => [ratio(one), one.id || one.className || one.tagName, one.textContent.slice(0, 30)]).sort(([a], [b]) => a - b)[0];
-})()"""
-
-
-def signed(value):
-    return f"{value:+d}" if value else "0"
-
-
-def counted(number, noun):
-    return f"{number} {noun}{'s' * (number != 1)}"
-
-
-def values_of(position):
-    return {house: reference.value(position, house) for house in reference.legal(position)}
-
-
-@dataclass
-class Place:
-    """A position of a game: who moves there, the values there, and the house that is moved, if one is."""
-
-    position: reference.Position
-    player: int
-    values: dict
-    house: int = None
-    word: str = ""
-
-    @property
-    def line(self):
-        return reference.text(self.position)
-
-    @property
-    def lost(self):
-        return max(self.values.values()) - self.values[self.house] if self.house else 0
-
-    @property
-    def best(self):
-        return max(self.values, key=lambda house: (self.values[house], -house))
-
-    @property
-    def margin(self):
-        """South's margin of best play."""
-        margin = max(self.values.values()) if self.values else reference.best_play(self.position)[0]
-        return -margin if self.player else margin
-
-
-def course_of(line, houses, player=0):
-    """Returns the places of a game."""
-    places = []
-    position = reference.read(line.encode())
-    for house in [*houses, None]:
-        places.append(Place(position, player, values_of(position), house))
-        if house:
-            position, places[-1].word = reference.after(position, house)
-            player ^= places[-1].word == "turn"
-    return places
-
-
-def board_of(line, player=0, values=None):
-    """Returns the names of the stores and houses of a position, as they stand in the page."""
-    sides = reference.read(line.encode())[:2][:: -1 if player else 1]
-
-    def house(owner, number, seeds):
-        worth = f", worth {signed(values[number])}" if values and owner == player and number in values else ""
-        return f"{NAMES[owner]}, house {number}: {counted(seeds, 'seed')}{worth}"
-
-    rows = [[house(owner, number, seeds) for number, seeds in enumerate(side.houses, 1)] for owner, side in enumerate(sides)]
-    stores = [f"{NAMES[owner]}, store: {side.store}" for owner, side in enumerate(sides)]
-    return [stores[1], *rows[1][::-1], stores[0], *rows[0]]
-
-
-def way_of(line, player, house):
-    """Returns the cells that get seeds, with how many, the last one, and the captured ones with their seeds."""
-    position = reference.read(line.encode())
-    (own, other), m = position[:2], len(position.own.houses)
-    cells = [f"house-{player}-{number + 1}" for number in range(m)] + [f"store-{player}"] + [f"house-{1 - player}-{number + 1}" for number in range(m)]
-    lap, seeds, sown = len(cells), own.houses[house - 1], {}
-    for distance in range(1, seeds + 1):
-        cell = cells[(house - 1 + distance) % lap]
-        sown[cell] = sown.get(cell, 0) + 1
-    last = (house - 1 + seeds) % lap
-    before = 0 if last == house - 1 else [*own.houses, own.store, *other.houses][last]
-    captured = []
-    if last < m and before + sown[cells[last]] == 1:
-        across = 2 * m - last
-        taken = other.houses[across - m - 1] + sown.get(cells[across], 0)
-        captured = [taken + 1, {cells[last], cells[across]}] if taken or position.takes_empty else []
-    return sown, cells[last], captured
 
 
 class PageTrials:
@@ -282,7 +195,8 @@ class PageTrials:
 
     def ends(self):
         """Who wins is said with all seeds, also those in houses."""
-        for line, said in [("0,0/3 1,2/4", "North wins, 7 to 3."), ("2,3/4 0,0/1", "South wins, 9 to 1."), ("0,0/3 1,0/2", "It is a draw, 3 to 3.")]:
+        ends = {"0,0/3 1,2/4": "North wins, 7 to 3.", "2,3/4 0,0/1": "South wins, 9 to 1.", "0,0/3 1,0/2": "It is a draw, 3 to 3."}
+        for line, said in ends.items():
             self.open(line)
             self.says(f"The game is over. {said}")
 
@@ -317,7 +231,8 @@ class PageTrials:
         self.soon("[...document.querySelectorAll('#curve circle')].map((one) => one.classList.contains('bad'))", bad)
         heights = self.page.eval("[...document.querySelectorAll('#curve circle')].map((one) => Number(one.getAttribute('cy')))")
         order = sorted(range(len(course)), key=lambda number: heights[number])
-        must(all(course[one].margin >= course[two].margin for one, two in zip(order, order[1:])), f"the page: the curve of {line} {houses}: {heights}")
+        is_right = all(course[one].margin >= course[two].margin for one, two in zip(order, order[1:]))
+        must(is_right, f"the page: the curve of {line} {houses}: {heights}")
         for _ in range(4):
             at = self.draw.randrange(len(course))
             if at and self.draw.random() < 0.5:
@@ -346,7 +261,8 @@ class PageTrials:
             return self.soon("element('comment').innerText.trim()", "")
         worth = signed(before.values[before.house])
         if before.lost:
-            said = f"Worth {worth}: it loses {before.lost}. House {before.best} is worth {signed(before.values[before.best])}. Show house {before.best}"
+            best, most = before.best, signed(before.values[before.best])
+            said = f"Worth {worth}: it loses {before.lost}. House {best} is worth {most}. Show house {best}"
         else:
             said = f"Worth {worth}: {'a best move' if len(before.values) > 1 else 'the only move'}."
         self.soon("element('comment').innerText.replace(/\\s+/g, ' ').trim()", said)
@@ -479,13 +395,12 @@ class PageTrials:
         """On demand the best play after each move is said."""
         self.open(START)
         self.page.click_at("document.querySelector('#lines summary')")
-        self.soon("[...document.querySelectorAll('#lines li')].map((one) => one.textContent)",
-                  ["1: -2, then North 1, South 2", "2: +2, then South 1"])
+        self.soon(LINES_SHOWN, ["1: -2, then North 1, South 2", "2: +2, then South 1"])
         line, houses = self.drawn()
         place = course_of(line, houses)[0]
         self.open(line)
         self.page.eval("element('lines').open = true")
-        self.soon("[...document.querySelectorAll('#lines li')].map((one) => one.textContent)", [self.said_of(place, house) for house in place.values])
+        self.soon(LINES_SHOWN, [self.said_of(place, house) for house in place.values])
 
     def said_of(self, place, house):
         position, word = reference.after(place.position, house)
@@ -511,7 +426,7 @@ class PageTrials:
         self.set("solver", 1)
         self.choose(0, 1)
         reached = rules.text(rules.after(rules.read(USUAL), 1)[0])
-        self.soon("element('played').children[1]?.innerText.replace(/\\s+/g, ' ').trim()", f"2. North house {rules.guess(reached)}")
+        self.soon(SECOND, f"2. North house {rules.guess(reached)}")
         self.click("move-2")
         self.soon("element('comment').innerText.includes('it looks 4 moves ahead')", True)
 
@@ -616,7 +531,7 @@ class PageTrials:
         self.page.eval(f"Math.random = () => {drawn}; element('strength').value = '{strength}'")
         self.set("solver", 1)
         self.page.key(str(moved)) if self.page.eval("Boolean(about(now().line).moves)") else self.choose(0, moved)
-        self.soon("element('played').children[1]?.innerText.replace(/\\s+/g, ' ').trim().split(' ').slice(0, 4).join(' ')", f"2. North house {want}")
+        self.soon(SECOND, f"2. North house {want}")
 
     # A slow server.
 
@@ -672,11 +587,11 @@ class PageTrials:
             self.page.key("r")
             self.page.key("2")
             self.says_last("The solver moves for North.") if self.page.eval("isSolversTurn(state)") else None
-        self.soon("element('played').children[1]?.innerText.replace(/\\s+/g, ' ').trim().split(' ').slice(0, 4).join(' ')",
-                  f"2. North house {reference.best_play(reference.read(b'1,1/0 0,2/0'))[1]}")
+        self.soon(SECOND, f"2. North house {reference.best_play(reference.read(b'1,1/0 0,2/0'))[1]}")
 
     def late_start(self):
-        """Of two games that are opened the later one is shown, whichever answer comes first. A click meanwhile plays in the game that is shown."""
+        """Of two games that are opened the later one is shown, whichever answer comes first. A click meanwhile plays in the game that is
+        shown."""
         game = self.server.ask["/game"]
         self.open("2,2/0 2,2/0")
         self.shows("2,2/0 2,2/0")
@@ -733,7 +648,8 @@ class PageTrials:
             inside = all(0 <= box["left"] and box["right"] <= width and box["width"] >= 24 for box in boxes)
             must(inside and len(boxes) == 14, f"the page, {width} points wide: {boxes}")
             list_, height = self.page.eval("[element('played').getBoundingClientRect().toJSON(), innerHeight]")
-            must(boxes[0]["top"] >= 0 and list_["top"] + 60 <= height, f"the page, {width} points wide: the list is at {list_}, of {height}")
+            in_reach = boxes[0]["top"] >= 0 and list_["top"] + 60 <= height
+            must(in_reach, f"the page, {width} points wide: the list is at {list_}, of {height}")
             for name in ("", "new-game", "enter-game"):
                 if name:
                     self.page.eval(f"element('{name}').showModal()")
@@ -751,13 +667,13 @@ class PageTrials:
     def newcomer(self):
         """The buttons that one sees first lead to a game that is entered, its worst move, and what would have been better."""
         self.open("2,2/0 2,2/0")
-        self.page.click_at("[...document.querySelectorAll('button')].find((one) => one.checkVisibility() && one.innerText === 'Enter a game')")
+        self.page.click_at(BUTTON.format("Enter a game"))
         self.soon("document.activeElement.id", "text")
         self.page.type(f"{START} 1 1 2")
-        self.page.click_at("[...document.querySelectorAll('button')].find((one) => one.checkVisibility() && one.innerText === 'Open')")
+        self.page.click_at(BUTTON.format("Open"))
         self.soon("element('worst').innerText.replace(/\\s+/g, ' ').trim()", "Worst moves: South: move 1 loses 4")
         for text in ("South: move 1 loses 4", "Show house 2"):
-            where = f"[...document.querySelectorAll('button')].find((one) => one.innerText === '{text}')"
+            where = BUTTON.format(text)
             box, height = self.page.eval(f"[{where}.getBoundingClientRect().toJSON(), innerHeight]")
             must(0 <= box["top"] and box["bottom"] <= height, f"the page: {text} is at {box}, of {height}")
             self.page.click_at(where)
