@@ -52,7 +52,7 @@ function play(house, guessed) {
   const isShared = !isTrial || at <= trial.from, reached = after(place, move, guessed);
   if (isShared && game[at + 1]?.by.house === house) go(at + 1, false);
   else if (isShared && at < game.length - 1) change({ game, trial: { from: at, places: [reached] }, isTrial: true, at: at + 1 });
-  else if (isShared) change({ game: [...game, reached], trial: null, isTrial: false, at: at + 1 });
+  else if (isShared) change({ game: [...game, reached], trial, isTrial: false, at: at + 1 });
   else change({ game, trial: { ...trial, places: [...trial.places.slice(0, at - trial.from), reached] }, isTrial, at: at + 1 });
 }
 
@@ -184,7 +184,7 @@ function isSolversTurn(one) {
 function solversMove(place) {
   const it = about(place.line), strength = element("strength").value, question = strength === "ahead" ? "ahead" : "best";
   need(question, place.line);
-  if (it.failed.best) {
+  if (isLate(it.failed.best || "")) {
     need("ahead", place.line);
     return it.ahead && { ...it.ahead, guessed: `best play takes too long here; ${it.ahead.guessed}` };
   }
@@ -346,7 +346,7 @@ function moveRow(place, number, isOfTrial) {
 function keepingFocus(draw) {
   const { id } = document.activeElement || {};
   draw();
-  if (id && element(id) !== document.activeElement) element(id)?.focus();
+  if (id && element(id) !== document.activeElement) element(id)?.focus({ preventScroll: true });
 }
 
 // Returns the move of this player in the game that lost most, if one lost something.

@@ -9,7 +9,8 @@ the game after its `#`, so a link opens it at the move that is shown. The page l
 With --host it serves a class: all who reach this machine by ADDRESS. Then a position that takes more than a second is refused, and so
 are more than 300 questions a minute from one address, and twenty times as many from all; --per-minute N sets that number for one address.
 A move of a game costs one to four questions, so a class behind one address, as in many schools, needs some 100 for each pupil. A client has
-ten seconds for a request, and 150 connections; 200 are open at most. Standard error says whom that shuts out.
+ten seconds for a request, and 300 connections; 400 are open at most, or fewer if the system allows fewer files. Standard error says whom
+that shuts out.
 
 The page posts lines to /moves, /values, /best, /line and /ahead, and records to /game. Each of these gets one JSON object: an answer, or
 an `error` and a status that is not 200. There may be any number of seeds, up to 99 in a house at the start. With more than 31 in houses

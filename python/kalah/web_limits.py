@@ -6,6 +6,7 @@ import argparse
 import fcntl
 import io
 import ipaddress
+import resource
 import socket
 import struct
 import sys
@@ -17,8 +18,8 @@ from typing import Any, Callable
 
 # What all clients together may ask, as a multiple of what one may.
 IN_ALL = 20
-# The most connections of one client, and of all: a process has at least 256 files, and the runs of `kalah` need some.
-MOST_OF_ONE, MOST_CONNECTIONS = 150, 200
+# The most connections, if the process may open as many files, and the files that it needs for anything else.
+MOST_CONNECTIONS, OTHER_FILES = 400, 56
 # The request of Linux for the address of a network interface.
 SIOCGIFADDR = 0x8915
 TYPED = "ADDRESS is the one by which the others reach this machine"
@@ -43,10 +44,12 @@ class Quota:
 
 
 class Connections:
-    """The connections of each client that are open."""
+    """Counts the connections of each client that are open. One client may have three quarters of all."""
 
-    def __init__(self, of_one: int = MOST_OF_ONE, in_all: int = MOST_CONNECTIONS):
-        self.of_one, self.in_all, self.lock = of_one, in_all, threading.Lock()
+    def __init__(self, in_all: int = MOST_CONNECTIONS):
+        files, _ = resource.getrlimit(resource.RLIMIT_NOFILE)
+        self.in_all = in_all if files == resource.RLIM_INFINITY else min(in_all, files - OTHER_FILES)
+        self.of_one, self.lock = self.in_all * 3 // 4, threading.Lock()
         self.open: Counter[str] = Counter()
 
     def takes(self, client: str) -> bool:

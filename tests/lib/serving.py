@@ -369,9 +369,9 @@ class ServerTrials:
     def connections(self):
         """A client has so many connections. One more is told so; others have theirs; and when they end, it may have new ones."""
         with served(self.program, host=OTHER) as server, ExitStack() as open_ones:
-            server.connections = Connections(MOST, 2 * MOST)
+            server.connections = Connections(2 * MOST)
             port, asks = server.server_port, request(server.server_port, LINE.encode(), host=f"{OTHER}:{server.server_port}")
-            for _ in range(MOST):
+            for _ in range(server.connections.of_one):
                 open_ones.enter_context(socket.create_connection((OTHER, port), SOON, ("127.0.0.4", 0)))
             refused = socket.create_connection((OTHER, port), SOON, ("127.0.0.4", 0))
             must(b" 503 " in refused.recv(1000), "web: one connection more than a client has is kept")

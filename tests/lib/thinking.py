@@ -25,6 +25,8 @@ from lib.shown import (
 )
 
 from kalah import rules, web
+from kalah.answers import Late
+from kalah.web_answers import Busy
 
 START, USUAL = "1,1/0 1,1/0", "4,4,4,4,4,4/0 4,4,4,4,4,4/0"
 # Addresses that are no position, and what is said of them.
@@ -55,6 +57,7 @@ class PageTrials:
             self.late_start()
             self.quiet()
             self.kept()
+            self.too_late()
             self.hostile()
             self.fits(width, screenshots)
             self.newcomer()
@@ -293,6 +296,10 @@ class PageTrials:
         self.shows(START, rest="&try=0:2,1&at=0v")
         self.page.key("1")
         self.shows("1,1/0 0,2/0", player=1, rest="&try=0:2,1&at=1")
+        self.open(START, 1, rest="&try=0:2&at=1")
+        self.shows("1,1/0 0,2/0", player=1, rest="&try=0:2")
+        self.choose(1, 1)
+        self.shows(course_of(START, [1, 1])[-1].line, rest="&try=0:2")
 
     def new_game(self):
         """A new game has the houses, seeds, rule and first player that are chosen; Undo brings the game before it back."""
@@ -618,6 +625,30 @@ class PageTrials:
         self.page.click("retry")
         self.played = [START, 1]
         self.shows("1,1/0 0,2/0", player=1)
+
+    def too_late(self):
+        """If values and best play take too long, that is a remark, and the solver looks ahead; a busy server is asked again on demand."""
+        ask = self.server.ask
+
+        def late(_):
+            raise Late("kalah has not answered in 1 seconds")
+
+        def busy(_):
+            raise Busy
+
+        self.server.ask = {**ask, "/best": late, "/values": late}
+        self.open(START)
+        self.soon("element('remark').textContent", "No values here: they take too long.")
+        self.set("solver", 1)
+        self.page.key("1")
+        self.soon(SECOND, "2. North house 1")
+        self.soon("element('judged').textContent", "(best play takes too long here; it looks 2 moves ahead)")
+        self.server.ask = {**ask, "/values": busy}
+        self.open(START)
+        self.soon("element('wrong').innerText.replace(/\\s+/g, ' ').trim()", "too many questions at once Try again")
+        self.server.ask = ask
+        self.click("retry")
+        self.shows(START)
 
     # For everybody.
 
