@@ -534,7 +534,8 @@ element("enter-game").onsubmit = () => {
   const text = element("text").value.trim();
   open(/^https?:/.test(text) && text.includes("#") ? decoded(text.slice(text.indexOf("#") + 1)) : text);
 };
-window.onhashchange = () => open(decoded(location.hash.slice(1)) || START);
+// By now the address may again be that of the game that is shown.
+window.onhashchange = ({ newURL }) => open(decoded(new URL(newURL).hash.slice(1)) || START);
 window.onresize = show;
 document.onkeydown = (event) => {
   const isTyping = ["INPUT", "SELECT", "TEXTAREA"].includes(event.target.tagName) || document.querySelector("dialog[open]");

@@ -363,7 +363,8 @@ class PageTrials:
         self.played = [START, 1]
         self.shows("1,1/0 0,2/0", player=1)
         self.open(START, 2, 1)
-        self.page.eval(f"location.hash = '#{quote(START)}%201'")
+        # The page may be drawn before it hears of the new address.
+        self.page.eval(f"location.hash = '#{quote(START)}%201'; show()")
         self.played = [START, 1]
         self.shows("1,1/0 0,2/0", player=1)
 
