@@ -60,7 +60,7 @@ VERSION = f"{__version__}-{hashlib.sha256(b''.join(PAGES.values())).hexdigest()[
 USUAL, UNKNOWN = b'data-start="4,4,4/0 4,4,4/0"', b'data-version=""'
 # Only this machine gets an answer, if no other host is named, and of its pages only the one that is served here.
 NAMES = ["127.0.0.1", "localhost"]
-# The seconds of a question, and the questions of a client in a minute, of which 0 is any number: of a class, and of this machine.
+# The seconds of a question, and the questions of a client in a minute (0: any number): of a class, and of this machine.
 OF_A_CLASS, OF_THIS_MACHINE = (1, 300), (60, 0)
 # The seconds that a client has for its whole request, and for taking the reply.
 SECONDS_OF_A_REQUEST = 10

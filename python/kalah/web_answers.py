@@ -117,7 +117,7 @@ def ahead(line: str) -> Union[Guess, Over]:
 
 
 def best_play(client: Client[Best], seconds: float, line: str) -> Line:
-    """Returns the moves of best play from a position, as many as are found in these seconds, and one at least."""
+    """Returns the moves of best play from a position that are found in these seconds, and one at least."""
     moves: list[Move] = []
     end, is_whole = time.monotonic() + seconds, False
     try:

@@ -133,7 +133,7 @@ def compare_line(line, got):
 
 
 def seen(position, depth):
-    """Returns the margin that a search of so many moves sees, which takes that of the stores where it stops."""
+    """Returns the margin that a search of `depth` moves sees, which takes that of the stores where it stops."""
     if reference.is_over(position):
         return reference.best_play(position)[0]
     if not depth:
@@ -307,7 +307,7 @@ class ServerTrials:
                 compare("/best", line, asked(server.server_port, "/best", line))
 
     def too_many(self):
-        """While runs are busy, questions wait for some time; and only so many do. What is refused is refused by that."""
+        """While runs are busy, questions wait for some time, up to a number of questions; the rest is refused."""
         loop = f'while read -r line; do sleep 0.3; echo "$line" | "{self.program}" ask; done'
         for most, patience in ((web.MOST_AT_ONCE, 0.7), (5, 60)):
             with served(fake(self.folder, self.program, [loop] * web.RUNS)) as server, ThreadPoolExecutor(THREADS) as threads:
@@ -367,7 +367,7 @@ class ServerTrials:
         must(reply.startswith(b"HTTP/1.0 408 ") and b"not come in time" in reply, f"web, slow after {data}: {reply}")
 
     def connections(self):
-        """A client has so many connections. One more is told so; others have theirs; and when they end, it may have new ones."""
+        """A client's connections are bounded. One more is refused; others have theirs; and when they end, it may have new ones."""
         with served(self.program, host=OTHER) as server, ExitStack() as open_ones:
             server.connections = Connections(2 * MOST)
             port, asks = server.server_port, request(server.server_port, LINE.encode(), host=f"{OTHER}:{server.server_port}")

@@ -132,7 +132,7 @@ class PageTrials:
 
     @contextmanager
     def slow(self, seconds=SLOW):
-        """Meanwhile each answer is held back."""
+        """Meanwhile each answer takes some seconds more."""
         ask = self.server.ask
         self.server.ask = {path: lambda text, answer=answer: (time.sleep(seconds), answer(text))[1] for path, answer in ask.items()}
         yield
