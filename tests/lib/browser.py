@@ -18,6 +18,10 @@ SOON = 20
 OPTIONS = ["--headless=new", "--no-sandbox", "--disable-gpu", "--no-first-run", "--window-size=900,800", "--remote-debugging-pipe"]
 
 
+# The codes of the keys that are no characters.
+CODES = {"Enter": 13, "Tab": 9, "Escape": 27, "End": 35, "Home": 36, "ArrowLeft": 37, "ArrowRight": 39}
+
+
 class Silent(Exception):
     """The browser does not answer, or reports an error."""
 
@@ -92,17 +96,39 @@ class Page:
     def key(self, key):
         """Presses a key: a character, or the name of another one."""
         more = {"text": "\r"} if key == "Enter" else {"text": key} if len(key) == 1 else {}
-        code = {"Enter": 13, "Tab": 9}.get(key, ord(key.upper()) if len(key) == 1 else 0)
+        code = CODES.get(key, ord(key.upper()) if len(key) == 1 else 0)
         self.send("Input.dispatchKeyEvent", type="keyDown", key=key, windowsVirtualKeyCode=code, **more)
         self.send("Input.dispatchKeyEvent", type="keyUp", key=key, windowsVirtualKeyCode=code)
 
     def click(self, id_):
         """Clicks the middle of an element."""
-        box = self.eval(f"(() => {{ const e = document.getElementById({json.dumps(id_)}); e.scrollIntoView({{ block: 'center' }});"
+        self.click_at(f"document.getElementById({json.dumps(id_)})")
+
+    def click_at(self, which):
+        """Clicks the middle of the element that an expression names."""
+        box = self.eval(f"(() => {{ const e = {which}; e.scrollIntoView({{ block: 'center' }});"
                         " const r = e.getBoundingClientRect(); return [r.x + r.width / 2, r.y + r.height / 2]; })()")
         for kind in ("mousePressed", "mouseReleased"):
             self.send("Input.dispatchMouseEvent", type=kind, x=box[0], y=box[1], button="left", clickCount=1)
 
+    def type(self, text):
+        """Types a text where the focus is."""
+        self.send("Input.insertText", text=text)
+
+    def window(self, width, height=740):
+        """Makes the window so large, in points, and a telephone's if it is narrow."""
+        self.send("Emulation.setDeviceMetricsOverride", width=width, height=height, deviceScaleFactor=2, mobile=width < 500)
+        self.send("Emulation.setTouchEmulationEnabled", enabled=width < 500)
+
+    def settings(self, **features):
+        """Sets what the system's settings are, as `prefers_color_scheme="dark"`."""
+        named = [{"name": name.replace("_", "-"), "value": value} for name, value in features.items()]
+        self.send("Emulation.setEmulatedMedia", features=named)
+
     def screenshot(self, path):
         self.eval("scrollTo(0, 0)")
         path.write_bytes(base64.b64decode(self.send("Page.captureScreenshot", format="png")["data"]))
+
+    def pdf(self, path):
+        """Prints the page."""
+        path.write_bytes(base64.b64decode(self.send("Page.printToPDF", printBackground=True)["data"]))

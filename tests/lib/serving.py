@@ -4,35 +4,46 @@
 import io
 import json
 import os
+import random
 import re
 import signal
 import socket
 import subprocess
 import sys
 import threading
+import time
+from argparse import ArgumentTypeError
 from concurrent.futures import ThreadPoolExecutor
-from contextlib import contextmanager, redirect_stderr
+from contextlib import ExitStack, contextmanager, redirect_stderr
+from urllib.parse import quote
 
 from lib import reference
 from lib.clients import LINES, MISBEHAVING, SHORT, command, fake
-from lib.scripts import drawn_line, must
+from lib.scripts import drawn_game, drawn_line, must
 
 from kalah import web
+from kalah.web_limits import IN_ALL, Connections, Quota, host
 
-DRAWN, THREADS, MOST = 200, 40, 10
+DRAWN, THREADS, MOST, GAMES = 200, 40, 10, 20
+# A class behind one address: its pupils, the moves that each makes, and the questions that they have in a minute.
+PUPILS, MOVES, A_MINUTE = 30, 30, 4000
 SOON = 30
+# The seconds for a request, and between its bytes, of a client that is slow.
+SHORT_TIME, A_PAUSE = 0.6, 0.1
 LINE = "1,1/0 1,1/0"
 # Two more addresses of this machine.
 OTHER, CLIENT = "127.0.0.2", "127.0.0.3"
 PATHS = ["/best", "/values", "/moves"]
+# Each is an address by which nobody reaches this machine, or another one's, or none.
+NOT_HERE = ["0.0.0.0", "::", "0x0", "0", "00.0", "::ffff:0.0.0.0", "", "224.0.0.1", "203.0.113.5", "no.such.invalid", "." * 70]
 # What reads a text as HTML.
 RISKY = ["innerHTML", "outerHTML", "insertAdjacentHTML", "document.write", "eval(", "new Function", "setTimeout("]
 
 
 @contextmanager
-def served(program, timeout=60, host=None):
-    """A server in this process, on a port that is free. It may say only that clients have gone away."""
-    with redirect_stderr(io.StringIO()) as said, web.Server(0, str(program), timeout, host) as server:
+def served(program, timeout=0, host="", most=0):
+    """A server in this process, on a port that is free. It may say only that clients have gone away, or are shut out."""
+    with redirect_stderr(io.StringIO()) as said, web.Server(0, str(program), timeout, host, most) as server:
         thread = threading.Thread(target=server.serve_forever)
         thread.start()
         try:
@@ -44,7 +55,8 @@ def served(program, timeout=60, host=None):
 
 
 def look_at_errors(said):
-    must(all(line.startswith("web: a client has gone away: ") for line in said.splitlines()), f"web prints {said}")
+    form = r"web: (a client has gone away: .*|[0-9.]+ is shut out: too many (connections are open|questions in this minute))"
+    must(all(re.fullmatch(form, line) for line in said.splitlines()), f"web prints {said}")
 
 
 def sent(port, data, to="127.0.0.1", source=""):
@@ -66,6 +78,7 @@ def request(port, body, path="/best", method="POST", host=None, more=()):
 def asked(port, path, line):
     status, headers, body = sent(port, request(port, line.encode(), path))
     must(headers["Content-Type"] == "application/json", f"web, {path}, {line}: {headers}")
+    must((headers["Cache-Control"], headers["Kalah-Version"]) == ("no-store", web.VERSION), f"web, {path}, {line}: {headers}")
     return status, json.loads(body)
 
 
@@ -88,6 +101,62 @@ def wanted(path, line):
 
 def compare(path, line, got):
     must(got == wanted(path, line), f"web, {path}, {line}: {got} in place of {wanted(path, line)}")
+
+
+def places_of(line, houses, player):
+    """Returns the positions of a game, as /game answers them."""
+    position, places = reference.read(line.encode()), []
+    for house in [*houses, None]:
+        _, moves = wanted("/moves", reference.text(position))
+        places.append({"line": reference.text(position), "player": player, "is_over": moves["is_over"], "moves": moves.get("moves", [])})
+        if house:
+            position, word = reference.after(position, house)
+            player ^= word == "turn"
+    return places
+
+
+def record_of(line, houses, places):
+    """Returns a game in letters."""
+    letters = ["ABCDEF"[house - 1].lower() if place["player"] else "ABCDEF"[house - 1] for house, place in zip(houses, places)]
+    return f"{line} 1{'...' if places[0]['player'] else '.'} {' '.join(letters)}"
+
+
+def compare_line(line, got):
+    """A line of best play makes best moves, up to the end."""
+    position, (status, answer) = reference.read(line.encode()), got
+    must(status == 200 and answer["is_whole"], f"web, /line, {line}: {got}")
+    for house, word in zip(answer["houses"], answer["words"]):
+        must(house == reference.best_play(position)[1], f"web, /line, {line}: {answer}")
+        position, reached = reference.after(position, house)
+        must(word == reached, f"web, /line, {line}: {answer}")
+    must(reference.is_over(position) and len(answer["houses"]) == len(answer["words"]), f"web, /line, {line}: {answer}")
+
+
+def seen(position, depth):
+    """Returns the margin that a search of `depth` moves sees, which takes that of the stores where it stops."""
+    if reference.is_over(position):
+        return reference.best_play(position)[0]
+    if not depth:
+        return position.own.store - position.other.store
+    reached = (reference.after(position, house) for house in reference.legal(position))
+    return max(seen(to, depth - 1) * (-1 if word == "turn" else 1) for to, word in reached)
+
+
+def compare_ahead(line, got):
+    position = reference.read(line.encode())
+    reached = {house: reference.after(position, house) for house in reference.legal(position)}
+    seems = {house: seen(to, 1) * (-1 if word == "turn" else 1) for house, (to, word) in reached.items()}
+    want = {"is_over": False, "house": max(seems, key=seems.get), "guessed": "it looks 2 moves ahead"}
+    must(got == (200, want), f"web, /ahead, {line}: {got}, and {seems}")
+
+
+def is_host(address):
+    """Whether --host takes an address. If not, it says by which one this machine is reached."""
+    try:
+        return bool(host(address))
+    except ArgumentTypeError as why:
+        must("127.0.0.1" in str(why), f"web --host {address}: {why}")
+        return False
 
 
 def refusals(port):
@@ -113,9 +182,10 @@ def refusals(port):
     for length in ("-1", "x", "1.0", "+1", "", "1" * 19):
         yield f"POST /best HTTP/1.1\r\nHost: {own}\r\nContent-Length: {length}\r\n\r\n".encode(), 411, "Content-Length"
     yield f"POST /best HTTP/1.1\r\nHost: {own}\r\n\r\n".encode(), 411, "Content-Length"
-    for path in ("/", "/Best", "/best/", "/best?1", "/../best"):
+    yield request(port, b"1" * 4001, "/game"), 413, "4000 bytes"
+    for path in ("/", "/Best", "/best/", "/best?1", "/../best", "/review?1,1/0%201,1/0"):
         yield request(port, line, path), 404, "no such"
-    for path in ("/best", "/kalah.py", "/../kalah.py", "/web.html", "/<script>alert(1)</script>"):
+    for path in ("/best", "/web.py", "/../web.py", "/web.html", "/<script>alert(1)</script>", "/?x", "/review", "/review?", "/rules?x"):
         yield request(port, b"", path, "GET"), 404, "no such"
     for method in ("PUT", "DELETE", "HEAD", "OPTIONS", "<script>"):
         yield request(port, line, method=method), 501, "Not Implemented"
@@ -132,21 +202,42 @@ class ServerTrials:
             self.page(server.server_port)
             self.refused(server.server_port)
             self.answers(server.server_port)
+            self.games(server.server_port)
             self.many(server.server_port)
         self.misbehaving()
         self.too_many()
+        self.quota()
+        self.slow_clients()
+        self.connections()
         self.a_class()
+        self.pupils()
         self.as_script()
 
     def page(self, port):
         for host in (f"127.0.0.1:{port}", f"localhost:{port}"):
-            status, headers, body = sent(port, request(port, b"", "/", "GET", host))
-            must(status == 200 and body == web.PAGE.read_bytes(), f"web, the page: status {status}")
-            is_html = headers["Content-Type"] == "text/html; charset=utf-8"
-            must(is_html and headers["Content-Security-Policy"].startswith("default-src 'none'; "), f"web: {headers}")
-        text = body.decode()
-        risky = [word for word in RISKY if word in text] + re.findall("(?:src|href|action)=\"(?!data:,)|https?:|url\\(|import", text)
-        must(not risky, f"web.html: {risky}")
+            for path, (_, kind) in web.FILES.items():
+                status, headers, body = sent(port, request(port, b"", path, "GET", host))
+                want = web.PAGES[path].replace(web.UNKNOWN, f'data-version="{web.VERSION}"'.encode())
+                must(status == 200 and body == want, f"web, {path}: status {status}")
+                must((body != web.PAGES[path]) == (path == "/"), f"web, {path}: its version")
+                policy = "default-src 'none'; script-src 'self'; "
+                is_guarded = headers["Content-Security-Policy"].startswith(policy)
+                must(headers["Content-Type"] == f"{kind}; charset=utf-8" and is_guarded, f"web, {path}: {headers}")
+                must((headers["Cache-Control"], headers["Kalah-Version"]) == ("no-store", web.VERSION), f"web, {path}: {headers}")
+                text = body.decode()
+                elsewhere = "(?:src|href|action)=\"(?!data:,|/[a-z])|(?<!\\^)https?:|url\\(|\\bimport\\b"
+                risky = [word for word in RISKY if word in text] + re.findall(elsewhere, text)
+                must(not risky, f"web, {path}: {risky}")
+        self.pictures(web.PAGES["/rules"].decode())
+
+    def pictures(self, page):
+        """The rules show what the moves of their pictures lead to."""
+        found = re.findall('data-line="([^"]*)" data-house="([1-6])" data-after="([^"]*)"', page)
+        must(len(found) == page.count("data-house") == 5, f"web_rules.html: {found}")
+        for line, house, after in found:
+            reached, word = reference.after(reference.read(line.encode()), int(house))
+            south = reached._replace(own=reached.other, other=reached.own) if word == "turn" else reached
+            must(after == reference.text(south), f"web_rules.html: house {house} of {line} leads to {after}")
 
     def refused(self, port):
         for data, status, part in refusals(port):
@@ -160,6 +251,34 @@ class ServerTrials:
             line = self.draw.choice([drawn_line(self.draw, 4, 8), *LINES, "1" * 81, "1,1/0 1,1", "é", ""])
             path = self.draw.choice(PATHS)
             compare(path, line, asked(port, path, line))
+
+    def games(self, port):
+        """Games are opened, as they were played or as far as they go, and reviewed; lines of best play are those of the reference."""
+        for number in range(GAMES):
+            line, first = drawn_line(self.draw, 4, 8).replace("/99", "/9"), number % 2
+            if reference.is_over(reference.read(line.encode())):
+                continue
+            houses = [house for _, house, _ in drawn_game(self.draw, line)[0]]
+            places = places_of(line, houses, first)
+            record, north = " ".join([line, *map(str, houses)]), "&first=North" * first
+            want = {"is_over": False, "positions": places, "houses": houses, "flaw": ""}
+            for text in (record + north, record_of(line, houses, places)):
+                status, answer = asked(port, "/game", text)
+                must((status, answer) == (200, want), f"web, /game, {text}: {status} {answer} in place of {want}")
+            status, answer = asked(port, "/game", f"{record} 1{north}")
+            want["flaw"] = f"move {len(houses) + 1}: the game is over"
+            must((status, answer) == (200, want), f"web, /game, {record} 1: {answer}")
+            compare_line(line, asked(port, "/line", line))
+            compare_ahead(line, asked(port, "/ahead", line))
+            status, headers, body = sent(port, request(port, b"", f"/review?{quote(record + north)}", "GET"))
+            must(status == 200 and headers["Content-Type"].startswith("text/html"), f"web, /review, {record}: {status} {body}")
+            must(body.count(b"moves house") == len(houses) and b"<script" not in body, f"web, /review, {record}: {body}")
+        for text, status, part in [("1,1/0 1,1/0 e 1 7", 200, "move 2: house 7 can't be moved"), ("x/0 1 2", 422, "fault shape")]:
+            got, answer = asked(port, "/game", text)
+            must(got == status and part in answer.get("flaw", answer.get("error")), f"web, /game, {text}: {got} {answer}")
+        for text in ("1,1/0 1,1/0 <script>", "<script>"):
+            _, _, body = sent(port, request(port, b"", f"/review?{quote(text)}", "GET"))
+            must(b"<script" not in body or body.startswith(b"{"), f"web, /review, {text}: {body}")
 
     def many(self, port):
         """Many ask at once, and some go away: each gets its own answer, or the error that there are too many."""
@@ -188,16 +307,113 @@ class ServerTrials:
                 compare("/best", line, asked(server.server_port, "/best", line))
 
     def too_many(self):
-        """While one question takes long, others wait, up to a number; the rest is refused at once."""
-        slow = [f'read -r line; sleep 1; echo "$line" | "{self.program}" ask; exec "{self.program}" ask']
-        with served(fake(self.folder, self.program, slow)) as server, ThreadPoolExecutor(THREADS) as pool:
-            lines = [drawn_line(self.draw, 3, 8) for _ in range(THREADS)]
-            got = [*pool.map(lambda line: asked(server.server_port, "/best", line), lines)]
-            answered = [(line, one) for line, one in zip(lines, got) if one[0] != 503]
-            must(len(answered) >= web.MOST_AT_ONCE, f"web: of {THREADS} at once {len(answered)} are answered")
-            must(len(answered) < THREADS, f"web: all of {THREADS} at once wait")
-            for line, one in answered:
-                compare("/best", line, one)
+        """While runs are busy, questions wait for some time, up to a number of questions; the rest is refused."""
+        loop = f'while read -r line; do sleep 0.3; echo "$line" | "{self.program}" ask; done'
+        for most, patience in ((web.MOST_AT_ONCE, 0.7), (5, 60)):
+            with served(fake(self.folder, self.program, [loop] * web.RUNS)) as server, ThreadPoolExecutor(THREADS) as threads:
+                server.room = threading.BoundedSemaphore(most)
+                for pool in server.pools:
+                    pool.patience = patience
+                lines = [drawn_line(self.draw, 3, 8) for _ in range(THREADS)]
+                got = [*threads.map(lambda line: asked(server.server_port, "/best", line), lines)]
+                refused = 503, {"error": "too many questions at once"}
+                answered = [(line, one) for line, one in zip(lines, got) if one != refused]
+                must(web.RUNS <= len(answered) < THREADS, f"web: of {THREADS} at once {len(answered)} are answered")
+                for line, one in answered:
+                    compare("/best", line, one)
+
+    def quota(self):
+        """A minute after the first question a client may ask again, however many it has asked; and so may all."""
+        now = [1000.0]
+        quota = Quota(MOST, lambda: now[0])
+        for _ in range(3):
+            taken = [quota.takes("one") for _ in range(2 * MOST)]
+            must(taken == [True] * MOST + [False] * MOST, f"web: a client's questions: {taken}")
+            taken = [quota.takes(f"client {number}") for number in range(IN_ALL * MOST)]
+            must(taken.count(True) == (IN_ALL - 1) * MOST, f"web: {taken.count(True)} questions of others in a minute")
+            now[0] += 60
+        must(all(Quota(0).takes("one") for _ in range(1000)), "web: this machine may ask any number of questions")
+
+    def slow_clients(self):
+        """A client has some time for its request, however it spends that. Then it hears so, and is gone."""
+        with served(self.program) as server:
+            port, server.seconds_of_a_request = server.server_port, SHORT_TIME
+            whole = request(port, LINE.encode())
+            for data in (whole[:-3], whole[:40], whole[:1], b""):
+                self.is_late(port, data, b"")
+            for data, more in ((whole[:-10], b"1"), (b"", b"POST /best HTTP/1.1\r\n" + b"A" * 100)):
+                self.is_late(port, data, more)
+            compare("/best", LINE, asked(port, "/best", LINE))
+
+    def is_late(self, port, data, more):
+        """Sends this, and then a byte of more at a time."""
+        begun = time.monotonic()
+        with socket.create_connection(("127.0.0.1", port), SOON) as client:
+            client.sendall(data)
+            client.settimeout(A_PAUSE)
+            reply, at = b"", 0
+            while time.monotonic() < begun + 5 * SHORT_TIME:
+                try:
+                    piece = client.recv(1 << 16)
+                    if not piece:
+                        break
+                    reply += piece
+                except socket.timeout:
+                    at += bool(more)
+                    client.sendall(more[at - 1 : at])
+                except ConnectionResetError:
+                    break
+        must(SHORT_TIME <= time.monotonic() - begun < 4 * SHORT_TIME, f"web, slow after {data}: {time.monotonic() - begun} seconds")
+        must(reply.startswith(b"HTTP/1.0 408 ") and b"not come in time" in reply, f"web, slow after {data}: {reply}")
+
+    def connections(self):
+        """A client's connections are bounded. One more is refused; others have theirs; and when they end, it may have new ones."""
+        with served(self.program, host=OTHER) as server, ExitStack() as open_ones:
+            server.connections = Connections(2 * MOST)
+            port, asks = server.server_port, request(server.server_port, LINE.encode(), host=f"{OTHER}:{server.server_port}")
+            for _ in range(server.connections.of_one):
+                open_ones.enter_context(socket.create_connection((OTHER, port), SOON, ("127.0.0.4", 0)))
+            refused = socket.create_connection((OTHER, port), SOON, ("127.0.0.4", 0))
+            must(b" 503 " in refused.recv(1000), "web: one connection more than a client has is kept")
+            refused.close()
+            status, _, body = sent(port, asks, OTHER, CLIENT)
+            compare("/best", LINE, (status, json.loads(body)))
+            open_ones.close()
+            end = time.monotonic() + SOON
+            while b" 503 " in (got := self.first_bytes(port, asks)):
+                must(time.monotonic() < end, f"web: after its connections have ended, a client gets {got}")
+            must(b" 200 " in got, f"web, a client whose connections have ended: {got}")
+
+    def first_bytes(self, port, data):
+        try:
+            with socket.create_connection((OTHER, port), SOON, ("127.0.0.4", 0)) as client:
+                client.sendall(data)
+                return client.recv(1000)
+        except ConnectionError:
+            return b" 503 "
+
+    def pupils(self):
+        """A class behind one address plays: each question gets its answer, and none is refused."""
+        with served(self.program, host=OTHER, most=A_MINUTE) as server, ThreadPoolExecutor(PUPILS) as pool:
+            port = server.server_port
+
+            def asks(path, text):
+                status, _, body = sent(port, request(port, text.encode(), path, host=f"{OTHER}:{port}"), OTHER)
+                must(status == 200, f"web, a class, {path}, {text}: {status} {body}")
+                return json.loads(body)
+
+            def plays(draw):
+                moves = 0
+                while moves < MOVES:
+                    line = asks("/game", "3,3,3,3/0 3,3,3,3/0")["positions"][0]["line"]
+                    while moves < MOVES and not (answer := asks("/moves", line))["is_over"]:
+                        values, moves = asks("/values", line)["by_house"], moves + 1
+                        must({*values} == {str(move["house"]) for move in answer["moves"]}, f"web, a class, {line}: {values}")
+                        line = draw.choice(answer["moves"])["position"]
+                return moves
+
+            made = [*pool.map(plays, [random.Random(self.draw.random()) for _ in range(PUPILS)])]
+            must(made == [MOVES] * PUPILS, f"web, a class: {made}")
 
     def a_class(self):
         """By the address that is named, others ask. What takes long is refused, as are too many questions of one client."""
@@ -223,9 +439,13 @@ class ServerTrials:
         address = script.stdout.readline()
         must(re.fullmatch(rf"http://{OTHER}:[0-9]+/#1,1/0%201,1/0\n", address), f"web --host prints {address!r}")
         self.ends(script)
-        for address in ("0.0.0.0", "::"):
+        for address in NOT_HERE:
+            must(not is_host(address), f"web --host takes {address!r}")
+        must(is_host(OTHER) and is_host("localhost"), "web --host takes no address of this machine")
+        for address in ("0x0", "203.0.113.5"):
             _, err = self.start(self.program, f"--host={address}", LINE).communicate(timeout=SOON)
-            must("usage:" in err and "reach this machine" in err and "Traceback" not in err, f"web --host {address}: {err}")
+            is_told = "usage:" in err and "reach this machine" in err and "127.0.0.1" in err.rpartition("usage:")[2]
+            must(is_told and "Traceback" not in err, f"web --host {address}: {err}")
 
     def as_script(self):
         """It says where the page is. If a client goes away it goes on; and it ends on Ctrl-C, also while a question is under way."""
@@ -233,13 +453,14 @@ class ServerTrials:
         address = script.stdout.readline()
         port = re.fullmatch(r"http://127\.0\.0\.1:([0-9]+)/#1,1/0%201,1/0\n", address)
         must(port, f"web prints {address!r}")
-        usual, (_, _, page) = web.PAGE.read_bytes(), sent(int(port[1]), request(int(port[1]), b"", "/", "GET"))
-        must(page == usual.replace(web.USUAL, f'"{LINE}"'.encode()) != usual, "web: the page does not begin with the position")
+        usual, (_, _, page) = web.PAGES["/"], sent(int(port[1]), request(int(port[1]), b"", "/", "GET"))
+        page = re.sub(b'data-version="[^"]+"', web.UNKNOWN, page)
+        must(page == usual.replace(web.USUAL, f'data-start="{LINE}"'.encode()) != usual, "web: the page does not begin with the position")
         _, err = self.start(self.program, f"--port={port[1]}", LINE).communicate(timeout=SOON)
         must(err.startswith("web: ") and err.count("\n") == 1, f"web, with a port that is taken: {err}")
-        for word in ("65536", "-1", "x"):
-            _, err = self.start(self.program, f"--port={word}", LINE).communicate(timeout=SOON)
-            must("usage:" in err and "Traceback" not in err, f"web --port {word}: {err}")
+        for word in ("--port=65536", "--port=-1", "--port=x", "--per-minute=0", "--per-minute=-1", "--per-minute=x"):
+            _, err = self.start(self.program, word, LINE).communicate(timeout=SOON)
+            must("usage:" in err and "Traceback" not in err, f"web {word}: {err}")
         self.ends(script, int(port[1]))
         script = self.start(fake(self.folder, self.program, [': > "$0.begun"; exec sleep 600']), "--port=0", LINE)
         port = int(re.search(":([0-9]+)/", script.stdout.readline())[1])
