@@ -5,7 +5,7 @@ macro_rules! of_a_position {
     ($($more:literal),*) => {
         concat!("\
 A position is one argument, so it needs quotes. '1,1/0 1,1/0' has the houses and
-the store of the player to move, and then those of the other player. The
+the store of the player to move, and then those of the other player.
 ", $($more),*)
     };
 }
@@ -14,7 +14,7 @@ the store of the player to move, and then those of the other player. The
 macro_rules! of_a_move {
     ($more:literal) => {
         of_a_position!("\
-line of a move has its house, the position after it, and again, turn or over:
+A move has its house, the position after it, and again, turn or over:
     1 1,1/0 0,2/0 turn
 ", $more, "`kalah --help` has the rules and the meaning of these words.")
     };
@@ -119,8 +119,8 @@ position that the move is made in, seen by the player who moves:
 /// What follows the long help of `show`.
 pub(crate) const LONG_OF_SHOW: &str = of_a_position!(
     "\
-player to move sits at the bottom, with houses from left to right, and below each
-house stands the margin that its move gets in best play:
+The player to move sits at the bottom, with houses from left to right, and below
+each house stands the margin that its move gets in best play:
        3   3   3
    0               0
        3   3   3
