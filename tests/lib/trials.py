@@ -1,5 +1,6 @@
 """The trials of tests/agree: runs of the program, and their required results."""
 
+import codecs
 import ctypes
 import fcntl
 import os
@@ -101,7 +102,7 @@ NO_POSITION = "it is no position; for a file of positions, use `kalah solve FILE
 MISSING = "the following required arguments were not provided:\n"
 EXCESS = "unexpected argument '{0}' found"
 AS_VALUE = EXCESS + "\n\n  tip: to pass '{0}' as a value, use '-- {0}'"
-FILES = "{0} [OPTIONS] <FILE>..."
+OF_FILES = "{0} [OPTIONS] <FILE>..."
 
 
 def as_value(words, usage, tip):
@@ -177,34 +178,35 @@ TIPS = [
         mistake(f"{EXCESS.format('--values')}\n\n  tip: a similar argument exists: '--table'", "solve --table <N> <FILE>..."),
         "use `kalah values FILE`",
     ),
-    as_value(["steps", "--values", "a"], FILES.format("steps"), "use `kalah values FILE`"),
-    *(as_value([name, "--steps", "a"], FILES.format(name), "use `kalah steps FILE`") for name in SEARCHING),
-    *(as_value(["solve", option, "4", "a"], FILES.format("solve"), "use `--workers N`") for option in ("-w", "-j", "--jobs", "--threads")),
-    as_value(["values", "--json", "a"], FILES.format("values"), "`python3 -m kalah table --json FILE` prints JSON"),
+    as_value(["steps", "--values", "a"], OF_FILES.format("steps"), "use `kalah values FILE`"),
+    *(as_value([name, "--steps", "a"], OF_FILES.format(name), "use `kalah steps FILE`") for name in SEARCHING),
+    *(as_value(["solve", option, "4", "a"], OF_FILES.format("solve"), "use `--workers N`") for option in ("-w", "-j", "--jobs", "--threads")),
+    as_value(["values", "--json", "a"], OF_FILES.format("values"), "`python3 -m kalah table --json FILE` prints JSON"),
     as_value(["show", "--boards", POSITION], "show [OPTIONS] <LINE>", "`kalah show` draws the board without it"),
     (["show", POSITION, "e"], mistake(EXCESS.format("e"), "show [OPTIONS] <LINE>"), "` e` stands inside the quotes, as in '1,1/0 1,1/0 e'"),
     *(
         ([*words, "1,1/0", "1,1/0"], mistake(EXCESS.format("1,1/0"), usage), QUOTES)
         for words, usage in (
             (["moves"], "moves [OPTIONS] <LINE>"),
-            (["moves", "--boards"], "moves --boards <LINE>"),
+            (["moves", "--boards"], "moves [OPTIONS] <LINE>"),
             (["show"], "show [OPTIONS] <LINE>"),
             (["count", "2"], "count <DEPTH> <LINE>"),
         )
     ),
     (["count", "1,1/0", "1,1/0", "3"], mistake("invalid value '1,1/0' for '<DEPTH>': invalid digit found in string"), QUOTES),
-    (["solve", "a/b", "c/d", "--board"], mistake(AS_VALUE.format("--board"), FILES.format("solve")), None),
+    (["solve", "a/b", "c/d", "--board"], mistake(AS_VALUE.format("--board"), "solve <FILE>..."), None),
 ]
 
 # Names and arguments with control characters, as pairs of what is typed and what a terminal shows.
 HIDDEN = [("a\x1b]0;b\a", r"a\033]0;b\007"), ("\x7f\r\t", r"\177\015\011"), ("é\x9b2J", r"é\302\2332J")]
 
-# Files that begin with a byte order mark, and the tip for each.
+# The byte order marks with which a file may begin, and the tip for each.
 UTF_16 = "a file is UTF-16; convert it, as in `iconv -f UTF-16 -t UTF-8 FILE | kalah ask`"
-MARKS = [
-    ("1/0 1/0\n".encode("utf-8-sig"), "a file begins with a byte order mark, which is no part of a position"),
-    *(("\ufeff1/0 1/0\n".encode(form), UTF_16) for form in ("utf-16-le", "utf-16-be")),
-]
+MARKS = {
+    codecs.BOM_UTF8: "a file begins with a byte order mark, which is no part of a position",
+    codecs.BOM_UTF16_LE: UTF_16,
+    codecs.BOM_UTF16_BE: UTF_16,
+}
 
 PROGRAM_NAMES = ["kalah", "./kalah", "/bin/kalah", "k l", "é", "-", "--help"]
 
@@ -366,6 +368,12 @@ def two_ends(place):
     reader = os.open(name, os.O_RDONLY)
     os.remove(name)
     return reader, writer
+
+
+def tip_for_marks(contents):
+    """Returns what is said on a terminal after the answers to files with these bytes: a tip if one begins with a byte order mark."""
+    tips = [tip for data in contents for mark, tip in MARKS.items() if data.startswith(mark)]
+    return f"  tip: {tips[0]}\n".encode() if tips else b""
 
 
 def in_seconds(left):
@@ -821,7 +829,8 @@ class Trials(AskTrials, WaitTrials):
             out.seek(0)
             self.compare(want._replace(err=shown), Run(out.read(), shown, process.returncode))
         os.close(reader)
-        self.look_at_progress(shown.decode(), sum(len(reference.lines_of(data)) for _, data in files), place == "terminal", took)
+        tip = tip_for_marks(data for _, data in files) if place == "terminal" else b""
+        self.look_at_progress(shown, sum(len(reference.lines_of(data)) for _, data in files), place == "terminal", took, tip)
 
     def progress_beside_answers(self):
         """One line of progress is rewritten on a terminal only if the answers go elsewhere. What is typed at doesn't count."""
@@ -843,7 +852,9 @@ class Trials(AskTrials, WaitTrials):
             os.close(end)
         want = reference.answers(subcommand, [(b"a", data)])
         self.compare(want._replace(err=got["stderr"]), Run(got["stdout"], got["stderr"], status))
-        self.look_at_progress(got["stderr"].decode(), len(reference.lines_of(data)), terminals == ("stdin", "stderr"), time.monotonic() - begun)
+        tip = tip_for_marks([data]) if "stderr" in terminals else b""
+        took = time.monotonic() - begun
+        self.look_at_progress(got["stderr"], len(reference.lines_of(data)), terminals == ("stdin", "stderr"), took, tip)
 
     def progress_is_ended(self):
         """If a write fails, the line of progress that is rewritten on a terminal is ended before that is said."""
@@ -865,9 +876,12 @@ class Trials(AskTrials, WaitTrials):
         sizes = [0] if lines == "none" else [0, 1, 7, 150, 2500]
         return [(name, self.drawn.file(self.drawn.chance.choice(sizes))) for name in ("a", "b")]
 
-    def look_at_progress(self, shown, lines, in_place, took):
+    def look_at_progress(self, said, lines, in_place, took, tip):
         """The shown numbers rise from none to all lines, each with its share: a line for each per cent, or one line that is rewritten.
-        The time left is what the other lines take at the rate so far, in a run that took so many seconds."""
+        The time left is what the other lines take at the rate so far, in a run that took so many seconds. Behind it stands this tip."""
+        if not said.endswith(tip):
+            raise Differs(f"{tip} is missing after {said[-100:]!r}")
+        shown = said.removesuffix(tip).decode()
         begin, end = ("\r", "\x1b[K") if in_place else ("", "\n")
         rows = [(int(answered), left) for answered, left in re.findall(r"kalah: (\d+) of \d+ lines, \d+ %(, \d+ (?:s|min|h) left)?", shown)]
         again = [f"{begin}kalah: {n} of {lines} lines, {100 * n // lines if lines else 100} %{left}{end}" for n, left in rows]
@@ -935,12 +949,13 @@ class Trials(AskTrials, WaitTrials):
 
     def marked_files(self):
         """A file that begins with a byte order mark gets a tip on a terminal, beside its answers."""
-        data, tip = self.drawn.card("marks", MARKS)
+        mark = self.drawn.card("marks", list(MARKS))
+        data = mark + b"1/0 1/0\n"
         self.put({"a": b"1/0", "b": data})
         subcommand = self.subcommand()
         want = reference.answers(subcommand, [(b"a", b"1/0"), (b"b", data)])
         self.compare(want, self.run_on_terminal([subcommand, "a", "b"], "stdout", "stderr"))
-        want = want._replace(err=f"  tip: {tip}\n".encode())
+        want = want._replace(err=tip_for_marks([data]))
         self.compare(want, self.run_on_terminal([subcommand, "a", "b"], "stderr", "stdout"))
 
     def run_on_terminal(self, words, stream, other):
