@@ -10,6 +10,7 @@ import sys
 import time
 from concurrent.futures import ThreadPoolExecutor
 from contextlib import suppress
+from functools import partial
 from itertools import groupby, zip_longest
 from pathlib import Path
 
@@ -173,7 +174,8 @@ class Node:
 
 
 class C:
-    """It takes its lines as arguments, which can't have a NUL, and prints each before its answer; its time is set when it is built."""
+    """It takes its lines as arguments, which can't have a NUL, and prints each before its answer; its time is set when it is built. Its
+    standard input is closed."""
 
     form, name, refused, longest = "solve", "ask.c", [line for line in REFUSED if "\n" in line], 100_000
 
@@ -185,6 +187,7 @@ class C:
 
     def ask(self, program, lines, seconds=60):
         how = {"env": {**os.environ, "KALAH": str(program)}, "stdout": subprocess.PIPE, "stderr": subprocess.STDOUT, "timeout": PATIENCE}
+        how["preexec_fn"] = partial(os.close, 0)
         out, said = subprocess.run([self.built[seconds], *lines], **how).stdout.decode(), []
         for line in lines:
             refusal = f"ask: no answer to {line}\n"
