@@ -37,13 +37,12 @@ impl Write for Failing {
 }
 
 impl Failing {
-    // A sink whose calls fail after the first `most`.
-    fn after(alloc: Global, most: u32) -> Stream<Failing> {
-        Stream::new(Failing {
+    fn after(alloc: Global, most: u32) -> Failing {
+        Failing {
             bytes: Vec::new(alloc),
             calls: 0,
             most,
-        })
+        }
     }
 }
 
@@ -64,7 +63,7 @@ fn run_with<R: Threads + Wait + Sync>(
     most: u32,
 ) -> Run {
     let gate = Counting::new();
-    let mut out = Failing::after(alloc, most);
+    let mut out = Stream::new(Failing::after(alloc, most));
     let request = BatchRequest {
         question,
         files,
@@ -91,7 +90,7 @@ fn solve_with<R: Threads + Wait + Sync>(
     requires { (0 < workers) × (workers ≤ 64) }
 {
     let gate = Counting::new();
-    let mut out = Failing::after(alloc, most);
+    let mut out = Stream::new(Failing::after(alloc, most));
     let tally = solve_batch(rt, alloc, files, workers, 16, &gate, &mut out);
     Run {
         tally,
