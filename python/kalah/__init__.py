@@ -31,5 +31,5 @@ from .board import Board
 from .game import Game
 from .solver import Solver, solve_many
 
-__version__ = "1.3.0"
+__version__ = "1.4.0"
 __all__ = ["Best", "Board", "Fault", "Game", "Gone", "Late", "Move", "Over", "Solver", "Steps", "Values", "solve_many"]
