@@ -1,6 +1,6 @@
 -- The game of best play, move by move.
 use Rattle.std.proofs.Common.{◌⊎◌, ◌<◌, ◌≤◌, ◌-◌, ◌≡◌, ℕ, zero, suc, List, [], ◌∷◌, ◌++◌, Bool, true, false, inl, inr, of_z, refl, sym, subst, to_z, w32, ap, append_assoc, ◌∙◌, arith}
-use Rattle.std.specs.Prelude.{Contains, Option, ℤ, if◌then◌else◌}
+use Rattle.std.specs.Prelude.{Contains, ℤ, if◌then◌else◌}
 use Rattle.std.proofs.lemmas.Bool.{cases_Bool}
 use Rattle.std.proofs.lemmas.Int.{ints, to_z-of_z}
 use Rattle.kalah_rules.specs.Position.{Position, HasEqualSides, IsSmallMargin, final_margin, is_over, swapped, swept}
@@ -18,7 +18,7 @@ use Rattle.kalah_solve.specs.declared.solver.Verdict.TheVariants.{Best, Over}
 use Rattle.std.proofs.lemmas.List.Elements.{Contains-push}
 use Rattle.kalah_solve.proofs.SolverLemmas.{best_is_strategy, best_plays, bounds, strategy_keeps, strategy_within, widened}
 use Rattle.kalah_solve.proofs.WorthLemmas.{final_swapped, value_going_on, value_of_again, value_of_turn, value_passing, worth_of_over, over_for_other, again_fewer, again_step, over_at_end, over_ends, over_step, swapped_equal_sides, turn_fewer, turn_step}
-use Rattle.kalah_jobs.specs.Writing.Given.{WasGiven}
+use Rattle.kalah_jobs.specs.Writing.Given.{SinkState, WasGiven}
 use Rattle.kalah_jobs.specs.Writing.Shown.{shown_of}
 use Rattle.kalah_jobs.specs.Writing.Variation.{variation_start}
 use Rattle.kalah_jobs.proofs.WritingLemmas.{given_flushed, given_off, given_then}
@@ -291,73 +291,72 @@ variations_end p h even legal = go (step_of p h) refl
 pub kept : {z : ℤ} → IsSmallMargin z → to_z w32 (of_z w32 z) ≡ z
 kept {z} small = to_z-of_z w32 z (omega (arith, ints, small.low, small.high))
 
-module _ {O : Type 0} (written : O → Option (List ℕ)) (has_failed : O → Bool) where
+module _ {O : Type 0} (state : O → SinkState) where
   -- the first one, once it was given
   pub shown_first : {game : Begun O} {boards values : Bool} {p : Position} {old new : O}
-      → game ≡ record { form = Lines boards values; first = p; sink = old } → WasGiven written has_failed old new (board_lines boards p)
-      → IsShown written has_failed game new p
-  shown_first {p = p} {new = new} begun given = subst (λ game. IsShown written has_failed game new p) (sym begun) (begins (refl, given))
+      → game ≡ record { form = Lines boards values; first = p; sink = old } → WasGiven state old new (board_lines boards p)
+      → IsShown state game new p
+  shown_first {p = p} {new = new} begun given = subst (λ game. IsShown state game new p) (sym begun) (begins (refl, given))
 
   -- the one after the first move of a variation, once its line began
   pub shown_after : {game now : Begun O} {p q : Position} {between new : O} (v : MoveValue)
-      → IsOfVariations written has_failed game p between → WasGiven written has_failed between new (variation_start v)
-      → q ≡ position_after (step_of p v.house) → now ≡ game → IsShown written has_failed now new q
+      → IsOfVariations state game p between → WasGiven state between new (variation_start v)
+      → q ≡ position_after (step_of p v.house) → now ≡ game → IsShown state now new q
   shown_after {game} {now} {p} {q} {between} {new} v below given next same =
-      subst (λ game. IsShown written has_failed game new q) (sym same)
-      (begins (subst (λ f. Begins written has_failed game f new q) (sym below.form) (
+      subst (λ game. IsShown state game new q) (sym same)
+      (begins (subst (λ f. Begins state game f new q) (sym below.form) (
         between,
         v,
-        subst (λ r. IsOfVariations written has_failed game r between) (sym below.first) below,
+        subst (λ r. IsOfVariations state game r between) (sym below.first) below,
         given,
         next ∙ ap (λ r. position_after (step_of r v.house)) (sym below.first),
       )))
 
   -- more of the variations was given
   pub variations_go_on : {game now : Begun O} {p : Position} {between new : O} (text : List ℕ) → now ≡ game
-      → IsOfVariations written has_failed game p between → WasGiven written has_failed between new text
-      → IsOfVariations written has_failed now p new
+      → IsOfVariations state game p between → WasGiven state between new text
+      → IsOfVariations state now p new
   variations_go_on {game} {now} {p} {between} {new} text same below given = rw same (record {
     form = below.form;
     first = below.first;
     more = below.more ++ text;
-    shown = subst (WasGiven written has_failed game.sink new) (append_assoc (shown_of p) below.more text)
-        (given_then written has_failed game.sink between new (shown_of p ++ below.more) text below.shown given);
+    shown = subst (WasGiven state game.sink new) (append_assoc (shown_of p) below.more text)
+        (given_then state game.sink between new (shown_of p ++ below.more) text below.shown given);
   })
 
   -- how a game began, after a flush
-  begins_flushed : (game : Begun O) (form : Form) (p : Position) (between new : O) → Begins written has_failed game form between p
-      → WasGiven written has_failed between new [] → Begins written has_failed game form new p
+  begins_flushed : (game : Begun O) (form : Form) (p : Position) (between new : O) → Begins state game form between p
+      → WasGiven state between new [] → Begins state game form new p
   begins_flushed game (Lines boards values) p between new (is, given) flushed =
-      (is, given_flushed written has_failed _ _ _ _ given flushed)
+      (is, given_flushed state _ _ _ _ given flushed)
   begins_flushed game Houses p between new (o, v, below, given, next) flushed =
-      (o, v, below, given_flushed written has_failed _ _ _ _ given flushed, next)
+      (o, v, below, given_flushed state _ _ _ _ given flushed, next)
 
-  module _ {game : Begun O} {p : Position} {between new : O} (shown : IsShown written has_failed game between p) where
+  module _ {game : Begun O} {p : Position} {between new : O} (shown : IsShown state game between p) where
     -- one that was shown, after a flush
-    pub shown_flushed : WasGiven written has_failed between new [] → IsShown written has_failed game new p
+    pub shown_flushed : WasGiven state between new [] → IsShown state game new p
     shown_flushed flushed = by shown flushed where
-      by : {q : Position} {o : O} → IsShown written has_failed game o q → WasGiven written has_failed o new []
-          → IsShown written has_failed game new q
+      by : {q : Position} {o : O} → IsShown state game o q → WasGiven state o new [] → IsShown state game new q
       by (begins begun) flushed = begins (begins_flushed game game.form _ _ _ begun flushed)
-      by (moves o q h shown given) flushed = moves o q h shown (given_flushed written has_failed _ _ _ _ given flushed)
+      by (moves o q h shown given) flushed = moves o q h shown (given_flushed state _ _ _ _ given flushed)
 
     -- the next one, once its move was given
     pub shown_next : {now : Begun O} {form : Form} {margin : ℤ} {s : Step} {q : Position} (h : ℕ) → game.form ≡ form → s ≡ step_of p h
-        → q ≡ position_after s → now ≡ game → margin ≡ worth p → WasGiven written has_failed between new (move_text form margin h s)
-        → IsShown written has_failed now new q
+        → q ≡ position_after s → now ≡ game → margin ≡ worth p → WasGiven state between new (move_text form margin h s)
+        → IsShown state now new q
     shown_next {form = form} {margin = margin} {s = s} h written_in step next same most given = rw (same, next, step)
-        (moves between p h shown (subst (λ f. WasGiven written has_failed between new (move_text f (worth p) h (step_of p h)))
-        (sym written_in) (subst (λ z. WasGiven written has_failed between new (move_text form z h (step_of p h))) most
-        (subst (λ s. WasGiven written has_failed between new (move_text form margin h s)) step given))))
+        (moves between p h shown (subst (λ f. WasGiven state between new (move_text f (worth p) h (step_of p h)))
+        (sym written_in) (subst (λ z. WasGiven state between new (move_text form z h (step_of p h))) most
+        (subst (λ s. WasGiven state between new (move_text form margin h s)) step given))))
 
   -- a move, with the margin of best play of its position if that is shown and no call had failed
   pub valued_move : (boards values : Bool) (h : ℕ) (s : Step) {margin most : ℤ} {between new : O}
-      → (values ≡ true → has_failed between ≡ false → margin ≡ most)
-      → WasGiven written has_failed between new (move_text (Lines boards values) margin h s)
-      → WasGiven written has_failed between new (move_text (Lines boards values) most h s)
+      → (values ≡ true → (state between).has_failed ≡ false → margin ≡ most)
+      → WasGiven state between new (move_text (Lines boards values) margin h s)
+      → WasGiven state between new (move_text (Lines boards values) most h s)
   valued_move boards false h s is given = given
-  valued_move boards true h s {margin} {most} {between} {new} is given = elim (cases_Bool (has_failed between)) [
-    | inl failed ↦ subst (λ o. WasGiven written has_failed between o (move_text (Lines boards true) most h s)) (sym (given.quiet failed))
-        (given_off written has_failed between (move_text (Lines boards true) most h s) failed)
-    | inr sound ↦ subst (λ z. WasGiven written has_failed between new (move_text (Lines boards true) z h s)) (is refl sound) given
+  valued_move boards true h s {margin} {most} {between} {new} is given = elim (cases_Bool (state between).has_failed) [
+    | inl failed ↦ subst (λ o. WasGiven state between o (move_text (Lines boards true) most h s)) (sym (given.quiet failed))
+        (given_off state between (move_text (Lines boards true) most h s) failed)
+    | inr sound ↦ subst (λ z. WasGiven state between new (move_text (Lines boards true) z h s)) (is refl sound) given
   ]

@@ -1,10 +1,11 @@
 -- Runs over a disk and a standard input that are known.
-use Rattle.std.proofs.Common.{◌≡◌, ◌≢◌, ◌∷◌, ℕ, List, [], Bool, Option, arith, None, Some, ap, inl, inr, length, subst, suc, true}
+use Rattle.std.proofs.Common.{◌≡◌, ◌≢◌, ◌∷◌, ℕ, List, [], Option, arith, None, Some, ap, inl, inr, length, subst, suc, true}
 use Rattle.std.specs.Prelude.{◌↔◌, IfSome}
 use Rattle.std.specs.Io.KnownBytes.{Appends}
 use Rattle.clap.specs.Words.{Text}
 use Rattle.kalah_jobs.specs.Asking.Asked.{answers_to, are_all_read}
 use Rattle.kalah_jobs.specs.Files.NamedBytes.{NamedBytes}
+use Rattle.kalah_jobs.specs.Writing.Given.{SinkState}
 use Rattle.kalah_jobs.specs.declared.files.question.Question.{Question}
 use Rattle.kalah_cli.specs.Ask.{AnswersInput}
 use Rattle.kalah_cli.specs.KnownRuns.{AnswersWhatIsKnown, AreOn, IsAnswerTo, IsAnswerToLines}
@@ -22,14 +23,14 @@ known_left typed None may =
     absurd (let same : suc (length typed) ≡ length typed = ap length longer in omega (arith, same))
 known_left typed (Some bytes) may = ap (λ l. Some l) may
 
-module _ {O : Type 0} (written : O → Option (List ℕ)) (has_failed is_handed_on : O → Bool) (old new : O) (status : ExitStatus)
-    (disk : List NamedBytes) (typed output : List ℕ) (before : written old ≡ Some []) (after : written new ≡ Some output) where
+module _ {O : Type 0} (state : O → SinkState) (old new : O) (status : ExitStatus)
+    (disk : List NamedBytes) (typed output : List ℕ) (before : (state old).written ≡ Some []) (after : (state new).written ≡ Some output) where
   -- what was added is all that was written
-  all_written : (text : List ℕ) → Appends (written old) (written new) text → output ≡ text
-  all_written text adds = subst (λ o. Appends o (Some output) text) before (subst (λ o. Appends (written old) o text) after adds)
+  all_written : (text : List ℕ) → Appends (state old).written (state new).written text → output ≡ text
+  all_written text adds = subst (λ o. Appends o (Some output) text) before (subst (λ o. Appends (state old).written o text) after adds)
 
   files_known : (question : Question) (names : List Text) → status ≢ Failed
-      → AnswersFiles written has_failed is_handed_on old new status (known_bytes disk typed) question names
+      → AnswersFiles state old new status (known_bytes disk typed) question names
       → (files : List NamedBytes) × (AreOn disk names files × IsAnswerTo status output question files)
   files_known question names went does = (
     does.files,
@@ -40,20 +41,19 @@ module _ {O : Type 0} (written : O → Option (List ℕ)) (has_failed is_handed_
   )
 
   lines_known : (question : Question) (unread : Option (List ℕ)) → status ≢ Failed → unread ≡ Some typed
-      → AnswersInput written has_failed is_handed_on old new status question unread
+      → AnswersInput state old new status question unread
       → IsAnswerToLines status output question typed
   lines_known question unread went is does =
       let asked = does.asked went in
       let all : asked.0.read ≡ typed = subst (λ u. IfSome u (λ bytes. asked.0.read ≡ bytes)) is asked.0.all in
       let read = subst (λ bytes. does.all_read ≡ are_all_read bytes) all asked.0.status in (
         all_written (answers_to question typed)
-            (subst (λ bytes. Appends (written old) (written new) (answers_to question bytes)) all asked.0.written),
+            (subst (λ bytes. Appends (state old).written (state new).written (answers_to question bytes)) all asked.0.written),
         subst (λ b. status ≡ Clean ↔ b ≡ true) read asked.1,
       )
 
   -- what is promised of any run is pinned of one over what is known
-  pub answers_what_is_known : (words : List Text)
-      → DoesWhatIsAsked written has_failed is_handed_on old new status (known_bytes disk typed) words
+  pub answers_what_is_known : (words : List Text) → DoesWhatIsAsked state old new status (known_bytes disk typed) words
       → AnswersWhatIsKnown status output disk typed words
   answers_what_is_known words accepted = record {
     files = λ question workers table progress names taken went.

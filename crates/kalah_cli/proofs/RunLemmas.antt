@@ -1,12 +1,13 @@
 -- What the program has done for a request.
-use Rattle.std.proofs.Common.{◌≡◌, ◌≢◌, ◌∙◌, ℕ, List, Bool, true, false, Option, refl, sym, subst, [], ◌∷◌, ap, map, inl, ◌≤◌, ◌-◌, ◌^◌, arith, flat_map, suc, zero, inr}
+use Rattle.std.proofs.Common.{◌≡◌, ◌≢◌, ◌∙◌, ℕ, List, Bool, true, false, Option, refl, sym, subst, [], ◌∷◌, ap, map, inl, ◌≤◌, ◌-◌, ◌^◌, arith, flat_map, suc, zero, inr, append-nil}
 use Rattle.std.specs.Prelude.{◌↔◌, IfOk, IsErr, IsErrOf, Result, Ok, Err, None, Some, ◌==◌, if◌then◌else◌, sum_by}
+use Rattle.std.specs.Io.KnownBytes.{Appends}
 use Rattle.std.proofs.lemmas.Bool.{false_from_ne_true}
 use Rattle.kalah_rules.specs.Position.{Position}
 use Rattle.kalah_jobs.specs.Line.Line.{Reads}
-use Rattle.kalah_jobs.specs.Writing.Given.{WasGiven}
+use Rattle.kalah_jobs.specs.Writing.Given.{AppendsStart, SinkState, WasGiven}
 use Rattle.kalah_jobs.proofs.LineLemmas.{reads_once}
-use Rattle.kalah_jobs.proofs.WritingLemmas.{given_flushed, start_none}
+use Rattle.kalah_jobs.proofs.WritingLemmas.{given_flushed, start_none, start_then}
 use Rattle.kalah_cli.specs.Ends.{AnswersLine, Ends, FailsWithoutOutput, IsPrinted, IsUnread, Prints, ended_by}
 use Rattle.kalah_cli.specs.declared.failure.Failure.{Failure}
 use Rattle.kalah_cli.specs.Line.{MayPrint, command_output}
@@ -57,29 +58,28 @@ ended_err (Ok status) bad = cc
 ended_err (Err failure) is = refl
 
 -- the text was given, and then flushed
-pub printed_flushed : {O : Type 0} (written : O → Option (List ℕ)) (has_failed is_handed_on : O → Bool) (old between new : O)
-    (text : List ℕ) → WasGiven written has_failed old between text → WasGiven written has_failed between new []
-    → (has_failed new ≡ false → is_handed_on new ≡ true) → IsPrinted written has_failed is_handed_on old new text
-printed_flushed written has_failed is_handed_on old between new text given flushed handed_on =
-    record { given = given_flushed written has_failed old between new text given flushed; handed_on = handed_on }
+pub printed_flushed : {O : Type 0} (state : O → SinkState) (old between new : O)
+    (text : List ℕ) → WasGiven state old between text → WasGiven state between new []
+    → ((state new).has_failed ≡ false → (state new).is_flushed ≡ true) → IsPrinted state old new text
+printed_flushed state old between new text given flushed handed_on =
+    record { given = given_flushed state old between new text given flushed; handed_on = handed_on }
 
-module _ {O : Type 0} (written : O → Option (List ℕ)) (has_failed is_handed_on : O → Bool) {status : ExitStatus} where
+module _ {O : Type 0} (state : O → SinkState) {status : ExitStatus} where
   -- nothing was written
-  pub ends_unchanged : {out : O} → has_failed out ≡ false → Ends written has_failed is_handed_on out out status
+  pub ends_unchanged : {out : O} → (state out).has_failed ≡ false → Ends state out out status
   ends_unchanged sound = record {
     failed = λ failed. absurd (let both : true ≡ false = sym failed ∙ sound in cc);
     unchanged = λ _ _. refl;
     handed_on = λ _ was. was;
   }
 
-  pub prints_nothing : {out : O} {text : List ℕ} → status ≡ Failed → Prints written has_failed is_handed_on out out status text
-  prints_nothing {out} {text} failed = record { start = start_none (written out) text; whole = λ went. absurd (went failed) }
+  pub prints_nothing : {out : O} {text : List ℕ} → status ≡ Failed → Prints state out out status text
+  prints_nothing {out} {text} failed = record { start = start_none (state out).written text; whole = λ went. absurd (went failed) }
 
   -- it prints its text of the position of its line, and fails without output if it may not be printed
-  line_done : {line : List ℕ} (command : LineCommand) {old new : O}
-      → AnswersLine written has_failed is_handed_on old new status line (command_output command)
+  line_done : {line : List ℕ} (command : LineCommand) {old new : O} → AnswersLine state old new status line (command_output command)
       → ((p : Position) → Reads line p → (MayPrint command p → ⊥) → FailsWithoutOutput old new status)
-      → Does written has_failed is_handed_on old new status any_bytes (command_asks command line)
+      → Does state old new status any_bytes (command_asks command line)
   line_done (Moves boards) is fails = is
   line_done (Play table boards values first) is fails = (is, fails)
   line_done (Show table plain lines) is fails = is
@@ -88,19 +88,19 @@ module _ {O : Type 0} (written : O → Option (List ℕ)) (has_failed is_handed_
   module _ (command : LineCommand) {line bytes : List ℕ} (same : bytes ≡ line) where
     module _ (p : Position) (reads : Reads bytes p) where
       -- the text of the position was printed
-      pub line_answered : {old new : O} → IsPrinted written has_failed is_handed_on old new (command_output command p) → MayPrint command p
-          → (has_failed new ≡ true) ↔ (status ≡ Failed) → status ≢ LineFaults
-          → Does written has_failed is_handed_on old new status any_bytes (command_asks command line)
+      pub line_answered : {old new : O} → IsPrinted state old new (command_output command p) → MayPrint command p
+          → ((state new).has_failed ≡ true) ↔ (status ≡ Failed) → status ≢ LineFaults
+          → Does state old new status any_bytes (command_asks command line)
       line_answered {old} {new} printed may fails no_fault =
-          let sound : status ≢ Failed → has_failed new ≡ false =
-          λ went. false_from_ne_true (has_failed new) (λ failed. went (fails.0 failed)) in
-          let prints : Prints written has_failed is_handed_on old new status (command_output command p) =
+          let sound : status ≢ Failed → (state new).has_failed ≡ false =
+          λ went. false_from_ne_true (state new).has_failed (λ failed. went (fails.0 failed)) in
+          let prints : Prints state old new status (command_output command p) =
           record { start = printed.given.start; whole = λ went. (printed.given.whole (sound went)).1 } in
           let is : (q : Position) → Reads line q → p ≡ q = λ q other. reads_once line p q (read_at same p reads) other in
           line_done command (record {
             read = λ q other. (
               no_fault,
-              subst (λ r. Prints written has_failed is_handed_on old new status (command_output command r)) (is q other) prints,
+              subst (λ r. Prints state old new status (command_output command r)) (is q other) prints,
             );
             unread = λ none. absurd (none p (read_at same p reads));
             ends = record {
@@ -111,10 +111,10 @@ module _ {O : Type 0} (written : O → Option (List ℕ)) (has_failed is_handed_
           }) (λ q other never. absurd (never (subst (MayPrint command) (is q other) may)))
 
       -- the command failed before anything was written
-      pub line_refused : {old new : O} → status ≡ Failed → has_failed old ≡ false → new ≡ old
-          → Does written has_failed is_handed_on old new status any_bytes (command_asks command line)
+      pub line_refused : {old new : O} → status ≡ Failed → (state old).has_failed ≡ false → new ≡ old
+          → Does state old new status any_bytes (command_asks command line)
       line_refused {old} failed sound still =
-          subst (λ new. Does written has_failed is_handed_on old new status any_bytes (command_asks command line)) (sym still)
+          subst (λ new. Does state old new status any_bytes (command_asks command line)) (sym still)
           (line_done command (record {
             read = λ q other. (λ fault. let both : Failed ≡ LineFaults = sym failed ∙ fault in cc, prints_nothing failed);
             unread = λ none. absurd (none p (read_at same p reads));
@@ -122,8 +122,8 @@ module _ {O : Type 0} (written : O → Option (List ℕ)) (has_failed is_handed_
           }) (λ _ _ _. (failed, refl)))
 
     -- the line writes no position
-    pub line_unread : {out : O} → IsUnread bytes → status ≡ LineFaults → has_failed out ≡ false
-        → Does written has_failed is_handed_on out out status any_bytes (command_asks command line)
+    pub line_unread : {out : O} → IsUnread bytes → status ≡ LineFaults → (state out).has_failed ≡ false
+        → Does state out out status any_bytes (command_asks command line)
     line_unread none fault sound = line_done command (record {
       read = λ p reads. absurd (none p (read_at (sym same) p reads));
       unread = λ _. (fault, refl);
@@ -131,14 +131,14 @@ module _ {O : Type 0} (written : O → Option (List ℕ)) (has_failed is_handed_
     }) (λ p reads. absurd (none p (read_at (sym same) p reads)))
 
 -- nothing is read for it, so it does the same whatever there is to read
-pub reads_nothing : {O : Type 0} (written : O → Option (List ℕ)) (has_failed is_handed_on : O → Bool) (old new : O) (status : ExitStatus)
+pub reads_nothing : {O : Type 0} (state : O → SinkState) (old new : O) (status : ExitStatus)
     (may_give : Source → List ℕ → Type 0) (command : LineCommand) (line : List ℕ)
-    → Does written has_failed is_handed_on old new status any_bytes (command_asks command line)
-    → Does written has_failed is_handed_on old new status may_give (command_asks command line)
-reads_nothing written has_failed is_handed_on old new status may_give (Moves boards) line does = does
-reads_nothing written has_failed is_handed_on old new status may_give (Play table boards values first) line does = does
-reads_nothing written has_failed is_handed_on old new status may_give (Show table plain lines) line does = does
-reads_nothing written has_failed is_handed_on old new status may_give (Count depth) line does = does
+    → Does state old new status any_bytes (command_asks command line)
+    → Does state old new status may_give (command_asks command line)
+reads_nothing state old new status may_give (Moves boards) line does = does
+reads_nothing state old new status may_give (Play table boards values first) line does = does
+reads_nothing state old new status may_give (Show table plain lines) line does = does
+reads_nothing state old new status may_give (Count depth) line does = does
 
 -- ---- what is answered of files
 
@@ -157,18 +157,22 @@ their_names [] = refl
 their_names (name ∷ names) = ap (λ l. name ∷ l) (their_names names)
 
 -- the program failed before anything was written
-pub files_refused : {O : Type 0} (written : O → Option (List ℕ)) (has_failed is_handed_on : O → Bool) {status : ExitStatus} {out : O}
-    {may_give : Source → List ℕ → Type 0} {question : Question} {names : List (List ℕ)} → status ≡ Failed → has_failed out ≡ false
-    → AnswersFiles written has_failed is_handed_on out out status may_give question names
-files_refused written has_failed is_handed_on {names = names} failed sound = record {
+pub files_refused : {O : Type 0} (state : O → SinkState) {status : ExitStatus} {out : O}
+    {may_give : Source → List ℕ → Type 0} {question : Question} {names : List (List ℕ)} → status ≡ Failed → (state out).has_failed ≡ false
+    → AnswersFiles state out out status may_give question names
+files_refused state {names = names} failed sound = record {
   files = empty_files names;
   named = their_names names;
   given = inl (failed, refl);
-  printed = prints_nothing written has_failed is_handed_on failed;
+  printed = prints_nothing state failed;
   one_line = λ went. absurd (went failed);
   clean = λ went. absurd (went failed);
-  ends = ends_unchanged written has_failed is_handed_on sound;
+  ends = ends_unchanged state sound;
 }
+
+-- what was written whole was written from its start
+pub start_whole : (old new : Option (List ℕ)) (bs : List ℕ) → Appends old new bs → AppendsStart old new bs
+start_whole old new bs whole = start_then old new new bs bs [] (sym (append-nil bs)) whole (start_none new [])
 
 -- ---- what `ask` has answered
 
@@ -190,29 +194,29 @@ all_unread {T} {A} remaining r inner is empty capacity =
 pub stops_at_once : (question : Question) (old : Option (List ℕ)) → StopsBetweenLines question old old
 stops_at_once question old = (None, None, cut_off (nothing_read question None old [] refl) tt (Keeps-refl old))
 
-module _ {O : Type 0} (written : O → Option (List ℕ)) (has_failed is_handed_on : O → Bool) {status : ExitStatus} {question : Question}
+module _ {O : Type 0} (state : O → SinkState) {status : ExitStatus} {question : Question}
     {unread : Option (List ℕ)} where
-  pub input_refused : {out : O} → status ≡ Failed → has_failed out ≡ false
-      → AnswersInput written has_failed is_handed_on out out status question unread
+  pub input_refused : {out : O} → status ≡ Failed → (state out).has_failed ≡ false
+      → AnswersInput state out out status question unread
   input_refused {out} failed sound =
-      let none = nothing_read question unread (written out) [] refl in
+      let none = nothing_read question unread (state out).written [] refl in
       record {
         left = unread;
         all_read = true;
         asked = λ went. absurd (went failed);
-        begins = begun_so_far none (Keeps-refl unread) (Keeps-refl (written out));
+        begins = begun_so_far none (Keeps-refl unread) (Keeps-refl (state out).written);
         failed = λ has. absurd (let both : true ≡ false = sym has ∙ sound in cc);
-        stopped = λ _ _. cut_off none (Keeps-refl unread) (Keeps-refl (written out));
+        stopped = λ _ _. cut_off none (Keeps-refl unread) (Keeps-refl (state out).written);
         handed_on = λ _ was. was;
       }
 
   -- all was read, or a read or a write failed
   pub input_answered : {left : Option (List ℕ)} {old new : O} (answered : Result Bool AskFault)
-      → IfOk answered (λ all_read. IsAnswered question unread left (written old) (written new) all_read)
-      → (IsErrOf answered Read → IsCutOff question unread left (written old) (written new))
-      → IsBegun question unread left (written old) (written new) → (has_failed new ≡ true) ↔ IsErrOf answered Write
-      → (has_failed new ≡ false → is_handed_on new ≡ true) → IfOk answered (λ all_read. (status ≡ Clean) ↔ (all_read ≡ true))
-      → IsErr answered ↔ (status ≡ Failed) → AnswersInput written has_failed is_handed_on old new status question unread
+      → IfOk answered (λ all_read. IsAnswered question unread left (state old).written (state new).written all_read)
+      → (IsErrOf answered Read → IsCutOff question unread left (state old).written (state new).written)
+      → IsBegun question unread left (state old).written (state new).written → ((state new).has_failed ≡ true) ↔ IsErrOf answered Write
+      → ((state new).has_failed ≡ false → (state new).is_flushed ≡ true) → IfOk answered (λ all_read. (status ≡ Clean) ↔ (all_read ≡ true))
+      → IsErr answered ↔ (status ≡ Failed) → AnswersInput state old new status question unread
   input_answered {left} (Ok all_read) is cut begins wrote handed_on clean failed = record {
     left = left;
     all_read = all_read;
@@ -263,16 +267,15 @@ few_ways n depth few high = le_trans few (pow-le-pow_right {n = 6} (omega arith)
 
 -- ---- what arguments are accepted as, and what is done for them
 
-module _ {O : Type 0} (written : O → Option (List ℕ)) (has_failed is_handed_on : O → Bool) {old new : O} {status : ExitStatus}
-    (sound : has_failed old ≡ false) where
+module _ {O : Type 0} (state : O → SinkState) {old new : O} {status : ExitStatus}
+    (sound : (state old).has_failed ≡ false) where
   -- a run that fails without output ends as any
-  pub ends_without_output : FailsWithoutOutput old new status → Ends written has_failed is_handed_on old new status
-  ends_without_output fails = subst (λ o. Ends written has_failed is_handed_on old o status) (sym fails.1)
-      (ends_unchanged written has_failed is_handed_on sound)
+  pub ends_without_output : FailsWithoutOutput old new status → Ends state old new status
+  ends_without_output fails = subst (λ o. Ends state old o status) (sym fails.1) (ends_unchanged state sound)
 
   -- how a run ends that does what is asked, unless lines of the standard input are to be answered
   pub run_ends : (may_give : Source → List ℕ → Type 0) (a : Asked) → IsOfNoInput a
-      → Does written has_failed is_handed_on old new status may_give a → Ends written has_failed is_handed_on old new status
+      → Does state old new status may_give a → Ends state old new status
   run_ends may_give (moves boards line) _ does = does.ends
   run_ends may_give (play first table boards values line) _ does = does.0.ends
   run_ends may_give (answers question workers table progress names) _ does = does.ends
@@ -281,24 +284,24 @@ module _ {O : Type 0} (written : O → Option (List ℕ)) (has_failed is_handed_
   run_ends may_give (count depth line) _ does = does.ends
   run_ends may_give conflict _ does = ends_without_output does
 
-  pub run_fails : (may_give : Source → List ℕ → Type 0) (a : Asked) → Does written has_failed is_handed_on old new status may_give a
-      → has_failed new ≡ true → status ≡ Failed
+  pub run_fails : (may_give : Source → List ℕ → Type 0) (a : Asked) → Does state old new status may_give a
+      → (state new).has_failed ≡ true → status ≡ Failed
   run_fails may_give (ask question table) does = does.1.1.failed
   run_fails may_give a does = (run_ends may_give a tt does).failed
 
-  pub run_hands_on : (may_give : Source → List ℕ → Type 0) (a : Asked) → Does written has_failed is_handed_on old new status may_give a
-      → status ≢ Failed → is_handed_on old ≡ true
-      → is_handed_on new ≡ true
+  pub run_hands_on : (may_give : Source → List ℕ → Type 0) (a : Asked) → Does state old new status may_give a
+      → status ≢ Failed → (state old).is_flushed ≡ true
+      → (state new).is_flushed ≡ true
   run_hands_on may_give (ask question table) does = λ went.
-      does.1.1.handed_on (false_from_ne_true (has_failed new) (λ failed. went (does.1.1.failed failed)))
+      does.1.1.handed_on (false_from_ne_true (state new).has_failed (λ failed. went (does.1.1.failed failed)))
   run_hands_on may_give a does = (run_ends may_give a tt does).handed_on
 
 -- so what is promised of arguments that are accepted covers those of `moves`
-pub by_words : {O : Type 0} (written : O → Option (List ℕ)) (has_failed is_handed_on : O → Bool) (words : List Text) (old new : O)
+pub by_words : {O : Type 0} (state : O → SinkState) (words : List Text) (old new : O)
     (status : ExitStatus) (may_give : Source → List ℕ → Type 0)
-    → DoesWhatIsAsked written has_failed is_handed_on old new status may_give words
-    → MovesByItsWords written words old new status
-by_words written has_failed is_handed_on words old new status may_give accepted = record {
+    → DoesWhatIsAsked state old new status may_give words
+    → MovesByItsWords state words old new status
+by_words state words old new status may_give accepted = record {
   moves = λ name line is p reads.
       elim (accepted (moves false line) (taken_at is (moves_taken name line (read_is_plain line p reads)))) [
         | inl does ↦

@@ -1,5 +1,5 @@
 -- The moves of a position by their ranks, and the variations below its values.
-use Rattle.std.proofs.Common.{◌≡◌, ◌∷◌, [], ◌++◌, ◌∙◌, ℕ, List, Bool, Option, None, Some, ◌==◌, ap, append-nil, cond, find, inl, inr, map, refl, subst, sym}
+use Rattle.std.proofs.Common.{◌≡◌, ◌∷◌, [], ◌++◌, ◌∙◌, ℕ, List, Bool, None, Some, ◌==◌, ap, append-nil, cond, find, inl, inr, map, refl, subst, sym}
 use Rattle.std.specs.Prelude.{Contains}
 use Rattle.std.proofs.lemmas.Bool.{cases_Bool}
 use Rattle.std.proofs.lemmas.List.Elements.{Contains-append_left, Contains-append_right, Contains-push}
@@ -8,7 +8,7 @@ use Rattle.kalah_rules.specs.Play.{legal_houses}
 use Rattle.kalah_solve.specs.Solver.MoveValues.{move_value, values_of}
 use Rattle.kalah_solve.specs.declared.solver.move_values.MoveValue.{MoveValue}
 use Rattle.kalah_jobs.specs.Files.Lines.{line_feed}
-use Rattle.kalah_jobs.specs.Writing.Given.{WasGiven}
+use Rattle.kalah_jobs.specs.Writing.Given.{SinkState, WasGiven}
 use Rattle.kalah_jobs.specs.Writing.Picture.{picture_of}
 use Rattle.kalah_jobs.specs.Writing.Shown.{shown_of, values_line}
 use Rattle.kalah_jobs.proofs.WritingLemmas.{given_then}
@@ -38,17 +38,16 @@ ranked_is_legal p values rank v same is =
     found_among p (λ w. rank_in (values_of p) w == rank) (legal_houses p) v
     (sym (subst (λ vs. Some v ≡ of_rank vs rank) same is))
 
-module _ {O : Type 0} (written : O → Option (List ℕ)) (has_failed : O → Bool) where
+module _ {O : Type 0} (state : O → SinkState) where
   -- the picture and the line below it were given, and variations may follow
   pub variations_begin : {game now : Begun O} {p : Position} {old between new : O}
-      → game ≡ record { form = Houses; first = p; sink = old } → now ≡ game → WasGiven written has_failed old between (picture_of p)
-      → WasGiven written has_failed between new (values_line p ++ line_feed ∷ []) → IsOfVariations written has_failed now p new
+      → game ≡ record { form = Houses; first = p; sink = old } → now ≡ game → WasGiven state old between (picture_of p)
+      → WasGiven state between new (values_line p ++ line_feed ∷ []) → IsOfVariations state now p new
   unfolding shown_of
   variations_begin {p = p} {old = old} {between = between} {new = new} begun same picture values =
-      subst (λ game. IsOfVariations written has_failed game p new) (sym (same ∙ begun)) (record {
+      subst (λ game. IsOfVariations state game p new) (sym (same ∙ begun)) (record {
         form = refl;
         first = refl;
         more = [];
-        shown = subst (WasGiven written has_failed old new) (sym (append-nil (shown_of p)))
-            (given_then written has_failed old between new _ _ picture values);
+        shown = subst (WasGiven state old new) (sym (append-nil (shown_of p))) (given_then state old between new _ _ picture values);
       })

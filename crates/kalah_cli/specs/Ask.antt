@@ -2,6 +2,7 @@
 use Rattle.std.specs.Prelude.{◌≡◌, ◌≢◌, ◌↔◌, ℕ, List, Bool, Option, false, true}
 use Rattle.kalah_jobs.specs.Asking.Asked.{IsAnswered, IsBegun, IsCutOff}
 use Rattle.kalah_jobs.specs.declared.files.question.Question.{Question}
+use Rattle.kalah_jobs.specs.Writing.Given.{SinkState}
 use Rattle.kalah_cli.specs.declared.status.ExitStatus.{ExitStatus}
 use Rattle.kalah_cli.specs.declared.status.ExitStatus.TheVariants.{Clean, Failed}
 
@@ -12,12 +13,12 @@ StopsBetweenLines question old new = (unread left : Option (List ℕ)) × IsCutO
 -- what `ask` does: it answers all lines, unless it fails, and is clean exactly when no line is a fault. In any case a prefix of the answers
 -- was written, and nothing else. If a write failed, it failed. If it failed for another cause, it stopped between two lines. If no write
 -- failed, all that was written is flushed, if all was before
-module _ {O : Type 0} (written : O → Option (List ℕ)) (has_failed is_handed_on : O → Bool) (old new : O) (status : ExitStatus) where
+module _ {O : Type 0} (state : O → SinkState) (old new : O) (status : ExitStatus) where
   pub record AnswersInput (question : Question) (unread : Option (List ℕ)) : Type 0 where
     pub left : Option (List ℕ)
     pub all_read : Bool
-    pub asked : status ≢ Failed → IsAnswered question unread left (written old) (written new) all_read × (status ≡ Clean ↔ all_read ≡ true)
-    pub begins : IsBegun question unread left (written old) (written new)
-    pub failed : has_failed new ≡ true → status ≡ Failed
-    pub stopped : status ≡ Failed → has_failed new ≡ false → IsCutOff question unread left (written old) (written new)
-    pub handed_on : has_failed new ≡ false → is_handed_on old ≡ true → is_handed_on new ≡ true
+    pub asked : status ≢ Failed → IsAnswered question unread left (state old).written (state new).written all_read × (status ≡ Clean ↔ all_read ≡ true)
+    pub begins : IsBegun question unread left (state old).written (state new).written
+    pub failed : (state new).has_failed ≡ true → status ≡ Failed
+    pub stopped : status ≡ Failed → (state new).has_failed ≡ false → IsCutOff question unread left (state old).written (state new).written
+    pub handed_on : (state new).has_failed ≡ false → (state old).is_flushed ≡ true → (state new).is_flushed ≡ true

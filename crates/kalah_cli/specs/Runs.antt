@@ -1,11 +1,12 @@
 -- What the program does for each request.
-use Rattle.std.specs.Prelude.{◌≡◌, ◌≢◌, ◌++◌, ◌∷◌, ◌⊎◌, ℕ, List, [], Bool, Option, codes, false, ⊤}
+use Rattle.std.specs.Prelude.{◌≡◌, ◌≢◌, ◌++◌, ◌∷◌, ◌⊎◌, ℕ, List, [], Option, codes, false, ⊤}
 use Rattle.std.specs.Io.KnownBytes.{Appends}
 use Rattle.clap.specs.Words.{Text}
 use Rattle.clap.specs.declared.error.kind.ErrorKind.TheVariants.{DisplayHelp, DisplayVersion}
 use Rattle.kalah_rules.specs.Position.{Position}
 use Rattle.kalah_jobs.specs.Files.Lines.{line_feed}
 use Rattle.kalah_jobs.specs.Line.Line.{Reads}
+use Rattle.kalah_jobs.specs.Writing.Given.{SinkState}
 use Rattle.kalah_cli.specs.Moves.{moves_output}
 use Rattle.kalah_cli.specs.Play.{MayBegin, play_output}
 use Rattle.kalah_cli.specs.Count.{count_output}
@@ -27,34 +28,34 @@ IsOfNoInput _ = ⊤
 abbrev pub version_line : Text
 version_line = codes "kalah 1.4.0" ++ line_feed ∷ []
 
-module _ {O : Type 0} (written : O → Option (List ℕ)) (has_failed is_handed_on : O → Bool) (old new : O) (status : ExitStatus)
+module _ {O : Type 0} (state : O → SinkState) (old new : O) (status : ExitStatus)
     (may_give : Source → List ℕ → Type 0) where
   -- what the program does for each request. A game that is asked to begin with a house that may not be moved fails without output, and
   -- so do options that exclude each other
   abbrev pub Does : Asked → Type 0
-  Does (moves boards line) = AnswersLine written has_failed is_handed_on old new status line (moves_output boards)
+  Does (moves boards line) = AnswersLine state old new status line (moves_output boards)
   Does (play first table boards values line) =
-      AnswersLine written has_failed is_handed_on old new status line (play_output first boards values)
+      AnswersLine state old new status line (play_output first boards values)
       × ((p : Position) → Reads line p → (MayBegin first p → ⊥) → FailsWithoutOutput old new status)
-  Does (answers question workers table progress names) = AnswersFiles written has_failed is_handed_on old new status may_give question names
+  Does (answers question workers table progress names) = AnswersFiles state old new status may_give question names
   Does (ask question table) = (unread : Option (List ℕ))
-      × (MayBeLeft (may_give standard_input) unread × AnswersInput written has_failed is_handed_on old new status question unread)
-  Does (show plain lines table line) = AnswersLine written has_failed is_handed_on old new status line (show_output plain lines)
-  Does (count depth line) = AnswersLine written has_failed is_handed_on old new status line (count_output depth)
+      × (MayBeLeft (may_give standard_input) unread × AnswersInput state old new status question unread)
+  Does (show plain lines table line) = AnswersLine state old new status line (show_output plain lines)
+  Does (count depth line) = AnswersLine state old new status line (count_output depth)
   Does conflict = FailsWithoutOutput old new status
 
   -- accepted arguments: the program does what they ask for, or it fails without output
   abbrev pub DoesWhatIsAsked : List Text → Type 0
   DoesWhatIsAsked words = (a : Asked) → IsTakenAs words a → Does a ⊎ FailsWithoutOutput old new status
 
--- ---- what a run promises for its arguments, where `written` is what an output has of the bytes that it was given
+-- ---- what a run promises for its arguments
 
-module _ {O : Type 0} (written : O → Option (List ℕ)) (words : List Text) (old new : O) (status : ExitStatus) where
+module _ {O : Type 0} (state : O → SinkState) (words : List Text) (old new : O) (status : ExitStatus) where
   -- the arguments of `moves` without options
   pub record MovesByItsWords : Type 0 where
     -- `moves` and a line that can be read: its moves are written, if nothing fails
     pub moves : (name line : Text) → words ≡ name ∷ codes "moves" ∷ line ∷ [] → (p : Position) → Reads line p
-        → (status ≢ LineFaults) × (status ≡ Clean → Appends (written old) (written new) (moves_output false p))
+        → (status ≢ LineFaults) × (status ≡ Clean → Appends (state old).written (state new).written (moves_output false p))
     -- `moves` and a line that can't be read, but is no flag
     pub unread : (name line : Text) → words ≡ name ∷ codes "moves" ∷ line ∷ [] → IsPlainWord line → IsUnread line
         → (status ≢ Clean) × (new ≡ old)
@@ -64,6 +65,6 @@ module _ {O : Type 0} (written : O → Option (List ℕ)) (words : List Text) (o
     -- they ask for neither help nor the version
     pub usage : IsRefused words → AsksNot DisplayHelp words → AsksNot DisplayVersion words → (status ≡ Failed) × (new ≡ old)
     -- they don't ask for help: with status 0 the version was written, and no more
-    pub version : IsRefused words → AsksNot DisplayHelp words → status ≡ Clean → Appends (written old) (written new) version_line
+    pub version : IsRefused words → AsksNot DisplayHelp words → status ≡ Clean → Appends (state old).written (state new).written version_line
     -- they have no line
     pub no_line : IsRefused words → status ≢ LineFaults

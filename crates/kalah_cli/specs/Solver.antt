@@ -1,10 +1,10 @@
 -- What stands in the output before a position of a game is solved.
-use Rattle.std.specs.Prelude.{◌≡◌, ◌++◌, ℕ, List, Bool, Option}
+use Rattle.std.specs.Prelude.{◌≡◌, ◌++◌, ℕ, List}
 use Rattle.kalah_rules.specs.Position.{Position}
 use Rattle.kalah_rules.specs.Play.{position_after, step_of}
 use Rattle.kalah_solve.specs.Solver.Worth.{worth}
 use Rattle.kalah_solve.specs.declared.solver.move_values.MoveValue.{MoveValue}
-use Rattle.kalah_jobs.specs.Writing.Given.{WasGiven}
+use Rattle.kalah_jobs.specs.Writing.Given.{SinkState, WasGiven}
 use Rattle.kalah_jobs.specs.Writing.Shown.{shown_of}
 use Rattle.kalah_jobs.specs.Writing.Variation.{variation_start}
 use Rattle.kalah_cli.specs.Game.{move_text}
@@ -22,23 +22,23 @@ pub record Begun (O : Type 0) : Type 0 where
 abbrev pub begun : {O : Type 0} → GameSolver O → Begun O
 begun s = record { form = s.form; first = s.first; sink = s.sink.value }
 
-module _ {O : Type 0} (written : O → Option (List ℕ)) (has_failed : O → Bool) (game : Begun O) where
+module _ {O : Type 0} (state : O → SinkState) (game : Begun O) where
   -- the variations of this position are written: the sink was given the picture, what each move is worth, and maybe more
   pub record IsOfVariations (p : Position) (new : O) : Type 0 where
     pub form : game.form ≡ Houses
     pub first : game.first ≡ p
     pub more : List ℕ
-    pub shown : WasGiven written has_failed game.sink new (shown_of p ++ more)
+    pub shown : WasGiven state game.sink new (shown_of p ++ more)
 
   -- The game begins at this position. Of one in lines it is the first position, and the sink was given that, if boards are drawn. Of a
   -- variation it is the first position after a move, and the sink was given how the line of that move begins, below all that comes before
   abbrev pub Begins : Form → O → Position → Type 0
-  Begins (Lines boards values) new p = (p ≡ game.first) × WasGiven written has_failed game.sink new (board_lines boards game.first)
+  Begins (Lines boards values) new p = (p ≡ game.first) × WasGiven state game.sink new (board_lines boards game.first)
   Begins Houses new p = (between : O) × (v : MoveValue) × IsOfVariations game.first between
-      × WasGiven written has_failed between new (variation_start v) × (p ≡ position_after (step_of game.first v.house))
+      × WasGiven state between new (variation_start v) × (p ≡ position_after (step_of game.first v.house))
 
   -- a position of the game is shown: the game began, and then the sink was given each move that leads to this position, and nothing else
   pub data IsShown : O → Position → Type 0 where
     begins : {new : O} {p : Position} → Begins game.form new p → IsShown new p
     moves : {new : O} (between : O) (p : Position) (h : ℕ) → IsShown between p
-        → WasGiven written has_failed between new (move_text game.form (worth p) h (step_of p h)) → IsShown new (position_after (step_of p h))
+        → WasGiven state between new (move_text game.form (worth p) h (step_of p h)) → IsShown new (position_after (step_of p h))

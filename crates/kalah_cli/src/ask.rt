@@ -52,8 +52,8 @@ pub(crate) fn run_ask<I: Read + Drop, O: Sink, E: Write>(
     err: &mut E,
 ) -> Result<ExitStatus, Failure<'static>>
     requires table { IsTableSize table }
-    requires sink { O.has_failed out.old ≡ false }
-    ensures { AnswersInput O.written O.has_failed O.is_handed_on out.old out.new (ended_by result) question (I.remaining input) }
+    requires sink { (O.state out.old).has_failed ≡ false }
+    ensures { AnswersInput O.state out.old out.new (ended_by result) question (I.remaining input) }
 {
     let Ok(mut solver) = new_solver(alloc, table) else {
         return Err(Failure::OutOfMemory);

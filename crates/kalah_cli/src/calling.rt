@@ -83,9 +83,9 @@ fn a_caller_solves(rt: HostRuntime) -> Result<(), Fail> {
 // Writes the answer to a line, as a batch does for the first line of a file `line`.
 #[tactic(auto, unfolding(kalah_jobs::specs::Files::Entry::entry_of))]
 fn write_answer_to<W: Sink>(line: &[u8], solver: &mut Solver, out: &mut W) -> io::Result<()>
-    requires { W.has_failed out.old ≡ false }
-    ensures fails { IsErr result ↔ (W.has_failed out.new ≡ true) }
-    ensures adds { OnOk result (Appends (W.written out.old) (W.written out.new)
+    requires { (W.state out.old).has_failed ≡ false }
+    ensures fails { IsErr result ↔ ((W.state out.new).has_failed ≡ true) }
+    ensures adds { OnOk result (Appends (W.state out.old).written (W.state out.new).written
         (answer_line (codes "line") (record { line = 0; answer = answer_of (entry_of line.now) }) ++ line_feed ∷ [])) }
 {
     let entry = match read_line(line) {

@@ -14,7 +14,7 @@ use kalah_rules::Board;
 #[tactic(auto, using(kalah_jobs::proofs::WritingLemmas::given_flushed))]
 fn write_house<O: Sink>(house: u8, ways: u64, out: &mut O)
     requires { house ≤ most_houses }
-    ensures { WasGiven O.written O.has_failed out.old out.new (ways_line house ways) }
+    ensures { WasGiven O.state out.old out.new (ways_line house ways) }
 {
     write_ways(out, house, ways);
     flush_unless_failed(out);
@@ -25,8 +25,8 @@ fn write_house<O: Sink>(house: u8, ways: u64, out: &mut O)
 fn write_houses<O: Sink>(board: &Board, depth: u8, out: &mut O) -> u64
     requires low { 1 ≤ depth }
     requires high { depth ≤ most_depth }
-    ensures total { O.has_failed out.new ≡ false → result ≡ ways depth board.now }
-    ensures given { WasGiven O.written O.has_failed out.old out.new (ways_lines depth board.now) }
+    ensures total { (O.state out.new).has_failed ≡ false → result ≡ ways depth board.now }
+    ensures given { WasGiven O.state out.old out.new (ways_lines depth board.now) }
 {
     let _side = board.m(); // For its clause: the board is within the limits.
     let moves = board.legal();
@@ -46,7 +46,7 @@ fn write_houses<O: Sink>(board: &Board, depth: u8, out: &mut O) -> u64
 // Writes the last line, and flushes.
 #[tactic(auto, using(crate::proofs::RunLemmas::printed_flushed))]
 fn write_sum<O: Sink>(ways: u64, out: &mut O)
-    ensures { IsPrinted O.written O.has_failed O.is_handed_on out.old out.new (total_line ways) }
+    ensures { IsPrinted O.state out.old out.new (total_line ways) }
 {
     write_total(out, ways);
     flush_unless_failed(out);
@@ -55,7 +55,7 @@ fn write_sum<O: Sink>(ways: u64, out: &mut O)
 /// Prints the number of ways of `depth` moves to play on from a board, for each first move and in all. It allocates nothing.
 pub(crate) fn write_count<O: Sink>(board: &Board, depth: u8, out: &mut O)
     requires { depth ≤ most_depth }
-    ensures { IsPrinted O.written O.has_failed O.is_handed_on out.old out.new (count_output depth board.now) }
+    ensures { IsPrinted O.state out.old out.new (count_output depth board.now) }
 {
     if depth == 0 {
         return write_sum(board.ways(0), out);

@@ -85,7 +85,7 @@ pub(crate) fn report_end<E: Write>(
 
 /// Returns `Clean` if the output has not failed. Otherwise fails with `Write`.
 pub(crate) fn status_of_sink<O: Sink>(out: &O) -> Result<ExitStatus, Failure<'static>>
-    ensures failed { O.has_failed out.now ≡ true ↔ ended_by result ≡ ExitStatus.Failed }
+    ensures failed { (O.state out.now).has_failed ≡ true ↔ ended_by result ≡ ExitStatus.Failed }
     ensures no_line { ended_by result ≢ ExitStatus.LineFaults }
 {
     if out.failed() {

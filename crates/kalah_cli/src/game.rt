@@ -29,7 +29,7 @@ pub(crate) fn value_shown(values: bool, value: i32) -> Option<i32>
 
 // Writes a move in this form, made in a position with this margin of best play.
 pub(crate) fn write_in_form<O: Sink>(form: Form, margin: i32, house: u8, step: &Step, out: &mut O)
-    ensures { WasGiven O.written O.has_failed out.old out.new (move_text form margin house step.now) }
+    ensures { WasGiven O.state out.old out.new (move_text form margin house step.now) }
 {
     match form {
         Form::Lines { boards, values } => {
@@ -48,9 +48,9 @@ pub(crate) fn write_game<O: Sink>(
     out: &mut O,
 )
     requires form { solver.old.form ≡ form }
-    requires shown { IsShown O.written O.has_failed (begun solver.old) out.old board.now }
+    requires shown { IsShown O.state (begun solver.old) out.old board.now }
     ensures begun { begun solver.new ≡ begun solver.old }
-    ensures printed { IsPrinted O.written O.has_failed O.is_handed_on out.old out.new (game_text form board.now (best_game board.now)) }
+    ensures printed { IsPrinted O.state out.old out.new (game_text form board.now (best_game board.now)) }
 {
     flush_unless_failed(out);
     if out.failed() {

@@ -27,8 +27,7 @@ fn print<O: Sink>(
     out: &mut O,
 ) -> Result<(), Failure<'static>>
     requires { IsCommandInRange command.now }
-    ensures printed { MatchResult result
-        (λ _. IsPrinted O.written O.has_failed O.is_handed_on out.old out.new (command_output command.now board.now))
+    ensures printed { MatchResult result (λ _. IsPrinted O.state out.old out.new (command_output command.now board.now))
         (λ _. out.new ≡ out.old) }
     ensures begins { OnOk result (MayPrint command.now board.now) }
     // A command for which nothing is searched never fails.
@@ -65,8 +64,8 @@ pub(crate) fn run_line<O: Sink, E: Write>(
     err: &mut E,
 ) -> Result<ExitStatus, Failure<'static>>
     requires range { IsCommandInRange command.now }
-    requires sink { O.has_failed out.old ≡ false }
-    ensures { Does O.written O.has_failed O.is_handed_on out.old out.new (ended_by result) any_bytes (command_asks command.now line.now) }
+    requires sink { (O.state out.old).has_failed ≡ false }
+    ensures { Does O.state out.old out.new (ended_by result) any_bytes (command_asks command.now line.now) }
 {
     match read_line(line.as_bytes()) {
         Ok(board) => match print(alloc, command, &board, out) {

@@ -12,7 +12,7 @@ use kalah_rules::{Board, Step};
 // Draws the board, if boards are drawn.
 #[tactic(auto, using(kalah_jobs::proofs::WritingLemmas::given_none))]
 pub(crate) fn write_board<O: Sink>(board: &Board, boards: bool, out: &mut O)
-    ensures { WasGiven O.written O.has_failed out.old out.new (board_lines boards board.now) }
+    ensures { WasGiven O.state out.old out.new (board_lines boards board.now) }
 {
     if boards {
         write_picture(out, board);
@@ -21,7 +21,7 @@ pub(crate) fn write_board<O: Sink>(board: &Board, boards: bool, out: &mut O)
 
 // Writes the line of a move, with a value after it or without.
 fn write_line<O: Sink>(house: u8, step: &Step, value: Option<i32>, out: &mut O)
-    ensures { WasGiven O.written O.has_failed out.old out.new (step_text_of house step.now ++ (value_words value ++ line_feed ∷ [])) }
+    ensures { WasGiven O.state out.old out.new (step_text_of house step.now ++ (value_words value ++ line_feed ∷ [])) }
 {
     match value {
         Some(value) => write_valued_step(out, house, step, value),
@@ -37,7 +37,7 @@ pub(crate) fn write_move<O: Sink>(
     boards: bool,
     out: &mut O,
 )
-    ensures { WasGiven O.written O.has_failed out.old out.new (move_lines boards value house step.now) }
+    ensures { WasGiven O.state out.old out.new (move_lines boards value house step.now) }
 {
     write_line(house, step, value, out);
     match step {
@@ -49,7 +49,7 @@ pub(crate) fn write_move<O: Sink>(
 
 /// Prints each legal move of a board, houses in ascending order, and draws the board after each if boards are drawn. It allocates nothing.
 pub(crate) fn write_moves<O: Sink>(board: &Board, boards: bool, out: &mut O)
-    ensures { IsPrinted O.written O.has_failed O.is_handed_on out.old out.new (moves_output boards board.now) }
+    ensures { IsPrinted O.state out.old out.new (moves_output boards board.now) }
 {
     let moves = board.legal();
     for i in 0..moves.len() {

@@ -25,10 +25,10 @@ fn margin_shown<O: Sink>(
     values: bool,
     out: &mut O,
 ) -> i32
-    requires shown { IsShown O.written O.has_failed (begun solver.old) out.old board.now }
+    requires shown { IsShown O.state (begun solver.old) out.old board.now }
     ensures begun { begun solver.new ≡ begun solver.old }
-    ensures flushed { WasGiven O.written O.has_failed out.old out.new [] }
-    ensures margin { values ≡ true → O.has_failed out.new ≡ false → result ≡ worth board.now }
+    ensures flushed { WasGiven O.state out.old out.new [] }
+    ensures margin { values ≡ true → (O.state out.new).has_failed ≡ false → result ≡ worth board.now }
     ensures small { IsSmallMargin result }
 {
     if !values {
@@ -55,7 +55,7 @@ fn play<O: Sink>(
 )
     requires begins { MayBegin first board.now }
     requires begun { begun solver.old ≡ record { form = Form.Lines boards values; first = board.now; sink = out.old } }
-    ensures { IsPrinted O.written O.has_failed O.is_handed_on out.old out.new (play_output first boards values board.now) }
+    ensures { IsPrinted O.state out.old out.new (play_output first boards values board.now) }
 {
     let form = Form::Lines { boards, values };
     write_board(board, boards, out);
@@ -98,8 +98,7 @@ pub(crate) fn run_play<O: Sink>(
     out: &mut O,
 ) -> Result<(), Failure<'static>>
     requires { IsTableSize table }
-    ensures printed { MatchResult result
-        (λ _. IsPrinted O.written O.has_failed O.is_handed_on out.old out.new (play_output first boards values board.now))
+    ensures printed { MatchResult result (λ _. IsPrinted O.state out.old out.new (play_output first boards values board.now))
         (λ _. out.new ≡ out.old) }
     ensures begins { OnOk result (MayBegin first board.now) }
 {

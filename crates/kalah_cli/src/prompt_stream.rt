@@ -28,11 +28,12 @@ impl<W: Write + Drop> PromptStream<W> {
 }
 
 impl<W: Write + Drop> Sink for PromptStream<W> {
-    ghost written = { λ p. writer_contents W.contents p.writer };
-
-    ghost has_failed = { λ p. p.has_failed };
-
-    ghost is_handed_on = { λ p. length (writer_buffer p.writer) == 0 };
+    ghost state = { λ p. record {
+      written = writer_contents W.contents p.writer;
+      has_failed = p.has_failed;
+      is_flushed = length (writer_buffer p.writer) == 0;
+      may_buffer = false;
+    } };
 
     #[inline(always)]
     fn write_all(&mut self, bytes: &[u8]) -> Result<(), io::Error> {

@@ -32,7 +32,7 @@ use std::thread::Threads;
 // Writes the requested help or version, and flushes.
 #[tactic(auto, using(crate::proofs::RunLemmas::printed_flushed))]
 fn print_text<O: Sink>(text: &str, out: &mut O)
-    ensures { IsPrinted O.written O.has_failed O.is_handed_on out.old out.new text.now }
+    ensures { IsPrinted O.state out.old out.new text.now }
 {
     write_unless_failed(out, text.as_bytes());
     flush_unless_failed(out);
@@ -47,16 +47,15 @@ fn refuse<O: Sink, E: Write>(
     out: &mut O,
     err: &mut E,
 ) -> Result<ExitStatus, Failure<'static>>
-    requires { O.has_failed out.old ≡ false }
+    requires { (O.state out.old).has_failed ≡ false }
     ensures mistake { kind_of error.now ≢ DisplayHelp → kind_of error.now ≢ DisplayVersion
         → FailsWithoutOutput out.old out.new (ended_by result) }
-    ensures failed { O.has_failed out.new ≡ true → ended_by result ≡ ExitStatus.Failed }
-    ensures unchanged { ended_by result ≡ ExitStatus.Failed → O.has_failed out.new ≡ false
-        → out.new ≡ out.old }
+    ensures failed { (O.state out.new).has_failed ≡ true → ended_by result ≡ ExitStatus.Failed }
+    ensures unchanged { ended_by result ≡ ExitStatus.Failed → (O.state out.new).has_failed ≡ false → out.new ≡ out.old }
     ensures no_line { ended_by result ≢ ExitStatus.LineFaults }
     ensures version { kind_of error.now ≢ DisplayHelp → ended_by result ≡ ExitStatus.Clean
-        → Appends (O.written out.old) (O.written out.new) version_line }
-    ensures handed_on { ended_by result ≢ ExitStatus.Failed → O.is_handed_on out.new ≡ true }
+        → Appends (O.state out.old).written (O.state out.new).written version_line }
+    ensures handed_on { ended_by result ≢ ExitStatus.Failed → (O.state out.new).is_flushed ≡ true }
 {
     let Ok(text) = error.to_string(alloc) else {
         return Err(Failure::OutOfMemory);
@@ -83,9 +82,8 @@ fn run_request<'a, R: Sources + Clock + Terminal + Threads + Wait + Sync, O: Sin
     err: &mut E,
 ) -> Result<ExitStatus, Failure<'a>>
     requires range { IsInRange request.now }
-    requires sink { O.has_failed out.old ≡ false }
-    ensures { Does O.written O.has_failed O.is_handed_on out.old out.new (ended_by result) (R.may_give rt.now)
-        (request_asks request.now) }
+    requires sink { (O.state out.old).has_failed ≡ false }
+    ensures { Does O.state out.old out.new (ended_by result) (R.may_give rt.now) (request_asks request.now) }
 {
     match request {
         Request::Line { line, command } => run_line(alloc, line, command, with_tips, out, err),
@@ -124,25 +122,24 @@ pub fn run_words<R: Sources + Clock + Terminal + Threads + Wait + Sync, O: Sink,
     out: &mut O,
     err: &mut E,
 ) -> ExitStatus
-    requires sink { O.has_failed out.old ≡ false }
+    requires sink { (O.state out.old).has_failed ≡ false }
     requires named { 0 < vec_len words }
     // Accepted arguments, in general; those of `moves LINE` also by their words.
-    ensures accepted { DoesWhatIsAsked O.written O.has_failed O.is_handed_on out.old out.new result (R.may_give rt.now)
-        (texts_of words.items) }
-    ensures by_words { MovesByItsWords O.written (texts_of words.items) out.old out.new result }
+    ensures accepted { DoesWhatIsAsked O.state out.old out.new result (R.may_give rt.now) (texts_of words.items) }
+    ensures by_words { MovesByItsWords O.state (texts_of words.items) out.old out.new result }
     // The game of `play` is one of best play, and a line of `show --lines` ends with the value of its move.
     ensures best_play { PlaysBestGames }
     ensures variations { VariationsEndWithTheirValue }
     // Arguments that are refused, as those that ask for help or for the version.
-    ensures refused { RefusesArguments O.written (texts_of words.items) out.old out.new result }
+    ensures refused { RefusesArguments O.state (texts_of words.items) out.old out.new result }
     // If a write failed, the program failed. If it failed for another cause, nothing was written, except for answers of `ask`.
-    ensures failed { O.has_failed out.new ≡ true → result ≡ ExitStatus.Failed }
+    ensures failed { (O.state out.new).has_failed ≡ true → result ≡ ExitStatus.Failed }
     ensures unchanged { ((a : Asked) → IsTakenAs (texts_of words.items) a → IsOfNoInput a) → result ≡ ExitStatus.Failed
-        → O.has_failed out.new ≡ false → out.new ≡ out.old }
+        → (O.state out.new).has_failed ≡ false → out.new ≡ out.old }
     ensures stopped { (question : Question) (table : ℕ) → IsTakenAs (texts_of words.items) (ask question table) → result ≡ ExitStatus.Failed
-        → O.has_failed out.new ≡ false → StopsBetweenLines question (O.written out.old) (O.written out.new) }
+        → (O.state out.new).has_failed ≡ false → StopsBetweenLines question (O.state out.old).written (O.state out.new).written }
     // If it did not, all that was written is flushed.
-    ensures handed_on { result ≢ ExitStatus.Failed → O.is_handed_on out.old ≡ true → O.is_handed_on out.new ≡ true }
+    ensures handed_on { result ≢ ExitStatus.Failed → (O.state out.old).is_flushed ≡ true → (O.state out.new).is_flushed ≡ true }
 {
     let with_tips = rt.shows_errors(); // Tips go only to a terminal.
     match parse(alloc, words.as_slice()) {

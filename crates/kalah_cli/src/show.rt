@@ -23,7 +23,7 @@ use std::alloc::Global;
 // Draws a board, and flushes.
 #[tactic(auto, using(crate::proofs::RunLemmas::printed_flushed))]
 fn write_plain<O: Sink>(board: &Board, out: &mut O)
-    ensures { IsPrinted O.written O.has_failed O.is_handed_on out.old out.new (picture_of board.now) }
+    ensures { IsPrinted O.state out.old out.new (picture_of board.now) }
 {
     write_picture(out, board);
     flush_unless_failed(out);
@@ -68,9 +68,9 @@ fn write_variation<O: Sink>(
     out: &mut O,
 )
     requires legal { Contains (legal_houses board.now) value.house }
-    requires shown { IsOfVariations O.written O.has_failed (begun solver.old) board.now out.old }
+    requires shown { IsOfVariations O.state (begun solver.old) board.now out.old }
     ensures begun { begun solver.new ≡ begun solver.old }
-    ensures line { WasGiven O.written O.has_failed out.old out.new (variation_line board.now value) }
+    ensures line { WasGiven O.state out.old out.new (variation_line board.now value) }
 {
     write_variation_start(out, value);
     match board.apply(value.house) {
@@ -90,9 +90,9 @@ fn write_ranked<O: Sink>(
     out: &mut O,
 )
     requires values { values.now ≡ values_of board.now }
-    requires shown { IsOfVariations O.written O.has_failed (begun solver.old) board.now out.old }
+    requires shown { IsOfVariations O.state (begun solver.old) board.now out.old }
     ensures begun { begun solver.new ≡ begun solver.old }
-    ensures line { WasGiven O.written O.has_failed out.old out.new (ranked_line board.now rank) }
+    ensures line { WasGiven O.state out.old out.new (ranked_line board.now rank) }
 {
     if let Some(value) = of_rank(values, rank) {
         write_variation(solver, board, value, out);
@@ -108,8 +108,8 @@ fn write_lines<O: Sink>(
     out: &mut O,
 )
     requires values { values.now ≡ values_of board.now }
-    requires shown { IsOfVariations O.written O.has_failed (begun solver.old) board.now out.old }
-    ensures { WasGiven O.written O.has_failed out.old out.new (lines_asked lines board.now) }
+    requires shown { IsOfVariations O.state (begun solver.old) board.now out.old }
+    ensures { WasGiven O.state out.old out.new (lines_asked lines board.now) }
 {
     if !lines {
         return;
@@ -123,7 +123,7 @@ fn write_lines<O: Sink>(
 // play after each. If the output has failed, nothing is searched.
 fn write_shown<O: Sink>(solver: &mut GameSolver<O>, board: &Board, lines: bool, out: &mut O)
     requires { begun solver.old ≡ record { form = Form.Houses; first = board.now; sink = out.old } }
-    ensures { IsPrinted O.written O.has_failed O.is_handed_on out.old out.new (show_output false lines board.now) }
+    ensures { IsPrinted O.state out.old out.new (show_output false lines board.now) }
 {
     write_plain(board, out);
     if out.failed() {
@@ -147,8 +147,7 @@ pub(crate) fn run_show<O: Sink>(
     out: &mut O,
 ) -> Result<(), Failure<'static>>
     requires { IsTableSize table }
-    ensures printed { MatchResult result
-        (λ _. IsPrinted O.written O.has_failed O.is_handed_on out.old out.new (show_output plain lines board.now))
+    ensures printed { MatchResult result (λ _. IsPrinted O.state out.old out.new (show_output plain lines board.now))
         (λ _. out.new ≡ out.old) }
     ensures searchless { plain ≡ true → IsErr result → ⊥ }
 {

@@ -59,9 +59,8 @@ fn answer_files<R: Clock + Terminal + Threads + Wait + Sync, O: Sink, E: Write>(
     err: &mut E,
 ) -> Result<Tally, RunFault>
     requires limits { IsInLimits request.now }
-    requires sink { O.has_failed out.old ≡ false }
-    ensures { AnswersBatch O.written O.has_failed O.is_handed_on (output_to request.now.question files.now) files.now out.old out.new
-        result }
+    requires sink { (O.state out.old).has_failed ≡ false }
+    ensures { AnswersBatch O.state (output_to request.now.question files.now) files.now out.old out.new result }
 {
     let batch = BatchRequest {
         question: request.question,
@@ -79,6 +78,7 @@ fn answer_files<R: Clock + Terminal + Threads + Wait + Sync, O: Sink, E: Write>(
 /// Answers what is asked of each line of the named files.
 ///
 /// Returns `Clean` if each line was read, and `LineFaults` if one was not.
+#[tactic(auto, using(crate::proofs::RunLemmas::start_whole))]
 pub(crate) fn run_files<
     'a,
     R: Sources + Clock + Terminal + Threads + Wait + Sync,
@@ -92,8 +92,8 @@ pub(crate) fn run_files<
     err: &mut E,
 ) -> Result<ExitStatus, Failure<'a>>
     requires limits { IsInLimits request.now }
-    requires sink { O.has_failed out.old ≡ false }
-    ensures { AnswersFiles O.written O.has_failed O.is_handed_on out.old out.new (ended_by result) (R.may_give rt.now) request.now.question
+    requires sink { (O.state out.old).has_failed ≡ false }
+    ensures { AnswersFiles O.state out.old out.new (ended_by result) (R.may_give rt.now) request.now.question
         (map (λ name. name.now) request.now.files.items) }
 {
     let files = read_named(rt, alloc, request.files.as_slice())?;

@@ -15,7 +15,7 @@ use Rattle.std.proofs.KnownBytes.{Appends-kept, Appends-nil, Appends-trans}
 use Rattle.std.proofs.Math.Seq.{take-append-add}
 use Rattle.std.proofs.Math.ListN.{drop_of_length-le}
 use Rattle.std.proofs.lemmas.List.{take-append-drop, length-take-le, length-drop, drop_at, drop-drop, flat_map_more, take_more, take_all, drop_more}
-use Rattle.kalah_jobs.specs.Writing.Given.{AppendsStart, WasGiven}
+use Rattle.kalah_jobs.specs.Writing.Given.{AppendsStart, SinkState, WasGiven}
 use Rattle.std.specs.List.{join_with_byte, range_with_len, flat_map, enumerate_from, onto_first, count_by}
 use Rattle.std.proofs.lemmas.Bool.{ne_eqb, cases_eq}
 use Rattle.std.proofs.lemmas.Grind.{flat_map-append}
@@ -199,91 +199,91 @@ module _ (place : List ℕ) (text : ℕ → List ℕ) where
 
 -- ==== Texts that are given to a sink, one after another
 
-module _ {O : Type 0} (written : O → Option (List ℕ)) (has_failed : O → Bool) where
+module _ {O : Type 0} (state : O → SinkState) where
   -- no text
-  pub given_none : (out : O) → WasGiven written has_failed out out []
-  given_none out = record { start = start_none (written out) []; whole = λ sound. (sound, Appends-nil (written out)); quiet = λ failed. refl }
+  pub given_none : (out : O) → WasGiven state out out []
+  given_none out = record { start = start_none (state out).written []; whole = λ sound. (sound, Appends-nil (state out).written); quiet = λ failed. refl }
 
   -- a text by one call, which is not made after a failure
-  pub given_once : {A E : Type 0} (r : Result A E) (old new : O) (text : List ℕ) → has_failed old ≡ false → IsErr r ↔ (has_failed new ≡ true)
-      → OnOk r (Appends (written old) (written new) text) → AppendsStart (written old) (written new) text
-      → WasGiven written has_failed old new text
+  pub given_once : {A E : Type 0} (r : Result A E) (old new : O) (text : List ℕ) → (state old).has_failed ≡ false → IsErr r ↔ ((state new).has_failed ≡ true)
+      → OnOk r (Appends (state old).written (state new).written text) → AppendsStart (state old).written (state new).written text
+      → WasGiven state old new text
   given_once (Ok x) old new text sound fails adds start = record { start = start; whole = λ still. (sound, adds); quiet = λ failed. cc }
   given_once (Err e) old new text sound fails adds start =
       record { start = start; whole = λ still. absurd (cc (fails.0 refl)); quiet = λ failed. cc }
 
   -- no text by a flush
-  pub given_flush : (old new : O) → has_failed old ≡ false → Keeps (written old) (written new) → WasGiven written has_failed old new []
+  pub given_flush : (old new : O) → (state old).has_failed ≡ false → Keeps (state old).written (state new).written → WasGiven state old new []
   given_flush old new sound keeps = record {
-    start = start_kept_all (written old) (written new) [] keeps;
-    whole = λ still. (sound, Appends-kept (written old) (written old) (written new) [] (Appends-nil (written old)) keeps);
+    start = start_kept_all (state old).written (state new).written [] keeps;
+    whole = λ still. (sound, Appends-kept (state old).written (state old).written (state new).written [] (Appends-nil (state old).written) keeps);
     quiet = λ failed. cc;
   }
 
   -- a sink that has failed is given any text
-  pub given_off : (out : O) (text : List ℕ) → has_failed out ≡ true → WasGiven written has_failed out out text
-  given_off out text failed = record { start = start_none (written out) text; whole = λ sound. absurd cc; quiet = λ _. refl }
+  pub given_off : (out : O) (text : List ℕ) → (state out).has_failed ≡ true → WasGiven state out out text
+  given_off out text failed = record { start = start_none (state out).written text; whole = λ sound. absurd cc; quiet = λ _. refl }
 
   -- a text, and then another
-  pub given_then : (old between new : O) (text more : List ℕ) → WasGiven written has_failed old between text
-      → WasGiven written has_failed between new more → WasGiven written has_failed old new (text ++ more)
+  pub given_then : (old between new : O) (text more : List ℕ) → WasGiven state old between text
+      → WasGiven state between new more → WasGiven state old new (text ++ more)
   given_then old between new text more first second = record {
-    start = by (has_failed between) refl;
+    start = by (state between).has_failed refl;
     whole = λ sound. (
       (first.whole (second.whole sound).0).0,
       Appends-trans _ _ _ text more (first.whole (second.whole sound).0).1 (second.whole sound).1,
     );
-    quiet = λ failed. let was = first.quiet failed in second.quiet (ap has_failed was ∙ failed) ∙ was;
+    quiet = λ failed. let was = first.quiet failed in second.quiet (ap (λ o. (state o).has_failed) was ∙ failed) ∙ was;
   } where
-    by : (b : Bool) → has_failed between ≡ b → AppendsStart (written old) (written new) (text ++ more)
-    by true failed = subst (λ o. AppendsStart (written old) (written o) (text ++ more)) (sym (second.quiet failed))
+    by : (b : Bool) → (state between).has_failed ≡ b → AppendsStart (state old).written (state new).written (text ++ more)
+    by true failed = subst (λ o. AppendsStart (state old).written (state o).written (text ++ more)) (sym (second.quiet failed))
         (start_longer _ _ text more first.start)
     by false sound = start_then _ _ _ (text ++ more) text more refl (first.whole sound).1 second.start
 
   -- a text, and then another, which needs to be the right one only if no call has failed
-  pub given_on : (old between new : O) (text more right : List ℕ) → WasGiven written has_failed old between text
-      → (has_failed between ≡ false → more ≡ right)
-      → WasGiven written has_failed between new more → WasGiven written has_failed old new (text ++ right)
-  given_on old between new text more right first same second = by (has_failed between) refl where
-    by : (b : Bool) → has_failed between ≡ b → WasGiven written has_failed old new (text ++ right)
+  pub given_on : (old between new : O) (text more right : List ℕ) → WasGiven state old between text
+      → ((state between).has_failed ≡ false → more ≡ right)
+      → WasGiven state between new more → WasGiven state old new (text ++ right)
+  given_on old between new text more right first same second = by (state between).has_failed refl where
+    by : (b : Bool) → (state between).has_failed ≡ b → WasGiven state old new (text ++ right)
     by true failed = given_then old between new text right first
-        (subst (λ o. WasGiven written has_failed between o right) (sym (second.quiet failed)) (given_off between right failed))
-    by false sound = given_then old between new text right first (subst (WasGiven written has_failed between new) (same sound) second)
+        (subst (λ o. WasGiven state between o right) (sym (second.quiet failed)) (given_off between right failed))
+    by false sound = given_then old between new text right first (subst (WasGiven state between new) (same sound) second)
 
   -- a text, and then a flush
-  pub given_flushed : (old between new : O) (text : List ℕ) → WasGiven written has_failed old between text
-      → WasGiven written has_failed between new [] → WasGiven written has_failed old new text
+  pub given_flushed : (old between new : O) (text : List ℕ) → WasGiven state old between text
+      → WasGiven state between new [] → WasGiven state old new text
   given_flushed old between new text first second =
-      subst (WasGiven written has_failed old new) (append-nil text) (given_then old between new text [] first second)
+      subst (WasGiven state old new) (append-nil text) (given_then old between new text [] first second)
 
   -- a flush, and then a text
-  pub given_after : (old between new : O) (text : List ℕ) → WasGiven written has_failed old between []
-      → WasGiven written has_failed between new text → WasGiven written has_failed old new text
+  pub given_after : (old between new : O) (text : List ℕ) → WasGiven state old between []
+      → WasGiven state between new text → WasGiven state old new text
   given_after old between new text first second = given_then old between new [] text first second
 
   -- a text that goes on after a failure
-  pub given_cut_off : (old between : O) (text more : List ℕ) → WasGiven written has_failed old between text → has_failed between ≡ true
-      → WasGiven written has_failed old between (text ++ more)
+  pub given_cut_off : (old between : O) (text more : List ℕ) → WasGiven state old between text → (state between).has_failed ≡ true
+      → WasGiven state old between (text ++ more)
   given_cut_off old between text more first failed = given_then old between between text more first (given_off between more failed)
 
   -- the texts of the first elements were given
   module _ (one : ℕ → List ℕ) {elements all : List ℕ} (same : elements ≡ all) (i : ℕ) (old between : O)
-      (so_far : WasGiven written has_failed old between (flat_map one (take i elements))) where
+      (so_far : WasGiven state old between (flat_map one (take i elements))) where
     -- and that of one more
     pub given_more : (new : O) (element : ℕ) → i < length elements → element ≡ get_or elements i 0
-        → WasGiven written has_failed between new (one element) → WasGiven written has_failed old new (flat_map one (take (i + 1) elements))
-    given_more new element within is more = subst (WasGiven written has_failed old new) (sym (one_more one elements i element within is))
+        → WasGiven state between new (one element) → WasGiven state old new (flat_map one (take (i + 1) elements))
+    given_more new element within is more = subst (WasGiven state old new) (sym (one_more one elements i element within is))
         (given_then old between new (flat_map one (take i elements)) (one element) so_far more)
 
     -- and a call had failed, so it was given all
-    pub given_cut : has_failed between ≡ true → WasGiven written has_failed old between (flat_map one all)
-    given_cut failed = subst (WasGiven written has_failed old between) (first_moves one elements all i same)
+    pub given_cut : (state between).has_failed ≡ true → WasGiven state old between (flat_map one all)
+    given_cut failed = subst (WasGiven state old between) (first_moves one elements all i same)
         (given_then old between between (flat_map one (take i elements)) (flat_map one (drop i elements)) so_far
         (given_off between (flat_map one (drop i elements)) failed))
 
     -- and there are no more
-    pub given_all : length elements ≤ i → WasGiven written has_failed old between (flat_map one all)
-    given_all end = subst (λ l. WasGiven written has_failed old between (flat_map one l)) (take_all i elements end ∙ same) so_far
+    pub given_all : length elements ≤ i → WasGiven state old between (flat_map one all)
+    given_all end = subst (λ l. WasGiven state old between (flat_map one l)) (take_all i elements end ∙ same) so_far
 
 -- ==== Texts joined in one line
 

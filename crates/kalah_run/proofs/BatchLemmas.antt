@@ -3,7 +3,7 @@ use Rattle.std.proofs.Common.{add-one, IfErr, ◌≡◌, ◌≤◌, ◌<◌, ◌
 use Rattle.std.proofs.lemmas.List.{nil_from_length, map-append, reverse-append, append-nil, take-append-drop, take_all, take_more, flat_map_more, get_or-map, length-append, length-map}
 use Rattle.kalah_jobs.specs.declared.files.entry.Entry.{Entry}
 use Rattle.kalah_jobs.specs.declared.files.job.Job.{Job}
-use Rattle.std.specs.Prelude.{◌⊎◌, All, Some, IfSome, fold, slice_get, Option, None, Result, Ok, Err, sum_by, IsErr, OnOk, count_by, ◌↔◌, IfOk}
+use Rattle.std.specs.Prelude.{◌⊎◌, All, Some, IfSome, fold, slice_get, Option, None, Result, Ok, Err, sum_by, IsErr, OnOk, count_by, IfOk}
 use Rattle.std.proofs.lemmas.List.Sums.{fold-append, sum_by-cons}
 use Rattle.std.proofs.lemmas.Option.{get_or_from_slice_get, slice_get_within}
 use Rattle.kalah_jobs.specs.Files.JobList.{job_list, jobs_from, file_jobs, line_job, entries_of, entry_at}
@@ -14,8 +14,8 @@ use Rattle.kalah_run.specs.declared.desk.rule.DrawnRow.{DrawnRow}
 use Rattle.kalah_run.specs.Batch.AtWork.{drawn_jobs, passes_of, puts_of, AreAtWork, HaveRun}
 use Rattle.std.specs.Io.KnownBytes.{Appends, Keeps}
 use Rattle.std.proofs.Math.Seq.{take-nil}
-use Rattle.std.proofs.KnownBytes.{Appends-kept, Appends-nil, Appends-trans}
-use Rattle.kalah_jobs.specs.Writing.Given.{AppendsStart}
+use Rattle.std.proofs.KnownBytes.{Appends-kept, Appends-nil, Appends-trans, Keeps-refl}
+use Rattle.kalah_jobs.specs.Writing.Given.{AppendsStart, SinkState}
 use Rattle.kalah_jobs.proofs.WritingLemmas.{start_none, start_then, start_longer, start_kept, files_are_their_jobs}
 use Rattle.kalah_run.specs.Batch.UnderWay.{WasGivenSince, text_of_job, written_upto, IsUnderWay}
 use Rattle.kalah_run.specs.Batch.Leaving.{rest_of, pass_in, HasDrawnNothing, IsLeft, DrawsOnlyTheRest}
@@ -35,25 +35,21 @@ use Rattle.kalah_jobs.specs.Files.NamedBytes.{NamedBytes}
 use Rattle.kalah_run.specs.declared.batch.ordered_output.OrderedOutput.{OrderedOutput}
 use Rattle.kalah_run.specs.Batch.OrderedOutput.{text_of, IsNew, HasWritten, whole_output, Waits}
 use Rattle.std.proofs.lemmas.List.Elements.{All-cons, All-map, All-nil}
-use Rattle.kalah_run.specs.Queue.States.{PutState, ArePassesFrom, sent_by}
+use Rattle.kalah_run.specs.Queue.States.{PutState, ArePassesFrom, sent_by, Accounts, outcomes_in}
 use Rattle.kalah_run.specs.Desk.States.{DeskState, PassState, IsPassAt, AreNewPasses, new_pass, drawn_rows}
 use Rattle.kalah_run.specs.declared.batch.worker.Worker.{Worker}
 use Rattle.kalah_run.specs.Batch.Running.{HasOwnTable, HaveOwnTables}
 use Rattle.atomic_table.specs.Seated.{TableId}
-use Rattle.kalah_jobs.specs.Files.Jobs.{job_count, jobs_to, lines_in_all}
+use Rattle.kalah_jobs.specs.Files.Jobs.{MakesJobs, job_count, jobs_to, lines_in_all}
 use Rattle.kalah_jobs.proofs.FilesLemmas.{length-job_list, job_count-jobs_to, lines_between, slice_get-job_list}
 use Rattle.kalah_jobs.specs.Collecting.Shares.{AreShared, times_in}
 use Rattle.kalah_run.specs.Desk.Rows.{drawn_numbers, DealsEachOnce, spent_in}
-use Rattle.kalah_run.specs.Queue.Lists.{Accounts, outcomes_in}
 use Rattle.kalah_run.specs.declared.batch.shared_work.SharedWork.{SharedWork}
 use Rattle.kalah_run.proofs.DeskLemmas.{length-drawn_numbers}
 use Rattle.kalah_run.specs.declared.batch.request.Rest.{Rest}
 use Rattle.kalah_run.specs.declared.batch.request.Rest.TheVariants.{Solve, Leave}
 use Rattle.kalah_jobs.specs.declared.files.question.Question.{Question}
-use Rattle.kalah_jobs.specs.Limits.{most_files, most_lines}
-use Rattle.kalah_run.specs.Batch.Answering.{AnswersBatch, counts_of}
-use Rattle.kalah_jobs.specs.declared.files.jobs.JobsFault.TheVariants as jobs_fault
-use Rattle.kalah_run.specs.Batch.NoLine.{AnswersNothing}
+use Rattle.kalah_run.specs.Batch.Answering.{AnswersBatch, counts_of, AnswersNothing}
 use Rattle.kalah_run.specs.declared.batch.run_fault.RunFault.{RunFault}
 use Rattle.kalah_run.specs.declared.batch.run_fault.RunFault.TheVariants.{TooManyFiles, TooManyLines, OutOfMemory, NoWorker, Write}
 
@@ -92,33 +88,32 @@ less_left numbers more number total is above below =
 -- ==== A sink that is given bytes
 
 -- it was given none yet
-pub given_none : (begun : Option (List ℕ)) (failed : Bool) → WasGivenSince begun begun failed []
-given_none begun failed = record { start = start_none begun []; whole = λ sound. Appends-nil begun }
+pub given_none : (begun : SinkState) → WasGivenSince begun begun []
+given_none begun = record { start = start_none begun.written []; whole = λ sound. Appends-nil begun.written }
 
 -- it is given more, and takes a prefix of it, or all if it has not failed then
-pub given_on : {begun out more : Option (List ℕ)} {failed fails : Bool} (bs cs : List ℕ) → WasGivenSince begun out failed bs
-    → failed ≡ false
-    → AppendsStart out more cs → (fails ≡ false → Appends out more cs) → WasGivenSince begun more fails (bs ++ cs)
+pub given_on : {begun out more : SinkState} (bs cs : List ℕ) → WasGivenSince begun out bs → out.has_failed ≡ false
+    → AppendsStart out.written more.written cs → (more.has_failed ≡ false → Appends out.written more.written cs)
+    → WasGivenSince begun more (bs ++ cs)
 given_on {begun} {out} {more} bs cs given sound start all = record {
-  start = start_then begun out more (bs ++ cs) bs cs refl (given.whole sound) start;
-  whole = λ still. Appends-trans begun out more bs cs (given.whole sound) (all still);
+  start = start_then begun.written out.written more.written (bs ++ cs) bs cs refl (given.whole sound) start;
+  whole = λ still. Appends-trans begun.written out.written more.written bs cs (given.whole sound) (all still);
 }
 
 -- it has failed, and what more there is is not written
-pub given_off : {begun out : Option (List ℕ)} {failed : Bool} (bs cs : List ℕ) → WasGivenSince begun out failed bs → failed ≡ true
-    → WasGivenSince begun out failed (bs ++ cs)
+pub given_off : {begun out : SinkState} (bs cs : List ℕ) → WasGivenSince begun out bs → out.has_failed ≡ true
+    → WasGivenSince begun out (bs ++ cs)
 given_off {begun} {out} bs cs given broken = record {
-  start = start_longer begun out bs cs given.start;
+  start = start_longer begun.written out.written bs cs given.start;
   whole = λ sound. absurd (let both : true ≡ false = sym broken ∙ sound in cc);
 }
 
 -- what it holds is flushed
-pub given_kept : {begun out more : Option (List ℕ)} {failed fails : Bool} {bs : List ℕ} → WasGivenSince begun out failed bs
-    → Keeps out more
-    → (fails ≡ false → failed ≡ false) → WasGivenSince begun more fails bs
-given_kept {begun} {out} {more} {bs = bs} given keeps was_sound = record {
-  start = start_kept begun out more bs given.start keeps;
-  whole = λ sound. Appends-kept begun out more bs (given.whole (was_sound sound)) keeps;
+pub given_kept : {begun out more : SinkState} {bs : List ℕ} → WasGivenSince begun out bs → Keeps out.written more.written
+    → (more.has_failed ≡ false → out.has_failed ≡ false) → WasGivenSince begun more bs
+given_kept {begun} {out} {more} {bs} given keeps was_sound = record {
+  start = start_kept begun.written out.written more.written bs given.start keeps;
+  whole = λ sound. Appends-kept begun.written out.written more.written bs (given.whole (was_sound sound)) keeps;
 }
 
 -- ==== The loop that writes each line once it is ready and all before it were written
@@ -185,25 +180,24 @@ module _ (text : ℕ → Taken → List ℕ) (jobs : List (List Entry)) where
   written_none = refl
 
   -- nothing was offered and nothing taken
-  pub progress_start : (begun : Option (List ℕ)) (failed : Bool) → IsUnderWay text jobs [] (new_files jobs) 0 begun begun failed
-  progress_start begun failed =
+  pub progress_start : (begun : SinkState) → IsUnderWay text jobs [] (new_files jobs) 0 begun begun
+  progress_start begun =
       record {
         kept = start jobs;
         before = λ g low. absurd (omega arith);
         later = λ g high. new_taken jobs g;
-        written = subst (λ (l : List ℕ). WasGivenSince begun begun failed l)
-            (sym (ap (λ n. written_upto text jobs 0 n) (new_taken jobs 0) ∙ written_none)) (given_none begun failed);
+        written = subst (λ (l : List ℕ). WasGivenSince begun begun l)
+            (sym (ap (λ n. written_upto text jobs 0 n) (new_taken jobs 0) ∙ written_none)) (given_none begun);
       }
 
 -- a step of a batch that is under way
 module _ {text : ℕ → Taken → List ℕ} {jobs : List (List Entry)} {past : List Job} {files : List FileState} {f : ℕ}
-    {begun out : Option (List ℕ)}
-    {failed : Bool} (progress : IsUnderWay text jobs past files f begun out failed) where
+    {begun out : SinkState} (progress : IsUnderWay text jobs past files f begun out) where
   -- A line is taken, and its text passed to the sink.
-  pub wrote_line : (after : List FileState) (t : Taken) (more : Option (List ℕ)) (fails : Bool) → Takes files f (Some t) after
-      → ((given : List ℕ) → WasGivenSince begun out failed given → WasGivenSince begun more fails (given ++ text f t))
-      → IsUnderWay text jobs past after f begun more fails
-  wrote_line after t more fails step gives =
+  pub wrote_line : (after : List FileState) (t : Taken) (more : SinkState) → Takes files f (Some t) after
+      → ((given : List ℕ) → WasGivenSince begun out given → WasGivenSince begun more (given ++ text f t))
+      → IsUnderWay text jobs past after f begun more
+  wrote_line after t more step gives =
       let n : ℕ = (state_of files f).taken in
       let now : List FileState = after_take files f in
       let other : (g : ℕ) → (g ≡ f → ⊥) → state_of now g ≡ state_of files g =
@@ -217,21 +211,21 @@ module _ {text : ℕ → Taken → List ℕ} {jobs : List (List Entry)} {past : 
       ap (λ x. written_upto text jobs f n ++ text f x) (taken_is t n w.entry line w.is)
       ∙ written_line text jobs f n w.entry at
       ∙ ap (λ m. written_upto text jobs f m) (sym taken) in
-      let new : IsUnderWay text jobs past now f begun more fails = record {
+      let new : IsUnderWay text jobs past now f begun more = record {
         kept = subst (λ (s : List FileState). Kept jobs past s) step.kept (kept_by_take progress.kept f t step);
         before = λ g g_low. ap (λ (s : FileState). s.taken) (other g (λ q. omega arith)) ∙ progress.before g g_low;
         later = λ g g_high. ap (λ (s : FileState). s.taken) (other g (λ q. omega arith)) ∙ progress.later g g_high;
-        written = subst (λ (l : List ℕ). WasGivenSince begun more fails l) text_is (gives (written_upto text jobs f n) progress.written);
+        written = subst (λ (l : List ℕ). WasGivenSince begun more l) text_is (gives (written_upto text jobs f n) progress.written);
       } in
-      subst (λ (s : List FileState). IsUnderWay text jobs past s f begun more fails) (sym step.kept) new
+      subst (λ (s : List FileState). IsUnderWay text jobs past s f begun more) (sym step.kept) new
 
   -- no line is taken
-  pub wrote_nothing : (after : List FileState) → Takes files f None after → IsUnderWay text jobs past after f begun out failed
-  wrote_nothing after step = subst (λ (s : List FileState). IsUnderWay text jobs past s f begun out failed) (sym step.unchanged) progress
+  pub wrote_nothing : (after : List FileState) → Takes files f None after → IsUnderWay text jobs past after f begun out
+  wrote_nothing after step = subst (λ (s : List FileState). IsUnderWay text jobs past s f begun out) (sym step.unchanged) progress
 
   -- a file is completely written, and the next becomes the current one
   pub wrote_file : f < length files → HasEnded (state_of files f) → front (state_of files f) ≤ (state_of files f).taken
-      → IsUnderWay text jobs past files (f + 1) begun out failed
+      → IsUnderWay text jobs past files (f + 1) begun out
   wrote_file low ended all =
       let up : (state_of files f).taken ≤ front (state_of files f) = progress.kept.within f in
       let counts = progress.kept.offered.counts in
@@ -250,26 +244,26 @@ module _ {text : ℕ → Taken → List ℕ} {jobs : List (List Entry)} {past : 
             (λ (np : g ≡ f → ⊥). progress.before g (omega arith))
             (cases_eq g f);
         later = λ g g_high. progress.later g (omega arith);
-        written = subst (λ (l : List ℕ). WasGivenSince begun out failed l) text_is progress.written;
+        written = subst (λ (l : List ℕ). WasGivenSince begun out l) text_is progress.written;
       }
 
   -- an outcome is offered, and accepted or refused: what was written stays
   pub progress_offered : (o : Job) (after : List FileState) (gave : Result ℕ Refusal) → Offers jobs files o gave after
-      → IsUnderWay text jobs (past ++ o ∷ []) after f begun out failed
+      → IsUnderWay text jobs (past ++ o ∷ []) after f begun out
   progress_offered o after gave step =
       let now = kept_by_offer progress.kept o gave step in
       record {
         kept = now.0;
         before = λ g g_low. now.1 g ∙ progress.before g g_low;
         later = λ g g_high. now.1 g ∙ progress.later g g_high;
-        written = subst (λ n. WasGivenSince begun out failed (written_upto text jobs f n)) (sym (now.1 f)) progress.written;
+        written = subst (λ n. WasGivenSince begun out (written_upto text jobs f n)) (sym (now.1 f)) progress.written;
       }
 
   -- a sink that has failed was given all, as far as it took it
-  pub progress_failed : failed ≡ true → WasGivenSince begun out failed (text_of_jobs text jobs)
+  pub progress_failed : out.has_failed ≡ true → WasGivenSince begun out (text_of_jobs text jobs)
   progress_failed broken =
       let all = written_first text jobs f (state_of files f).taken in
-      subst (λ (l : List ℕ). WasGivenSince begun out failed l) all.1 (given_off _ all.0 progress.written broken)
+      subst (λ (l : List ℕ). WasGivenSince begun out l) all.1 (given_off _ all.0 progress.written broken)
 
   -- Each job was offered once, and the current file, if there is one, has not ended.
   module _ (each : AreJobsInSomeOrder jobs past) (waits : f < length files → HasEnded (state_of files f) → ⊥) where
@@ -282,11 +276,11 @@ module _ {text : ℕ → Taken → List ℕ} {jobs : List (List Entry)} {past : 
         (cases_lt f (length files))
 
     -- the sink was given all
-    pub progress_end : WasGivenSince begun out failed (text_of_jobs text jobs)
+    pub progress_end : WasGivenSince begun out (text_of_jobs text jobs)
     progress_end =
         let many : length files ≡ length jobs = files_many jobs files progress.kept.offered.counts in
         let high : length files ≤ f = past_all in
-        subst (λ (l : List ℕ). WasGivenSince begun out failed l) (written_all text jobs f (state_of files f).taken (omega arith))
+        subst (λ (l : List ℕ). WasGivenSince begun out l) (written_all text jobs f (state_of files f).taken (omega arith))
         progress.written
 
 -- ==== What an output writes, line by line
@@ -300,13 +294,12 @@ text_of_taken files f file name taken low at is =
     (get_or-map (λ (x : NamedBytes). x.name) files f file [] low ∙ sym (ap (λ (x : NamedBytes). x.name) at) ∙ sym is)
 
 -- an output advances with the state of what is under way
-pub written_on : {files : List NamedBytes} {jobs : List (List Entry)} {past : List Job} {begun out more : Option (List ℕ)}
-    {failed fails : Bool}
-    {r after : OrderedOutput} → HasWritten files jobs past begun out failed r → after.files.now ≡ r.files.now
+pub written_on : {files : List NamedBytes} {jobs : List (List Entry)} {past : List Job} {begun out more : SinkState}
+    {r after : OrderedOutput} → HasWritten files jobs past begun out r → after.files.now ≡ r.files.now
     → after.jobs.now ≡ r.jobs.now
-    → (IsUnderWay (text_of r.files.now) r.jobs.now past r.collector r.current begun out failed
-    → IsUnderWay (text_of r.files.now) r.jobs.now past after.collector after.current begun more fails)
-    → HasWritten files jobs past begun more fails after
+    → (IsUnderWay (text_of r.files.now) r.jobs.now past r.collector r.current begun out
+    → IsUnderWay (text_of r.files.now) r.jobs.now past after.collector after.current begun more)
+    → HasWritten files jobs past begun more after
 written_on is same_files same_jobs on =
     record {
       of_files = same_files ∙ is.of_files;
@@ -316,9 +309,9 @@ written_on is same_files same_jobs on =
     }
 
 -- an output stays written if what was written is flushed
-pub still_written : {files : List NamedBytes} {jobs : List (List Entry)} {past : List Job} {begun out later : Option (List ℕ)}
-    {failed fails : Bool} {r : OrderedOutput} → Keeps out later → (fails ≡ false → failed ≡ false)
-    → HasWritten files jobs past begun out failed r → HasWritten files jobs past begun later fails r
+pub still_written : {files : List NamedBytes} {jobs : List (List Entry)} {past : List Job} {begun out later : SinkState}
+    {r : OrderedOutput} → Keeps out.written later.written → (later.has_failed ≡ false → out.has_failed ≡ false)
+    → HasWritten files jobs past begun out r → HasWritten files jobs past begun later r
 still_written keeps sound is = record {
   of_files = is.of_files;
   of_jobs = is.of_jobs;
@@ -331,12 +324,11 @@ still_written keeps sound is = record {
 }
 
 -- a new output has written nothing
-pub new_written : (begun : Option (List ℕ)) (failed : Bool) (r : OrderedOutput) → IsNew r
-    → HasWritten r.files.now r.jobs.now [] begun begun failed r
-new_written begun failed r new = record {
+pub new_written : (begun : SinkState) (r : OrderedOutput) → IsNew r → HasWritten r.files.now r.jobs.now [] begun begun r
+new_written begun r new = record {
   of_files = refl;
   of_jobs = refl;
-  progress = rw new.0 (rw new.1 (progress_start (text_of r.files.now) r.jobs.now begun failed));
+  progress = rw new.0 (rw new.1 (progress_start (text_of r.files.now) r.jobs.now begun));
 }
 
 -- what a call that wrote all, or failed, did if it has not failed
@@ -599,29 +591,28 @@ unfolding text_of
 texts_are_output files jobs = refl
 
 -- What an output has written in the end, once it is flushed: all that is to be written, if each job was accepted once or the rest is left.
-pub given_whole : {rest : Rest} (output : OrderedOutput) {r : OrderedOutput} {past : List Job} {begun out later : Option (List ℕ)}
-    {failed fails : Bool}
-    → Keeps out later → (fails ≡ false → failed ≡ false)
-    → HasWritten output.files.now output.jobs.now past begun out failed r × Waits r
-    → AreJobsInSomeOrder output.jobs.now past ⊎ IsLeft rest fails → WasGivenSince begun later fails (whole_output output)
-given_whole {rest} output {r} {past} {begun} {later = later} {fails = fails} keeps sound written known =
+pub given_whole : {rest : Rest} (output : OrderedOutput) {r : OrderedOutput} {past : List Job} {begun out later : SinkState}
+    → Keeps out.written later.written → (later.has_failed ≡ false → out.has_failed ≡ false)
+    → HasWritten output.files.now output.jobs.now past begun out r × Waits r
+    → AreJobsInSomeOrder output.jobs.now past ⊎ IsLeft rest later.has_failed → WasGivenSince begun later (whole_output output)
+given_whole {rest} output {r} {past} {begun} {later = later} keeps sound written known =
     let files = output.files.now in
     let so_far = still_written keeps sound written.0 in
     let is : text_of_jobs (text_of files) r.jobs.now ≡ whole_output output =
     ap (λ l. text_of_jobs (text_of files) l) so_far.of_jobs ∙ texts_are_output files output.jobs.now in
-    subst (λ l. WasGivenSince begun later fails l) is
+    subst (λ l. WasGivenSince begun later l) is
     (⊎_elim
     (λ (each : AreJobsInSomeOrder output.jobs.now past). progress_end so_far.progress
     (subst (λ l. AreJobsInSomeOrder l past) (sym so_far.of_jobs) each) written.1)
-    (λ (left : IsLeft rest fails). progress_failed so_far.progress left.1)
+    (λ (left : IsLeft rest later.has_failed). progress_failed so_far.progress left.1)
     known)
 
 -- the output of the jobs of the files is that of the files
-pub given_output : (question : Question) (files : List NamedBytes) (r : OrderedOutput) (begun out : Option (List ℕ)) (failed : Bool)
+pub given_output : (question : Question) (files : List NamedBytes) (r : OrderedOutput) (begun out : SinkState)
     → r.files.now ≡ files → r.jobs.now ≡ jobs_to question files
-    → WasGivenSince begun out failed (whole_output r) → WasGivenSince begun out failed (output_to question files)
-given_output question files r begun out failed of_files of_jobs given =
-    subst (λ l. WasGivenSince begun out failed l)
+    → WasGivenSince begun out (whole_output r) → WasGivenSince begun out (output_to question files)
+given_output question files r begun out of_files of_jobs given =
+    subst (λ l. WasGivenSince begun out l)
     ((λ i. output_of_jobs (names_of (of_files i)) (of_jobs i)) ∙ sym (files_are_their_jobs.output question files)) given
 
 -- there are as many jobs as lines
@@ -647,80 +638,26 @@ appends_none (Some xs) (Some ys) bytes none appends = appends ∙ (ap (λ l. xs 
 pub starts_none : (old new : Option (List ℕ)) (bytes : List ℕ) → bytes ≡ [] → AppendsStart old new bytes → Keeps old new
 starts_none old new bytes none start = appends_none old new (take start.0 bytes) (ap (take start.0) none ∙ take-nil start.0) start.1
 
-ok_is_no_error : {A E : Type 0} {x : A} {e : E} → Ok x ≡ Err e → ⊥
-ok_is_no_error is = cc
-
--- what a batch promises whose files have jobs
-module _ {W : Type 0} (bytes : W → Option (List ℕ)) (has_failed is_handed_on : W → Bool) (question : Question) {files : List NamedBytes}
-    {jobs : List (List Entry)} {old new : W} (value : jobs ≡ jobs_to question files)
-    (many_files : (Ok jobs ≡ Err jobs_fault.TooManyFiles) ↔ (most_files < length files))
-    (many_lines : (Ok jobs ≡ Err jobs_fault.TooManyLines) ↔ ((length files ≤ most_files) × (most_lines < lines_in_all files))) where
-  -- if it fails
-  failed_so : (e : RunFault) → e ≢ TooManyFiles → e ≢ TooManyLines → (e ≡ NoWorker → 0 < lines_in_all files)
-      → AppendsStart (bytes old) (bytes new) (output_to question files) → ((e ≡ Write) ↔ (has_failed new ≡ true))
-      → (e ≢ Write → new ≡ old)
-      → AnswersBatch bytes has_failed is_handed_on (output_to question files) files old new (Err e)
-  failed_so e files_few lines_few some start write kept = record {
-    written = tt;
-    tally = tt;
-    handed_on = tt;
-    start = start;
-    too_many_files = (λ is. absurd (files_few cc), λ many. absurd (ok_is_no_error (many_files.1 many)));
-    too_many_lines = (λ is. absurd (lines_few cc), λ many. absurd (ok_is_no_error (many_lines.1 many)));
-    no_worker = λ is. some cc;
-    write = (λ is. write.0 cc, λ failed. ap (λ (f : RunFault). Err f) (write.1 failed));
-    untouched = kept;
-  }
-
-  -- if it fails without memory or without a thread, and leaves the sink as it was
-  module _ (kept : new ≡ old) (sound : has_failed old ≡ false) {result : Result LineCounts RunFault} where
-    left_as_it_was : (e : RunFault) → result ≡ Err e → e ≢ TooManyFiles → e ≢ TooManyLines → e ≢ Write
-        → (e ≡ NoWorker → 0 < lines_in_all files)
-        → AnswersBatch bytes has_failed is_handed_on (output_to question files) files old new result
-    left_as_it_was e is files_few lines_few unwritten some = rw is (failed_so e files_few lines_few some
-        (subst (λ now. AppendsStart (bytes old) now (output_to question files)) (ap bytes (sym kept))
-        (start_none (bytes old) (output_to question files)))
-        (λ q. absurd (unwritten q), λ failed. absurd (let both : true ≡ false = sym failed ∙ ap has_failed kept ∙ sound in cc))
-        (λ other. kept))
-
-    pub left_without_memory : result ≡ Err OutOfMemory
-        → AnswersBatch bytes has_failed is_handed_on (output_to question files) files old new result
-    left_without_memory is = left_as_it_was OutOfMemory is (λ q. cc) (λ q. cc) (λ q. cc) (λ q. absurd cc)
-
-    pub left_without_worker : result ≡ Err NoWorker → 0 < lines_in_all files
-        → AnswersBatch bytes has_failed is_handed_on (output_to question files) files old new result
-    left_without_worker is some = left_as_it_was NoWorker is (λ q. cc) (λ q. cc) (λ q. cc) (λ q. some)
-
+-- what a batch promises
+module _ {W : Type 0} (state : W → SinkState) (question : Question) (files : List NamedBytes) (old : W) where
   -- if the sink was given the answers to all lines, and is flushed
-  pub answered : (result : Result LineCounts RunFault)
-      → WasGivenSince (bytes old) (bytes new) (has_failed new) (output_to question files)
-      → IfOk result (λ tally. tally ≡ counts_of jobs) → OnOk result ((has_failed new ≡ false) × (is_handed_on new ≡ true))
-      → IfErr result (λ e. (e ≡ Write) × (has_failed new ≡ true))
-      → AnswersBatch bytes has_failed is_handed_on (output_to question files) files old new result
-  answered (Ok tally) given counted sound fault = record {
+  pub answered : {jobs : List (List Entry)} → MakesJobs question files (Ok jobs) → (new : W) (result : Result LineCounts RunFault)
+      → WasGivenSince (state old) (state new) (output_to question files)
+      → IfOk result (λ tally. tally ≡ counts_of jobs) → OnOk result (((state new).has_failed ≡ false) × ((state new).is_flushed ≡ true))
+      → IfErr result (λ e. (e ≡ Write) × ((state new).has_failed ≡ true))
+      → AnswersBatch state (output_to question files) files old new result
+  answered made new (Ok tally) given counted sound fault = record {
+    few = made.0;
     written = given.whole sound.0;
-    tally = counted ∙ ap counts_of value ∙ counted_tally question files;
-    handed_on = sound.1;
-    start = given.start;
-    too_many_files = (λ is. cc, λ many. absurd (ok_is_no_error (many_files.1 many)));
-    too_many_lines = (λ is. cc, λ many. absurd (ok_is_no_error (many_lines.1 many)));
-    no_worker = λ is. absurd (ok_is_no_error is);
-    write = (λ is. absurd (ok_is_no_error is), λ failed. absurd (let both : true ≡ false = sym failed ∙ sound.0 in cc));
-    untouched = tt;
+    sound = sound.0;
+    flushed = sound.1;
+    counted = counted ∙ ap counts_of made.1 ∙ counted_tally question files;
   }
-  answered (Err e) given counted sound fault =
-      let is = fault.0 in
-      failed_so e (λ q. let both : Write ≡ TooManyFiles = sym is ∙ q in cc) (λ q. let both : Write ≡ TooManyLines = sym is ∙ q in cc)
-      (λ q. absurd (let both : Write ≡ NoWorker = sym is ∙ q in cc)) given.start (λ q. fault.1, λ failed. is)
-      (λ other. absurd (other is))
+  answered made new (Err e) given counted sound fault =
+      subst (λ e. AnswersBatch state (output_to question files) files old new (Err e)) (sym fault.0) (made.0, given.start, fault.1)
 
--- a fault that is neither of these two is one of the other three
-one_of_three : (e : RunFault) → e ≢ TooManyLines → e ≢ NoWorker → (e ≡ TooManyFiles) ⊎ (e ≡ OutOfMemory) ⊎ (e ≡ Write)
-one_of_three TooManyFiles few some = inl refl
-one_of_three TooManyLines few some = absurd (few refl)
-one_of_three OutOfMemory few some = inr (inl refl)
-one_of_three NoWorker few some = absurd (some refl)
-one_of_three Write few some = inr (inr refl)
+left_same : {W : Type 0} (state : W → SinkState) {old new : W} → new ≡ old → Keeps (state old).written (state new).written
+left_same state {old} same = subst (λ o. Keeps (state old).written (state o).written) (sym same) (Keeps-refl (state old).written)
 
 module _ (question : Question) (files : List NamedBytes) (none : lines_in_all files ≡ 0) where
   no_jobs : job_list (jobs_to question files) ≡ []
@@ -734,24 +671,27 @@ module _ (question : Question) (files : List NamedBytes) (none : lines_in_all fi
       ∙ ap (flat_map (text_of_job (answer_text_of (names_of files)))) no_jobs
 
   -- and nothing was written
-  pub given_no_output : (begun : Option (List ℕ)) (failed : Bool) → WasGivenSince begun begun failed (output_to question files)
-  given_no_output begun failed = subst (λ l. WasGivenSince begun begun failed l) (sym no_output) (given_none begun failed)
+  pub given_no_output : (begun : SinkState) → WasGivenSince begun begun (output_to question files)
+  given_no_output begun = subst (λ l. WasGivenSince begun begun l) (sym no_output) (given_none begun)
 
   no_tally : tally_of files ≡ record { lines = 0; faults = 0 }
   no_tally =
       sym (counted_tally question files)
       ∙ ap (λ (l : List Job). let c : LineCounts = record { lines = length l; faults = count_by is_faulty_job l } in c) no_jobs
 
-  pub nothing_answered : (old new : Option (List ℕ)) (result : Result LineCounts RunFault)
-      → AppendsStart old new (output_to question files)
-      → IfOk result (λ tally. tally ≡ tally_of files)
-      → ((result ≡ Err TooManyLines) ↔ ((length files ≤ most_files) × (most_lines < lines_in_all files)))
-      → (result ≡ Err NoWorker → 0 < lines_in_all files) → AnswersNothing old new result
-  nothing_answered old new (Ok tally) start counted many worker =
-      record { unwritten = starts_none old new _ no_output start; uncounted = counted ∙ no_tally; fault = tt }
-  nothing_answered old new (Err e) start counted many worker = record {
-    unwritten = starts_none old new _ no_output start;
+  pub nothing_answered : {W : Type 0} (state : W → SinkState) (old new : W) (result : Result LineCounts RunFault)
+      → AnswersBatch state (output_to question files) files old new result → AnswersNothing (state old).written (state new).written result
+  nothing_answered state old new (Ok tally) is = record {
+    unwritten = appends_none _ _ _ no_output is.written;
+    uncounted = is.counted ∙ no_tally;
+    fault = tt;
+  }
+  nothing_answered state old new (Err TooManyFiles) is = record { unwritten = left_same state is.1.0; uncounted = tt; fault = inl refl }
+  nothing_answered state old new (Err TooManyLines) is = absurd (let more = is.1 in omega arith)
+  nothing_answered state old new (Err OutOfMemory) is = record { unwritten = left_same state is.1.0; uncounted = tt; fault = inr (inl refl) }
+  nothing_answered state old new (Err NoWorker) is = absurd (let some = is.1 in omega arith)
+  nothing_answered state old new (Err Write) is = record {
+    unwritten = starts_none _ _ _ no_output is.1;
     uncounted = tt;
-    fault = one_of_three e (λ is. absurd (let both = many.0 (ap Err is) in let more = both.1 in omega arith))
-        (λ is. absurd (let some = worker (ap Err is) in omega arith));
+    fault = inr (inr refl);
   }

@@ -13,7 +13,7 @@ use Rattle.kalah_run.specs.declared.desk.rule.DeskView.{DeskView}
 use Rattle.kalah_run.specs.declared.desk.rule.DeskView.TheVariants.{Opening, Drawing, Closing, Ended}
 use Rattle.kalah_jobs.specs.Collecting.Shares.{times_in}
 use Rattle.kalah_run.specs.Desk.Rows.{drawn_numbers, drawn_row, drawn_in, spent_in, AreLawful, DealsEachOnce}
-use Rattle.kalah_run.specs.Desk.Kept.{rows_in, all_rows, passes_in, HasTotal, IsKept, opening_view, ended_view}
+use Rattle.kalah_run.specs.Desk.Kept.{rows_in, all_rows, passes_in, HasTotal, IsKept, opening_view, ended_view, CountsWhatItDeals}
 use Rattle.std.proofs.lemmas.List.Quantifiers.{all_pairs_push}
 use Rattle.std.proofs.lemmas.Bool.{lt-ltb, le-ltb, cases_lt}
 use Rattle.std.proofs.Math.Nat.{mod-eq_of_lt}
@@ -24,7 +24,6 @@ use Rattle.kalah_run.specs.Limits.{most_passes}
 use Rattle.kalah_run.specs.Desk.Steps.{DrawsFrom, Draws, DrawsRest, numbers_from, StartsClosing, after_handing_out, pass_handed_out, after_reclaiming_row}
 use Rattle.kalah_run.specs.Desk.States.{as_pass_view, row_in, total_in, number_in, PassState, DeskState, new_pass, AreNewPasses, drawn_rows}
 use Rattle.std.proofs.lemmas.List.{get_or_push, get_or_append_left, length-map, map-append, nil_from_length, set-set}
-use Rattle.kalah_run.specs.Desk.Law.{CountsWhatItDeals}
 use Rattle.kalah_run.specs.Batch.Leaving.{HasDrawnNothing, pass_in}
 
 -- ==== Sums over the rows of all seats, and facts of each row: after a change of one seat's view, and after a new seat
@@ -231,6 +230,7 @@ module _ {S : Type 0} (plan : DeskPlan) (s : State S DeskView) (seat total numbe
       let rises : Ascends (drawn_row (numbers ++ n ∷ []) false) = all_pairs_push (λ x y. x < y) numbers n ascends below in (
         record {
           within = omega arith;
+          count = refl;
           each_once = λ x.
               let t : sum_by (times x) (all_rows (set s.views seat w)) ≡ sum_by (times x) (all_rows s.views) + cond (n == x) 1 0 =
               omega (arith, rows_set (times x) s.views seat v w at, sum_by_push (λ y. cond (y == x) 1 0) numbers n) in
@@ -266,6 +266,7 @@ module _ {S : Type 0} (plan : DeskPlan) (s : State S DeskView) (seat total numbe
       omega (arith, rows_set (λ r. cond r.spent 1 0) s.views seat v w at) in (
         record {
           within = omega arith;
+          count = refl;
           each_once = λ x.
               let t : sum_by (times x) (all_rows (set s.views seat w)) ≡ sum_by (times x) (all_rows s.views) =
               omega (arith, rows_set (times x) s.views seat v w at) in
@@ -428,6 +429,7 @@ kept_alike plan s after kept words same passes fits =
       passes = passes ∙ kept.passes;
       lawful = record {
         within = omega (arith, drawn, kept.lawful.within);
+        count = refl;
         each_once = λ x. times_rows x (all_rows after.views) ∙ same (times x) refl ∙ sym (times_rows x (all_rows s.views))
             ∙ kept.lawful.each_once x ∙ ap (λ c. if nat_lt x c then 1 else 0) (sym drawn);
         ascending = all_from Ascends after.views (λ seat v at. (fits seat v at).1);
@@ -445,6 +447,7 @@ begins plan total passes = record {
   passes = sum_by-cons passes_in (opening_view plan) [] ∙ omega arith;
   lawful = record {
     within = omega arith;
+    count = refl;
     each_once = λ x. grind (arith, nat_tests);
     ascending = All-nil (λ r. AllPairs (λ x y. x < y) r.numbers);
     spent = λ some_spent. absurd (omega arith);
@@ -489,15 +492,6 @@ one_pass_more desk count passes p handed_out is = (
       ∙ ap (new_pass desk) (sym same))
       (cases_lt k count),
 )
-
--- of new passes, those before the last one, and the last one
-pub but_the_last : (desk : DeskState) (count : ℕ) (passes : List PassState) (p : PassState)
-    → AreNewPasses desk (count + 1) (passes ++ p ∷ []) → AreNewPasses desk count passes × (p ≡ new_pass desk count)
-but_the_last desk count passes p new =
-    let many : length passes ≡ count = omega (arith, length-append passes (p ∷ []), new.0) in (
-      (many, λ k d within. sym (get_or_append_left passes (p ∷ []) d k (omega (arith, many))) ∙ new.1 k d (omega arith)),
-      sym (get_or_push passes p p count many) ∙ new.1 count p (omega arith),
-    )
 
 -- if the last row is empty, the others have all numbers
 deals_but_last : (total drawn : ℕ) (rows : List DrawnRow) (r : DrawnRow) → r.numbers ≡ []
@@ -604,18 +598,6 @@ spent_at_end total word rows is lawful =
       (λ some_spent. let full = lawful.spent some_spent in let high : total < word = omega arith in grind (arith, nat_tests)),
     )
 
--- ==== In lawful rows each number below the count stands in one row, there once, and no other number stands in any row
-
--- if each number below the count stands in one row, and there once, the rows are lawful in these words
-pub deals_each_once : (total : ℕ) (rows : List DrawnRow) → AreLawful total rows → DealsEachOnce total (drawn_in rows) rows
-deals_each_once total rows lawful = record {
-  within = lawful.within;
-  count = refl;
-  each_once = lawful.each_once;
-  ascending = lawful.ascending;
-  spent = lawful.spent;
-}
-
 -- there are as many rows of numbers as passes
 pub length-drawn_numbers : (passes : List PassState) → length (drawn_numbers (drawn_rows passes)) ≡ length passes
 length-drawn_numbers passes = length-map (drawn_rows passes) (λ (r : DrawnRow). r.numbers)
@@ -629,7 +611,7 @@ desk_is_lawful plan state kept =
     let rows : List DrawnRow = all_rows state.views in
     record {
       drawn = drawn_in rows;
-      deals = deals_each_once plan.total rows kept.lawful;
+      deals = kept.lawful;
       word = kept.word;
       most = omega (
         arith,

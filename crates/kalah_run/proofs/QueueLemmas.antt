@@ -4,7 +4,6 @@ use Rattle.std.proofs.lemmas.List.{append-nil, length-map, length-set, length_pu
 use Rattle.std.proofs.lemmas.List.Elements.{All-push}
 use Rattle.kalah_jobs.specs.declared.files.job.Job.{Job}
 use Rattle.kalah_jobs.specs.Collecting.Shares.{sent_by_worker}
-use Rattle.kalah_run.specs.Queue.Lists.{Accounts, outcomes_in}
 use mathlib.Core.Option.{some, some-ne-none}
 use lib.ListN.{get_elem?}
 use Rattle.atomic_table.proofs.Lists.{at_longer, set_else, set_here}
@@ -12,11 +11,10 @@ use Rattle.kalah_run.proofs.ViewLemmas.{Each, each_more, each_set, in_views, was
 use Rattle.kalah_run.specs.declared.queue.rule.QueueView.{QueueView}
 use Rattle.kalah_run.specs.declared.queue.rule.QueueView.TheVariants.{Getting, Putting, Ended}
 use Rattle.atomic_table.specs.Seated.{TableId}
-use Rattle.kalah_run.specs.Queue.States.{PutState, ArePassesFrom}
+use Rattle.kalah_run.specs.Queue.States.{PutState, ArePassesFrom, Accounts, outcomes_in}
 use Rattle.crossbeam_queue.specs.Fifo.{Pushes, Pops, Forks, Held, Merges, Learns}
-use Rattle.kalah_run.specs.Queue.Rule.{Fits, FitsPut, FitsGet, IsLawful}
+use Rattle.kalah_run.specs.Queue.Rule.{Fits, FitsPut, FitsGet, IsLawful, IsWholeAndInOrder}
 use Rattle.kalah_run.specs.Queue.Steps.{first_view, after_making_one, one_made, after_put, after_reclaiming_sent, IsGot, Tells}
-use Rattle.kalah_run.specs.Queue.Law.{IsWholeAndInOrder}
 
 -- ==== What the pairs determine of one worker, and of all
 

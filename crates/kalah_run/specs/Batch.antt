@@ -1,6 +1,5 @@
 pub mod Faults
 pub mod Answering
-pub mod NoLine
 pub mod AtWork
 pub mod UnderWay
 pub mod Leaving

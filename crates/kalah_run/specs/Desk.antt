@@ -2,4 +2,3 @@ pub mod Rows
 pub mod Kept
 pub mod Steps
 pub mod States
-pub mod Law

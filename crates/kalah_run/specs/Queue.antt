@@ -1,5 +1,3 @@
-pub mod Lists
 pub mod Rule
 pub mod Steps
 pub mod States
-pub mod Law

@@ -82,14 +82,14 @@ pub fn answer_batch<R: Threads + Wait + Sync, G: Gate, V: Watch, W: Sink>(
     watch: &mut V,
     out: &mut W,
 ) -> Result<Tally, RunFault>
-    requires fresh { W.has_failed out.old ≡ false }
+    requires fresh { (W.state out.old).has_failed ≡ false }
 
     // What Ok means, what was written in any case, and when each fault comes: a field for each.
-    ensures answers { AnswersBatch W.written W.has_failed W.is_handed_on (output_to request.now.question request.now.files.now)
+    ensures answers { AnswersBatch W.state (output_to request.now.question request.now.files.now)
         request.now.files.now out.old out.new result }
 
     // The gate hears of each job, unless the rest is left.
-    ensures gate_hears_all { (request.now.rest ≡ Solve) ⊎ (W.has_failed out.new ≡ false)
+    ensures gate_hears_all { (request.now.rest ≡ Solve) ⊎ ((W.state out.new).has_failed ≡ false)
         → HearsAll (G.knows gate.now) request.now.files.now result }
 {
     let jobs = Jobs::asking(alloc, request.question, request.files)?;
@@ -101,10 +101,10 @@ pub fn answer_batch<R: Threads + Wait + Sync, G: Gate, V: Watch, W: Sink>(
 
 // Flushes the output, and counts the lines of the jobs. Fails with `Write` if the output has failed.
 fn flush_and_count<W: Sink>(jobs: &Jobs, out: &mut W) -> Result<Tally, RunFault>
-    ensures given { WasGiven W.written W.has_failed out.old out.new [] }
+    ensures given { WasGiven W.state out.old out.new [] }
     ensures counted { IfOk result (λ tally. tally ≡ counts_of jobs.now) }
-    ensures handed_on { OnOk result ((W.has_failed out.new ≡ false) × (W.is_handed_on out.new ≡ true)) }
-    ensures fault { IfErr result (λ e. (e ≡ RunFault.Write) × (W.has_failed out.new ≡ true)) }
+    ensures handed_on { OnOk result (((W.state out.new).has_failed ≡ false) × ((W.state out.new).is_flushed ≡ true)) }
+    ensures fault { IfErr result (λ e. (e ≡ RunFault.Write) × ((W.state out.new).has_failed ≡ true)) }
 {
     flush_unless_failed(out);
     if out.failed() {
@@ -130,10 +130,10 @@ pub fn solve_batch<R: Threads + Wait + Sync, G: Gate, W: Sink>(
 ) -> Result<Tally, RunFault>
     requires workers { AreWorkers workers }
     requires table { IsTableSize table }
-    requires fresh { W.has_failed out.old ≡ false }
+    requires fresh { (W.state out.old).has_failed ≡ false }
 
     // As in `answer_batch`.
-    ensures answers { AnswersBatch W.written W.has_failed W.is_handed_on (output_of files.now) files.now out.old out.new result }
+    ensures answers { AnswersBatch W.state (output_of files.now) files.now out.old out.new result }
     ensures gate_hears_all { HearsAll (G.knows gate.now) files.now result }
 {
     let request = BatchRequest {

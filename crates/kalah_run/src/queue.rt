@@ -4,8 +4,7 @@ ghost use Rattle.crossbeam_queue.specs.Passes.{view, IsPassOf};
 ghost use Rattle.kalah_jobs.specs.declared.files.job.Job.{Job};
 ghost use Rattle.kalah_run.specs.Limits.{AreQueuePlaces, AreWorkers};
 ghost use Rattle.kalah_run.specs.declared.queue.rule.QueueView.TheVariants.{Getting};
-ghost use Rattle.kalah_run.specs.Queue.Lists.{Accounts};
-ghost use Rattle.kalah_run.specs.Queue.States.{ArePassesFrom, HasGot, sent_by};
+ghost use Rattle.kalah_run.specs.Queue.States.{ArePassesFrom, HasGot, sent_by, Accounts};
 ghost use Rattle.kalah_run.specs.Queue.Steps.{got_in, made_in};
 
 pub(crate) mod laws;
@@ -15,7 +14,7 @@ mod waiting;
 
 use crate::queue::passes::{GetPass, PutPass};
 use crate::queue::rule::{AnotherWorker, Gets, LeftInside, Puts, Reclaims, RuledQueue};
-use crate::queue::waiting::{Waiters, Waiting};
+use crate::queue::waiting::{Sent, Waiters, Waiting, WakeUp};
 use crossbeam_utils::{Backoff, CachePadded};
 use kalah_jobs::Outcome;
 use std::alloc::{AllocError, Global};
@@ -93,10 +92,11 @@ impl ResultsQueue {
         requires { pass.old.queue ≡ self.now.id }
         ensures { pass.new ≡ record pass.old { sent = pass.old.sent ++ outcome ∷ [] } }
     {
-        if self.try_put(pass, outcome) {
-            self.getters.call_one();
-        } else {
-            self.put_later(rt, pass, outcome);
+        match self.try_put(pass, outcome) {
+            Some(wake_up) => {
+                wake_up.send();
+            }
+            None => self.put_later(rt, pass, outcome),
         }
     }
 
@@ -109,9 +109,9 @@ impl ResultsQueue {
     {
         let mut waiting = Waiting::new(&self.putters);
         for _ in rt.forever() {
-            if self.try_put(pass, outcome) {
+            if let Some(wake_up) = self.try_put(pass, outcome) {
                 drop(waiting);
-                self.getters.call_one();
+                wake_up.send();
                 return;
             }
             waiting.pause(rt);
@@ -119,16 +119,16 @@ impl ResultsQueue {
         unreachable!()
     }
 
-    // Puts the outcome if there is room. Returns whether there was.
+    // Puts the outcome if there is room, and returns the wake-up that is owed for it.
     #[inline(always)]
-    fn try_put(&self, pass: &mut PutPass, outcome: Outcome) -> bool
+    fn try_put(&self, pass: &mut PutPass, outcome: Outcome) -> Option<WakeUp<'_>>
         requires { pass.old.queue ≡ self.now.id }
-        ensures put { result ≡ true → pass.new ≡ record pass.old { sent = pass.old.sent ++ outcome ∷ [] } }
-        ensures full { result ≡ false → pass.new ≡ pass.old }
+        ensures { MatchOption result (pass.new ≡ pass.old) (λ _. pass.new ≡ record pass.old { sent = pass.old.sent ++ outcome ∷ [] }) }
     {
-        self.outcomes
-            .try_push_as::<Puts>(&mut pass.ruled, outcome)
-            .is_ok()
+        match self.outcomes.try_push_as::<Puts>(&mut pass.ruled, outcome) {
+            Ok(()) => Some(WakeUp::owed_to(&self.getters)),
+            Err(_) => None,
+        }
     }
 
     /// Removes an outcome, the next of one of the workers, and returns it. Blocks while there is none: first by spinning briefly, then by
@@ -143,22 +143,32 @@ impl ResultsQueue {
         outcome
     }
 
-    // Gets an outcome, if there is one.
+    // Gets an outcome, if there is one, and returns it with the wake-up that is owed for its place.
     #[inline(always)]
-    fn try_get(&self, pass: &mut GetPass) -> Option<Outcome>
+    fn try_get(&self, pass: &mut GetPass) -> Option<(Outcome, WakeUp<'_>)>
         requires { pass.old.queue ≡ self.now.id }
-        ensures { MatchOption result (pass.new ≡ pass.old) (λ outcome. HasGot pass.old outcome pass.new) }
+        ensures { MatchOption result (pass.new ≡ pass.old) (λ got. HasGot pass.old got.0 pass.new) }
     {
-        self.outcomes.try_pop_as::<Gets>(&mut pass.ruled)
+        let outcome = self.outcomes.try_pop_as::<Gets>(&mut pass.ruled)?;
+        Some((outcome, WakeUp::owed_to(&self.putters)))
     }
 
-    // Says that the workers have ended, so that no further outcome is waited for. The word is 1 from then on, and its rule has what is
-    // known of them then.
-    pub(crate) fn end<E: Rule>(&self, ended: &AtomicIn<E>)
+    // Says that the workers have ended, and returns the wake-up that is owed for that. The word is 1 from then on, and its rule has what
+    // is known of them then.
+    fn tell_end<E: Rule>(&self, ended: &AtomicIn<E>) -> WakeUp<'_>
         requires { E.invariant 1 }
     {
         ended.store(1, SeqCst);
-        self.getters.call_one();
+        WakeUp::owed_to(&self.getters)
+    }
+
+    // Says that the workers have ended, so that no further outcome is waited for, and returns what they leave.
+    pub(crate) fn end<E: Rule, T>(&self, ended: &AtomicIn<E>, left: T) -> AfterEnd<T>
+        requires { E.invariant 1 }
+        ensures { result.left ≡ left }
+    {
+        let sent = self.tell_end(ended).send();
+        AfterEnd { left, _sent: sent }
     }
 
     // Like `get`, but returns `None`, with nothing got, once the workers have ended and no outcome is left, if there is a word for that.
@@ -178,9 +188,9 @@ impl ResultsQueue {
                 Some(word) => word.load(SeqCst) == 1,
                 None => false,
             };
-            if let Some(outcome) = self.try_get(pass) {
+            if let Some((outcome, wake_up)) = self.try_get(pass) {
                 drop(waiting);
-                self.putters.call_one();
+                wake_up.send();
                 return Some(outcome);
             }
             if has_ended {
@@ -201,8 +211,8 @@ impl ResultsQueue {
     {
         let backoff = Backoff::new();
         while *tries > 0 {
-            if let Some(outcome) = self.try_get(pass) {
-                self.putters.call_one();
+            if let Some((outcome, wake_up)) = self.try_get(pass) {
+                wake_up.send();
                 return Some(outcome);
             }
             *tries -= 1;
@@ -235,6 +245,24 @@ impl ResultsQueue {
         }
         let left = outcomes.len_as::<LeftInside, R>(rt, &mut ruled);
         ClosedQueue { left: left as u32 }
+    }
+}
+
+/// What the workers of a batch leave, once it is said that they have ended, and the wake-up for that is sent. Only `ResultsQueue::end`
+/// makes it.
+#[derive(Drop)]
+pub(crate) struct AfterEnd<T> {
+    left: T,
+    _sent: Sent,
+}
+
+impl<T> AfterEnd<T> {
+    /// Returns what they leave.
+    pub(crate) fn into_inner(self) -> T
+        ensures { result ≡ self.left }
+    {
+        let AfterEnd { left, .. } = self;
+        left
     }
 }
 

@@ -16,6 +16,7 @@ use Rattle.kalah_jobs.specs.Files.NamedBytes.{NamedBytes}
 use Rattle.kalah_jobs.specs.Files.Question.{entry_to}
 use Rattle.kalah_jobs.specs.Writing.Answer.{answer_of, answer_texts, answer_words, in_one_line, place_words}
 use Rattle.kalah_jobs.specs.Writing.Output.{is_faulty, output_to, line_output}
+use Rattle.kalah_jobs.specs.Writing.Given.{SinkState}
 use Rattle.kalah_jobs.specs.Writing.Splitting.{EndsWithItsLine}
 
 -- the bytes of a line that are kept, enough to determine its entry: a line with that many, with its CR or not, is too long
@@ -76,8 +77,8 @@ module _ {I O : Type 0} (remaining : I → Option (List ℕ)) where
   abbrev pub unread : PromptReader I O → Option (List ℕ)
   unread r = reader_remaining remaining r.input.now
 
-  abbrev pub asking_of : (O → Option (List ℕ)) → PromptReader I O → Asking
-  asking_of written r = record { question = r.question; before = reader_remaining remaining r.first.value; old = written r.sink.value }
+  abbrev pub asking_of : (O → SinkState) → PromptReader I O → Asking
+  asking_of state r = record { question = r.question; before = reader_remaining remaining r.first.value; old = (state r.sink.value).written }
 
 -- all lines that were read since then are answered
 abbrev pub AreAnswered : Asking → Option (List ℕ) → Option (List ℕ) → Type 0

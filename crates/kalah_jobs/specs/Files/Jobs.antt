@@ -1,11 +1,13 @@
 -- The jobs of a batch, from its files.
-use Rattle.std.specs.Prelude.{◌≡◌, ◌<◌, ◌≤◌, ℕ, List, length, map, take, sum_by, count_by, slice_index}
+use Rattle.std.specs.Prelude.{◌≡◌, ◌<◌, ◌≤◌, ℕ, List, length, map, take, sum_by, count_by, slice_index, Result, Ok, Err}
 use Rattle.kalah_jobs.specs.declared.files.entry.Entry.{Entry}
 use Rattle.kalah_jobs.specs.Files.NamedBytes.{NamedBytes}
 use Rattle.kalah_jobs.specs.Files.Lines.{lines_of}
 use Rattle.kalah_jobs.specs.Files.Question.{entry_to}
 use Rattle.kalah_jobs.specs.Writing.Answer.{is_faulty_entry}
 use Rattle.kalah_jobs.specs.Limits.{most_files, most_lines}
+use Rattle.kalah_jobs.specs.declared.files.jobs.JobsFault.{JobsFault}
+use Rattle.kalah_jobs.specs.declared.files.jobs.JobsFault.TheVariants.{TooManyFiles, TooManyLines, OutOfMemory}
 use Rattle.kalah_jobs.specs.declared.files.question.Question.{Question}
 use Rattle.kalah_jobs.specs.declared.files.question.Question.TheVariants.{BestMove}
 
@@ -44,3 +46,14 @@ pub record AreCounted (jobs : List (List Entry)) (total faults : ℕ) : Type 0 w
 pub record AreStarts (jobs : List (List Entry)) (starts : List ℕ) : Type 0 where
   pub as_many : length starts ≡ length jobs
   pub before : (f : ℕ) → f < length jobs → slice_index starts f ≡ job_count (take f jobs)
+
+-- the files are within the limits of a batch
+abbrev pub AreFew : List NamedBytes → Type 0
+AreFew files = (length files ≤ most_files) × (lines_in_all files ≤ most_lines)
+
+-- what is made of files: their jobs, with this asked of their positions, or the first of the faults that holds
+abbrev pub MakesJobs : Question → List NamedBytes → Result (List (List Entry)) JobsFault → Type 0
+MakesJobs question files (Ok jobs) = AreFew files × (jobs ≡ jobs_to question files)
+MakesJobs question files (Err TooManyFiles) = most_files < length files
+MakesJobs question files (Err TooManyLines) = (length files ≤ most_files) × (most_lines < lines_in_all files)
+MakesJobs question files (Err OutOfMemory) = AreFew files

@@ -22,18 +22,18 @@ fn answer_each<I: Read + Drop, O: Sink>(
     solver: &mut PromptSolver<'_>,
     out: &mut O,
 ) -> Result<bool, AskFault>
-    requires asked { asking_of I.remaining O.written input.old
-        ≡ record { question = question; before = unread I.remaining input.old; old = O.written out.old } }
-    requires sink { O.has_failed out.old ≡ false }
+    requires asked { asking_of I.remaining O.state input.old
+        ≡ record { question = question; before = unread I.remaining input.old; old = (O.state out.old).written } }
+    requires sink { (O.state out.old).has_failed ≡ false }
     ensures same_reference { input.new.input.ghost_name ≡ input.old.input.ghost_name }
     ensures answered { IfOk result (λ all_read. IsAnswered question (unread I.remaining input.old)
-        (unread I.remaining input.new) (O.written out.old) (O.written out.new) all_read) }
+        (unread I.remaining input.new) (O.state out.old).written (O.state out.new).written all_read) }
     ensures cut_off { IsErrOf result AskFault.Read → IsCutOff question (unread I.remaining input.old)
-        (unread I.remaining input.new) (O.written out.old) (O.written out.new) }
+        (unread I.remaining input.new) (O.state out.old).written (O.state out.new).written }
     ensures begins { IsBegun question (unread I.remaining input.old) (unread I.remaining input.new)
-        (O.written out.old) (O.written out.new) }
-    ensures failed { O.has_failed out.new ≡ true ↔ IsErrOf result AskFault.Write }
-    ensures handed_on { O.has_failed out.new ≡ false → O.is_handed_on out.new ≡ true }
+        (O.state out.old).written (O.state out.new).written }
+    ensures failed { (O.state out.new).has_failed ≡ true ↔ IsErrOf result AskFault.Write }
+    ensures handed_on { (O.state out.new).has_failed ≡ false → (O.state out.new).is_flushed ≡ true }
     // After a read fault no byte is left to give, of the most that a `u64` counts.
     ensures none_left { IsErrOf result AskFault.Read → input.new.left ≡ 0 }
 {
@@ -73,20 +73,20 @@ pub fn answer_lines<I: Read + Drop, O: Sink>(
     solver: &mut Solver,
     out: &mut O,
 ) -> Result<bool, AskFault>
-    requires { O.has_failed out.old ≡ false }
+    requires { (O.state out.old).has_failed ≡ false }
 
     // If nothing fails: all was read, and the answers to all its lines were written, and nothing else was.
     ensures answered { IfOk result (λ all_read. IsAnswered question (reader_remaining I.remaining input.old)
-        (reader_remaining I.remaining input.new) (O.written out.old) (O.written out.new) all_read) }
+        (reader_remaining I.remaining input.new) (O.state out.old).written (O.state out.new).written all_read) }
     // If a read fails: all lines that had come were answered.
     ensures cut_off { IsErrOf result AskFault.Read → IsCutOff question (reader_remaining I.remaining input.old)
-        (reader_remaining I.remaining input.new) (O.written out.old) (O.written out.new) }
+        (reader_remaining I.remaining input.new) (O.state out.old).written (O.state out.new).written }
     // In any case: a prefix of the answers was written, and at most one line was read that is not answered.
     ensures begins { IsBegun question (reader_remaining I.remaining input.old) (reader_remaining I.remaining input.new)
-        (O.written out.old) (O.written out.new) }
-    ensures failed { O.has_failed out.new ≡ true ↔ IsErrOf result AskFault.Write }
+        (O.state out.old).written (O.state out.new).written }
+    ensures failed { (O.state out.new).has_failed ≡ true ↔ IsErrOf result AskFault.Write }
     // If no write failed, all that was written is flushed.
-    ensures handed_on { O.has_failed out.new ≡ false → O.is_handed_on out.new ≡ true }
+    ensures handed_on { (O.state out.new).has_failed ≡ false → (O.state out.new).is_flushed ≡ true }
 {
     let mut reader = PromptReader::new(input, question, out);
     answer_each(&mut reader, question, &mut PromptSolver::new(solver), out)

@@ -42,7 +42,7 @@ fn read_ahead<I: Read + Drop, O: Sink>(
     left: &mut u64,
     _out: &O,
 ) -> Result<(), AskFault>
-    requires handed_on { O.is_handed_on _out.now ≡ true }
+    requires handed_on { (O.state _out.now).is_flushed ≡ true }
     ensures keeps { Keeps (reader_remaining I.remaining input.old) (reader_remaining I.remaining input.new) }
     ensures end { OnOk result (reader_buffer input.new ≡ []
         → IsAtEnd (reader_remaining I.remaining input.old)) }
@@ -70,8 +70,8 @@ impl<'a, I: Read + Drop, O: Sink> PromptReader<'a, I, O> {
     ) -> PromptReader<'a, I, O>
         ensures same_reference { result.input.ghost_name ≡ input.entry.ghost_name }
         ensures unread { result.input.now ≡ input.old }
-        ensures asking { asking_of I.remaining O.written result
-            ≡ record { question = question; before = reader_remaining I.remaining input.old; old = O.written out.now } }
+        ensures asking { asking_of I.remaining O.state result
+            ≡ record { question = question; before = reader_remaining I.remaining input.old; old = (O.state out.now).written } }
         ensures left { result.left ≡ 2 ^ 64 - 1 }
     {
         PromptReader {
@@ -85,16 +85,16 @@ impl<'a, I: Read + Drop, O: Sink> PromptReader<'a, I, O> {
 
     // Returns the next byte, or `None` at the end. All lines so far are answered. Before a read all output is flushed.
     pub(crate) fn next_byte(&mut self, out: &mut O) -> Result<Option<u8>, AskFault>
-        requires answered { AreAnswered (asking_of I.remaining O.written self.old) (unread I.remaining self.old) (O.written out.old) }
-        requires sink { O.has_failed out.old ≡ false }
+        requires answered { AreAnswered (asking_of I.remaining O.state self.old) (unread I.remaining self.old) (O.state out.old).written }
+        requires sink { (O.state out.old).has_failed ≡ false }
         ensures same_reference { self.new.input.ghost_name ≡ self.old.input.ghost_name }
-        ensures asking { asking_of I.remaining O.written self.new ≡ asking_of I.remaining O.written self.old }
+        ensures asking { asking_of I.remaining O.state self.new ≡ asking_of I.remaining O.state self.old }
         ensures taken { IfOk result (λ byte. Consumes (unread I.remaining self.old) (unread I.remaining self.new) (bytes_of byte)) }
         ensures end { IfOk result (λ byte. byte ≡ None → IsAtEnd (unread I.remaining self.old)) }
         ensures untaken { OnErr result (Keeps (unread I.remaining self.old) (unread I.remaining self.new)) }
-        ensures keeps { Keeps (O.written out.old) (O.written out.new) }
-        ensures failed { O.has_failed out.new ≡ true ↔ IsErrOf result AskFault.Write }
-        ensures handed_on { IsErrOf result AskFault.Read → O.is_handed_on out.new ≡ true }
+        ensures keeps { Keeps (O.state out.old).written (O.state out.new).written }
+        ensures failed { (O.state out.new).has_failed ≡ true ↔ IsErrOf result AskFault.Write }
+        ensures handed_on { IsErrOf result AskFault.Read → (O.state out.new).is_flushed ≡ true }
         ensures counted { IfOk result (λ byte. self.new.left + length (bytes_of byte) ≡ self.old.left) }
         ensures none_left { IsErrOf result AskFault.Read → self.new.left ≡ 0 }
     {

@@ -18,7 +18,7 @@ pub(crate) fn tell<O: Sink>(
     solver: &mut PromptSolver<'_>,
     out: &mut O,
 ) -> bool
-    ensures given { WasGiven O.written O.has_failed out.old out.new (told question line.now) }
+    ensures given { WasGiven O.state out.old out.new (told question line.now) }
     ensures read { result ≡ not (is_faulty line.now) }
 {
     let entry = Entry::of_line(question, line.bytes());
@@ -42,9 +42,9 @@ pub(crate) fn tell_last<O: Sink>(
     solver: &mut PromptSolver<'_>,
     out: &mut O,
 ) -> bool
-    ensures given { WasGiven O.written O.has_failed out.old out.new (told_last question line.now) }
+    ensures given { WasGiven O.state out.old out.new (told_last question line.now) }
     ensures read { result ≡ is_last_read line.now }
-    ensures handed_on { O.has_failed out.new ≡ false → O.is_handed_on out.new ≡ true }
+    ensures handed_on { (O.state out.new).has_failed ≡ false → (O.state out.new).is_flushed ≡ true }
 {
     let is_read = line.bytes().is_empty() || tell(line, question, solver, out);
     flush_unless_failed(out);

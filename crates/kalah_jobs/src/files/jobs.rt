@@ -3,7 +3,8 @@ ghost use Rattle.std.specs.Prelude.{◌≡◌, ◌<◌, ◌≤◌, ◌↔◌, �
 ghost use Rattle.kalah_jobs.specs.Files.JobList.{entries_of, line_job, job_list};
 ghost use Rattle.kalah_jobs.specs.Files.Lines.{lines_of};
 ghost use Rattle.kalah_jobs.specs.Limits.{most_files, most_lines};
-ghost use Rattle.kalah_jobs.specs.Files.Jobs.{entries_to, lines_in_all, jobs_of, jobs_to, job_count};
+ghost use Rattle.kalah_jobs.specs.Files.Jobs.{MakesJobs, entries_to, job_count, lines_in_all};
+ghost use Rattle.kalah_jobs.specs.declared.files.question.Question.TheVariants.{BestMove};
 ghost use Rattle.kalah_jobs.specs.Writing.Answer.{is_faulty_entry};
 ghost use Rattle.kalah_jobs.specs.Writing.Output.{is_faulty_job};
 
@@ -71,10 +72,7 @@ impl Model for Jobs {
 impl Jobs {
     /// Makes the jobs of these files, with the best move asked of each position. Fails as `asking` does.
     pub fn of_files(alloc: Global, files: &[FileText]) -> Result<Jobs, JobsFault>
-        ensures too_many_files { (result ≡ Err JobsFault.TooManyFiles) ↔ (most_files < length files.now) }
-        ensures too_many_lines { (result ≡ Err JobsFault.TooManyLines)
-            ↔ ((length files.now ≤ most_files) × (most_lines < lines_in_all files.now)) }
-        ensures value { IfOk result (λ jobs. jobs ≡ jobs_of files.now) }
+        ensures { MakesJobs BestMove files.now result }
     {
         Jobs::asking(alloc, Question::BestMove, files)
     }
@@ -84,10 +82,7 @@ impl Jobs {
     /// Fails with `TooManyFiles` if there are more than 256 files, otherwise with `TooManyLines` if they have more than 1,000,000 lines
     /// together. Both are tested before any allocation. Fails with `OutOfMemory` only if memory was refused.
     pub fn asking(alloc: Global, question: Question, files: &[FileText]) -> Result<Jobs, JobsFault>
-        ensures too_many_files { (result ≡ Err JobsFault.TooManyFiles) ↔ (most_files < length files.now) }
-        ensures too_many_lines { (result ≡ Err JobsFault.TooManyLines)
-            ↔ ((length files.now ≤ most_files) × (most_lines < lines_in_all files.now)) }
-        ensures value { IfOk result (λ jobs. jobs ≡ jobs_to question files.now) }
+        ensures { MakesJobs question files.now result }
     {
         if files.len() > MOST_FILES {
             return Err(JobsFault::TooManyFiles);

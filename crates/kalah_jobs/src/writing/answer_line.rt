@@ -115,7 +115,7 @@ pub fn answer_text(alloc: Global, name: &str, taken: &Taken) -> Result<String, A
 // Writes the answer line of a line of the file `name`, and a line feed; of steps the line of each.
 #[inline(always)]
 fn write_texts<W: Sink>(out: &mut W, name: &str, taken: &Taken)
-    ensures { WasGiven W.written W.has_failed out.old out.new (answer_line name.now taken.now ++ line_feed ∷ []) }
+    ensures { WasGiven W.state out.old out.new (answer_line name.now taken.now ++ line_feed ∷ []) }
 {
     let mut text = StackText::new();
     match &taken.answer {
@@ -138,11 +138,11 @@ fn write_texts<W: Sink>(out: &mut W, name: &str, taken: &Taken)
 /// written, and nothing else.
 #[inline(always)]
 pub fn write_answer<W: Sink>(out: &mut W, name: &str, taken: &Taken) -> Result<(), io::Error>
-    requires { W.has_failed out.old ≡ false }
-    ensures fails { IsErr result ↔ (W.has_failed out.new ≡ true) }
+    requires { (W.state out.old).has_failed ≡ false }
+    ensures fails { IsErr result ↔ ((W.state out.new).has_failed ≡ true) }
     ensures adds { OnOk result
-        (Appends (W.written out.old) (W.written out.new) (answer_line name.now taken.now ++ line_feed ∷ [])) }
-    ensures start { AppendsStart (W.written out.old) (W.written out.new) (answer_line name.now taken.now ++ line_feed ∷ []) }
+        (Appends (W.state out.old).written (W.state out.new).written (answer_line name.now taken.now ++ line_feed ∷ [])) }
+    ensures start { AppendsStart (W.state out.old).written (W.state out.new).written (answer_line name.now taken.now ++ line_feed ∷ []) }
 {
     write_texts(out, name, taken);
     if out.failed() {
@@ -153,7 +153,7 @@ pub fn write_answer<W: Sink>(out: &mut W, name: &str, taken: &Taken) -> Result<(
 
 // Writes an answer in words, and a line feed.
 pub(crate) fn write_words<W: Sink>(out: &mut W, answer: &Answer)
-    ensures { WasGiven W.written W.has_failed out.old out.new (answer_words answer.now ++ line_feed ∷ []) }
+    ensures { WasGiven W.state out.old out.new (answer_words answer.now ++ line_feed ∷ []) }
 {
     match answer {
         Answer::Steps(board) => write_steps_in_line(out, board),

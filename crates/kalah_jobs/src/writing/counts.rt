@@ -12,7 +12,7 @@ use crate::writing::stack_text::StackText;
 #[tactic(auto, using(crate::proofs::WritingLemmas::number_length))]
 pub fn write_ways<W: Sink>(out: &mut W, house: u8, ways: u64)
     requires { house ≤ most_houses }
-    ensures { WasGiven W.written W.has_failed out.old out.new (ways_line house ways) }
+    ensures { WasGiven W.state out.old out.new (ways_line house ways) }
 {
     let mut text = StackText::new();
     text.prepend("\n");
@@ -26,7 +26,7 @@ pub fn write_ways<W: Sink>(out: &mut W, house: u8, ways: u64)
 /// If it fails, a prefix of the line was written, and nothing else.
 #[tactic(auto, using(crate::proofs::WritingLemmas::number_length))]
 pub fn write_total<W: Sink>(out: &mut W, ways: u64)
-    ensures { WasGiven W.written W.has_failed out.old out.new (total_line ways) }
+    ensures { WasGiven W.state out.old out.new (total_line ways) }
 {
     let mut text = StackText::new();
     text.prepend("\n");

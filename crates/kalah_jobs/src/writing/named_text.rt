@@ -9,7 +9,7 @@ use crate::writing::stack_text::StackText;
 #[cold]
 #[inline(never)]
 fn write_apart<W: Sink>(out: &mut W, name: &str, text: &StackText)
-    ensures { WasGiven W.written W.has_failed out.old out.new (name.now ++ text.now) }
+    ensures { WasGiven W.state out.old out.new (name.now ++ text.now) }
 {
     write_unless_failed(out, name.as_bytes());
     write_unless_failed(out, text.bytes());
@@ -18,7 +18,7 @@ fn write_apart<W: Sink>(out: &mut W, name: &str, text: &StackText)
 // Writes the name and then the text, by one call of the sink. If the name is too long to be put in front of the text, there are two.
 #[inline(always)]
 pub(crate) fn write_named<W: Sink>(out: &mut W, name: &str, text: &mut StackText)
-    ensures { WasGiven W.written W.has_failed out.old out.new (name.now ++ text.old) }
+    ensures { WasGiven W.state out.old out.new (name.now ++ text.old) }
 {
     if name.len() > text.room() {
         write_apart(out, name, text);

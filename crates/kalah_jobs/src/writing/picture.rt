@@ -75,7 +75,7 @@ fn picture(board: &Board) -> StackText
 /// a column of four bytes. It allocates nothing. If the sink has failed it is not called. If it fails, a prefix of the picture was
 /// written, and nothing else.
 pub fn write_picture<W: Sink>(out: &mut W, board: &Board)
-    ensures { WasGiven W.written W.has_failed out.old out.new (picture_of board.now) }
+    ensures { WasGiven W.state out.old out.new (picture_of board.now) }
 {
     write_unless_failed(out, picture(board).bytes());
 }

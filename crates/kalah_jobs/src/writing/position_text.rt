@@ -128,7 +128,7 @@ pub fn step_text(alloc: Global, h: u8, step: &Step) -> Result<String, AllocError
 /// Writes the text of a move, as `step_text` returns it, and a line feed. It allocates nothing. If the sink has failed it is not called.
 /// If it fails, a prefix of the line was written, and nothing else.
 pub fn write_step<W: Sink>(out: &mut W, h: u8, step: &Step)
-    ensures { WasGiven W.written W.has_failed out.old out.new (step_text_of h step.now ++ line_feed ∷ []) }
+    ensures { WasGiven W.state out.old out.new (step_text_of h step.now ++ line_feed ∷ []) }
 {
     write_unless_failed(out, text_of_step(h, step, "\n").bytes());
 }
@@ -136,7 +136,7 @@ pub fn write_step<W: Sink>(out: &mut W, h: u8, step: &Step)
 /// Writes the text of a move, as `step_text` returns it, a space, a value and a line feed. It allocates nothing. If the sink has failed it
 /// is not called. If it fails, a prefix of the line was written, and nothing else.
 pub fn write_valued_step<W: Sink>(out: &mut W, h: u8, step: &Step, value: i32)
-    ensures { WasGiven W.written W.has_failed out.old out.new (step_text_of h step.now ++ (value_after value ++ line_feed ∷ [])) }
+    ensures { WasGiven W.state out.old out.new (step_text_of h step.now ++ (value_after value ++ line_feed ∷ [])) }
 {
     let mut text = StackText::new();
     text.prepend("\n");

@@ -68,7 +68,7 @@ fn line_below(board: &Board, values: &MoveValues) -> StackText
 /// It allocates nothing. If the sink has failed it is not called. If it fails, a prefix of the line was written, and nothing else.
 pub fn write_values<W: Sink>(out: &mut W, board: &Board, values: &MoveValues)
     requires { values.now ≡ values_of board.now }
-    ensures { WasGiven W.written W.has_failed out.old out.new (values_line board.now ++ line_feed ∷ []) }
+    ensures { WasGiven W.state out.old out.new (values_line board.now ++ line_feed ∷ []) }
 {
     write_unless_failed(out, line_below(board, values).bytes());
 }

@@ -15,8 +15,7 @@ use std::alloc::AllocError;
 // Writes the line of a move: the name, the place, the text of the move and a line feed.
 fn write_step_line<W: Sink>(out: &mut W, name: &str, place: &str, h: u8, step: &Step)
     requires { length place.now ≤ 22 }
-    ensures { WasGiven W.written W.has_failed out.old out.new
-        (((name.now ++ place.now) ++ step_text_of h step.now) ++ line_feed ∷ []) }
+    ensures { WasGiven W.state out.old out.new (((name.now ++ place.now) ++ step_text_of h step.now) ++ line_feed ∷ []) }
 {
     let mut text = text_of_step(h, step, "\n");
     text.prepend(place);
@@ -27,7 +26,7 @@ fn write_step_line<W: Sink>(out: &mut W, name: &str, place: &str, h: u8, step: &
 /// it writes an empty line.
 pub(crate) fn write_steps<W: Sink>(out: &mut W, name: &str, place: &str, board: &Board)
     requires { length place.now ≤ 22 }
-    ensures { WasGiven W.written W.has_failed out.old out.new
+    ensures { WasGiven W.state out.old out.new
         (join_with_byte line_feed (map (λ text. (name.now ++ place.now) ++ text) (steps_texts board.now)) ++ line_feed ∷ []) }
 {
     let moves = board.legal();

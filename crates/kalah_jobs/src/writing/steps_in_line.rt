@@ -13,8 +13,7 @@ use kalah_rules::Board;
 // Writes the text of a move, and before it `; ` if it isn't the first.
 fn write_next<W: Sink>(out: &mut W, is_first: bool, board: &Board, h: u8)
     requires { Contains (legal_houses board.now) h }
-    ensures { WasGiven W.written W.has_failed out.old out.new
-        ((if is_first then [] else codes "; ") ++ step_text_of h (step_of board.now h)) }
+    ensures { WasGiven W.state out.old out.new ((if is_first then [] else codes "; ") ++ step_text_of h (step_of board.now h)) }
 {
     let mut text = text_of_step(h, &board.apply(h), "");
     if !is_first {
@@ -25,7 +24,7 @@ fn write_next<W: Sink>(out: &mut W, is_first: bool, board: &Board, h: u8)
 
 /// Writes the text of the move of each legal house of a board, in ascending order, with `; ` between any two, and a line feed.
 pub(crate) fn write_steps_in_line<W: Sink>(out: &mut W, board: &Board)
-    ensures { WasGiven W.written W.has_failed out.old out.new (in_one_line (steps_texts board.now) ++ line_feed ∷ []) }
+    ensures { WasGiven W.state out.old out.new (in_one_line (steps_texts board.now) ++ line_feed ∷ []) }
 {
     let moves = board.legal();
     for i in 0..moves.len() {

@@ -93,13 +93,12 @@ impl<W> Stream<W> {
 }
 
 impl<W: Write> Sink for Stream<W> {
-    ghost written = { λ s. W.contents (stream_writer s) };
-
-    ghost has_failed = { stream_failed };
-
-    ghost is_handed_on = { stream_flushed };
-
-    ghost may_hold_back = { λ _. true };
+    ghost state = { λ s. record {
+      written = W.contents (stream_writer s);
+      has_failed = stream_failed s;
+      is_flushed = stream_flushed s;
+      may_buffer = true;
+    } };
 
     fn write_all(&mut self, bytes: &[u8]) -> Result<(), io::Error> {
         let written = write_pieces(&mut self.writer, bytes);

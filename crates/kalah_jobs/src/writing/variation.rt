@@ -9,7 +9,7 @@ use kalah_solve::MoveValue;
 /// Writes how the line of a variation begins, as `2  -4  2`: the house of its first move, the value of that move, and the house again. It
 /// allocates nothing. If the sink has failed it is not called. If it fails, a prefix of the text was written, and nothing else.
 pub fn write_variation_start<W: Sink>(out: &mut W, value: MoveValue)
-    ensures { WasGiven W.written W.has_failed out.old out.new (variation_start value) }
+    ensures { WasGiven W.state out.old out.new (variation_start value) }
 {
     let mut text = StackText::new();
     text.prepend_byte(value.house);
@@ -23,7 +23,7 @@ pub fn write_variation_start<W: Sink>(out: &mut W, value: MoveValue)
 /// Writes a space and the next house of a variation. It allocates nothing. If the sink has failed it is not called. If it fails, a prefix
 /// of the text was written, and nothing else.
 pub fn write_next_house<W: Sink>(out: &mut W, house: u8)
-    ensures { WasGiven W.written W.has_failed out.old out.new (next_house house) }
+    ensures { WasGiven W.state out.old out.new (next_house house) }
 {
     let mut text = StackText::new();
     text.prepend_byte(house);

@@ -1,15 +1,16 @@
 -- What a batch promises, for each question.
-use Rattle.std.specs.Prelude.{◌≡◌, ◌≢◌, ◌↔◌, ◌<◌, ◌≤◌, ℕ, List, Option, Bool, Result, Err, length, count_by, true, IfOk, IfErr, OnOk}
-use Rattle.std.specs.Io.KnownBytes.{Appends}
-use Rattle.kalah_jobs.specs.Writing.Given.{AppendsStart}
+use Rattle.std.specs.Prelude.{◌≡◌, ◌<◌, ◌≤◌, ℕ, List, Bool, Result, Ok, Err, length, count_by, true, false, IfErr, ◌⊎◌, Option, IfOk}
+use Rattle.std.specs.Io.KnownBytes.{Appends, Keeps}
+use Rattle.kalah_jobs.specs.Writing.Given.{AppendsStart, SinkState}
 use Rattle.kalah_jobs.specs.Limits.{most_files, most_lines}
-use Rattle.kalah_jobs.specs.Files.Jobs.{lines_in_all}
+use Rattle.kalah_jobs.specs.Files.Jobs.{AreFew, lines_in_all}
 use Rattle.kalah_jobs.specs.declared.files.entry.Entry.{Entry}
 use Rattle.kalah_jobs.specs.Files.JobList.{job_list}
 use Rattle.kalah_jobs.specs.Files.NamedBytes.{NamedBytes}
-use Rattle.kalah_jobs.specs.Writing.Output.{LineCounts, tally_of, is_faulty_job}
+use Rattle.kalah_jobs.specs.Writing.Output.{LineCounts, tally_of, is_faulty_job, output_to}
 use Rattle.kalah_run.specs.declared.batch.run_fault.RunFault.{RunFault}
-use Rattle.kalah_run.specs.declared.batch.run_fault.RunFault.TheVariants.{TooManyFiles, TooManyLines, NoWorker, Write}
+use Rattle.kalah_run.specs.declared.batch.run_fault.RunFault.TheVariants.{TooManyFiles, TooManyLines, OutOfMemory, NoWorker, Write}
+use Rattle.kalah_jobs.specs.declared.files.question.Question.{Question}
 
 -- the lines of these jobs, and those of them that are answered by a fault
 abbrev pub counts_of : List (List Entry) → LineCounts
@@ -19,20 +20,40 @@ counts_of jobs = record { lines = length (job_list jobs); faults = count_by is_f
 abbrev pub HearsAll : (ℕ → Bool) → List NamedBytes → Result LineCounts RunFault → Type 0
 HearsAll knows files result = IfErr result (λ e. e ≡ Write) → (job : ℕ) → job < lines_in_all files → knows job ≡ true
 
--- The lines of these files have this output, and a sink was `old` before they were answered and is `new` afterwards; `bytes` is
--- what was written to a sink, if that is known.
-pub record AnswersBatch {W : Type 0} (bytes : W → Option (List ℕ)) (has_failed is_handed_on : W → Bool) (output : List ℕ)
-    (files : List NamedBytes) (old new : W) (result : Result LineCounts RunFault) : Type 0 where
-  -- Ok: the output was written, and nothing else, all of it is flushed, and lines and faults are counted
-  pub written : OnOk result (Appends (bytes old) (bytes new) output)
-  pub tally : IfOk result (λ tally. tally ≡ tally_of files)
-  pub handed_on : OnOk result (is_handed_on new ≡ true)
-  -- in any case: a prefix of the output was written, and nothing else
-  pub start : AppendsStart (bytes old) (bytes new) output
-  -- when each fault comes
-  pub too_many_files : (result ≡ Err TooManyFiles) ↔ (most_files < length files)
-  pub too_many_lines : (result ≡ Err TooManyLines) ↔ ((length files ≤ most_files) × (most_lines < lines_in_all files))
-  pub no_worker : result ≡ Err NoWorker → 0 < lines_in_all files
-  pub write : (result ≡ Err Write) ↔ (has_failed new ≡ true)
-  -- any other fault leaves the output as it was
-  pub untouched : IfErr result (λ e. e ≢ Write → new ≡ old)
+-- The lines of these files have this output, and a sink was `old` before they were answered and is `new` afterwards.
+module _ {W : Type 0} (state : W → SinkState) (output : List ℕ) (files : List NamedBytes) (old new : W) where
+  -- the sink is as it was, and has not failed
+  abbrev pub IsUntouched : Type 0
+  IsUntouched = (new ≡ old) × ((state new).has_failed ≡ false)
+
+  -- the output was written, and nothing else, all of it is flushed, and lines and faults are counted
+  pub record AnswersAll (tally : LineCounts) : Type 0 where
+    pub few : AreFew files
+    pub written : Appends (state old).written (state new).written output
+    pub sound : (state new).has_failed ≡ false
+    pub flushed : (state new).is_flushed ≡ true
+    pub counted : tally ≡ tally_of files
+
+  -- what each result says
+  abbrev pub AnswersBatch : Result LineCounts RunFault → Type 0
+  AnswersBatch (Ok tally) = AnswersAll tally
+  AnswersBatch (Err TooManyFiles) = (most_files < length files) × IsUntouched
+  AnswersBatch (Err TooManyLines) = (length files ≤ most_files) × (most_lines < lines_in_all files) × IsUntouched
+  AnswersBatch (Err OutOfMemory) = AreFew files × IsUntouched
+  AnswersBatch (Err NoWorker) = AreFew files × (0 < lines_in_all files) × IsUntouched
+  -- a prefix of the output was written, and nothing else
+  AnswersBatch (Err Write) = AreFew files × AppendsStart (state old).written (state new).written output × ((state new).has_failed ≡ true)
+
+-- ==== The result of a batch whose files have no line
+
+-- Nothing is written, and no line and no fault is counted, unless one of three faults comes instead.
+pub record AnswersNothing (old new : Option (List ℕ)) (result : Result LineCounts RunFault) : Type 0 where
+  pub unwritten : Keeps old new
+  pub uncounted : IfOk result (λ tally. tally ≡ record { lines = 0; faults = 0 })
+  pub fault : IfErr result (λ e. (e ≡ TooManyFiles) ⊎ (e ≡ OutOfMemory) ⊎ (e ≡ Write))
+
+-- So it is with every batch that keeps its promises, for each question and a sink of any kind.
+abbrev pub NoLineIsAnswered : {W : Type 0} → (W → SinkState) → Type 0
+NoLineIsAnswered {W} state = (question : Question) (files : List NamedBytes) (old new : W) (result : Result LineCounts RunFault)
+    → AnswersBatch state (output_to question files) files old new result → lines_in_all files ≡ 0
+    → AnswersNothing (state old).written (state new).written result

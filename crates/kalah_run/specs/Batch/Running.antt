@@ -8,10 +8,10 @@ use Rattle.kalah_solve.specs.declared.solver.Solver.{Solver}
 use Rattle.kalah_jobs.specs.declared.files.entry.Entry.{Entry}
 use Rattle.kalah_jobs.specs.declared.files.job.Job.{Job}
 use Rattle.kalah_jobs.specs.Files.Jobs.{job_count}
+use Rattle.kalah_jobs.specs.Writing.Given.{SinkState}
 use Rattle.kalah_solve.specs.Table.Entries.{empty_table}
 use Rattle.kalah_run.specs.Desk.States.{PassState, IsPassAt}
-use Rattle.kalah_run.specs.Queue.States.{ArePassesFrom, GetState, HasGot}
-use Rattle.kalah_run.specs.Queue.Lists.{outcomes_in}
+use Rattle.kalah_run.specs.Queue.States.{ArePassesFrom, GetState, HasGot, outcomes_in}
 use Rattle.kalah_run.specs.Batch.AtWork.{puts_of, AreAtWork, HaveRun}
 use Rattle.kalah_run.specs.Batch.OrderedOutput.{IsNew, whole_output}
 use Rattle.kalah_run.specs.declared.batch.request.BatchRequest.{BatchRequest}
@@ -64,23 +64,22 @@ module _ {G : Type 0} where
     pub room : HasRoom b
 
 -- The outcome was got, or none if the rest is left and the workers have ended. What was written stays, and a failure isn't undone.
-pub record MayHaveGot {W : Type 0} (bytes : W → Option (List ℕ)) (has_failed : W → Bool) (rest : Rest) (Ended : Type 0)
-    (before after : GetState) (old new : W) (result : Option Job) : Type 0 where
+pub record MayHaveGot (rest : Rest) (Ended : Type 0) (before after : GetState) (old new : SinkState) (result : Option Job) : Type 0 where
   pub got : MatchOption result (after ≡ before) (λ outcome. HasGot before outcome after)
-  pub left : IfNone result (IsLeft rest (has_failed new))
+  pub left : IfNone result (IsLeft rest new.has_failed)
   pub ended : IfNone result Ended
-  pub keeps : Keeps (bytes old) (bytes new)
-  pub sound : has_failed new ≡ false → has_failed old ≡ false
+  pub keeps : Keeps old.written new.written
+  pub sound : new.has_failed ≡ false → old.has_failed ≡ false
 
 -- One outcome was got for each job, unless the rest is left. If they are those of all jobs, or the rest is left, the sink was given
 -- what is to be written.
-pub record HasCollected (rest : Rest) (output : OrderedOutput) (begun out : Option (List ℕ)) (failed : Bool) (before after : GetState)
+pub record HasCollected (rest : Rest) (output : OrderedOutput) (begun out : SinkState) (before after : GetState)
     : Type 0 where
   pub queue : after.queue ≡ before.queue
   pub workers : after.workers ≡ before.workers
-  pub all_got : (length after.got ≡ job_count output.jobs.now) ⊎ IsLeft rest failed
-  pub given : AreJobsInSomeOrder output.jobs.now (outcomes_in after.got) ⊎ IsLeft rest failed
-      → WasGivenSince begun out failed (whole_output output)
+  pub all_got : (length after.got ≡ job_count output.jobs.now) ⊎ IsLeft rest out.has_failed
+  pub given : AreJobsInSomeOrder output.jobs.now (outcomes_in after.got) ⊎ IsLeft rest out.has_failed
+      → WasGivenSince begun out (whole_output output)
 
 module _ {G : Type 0} (knows : G → ℕ → Bool) where
   -- the workers are at work, nothing was got of what they send, and nothing is written
@@ -93,9 +92,9 @@ module _ {G : Type 0} (knows : G → ℕ → Bool) where
     pub nothing_written : IsNew output
 
   -- each worker has run, and what they sent was collected, if a sink was `old` and is `new`
-  pub record RunHasEnded {W : Type 0} (bytes : W → Option (List ℕ)) (has_failed : W → Bool) (shared : SharedWork G)
-      (workers : List Worker) (get : GetState) (left : Option PassState) (output : OrderedOutput) (old new : W)
-      (workers' : List Worker) (get' : GetState) (left' : Option PassState) : Type 0 where
+  pub record RunHasEnded (shared : SharedWork G) (workers : List Worker) (get : GetState) (left : Option PassState)
+      (output : OrderedOutput) (old new : SinkState) (workers' : List Worker) (get' : GetState) (left' : Option PassState)
+      : Type 0 where
     pub all_ran : HaveRun knows shared workers workers'
-    pub collected : HasCollected (rest_of left) output (bytes old) (bytes new) (has_failed new) get get'
-    pub draws : DrawsOnlyTheRest shared.desk (has_failed new) left left'
+    pub collected : HasCollected (rest_of left) output old new get get'
+    pub draws : DrawsOnlyTheRest shared.desk new.has_failed left left'

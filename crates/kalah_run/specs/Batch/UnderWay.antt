@@ -1,5 +1,5 @@
 -- What is known while a batch is under way: what has come, and what was written of it.
-use Rattle.std.specs.Prelude.{◌≡◌, ℕ, ◌+◌, ◌<◌, List, length, take, Bool, false, Option}
+use Rattle.std.specs.Prelude.{◌≡◌, ℕ, ◌+◌, ◌<◌, List, length, take, false}
 use Rattle.std.specs.List.{flat_map}
 use Rattle.std.specs.Io.KnownBytes.{Appends}
 use Rattle.kalah_jobs.specs.declared.files.entry.Entry.{Entry}
@@ -10,13 +10,13 @@ use Rattle.kalah_jobs.specs.Files.Jobs.{job_count}
 use Rattle.kalah_jobs.specs.Collecting.CollectorState.{FileState, state_of}
 use Rattle.kalah_jobs.specs.Collecting.Held.{Kept}
 use Rattle.kalah_jobs.specs.Writing.Output.{text_of_line}
-use Rattle.kalah_jobs.specs.Writing.Given.{AppendsStart}
+use Rattle.kalah_jobs.specs.Writing.Given.{AppendsStart, SinkState}
 
 -- A sink that had `begun` was given bs, in order. It has all of them after that, unless a call of it has failed; and then it
 -- has a prefix of them, and nothing else.
-pub record WasGivenSince (begun out : Option (List ℕ)) (failed : Bool) (bs : List ℕ) : Type 0 where
-  pub start : AppendsStart begun out bs
-  pub whole : failed ≡ false → Appends begun out bs
+pub record WasGivenSince (begun out : SinkState) (bs : List ℕ) : Type 0 where
+  pub start : AppendsStart begun.written out.written bs
+  pub whole : out.has_failed ≡ false → Appends begun.written out.written bs
 
 -- the text of a job, if `text` gives the text of what is taken of a file
 abbrev pub text_of_job : (ℕ → Taken → List ℕ) → Job → List ℕ
@@ -29,8 +29,8 @@ written_upto text jobs f n = flat_map (text_of_job text) (take (job_count (take 
 -- With these offers made, the files before f are completely taken and those after it not at all. The sink was given the text of each
 -- line that was taken, in order.
 pub record IsUnderWay (text : ℕ → Taken → List ℕ) (jobs : List (List Entry)) (past : List Job) (files : List FileState) (f : ℕ)
-    (begun out : Option (List ℕ)) (failed : Bool) : Type 0 where
+    (begun out : SinkState) : Type 0 where
   pub kept : Kept jobs past files
   pub before : (g : ℕ) → g < f → (state_of files g).taken ≡ length (entries_of jobs g)
   pub later : (g : ℕ) → f < g → (state_of files g).taken ≡ 0
-  pub written : WasGivenSince begun out failed (written_upto text jobs f (state_of files f).taken)
+  pub written : WasGivenSince begun out (written_upto text jobs f (state_of files f).taken)

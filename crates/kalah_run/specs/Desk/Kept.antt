@@ -1,5 +1,5 @@
 -- What is kept of the desk's word and of the views of its seats.
-use Rattle.std.specs.Prelude.{◌≡◌, ℕ, ◌+◌, ◌≤◌, List, [], ◌∷◌, length, sum_by, flat_map}
+use Rattle.std.specs.Prelude.{◌≡◌, ℕ, ◌+◌, ◌≤◌, List, [], ◌∷◌, length, sum_by, flat_map, ⊤}
 use mathlib.Core.Option.{some}
 use lib.ListN.{get_elem?}
 use Rattle.atomic_table.specs.Table.{State}
@@ -9,7 +9,7 @@ use Rattle.kalah_run.specs.declared.desk.rule.DrawnRow.{DrawnRow}
 use Rattle.kalah_run.specs.declared.desk.rule.DeskPlan.{DeskPlan}
 use Rattle.kalah_run.specs.declared.desk.rule.DeskView.{DeskView}
 use Rattle.kalah_run.specs.declared.desk.rule.DeskView.TheVariants.{Opening, Drawing, Closing, Ended}
-use Rattle.kalah_run.specs.Desk.Rows.{drawn_in, spent_in, AreLawful}
+use Rattle.kalah_run.specs.Desk.Rows.{drawn_in, spent_in, AreLawful, DealsEachOnce}
 
 -- the first seat: all passes are yet to be handed out
 abbrev pub opening_view : DeskPlan → DeskView
@@ -48,3 +48,17 @@ pub record IsKept {S : Type 0} (plan : DeskPlan) (s : State S DeskView) : Type 0
   pub passes : sum_by passes_in s.views ≡ plan.passes
   pub lawful : AreLawful plan.total (all_rows s.views)
   pub totals : (seat : ℕ) (v : DeskView) → get_elem? s.views seat ≡ some v → HasTotal plan.total v
+
+-- ==== The rule of the desk, in plain words
+
+-- Each number drawn so far is dealt once. The word counts these numbers and the spent passes, and is at most the total and the number of passes.
+pub record CountsWhatItDeals (total passes : ℕ) (words : List ℕ) (rows : List DrawnRow) : Type 0 where
+  pub drawn : ℕ
+  pub deals : DealsEachOnce total drawn rows
+  pub word : words ≡ (drawn + spent_in rows) ∷ []
+  pub most : drawn + spent_in rows ≤ total + passes
+
+-- between any two steps of any threads, for any passes
+abbrev pub DeskIsLawful : Type 0
+DeskIsLawful = (plan : DeskPlan) (state : State ⊤ DeskView) → IsKept plan state
+    → CountsWhatItDeals plan.total plan.passes state.words (all_rows state.views)

@@ -18,14 +18,6 @@ drawn_in rows = sum_by (λ r. length r.numbers) rows
 abbrev pub spent_in : List DrawnRow → ℕ
 spent_in rows = count_by (λ r. r.spent) rows
 
--- With c numbers in the rows, at most the total: each number below c stands there once, no other stands there, each row ascends; a pass is
--- spent only if c is the total
-pub record AreLawful (total : ℕ) (rows : List DrawnRow) : Type 0 where
-  pub within : drawn_in rows ≤ total
-  pub each_once : (x : ℕ) → times_in x (drawn_numbers rows) ≡ (if nat_lt x (drawn_in rows) then 1 else 0)
-  pub ascending : All (λ r. AllPairs (λ x y. x < y) r.numbers) rows
-  pub spent : 0 < spent_in rows → drawn_in rows ≡ total
-
 -- The rows hold the first `drawn` of the numbers below the total: each number below `drawn` stands once in all rows together, and no
 -- other in any; and each row ascends. A pass is spent only if all numbers are drawn.
 pub record DealsEachOnce (total drawn : ℕ) (rows : List DrawnRow) : Type 0 where
@@ -34,3 +26,7 @@ pub record DealsEachOnce (total drawn : ℕ) (rows : List DrawnRow) : Type 0 whe
   pub each_once : (number : ℕ) → times_in number (drawn_numbers rows) ≡ (if nat_lt number drawn then 1 else 0)
   pub ascending : All (λ row. AllPairs (λ x y. x < y) row.numbers) rows
   pub spent : 0 < spent_in rows → drawn ≡ total
+
+-- so it is with all numbers in the rows
+abbrev pub AreLawful : ℕ → List DrawnRow → Type 0
+AreLawful total rows = DealsEachOnce total (drawn_in rows) rows

@@ -1,7 +1,8 @@
--- The results queue, its passes and a closed queue, as contracts see them.
-use Rattle.std.specs.Prelude.{◌≡◌, ℕ, suc, ◌<◌, List, [], ◌∷◌, ◌++◌, map}
+-- The results queue, its passes and a closed queue, as contracts see them, and what was sent through it.
+use Rattle.std.specs.Prelude.{◌≡◌, ℕ, suc, ◌<◌, List, [], ◌∷◌, ◌++◌, map, length, slice_index_or, All}
 use Rattle.atomic_table.specs.Seated.{TableId}
 use Rattle.kalah_jobs.specs.declared.files.job.Job.{Job}
+use Rattle.kalah_jobs.specs.Collecting.Shares.{sent_by_worker}
 
 -- the identity of the queue, and its capacity
 pub record QueueState : Type 0 where
@@ -37,3 +38,13 @@ ArePassesFrom id n (p ∷ ps) = (p.queue ≡ id) × (p.number ≡ n) × ArePasse
 -- what each pass has sent
 abbrev pub sent_by : List PutState → List (List Job)
 sent_by passes = map (λ p. p.sent) passes
+
+-- the outcomes of pairs of a worker and its outcome
+abbrev pub outcomes_in : List (ℕ × Job) → List Job
+outcomes_in pairs = map (λ pair. pair.1) pairs
+
+-- The pairs of a worker and its outcome are all that was sent: each is of a worker below `workers`, and those of a worker in list `sent`
+-- are what it sent, whole and in its order.
+pub record Accounts (workers : ℕ) (sent : List (List Job)) (pairs : List (ℕ × Job)) : Type 0 where
+  pub below : All (λ pair. pair.0 < workers) pairs
+  pub whole : (w : ℕ) → w < length sent → sent_by_worker w pairs ≡ slice_index_or sent w []

@@ -3,7 +3,7 @@ use Rattle.std.specs.Prelude.{◌≡◌, ℕ, ◌+◌, ◌<◌, List, [], ◌∷
 use Rattle.kalah_jobs.specs.declared.files.job.Job.{Job}
 use Rattle.kalah_run.specs.declared.queue.rule.QueueView.{QueueView}
 use Rattle.kalah_run.specs.declared.queue.rule.QueueView.TheVariants.{Getting, Putting, Ended}
-use Rattle.kalah_run.specs.Queue.Lists.{Accounts, outcomes_in}
+use Rattle.kalah_run.specs.Queue.States.{Accounts, outcomes_in}
 
 -- the one pass of a new queue is the one to get
 abbrev pub first_view : QueueView

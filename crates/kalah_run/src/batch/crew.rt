@@ -5,6 +5,7 @@ use crate::batch::gate::Gate;
 use crate::batch::shared_work::SharedWork;
 use crate::batch::worker::Worker;
 use crate::limits::MOST_WORKERS;
+use crate::queue::AfterEnd;
 use std::sync::Wait;
 use std::sync::atomic::{AtomicIn, Rule};
 use std::thread;
@@ -36,11 +37,11 @@ impl<'a, 'b, G: Gate, E: Rule> Crew<'a, 'b, G, E> {
 
     /// Runs each worker in a thread of its own, as far as threads can be started, and returns the workers. The receiver learns that they
     /// have ended.
-    pub(crate) fn run<R: Threads + Wait + Sync>(self, rt: &R) -> Vec<Worker>
+    pub(crate) fn run<R: Threads + Wait + Sync>(self, rt: &R) -> AfterEnd<Vec<Worker>>
         requires at_work { AreAtWork G.knows self.shared.now self.workers.items }
         // That they have ended is known only once each has run.
         requires ends { OnceRun G.knows self.shared.now self.workers.items (E.invariant 1) }
-        ensures { HaveRun G.knows self.entry.shared.now self.entry.workers.items result.items }
+        ensures { HaveRun G.knows self.entry.shared.now self.entry.workers.items result.left.items }
     {
         let Crew {
             shared,
@@ -56,7 +57,6 @@ impl<'a, 'b, G: Gate, E: Rule> Crew<'a, 'b, G, E> {
                 ensures { HasRun G.knows shared.entry.now worker.old worker.new }
             { work(rt, shared, worker) },
         );
-        shared.queue.end(ended);
-        workers
+        shared.queue.end(ended, workers)
     }
 }

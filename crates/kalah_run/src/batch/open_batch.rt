@@ -171,11 +171,10 @@ impl<'a, G: Gate> OpenBatch<'a, G> {
         // What a 1 says of the workers, for every rule: it holds once each has run, and not before.
         requires begins { E.invariant 0 }
         requires ends { OnceRun G.knows self.shared self.workers.items (E.invariant 1) }
-        ensures given { OnOk result (WasGivenSince (W.written out.old) (W.written out.new) (W.has_failed out.new)
-            (whole_output self.entry.output)) }
+        ensures given { OnOk result (WasGivenSince (W.state out.old) (W.state out.new) (whole_output self.entry.output)) }
         ensures fault { IfErr result (λ e. e ≡ RunFault.NoWorker) }
         ensures untouched { OnErr result (out.new ≡ out.old) }
-        ensures gate_hears_all { (rest_of self.entry.left ≡ Solve) ⊎ (W.has_failed out.new ≡ false)
+        ensures gate_hears_all { (rest_of self.entry.left ≡ Solve) ⊎ ((W.state out.new).has_failed ≡ false)
             → OnOk result ((job : ℕ) → job < job_count self.entry.shared.jobs.now → G.knows self.entry.shared.gate.now job ≡ true) }
     {
         let OpenBatch {

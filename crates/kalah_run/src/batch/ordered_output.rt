@@ -42,8 +42,8 @@ impl<'a> OrderedOutput<'a> {
     /// Writes the next lines in output order, as far as they are ready.
     #[inline(always)]
     pub(crate) fn write<W: Sink>(&mut self, out: &mut W)
-        ensures sound { W.has_failed out.new ≡ false → W.has_failed out.old ≡ false }
-        ensures writes { WritesReady self.old (W.written out.old) (W.has_failed out.old) self.new (W.written out.new) (W.has_failed out.new) }
+        ensures sound { (W.state out.new).has_failed ≡ false → (W.state out.old).has_failed ≡ false }
+        ensures writes { WritesReady self.old (W.state out.old) self.new (W.state out.new) }
     {
         while self.current < self.jobs.files() {
             let f = self.current;

@@ -74,10 +74,10 @@ impl<'a, E: Rule> Receiver<'a, E> {
     ) -> Outcome
         requires queue { self.old.pass.queue ≡ shared.now.queue.id }
         // The workers go on, so an outcome comes.
-        requires goes_on { IsLeft (rest_of self.old.left) (W.has_failed out.now) → ⊥ }
+        requires goes_on { IsLeft (rest_of self.old.left) (W.state out.now).has_failed → ⊥ }
         requires known { V.is_waiting watch.now ≡ true }
         // The sink has flushed all that was written, unless it may keep bytes in its buffer while its caller waits.
-        requires ready { IsReady (W.has_failed out.now) (W.may_hold_back out.now) (W.is_handed_on out.now) }
+        requires ready { IsReady (W.state out.now) }
         ensures got { HasGot self.old.pass result self.new.pass }
         ensures left { self.new.left ≡ self.old.left }
     {
@@ -98,7 +98,7 @@ impl<'a, E: Rule> Receiver<'a, E> {
         requires queue { self.old.pass.queue ≡ queue.now.id }
         // No worker can begin a further job.
         requires spent { NothingIsLeft self.old.left }
-        requires ready { IsReady (W.has_failed out.now) (W.may_hold_back out.now) (W.is_handed_on out.now) }
+        requires ready { IsReady (W.state out.now) }
         ensures got { MatchOption result (self.new.pass ≡ self.old.pass) (λ outcome. HasGot self.old.pass outcome self.new.pass) }
         ensures ended { IfNone result (E.invariant 1) }
         ensures left { self.new.left ≡ self.old.left }

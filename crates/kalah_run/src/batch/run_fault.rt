@@ -48,6 +48,3 @@ impl From<JobsFault> for RunFault {
         }
     }
 }
-
-#[cfg(test)]
-mod tests;

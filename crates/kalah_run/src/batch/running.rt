@@ -20,6 +20,7 @@ use crate::batch::watch::Watch;
 use crate::batch::worker::Worker;
 use crate::desk::pass::Pass;
 use crate::limits::MOST_TRIES;
+use crate::queue::AfterEnd;
 use crate::queue::passes::GetPass;
 use kalah_jobs::{Outcome, Sink};
 use std::snapshot::Snapshot;
@@ -35,17 +36,17 @@ struct AllHaveRun<'a, 'b, G> {
     workers: Snapshot<Vec<Worker>>,
 }
 
-impl<'a, 'b, G: Gate> Promise<Vec<Worker>> for AllHaveRun<'a, 'b, G> {
+impl<'a, 'b, G: Gate> Promise<AfterEnd<Vec<Worker>>> for AllHaveRun<'a, 'b, G> {
     ghost use Rattle.kalah_run.specs.Batch.AtWork.{HaveRun};
 
-    ghost kept_by = { λ p r. HaveRun G.knows p.shared.now p.workers.value.items r.items };
+    ghost kept_by = { λ p r. HaveRun G.knows p.shared.now p.workers.value.items r.left.items };
 }
 
 // Lets the output flush what it buffers, as its caller may wait then.
 fn flush_to_wait<W: Sink>(out: &mut W)
-    ensures keeps { Keeps (W.written out.old) (W.written out.new) }
-    ensures sound { W.has_failed out.new ≡ false → W.has_failed out.old ≡ false }
-    ensures ready { IsReady (W.has_failed out.new) (W.may_hold_back out.new) (W.is_handed_on out.new) }
+    ensures keeps { Keeps (W.state out.old).written (W.state out.new).written }
+    ensures sound { (W.state out.new).has_failed ≡ false → (W.state out.old).has_failed ≡ false }
+    ensures ready { IsReady (W.state out.new) }
 {
     if !out.failed() {
         out.before_waiting();
@@ -65,10 +66,10 @@ fn flush_and_get<R: Wait, G: Gate, V: Watch, W: Sink, E: Rule>(
 ) -> Option<Outcome>
     requires queue { receiver.old.pass.queue ≡ shared.now.queue.id }
     requires own { IfSome receiver.old.left (IsPassAt shared.now.desk) }
-    ensures draws { DrawsOnlyTheRest shared.now.desk (W.has_failed out.new) receiver.old.left receiver.new.left }
+    ensures draws { DrawsOnlyTheRest shared.now.desk (W.state out.new).has_failed receiver.old.left receiver.new.left }
     ensures spent { IfNone result (NothingIsLeft receiver.new.left) }
-    ensures got { MayHaveGot W.written W.has_failed (rest_of receiver.old.left) (E.invariant 1) receiver.old.pass receiver.new.pass
-        out.old out.new result }
+    ensures got { MayHaveGot (rest_of receiver.old.left) (E.invariant 1) receiver.old.pass receiver.new.pass
+        (W.state out.old) (W.state out.new) result }
 {
     flush_to_wait(out);
     if receiver.leave_after(out.failed(), &shared.desk) {
@@ -93,13 +94,13 @@ fn collect<R: Wait, G: Gate, V: Watch, W: Sink, E: Rule>(
     requires queue { receiver.pass.queue ≡ shared.now.queue.id }
     requires first { receiver.pass.got ≡ [] }
     requires new { IsNew output }
-    ensures collected { HasCollected (rest_of receiver.entry.left) output.entry (W.written out.old) (W.written out.new)
-        (W.has_failed out.new) receiver.entry.pass result.0 }
-    ensures draws { DrawsOnlyTheRest shared.now.desk (W.has_failed out.new) receiver.entry.left result.1 }
+    ensures collected { HasCollected (rest_of receiver.entry.left) output.entry (W.state out.old) (W.state out.new)
+        receiver.entry.pass result.0 }
+    ensures draws { DrawsOnlyTheRest shared.now.desk (W.state out.new).has_failed receiver.entry.left result.1 }
     // It ends early only once no job is left, and the workers have ended.
     ensures ended { (length result.0.got ≡ job_count output.entry.jobs.now) ⊎ (NothingIsLeft result.1 × E.invariant 1) }
     // The thread may wait for the workers to end.
-    ensures ready { IsReady (W.has_failed out.new) (W.may_hold_back out.new) (W.is_handed_on out.new) }
+    ensures ready { IsReady (W.state out.new) }
 {
     let total = output.jobs.total();
     output.write(out);
@@ -137,8 +138,8 @@ pub(crate) fn run_and_write<R: Threads + Wait + Sync, G: Gate, V: Watch, W: Sink
 ) -> Result<(Vec<Worker>, GetPass, Option<Pass>), RunFault>
     requires { CanRun G.knows crew.shared.now crew.workers.items receiver.pass receiver.left output
         × OnceRun G.knows crew.shared.now crew.workers.items (E.invariant 1) }
-    ensures ended { IfOk result (λ r. RunHasEnded G.knows W.written W.has_failed crew.entry.shared.now crew.entry.workers.items
-        receiver.entry.pass receiver.entry.left output.entry out.old out.new r.0.items r.1 r.2) }
+    ensures ended { IfOk result (λ r. RunHasEnded G.knows crew.entry.shared.now crew.entry.workers.items
+        receiver.entry.pass receiver.entry.left output.entry (W.state out.old) (W.state out.new) r.0.items r.1 r.2) }
     ensures fault { IfErr result (λ e. e ≡ RunFault.NoWorker) }
     ensures untouched { OnErr result (out.new ≡ out.old) }
 {
@@ -153,8 +154,8 @@ pub(crate) fn run_and_write<R: Threads + Wait + Sync, G: Gate, V: Watch, W: Sink
             requires { IsSync R.row × IsSync G.row × CanRun G.knows crew.shared.now crew.workers.items receiver.pass receiver.left output
                 × OnceRun G.knows crew.shared.now crew.workers.items (E.invariant 1) }
             ensures names { (result.1.ghost_name ≡ watch.entry.ghost_name) × (result.2.ghost_name ≡ out.entry.ghost_name) }
-            ensures ended { IfOk result.0 (λ r. RunHasEnded G.knows W.written W.has_failed crew.entry.shared.now crew.entry.workers.items
-                receiver.entry.pass receiver.entry.left output.entry out.entry.now result.2.now r.0.items r.1 r.2) }
+            ensures ended { IfOk result.0 (λ r. RunHasEnded G.knows crew.entry.shared.now crew.entry.workers.items receiver.entry.pass
+                receiver.entry.left output.entry (W.state out.entry.now) (W.state result.2.now) r.0.items r.1 r.2) }
             ensures fault { IfErr result.0 (λ e. e ≡ RunFault.NoWorker) }
             ensures untouched { OnErr result.0 (result.2.now ≡ out.entry.now) }
         {
@@ -165,17 +166,17 @@ pub(crate) fn run_and_write<R: Threads + Wait + Sync, G: Gate, V: Watch, W: Sink
             };
             let started = scope.spawn_with(
                 all_have_run,
-                move || -> Vec<Worker>
+                move || -> AfterEnd<Vec<Worker>>
                     requires { IsSync R.row × IsSync G.row × AreAtWork G.knows crew.shared.now crew.workers.items
                         × OnceRun G.knows crew.shared.now crew.workers.items (E.invariant 1) }
-                    ensures { HaveRun G.knows crew.entry.shared.now crew.entry.workers.items result.items }
+                    ensures { HaveRun G.knows crew.entry.shared.now crew.entry.workers.items result.left.items }
                 { crew.run(rt) },
             );
             let Ok(child) = started else {
                 return (Err(RunFault::NoWorker), watch, out);
             };
             let (get, left) = collect(rt, shared, receiver, output, watch, out);
-            let workers = child.join(rt);
+            let workers = child.join(rt).into_inner();
             (Ok((workers, get, left)), watch, out)
         },
     );

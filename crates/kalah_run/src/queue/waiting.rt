@@ -2,13 +2,13 @@
 //! on it: a thread that is woken tries for itself.
 //!
 //! Why no thread sleeps while what it waits for is there: a waiter stores 1 before it tries, and sleeps only while the word is 1. Whatever
-//! comes after its try is followed by a call. That call finds 1, stores 0 and wakes a sleeper; or it finds 0, as an earlier call has
-//! stored it since. So the waiter does not fall asleep, or a sleeper has been woken that stores 1 and tries after what has come. Once
-//! that one has what it waited for, it calls the next. All steps are in one total order (`SeqCst`).
+//! comes after its try owes a wake-up (`WakeUp`), which is sent on every path. It finds 1, stores 0 and wakes a sleeper; or it finds 0,
+//! as an earlier one has stored it since. So the waiter does not fall asleep, or a sleeper has been woken that stores 1 and tries after
+//! what has come. Once that one has what it waited for, it wakes the next. All steps are in one total order (`SeqCst`).
 //!
 //! A try can also fail because another thread is in the way. If that thread has claimed a place and has not finished its step, what
-//! the waiter waits for arrives with that step, after the try. Then its thread calls. If a worker lost a place to another
-//! worker, it may sleep though there is room. What the other worker has put will be got, and that `get` calls. So it sleeps until
+//! the waiter waits for arrives with that step, after the try. Then its thread sends the wake-up. If a worker lost a place to another
+//! worker, it may sleep though there is room. What the other worker has put will be got, and that `get` wakes one. So it sleeps until
 //! the next outcome is got at the latest, and for no longer than a full queue would make it sleep.
 //!
 //! `tests/wakes` reads these steps here and in `queue.rt`, with the steps of the queue below. It goes through each order in which a few
@@ -22,12 +22,12 @@ use std::sync::atomic::Ordering::SeqCst;
 /// other side changes, and so delays it: a full queue moves on faster if it isn't tried after each outcome.
 const STEPS: u32 = 6;
 
-/// The threads that wait for the same event, such as room in a queue. They are woken sequentially: a wake-up is sent only if
-/// none is in progress. A thread that was woken, and got what it waited for, wakes the next. So room for
+/// The threads that wait for the same event, such as room in a queue. They are woken sequentially: a wake-up wakes one, and none if
+/// one is under way. A thread that was woken, and got what it waited for, wakes the next. So room for
 /// one thread doesn't wake all of them.
 #[derive(Drop)]
 pub(crate) struct Waiters {
-    // 1 from the time when a thread announces that it will sleep until one is called.
+    // 1 from the time when a thread announces that it will sleep until a wake-up is sent.
     announced: AtomicU64,
 }
 
@@ -38,15 +38,34 @@ impl Waiters {
             announced: AtomicU64::new(0),
         }
     }
+}
 
-    /// Wakes one of the threads that wait, if there is any. It must be used after what they wait for has come. A thread
-    /// that has announced itself and then found nothing is woken, or another one is that will wake it.
-    pub(crate) fn call_one(&self) {
-        if self.announced.load(SeqCst) == 1 && self.announced.swap(0, SeqCst) == 1 {
-            self.announced.wake_one();
+/// A wake-up that is owed to threads that wait, as what they wait for has come. It isn't `Drop`: the compiler refuses each path that
+/// doesn't send it.
+pub(crate) struct WakeUp<'a> {
+    waiters: &'a Waiters,
+}
+
+impl<'a> WakeUp<'a> {
+    /// Makes the wake-up for what has just come.
+    pub(crate) fn owed_to(waiters: &'a Waiters) -> WakeUp<'a> {
+        WakeUp { waiters }
+    }
+
+    /// Wakes one of the threads that wait, if there is any. A thread that has announced itself and then found nothing is woken, or
+    /// another one is that will wake it.
+    pub(crate) fn send(self) -> Sent {
+        let WakeUp { waiters } = self;
+        if waiters.announced.load(SeqCst) == 1 && waiters.announced.swap(0, SeqCst) == 1 {
+            waiters.announced.wake_one();
         }
+        Sent(())
     }
 }
+
+/// A wake-up was sent: only `WakeUp::send` makes it.
+#[derive(Drop)]
+pub(crate) struct Sent(());
 
 /// One thread's wait, which ends when it is dropped: the thread then has what it waited for. Between two pauses it tries.
 pub(crate) struct Waiting<'a> {
@@ -91,7 +110,7 @@ impl Drop for Waiting<'_> {
             was_announced,
         } = self;
         if was_announced {
-            waiters.call_one();
+            WakeUp::owed_to(waiters).send();
         }
     }
 }

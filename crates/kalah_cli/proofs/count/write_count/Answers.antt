@@ -5,7 +5,7 @@ use Rattle.kalah_cli.proofs.count.write_count.Goals as goal
 
 pub returns : goal.returns
 returns g c = record {
-  given = given_on _ _ _ _ _ _ _ _ c.write_houses-total.ensures.given
+  given = given_on _ _ _ _ _ _ _ c.write_houses-total.ensures.given
       (λ sound. ap total_line (c.write_houses-total.ensures.total sound)) c.write_sum-2.ensures.given;
   handed_on = c.write_sum-2.ensures.handed_on;
 }

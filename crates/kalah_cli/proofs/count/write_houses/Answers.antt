@@ -21,7 +21,7 @@ loop-i-preserved g c =
     let i = c.loop-i.i in
     let house = c.get-house.result in
     let within : i < length moves = omega (arith, c.loop-i-test.true, c.len-i-end.ensures) in
-    let line = subst (λ n. WasGiven g.O.Sink.written g.O.Sink.has_failed c.loop-i.out c.write_house.new.out (ways_line house n))
+    let line = subst (λ n. WasGiven g.O.Sink.state c.loop-i.out c.write_house.new.out (ways_line house n))
     c.ways_by-ways.ensures.ways c.write_house.ensures in
     let few = few_ways c.ways_by-ways.result c.args.depth c.ways_by-ways.ensures.small c.requires.high in
     record {
@@ -29,7 +29,7 @@ loop-i-preserved g c =
       sum = ap (λ n. c.loop-i.total + n) (c.ways_by-ways.ensures.ways ∙ ap by c.get-house.ensures)
           ∙ ap (λ n. n + by (get_or moves i 0)) c.loop-i.invariant.sum ∙ sym (sum_by_more by moves i 0 within);
       few = omega (arith, c.loop-i.invariant.few, few);
-      given = given_more _ _ one c.loop-i.invariant.same i _ _ c.loop-i.invariant.given _ house within c.get-house.ensures line;
+      given = given_more _ one c.loop-i.invariant.same i _ _ c.loop-i.invariant.given _ house within c.get-house.ensures line;
     }
 
 pub write_house-requires : goal.write_house-requires
@@ -49,9 +49,9 @@ overflow_add-total g c =
 
 pub returns-then-failed-clause-given : goal.returns-then-failed-clause-given
 returns-then-failed-clause-given g c =
-    subst (WasGiven g.O.Sink.written g.O.Sink.has_failed c.args.out.now c.loop-i.out)
+    subst (WasGiven g.O.Sink.state c.args.out.now c.loop-i.out)
     (sym (lines_are c.args.depth c.args.board.now c.requires.low))
-    (given_cut _ _ (line_of c.args.depth c.args.board.now) c.loop-i.invariant.same c.loop-i.i _ _ c.loop-i.invariant.given
+    (given_cut _ (line_of c.args.depth c.args.board.now) c.loop-i.invariant.same c.loop-i.i _ _ c.loop-i.invariant.given
     (sym c.failed.ensures ∙ c.if-failed.true))
 
 pub returns-clause-total : goal.returns-clause-total
@@ -64,9 +64,9 @@ returns-clause-total g c sound =
 
 pub returns-clause-given : goal.returns-clause-given
 returns-clause-given g c =
-    subst (WasGiven g.O.Sink.written g.O.Sink.has_failed c.args.out.now c.loop-i.out)
+    subst (WasGiven g.O.Sink.state c.args.out.now c.loop-i.out)
     (sym (lines_are c.args.depth c.args.board.now c.requires.low))
-    (given_all _ _ (line_of c.args.depth c.args.board.now) c.loop-i.invariant.same c.loop-i.i _ _ c.loop-i.invariant.given
+    (given_all _ (line_of c.args.depth c.args.board.now) c.loop-i.invariant.same c.loop-i.i _ _ c.loop-i.invariant.given
     (omega (arith, c.loop-i-test.false, c.len-i-end.ensures)))
 
 pub loop-i-init : goal.loop-i-init

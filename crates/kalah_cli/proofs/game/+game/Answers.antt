@@ -29,19 +29,19 @@ margin_of {p} {margin} {h} small told verdict =
 
 pub returns-then-failed-clause-printed : goal.returns-then-failed-clause-printed
 returns-then-failed-clause-printed g t c = record {
-  given = given_cut_off _ _ _ _ [] _ c.flush_unless_failed.ensures.given (sym c.failed.ensures ∙ c.if-failed.true);
+  given = given_cut_off _ _ _ [] _ c.flush_unless_failed.ensures.given (sym c.failed.ensures ∙ c.if-failed.true);
   handed_on = c.flush_unless_failed.ensures.handed_on;
 }
 
 pub returns-in-Over-clause-printed : goal.returns-in-Over-clause-printed
 returns-in-Over-clause-printed g t c = record {
-  given = subst (WasGiven g.O.Sink.written g.O.Sink.has_failed c.args.out.now c.flush_unless_failed.new.out)
+  given = subst (WasGiven g.O.Sink.state c.args.out.now c.flush_unless_failed.new.out)
       (sym (no_text c.args.form c.args.board.now c.in-Over.ensures.best_play.over)) c.flush_unless_failed.ensures.given;
   handed_on = c.flush_unless_failed.ensures.handed_on;
 }
 
 pub solve-requires-clause-shown : goal.solve-requires-clause-shown
-solve-requires-clause-shown g t c = shown_flushed _ _ c.requires.shown c.flush_unless_failed.ensures.given
+solve-requires-clause-shown g t c = shown_flushed _ c.requires.shown c.flush_unless_failed.ensures.given
 
 pub apply-step-requires : goal.apply-step-requires
 apply-step-requires g t c = c.in-Best.ensures.best_play.best.legal
@@ -57,7 +57,7 @@ write_game-requires g t c κs within =
         within,
         (
           ap (λ game. game.form) c.solve.ensures.begun ∙ c.requires.form,
-          shown_next _ _ (shown_flushed _ _ c.requires.shown c.flush_unless_failed.ensures.given) c.in-Best.house c.requires.form
+          shown_next _ (shown_flushed _ c.requires.shown c.flush_unless_failed.ensures.given) c.in-Best.house c.requires.form
               c.apply-step.ensures.step next c.solve.ensures.begun
               (margin_of c.in-Best.ensures.small c.in-Best.ensures.best_play c.in-Best.ensures.verdict) c.write_in_form.ensures,
         ),
@@ -74,11 +74,10 @@ returns-clause-printed g t c =
     let next = after_step step c.in-Again.next c.in-Again.is in
     let rest = game_text form (position_after step) (best_game (position_after step)) in
     record {
-      given = subst (WasGiven g.O.Sink.written g.O.Sink.has_failed c.args.out.now c.write_game.new.out)
-          (ap (λ q. text ++ game_text form q (best_game q)) next
+      given = subst (WasGiven g.O.Sink.state c.args.out.now c.write_game.new.out) (ap (λ q. text ++ game_text form q (best_game q)) next
           ∙ ap (λ z. move_text form z house step ++ rest) (margin_of c.in-Best.ensures.small c.in-Best.ensures.best_play c.in-Best.ensures.verdict)
           ∙ sym (text_goes_on form first))
-          (given_after _ _ _ _ _ _ c.flush_unless_failed.ensures.given
-          (given_then _ _ _ _ _ text _ c.write_in_form.ensures c.write_game.ensures.printed.given));
+          (given_after _ _ _ _ _ c.flush_unless_failed.ensures.given
+          (given_then _ _ _ _ text _ c.write_in_form.ensures c.write_game.ensures.printed.given));
       handed_on = c.write_game.ensures.printed.handed_on;
     }

@@ -14,7 +14,7 @@ returns g c =
     let value = value_words c.args.value in
     let below = board_lines c.args.boards (position_after c.args.step.now) in
     let board = after_step c.args.step.now c.in-Again.board c.in-Again.is in
-    subst (WasGiven g.O.Sink.written g.O.Sink.has_failed c.args.out.now c.write_board.new.out)
+    subst (WasGiven g.O.Sink.state c.args.out.now c.write_board.new.out)
     (ap (λ p. (move ++ (value ++ line_feed ∷ [])) ++ board_lines c.args.boards p) board
     ∙ append_assoc move (value ++ line_feed ∷ []) below ∙ ap (λ text. move ++ text) (append_assoc value (line_feed ∷ []) below))
-    (given_then _ _ _ _ _ _ _ c.write_line.ensures c.write_board.ensures)
+    (given_then _ _ _ _ _ _ c.write_line.ensures c.write_board.ensures)

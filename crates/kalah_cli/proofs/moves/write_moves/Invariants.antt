@@ -7,6 +7,6 @@ use Rattle.kalah_cli.proofs.moves.write_moves.Given as goal
 abbrev pub invariant-loop-i : goal.invariant-loop-i
 invariant-loop-i g l = record {
   same : l.moves ≡ legal_houses l.board;
-  given : WasGiven g.O.Sink.written g.O.Sink.has_failed l.initial.out l.out
+  given : WasGiven g.O.Sink.state l.initial.out l.out
       (flat_map (λ h. move_lines l.fn.boards None h (step_of l.board h)) (take l.i l.moves));
 }

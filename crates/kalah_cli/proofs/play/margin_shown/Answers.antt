@@ -4,7 +4,7 @@ use Rattle.kalah_cli.proofs.GameLemmas.{kept, shown_flushed}
 use Rattle.kalah_cli.proofs.play.margin_shown.Goals as goal
 
 pub solve-requires-clause-shown : goal.solve-requires-clause-shown
-solve-requires-clause-shown g c = shown_flushed _ _ c.requires.shown c.flush_unless_failed.ensures.given
+solve-requires-clause-shown g c = shown_flushed _ c.requires.shown c.flush_unless_failed.ensures.given
 
 pub returns-in-Over-clause-margin : goal.returns-in-Over-clause-margin
 returns-in-Over-clause-margin g c = λ _ _.

@@ -12,24 +12,24 @@ use Rattle.kalah_cli.proofs.GameLemmas.{after_step, kept, shown_first, shown_flu
 use Rattle.kalah_cli.proofs.play.play.Goals as goal
 
 pub write_game-requires-clause-shown : goal.write_game-requires-clause-shown
-write_game-requires-clause-shown g c = shown_first _ _ c.requires.begun c.write_board.ensures
+write_game-requires-clause-shown g c = shown_first _ c.requires.begun c.write_board.ensures
 
 pub margin_shown-margin-requires : goal.margin_shown-margin-requires
-margin_shown-margin-requires g c = record { shown = shown_first _ _ c.requires.begun c.write_board.ensures }
+margin_shown-margin-requires g c = record { shown = shown_first _ c.requires.begun c.write_board.ensures }
 
 pub write_game-requires-in-Again-clause-shown : goal.write_game-requires-in-Again-clause-shown
 write_game-requires-in-Again-clause-shown g c =
-    shown_next _ _ (shown_flushed _ _ (shown_first _ _ c.requires.begun c.write_board.ensures) c.margin_shown-margin.ensures.flushed)
+    shown_next _ (shown_flushed _ (shown_first _ c.requires.begun c.write_board.ensures) c.margin_shown-margin.ensures.flushed)
     c.in-Some.h (ap (λ game. game.form) c.requires.begun) c.apply-step.ensures.step
     (after_step c.apply-step.result c.in-Again.next c.in-Again.is) c.margin_shown-margin.ensures.begun refl
-    (valued_move _ _ c.args.boards c.args.values _ _ (λ shown sound. kept c.margin_shown-margin.ensures.small
+    (valued_move _ c.args.boards c.args.values _ _ (λ shown sound. kept c.margin_shown-margin.ensures.small
     ∙ c.margin_shown-margin.ensures.margin shown sound) c.write_in_form.ensures)
 
 pub returns-in_default : goal.returns-in_default
 returns-in_default g c =
-    subst (λ first. IsPrinted g.O.Sink.written g.O.Sink.has_failed g.O.Sink.is_handed_on c.args.out.now c.write_game.new.out
+    subst (λ first. IsPrinted g.O.Sink.state c.args.out.now c.write_game.new.out
     (play_output first c.args.boards c.args.values c.args.board.now)) (sym c.in_default.is) (record {
-      given = given_then _ _ _ _ _ _ _ c.write_board.ensures c.write_game.ensures.printed.given;
+      given = given_then _ _ _ _ _ _ c.write_board.ensures c.write_game.ensures.printed.given;
       handed_on = c.write_game.ensures.printed.handed_on;
     })
 
@@ -39,15 +39,15 @@ returns g c =
     let p = c.args.board.now in
     let h = c.in-Some.h in
     let next = after_step c.apply-step.result c.in-Again.next c.in-Again.is in
-    let move = valued_move _ _ c.args.boards c.args.values _ _ (λ shown sound. kept c.margin_shown-margin.ensures.small
+    let move = valued_move _ c.args.boards c.args.values _ _ (λ shown sound. kept c.margin_shown-margin.ensures.small
     ∙ c.margin_shown-margin.ensures.margin shown sound) c.write_in_form.ensures in
     let game = ap (λ q. move_text form (worth p) h c.apply-step.result ++ game_text form q (best_game q)) next
     ∙ ap (λ s. move_text form (worth p) h s ++ game_text form (position_after s) (best_game (position_after s))) c.apply-step.ensures.step in
-    subst (λ first. IsPrinted g.O.Sink.written g.O.Sink.has_failed g.O.Sink.is_handed_on c.args.out.now c.write_game-in-Again.new.out
+    subst (λ first. IsPrinted g.O.Sink.state c.args.out.now c.write_game-in-Again.new.out
     (play_output first c.args.boards c.args.values p)) (sym c.in-Some.is) (record {
-      given = subst (λ text. WasGiven g.O.Sink.written g.O.Sink.has_failed c.args.out.now c.write_game-in-Again.new.out
-          (board_lines c.args.boards p ++ text)) game (given_then _ _ _ _ _ _ _ c.write_board.ensures
-          (given_after _ _ _ _ _ _ c.margin_shown-margin.ensures.flushed
-          (given_then _ _ _ _ _ _ _ move c.write_game-in-Again.ensures.printed.given)));
+      given = subst (λ text. WasGiven g.O.Sink.state c.args.out.now c.write_game-in-Again.new.out
+          (board_lines c.args.boards p ++ text)) game (given_then _ _ _ _ _ _ c.write_board.ensures
+          (given_after _ _ _ _ _ c.margin_shown-margin.ensures.flushed
+          (given_then _ _ _ _ _ _ move c.write_game-in-Again.ensures.printed.given)));
       handed_on = c.write_game-in-Again.ensures.printed.handed_on;
     })

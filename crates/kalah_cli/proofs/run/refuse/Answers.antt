@@ -10,7 +10,7 @@ pub returns-clause-version : goal.returns-clause-version
 returns-clause-version g c = λ help clean. elim c.match-kind.branch [
   | in-DisplayHelp w ↦ absurd (help (sym w.in-DisplayHelp.ensures))
   | in-DisplayVersion w ↦
-      let printed = subst (λ o. IsPrinted g.O.Sink.written g.O.Sink.has_failed g.O.Sink.is_handed_on c.args.out.now o version_line)
+      let printed = subst (λ o. IsPrinted g.O.Sink.state c.args.out.now o version_line)
       (sym w.out-is) w.print_text-in-DisplayVersion.ensures in
       (printed.given.whole (false_from_ne_true _ (λ failed. let bad = c.status_of_sink.ensures.failed.0 failed in cc))).1
 ]

@@ -25,10 +25,10 @@ is_asked g c a taken = taken_once (texts_of c.args.words.items) (request_asks c.
 
 -- which is done
 does : (g : Over) (c : After-drop-words g) (a : Asked) → request_asks c.in-Ok.request ≡ a
-    → Does g.O.Sink.written g.O.Sink.has_failed g.O.Sink.is_handed_on c.args.out.now c.run_request-ended.new.out c.report_end.result
+    → Does g.O.Sink.state c.args.out.now c.run_request-ended.new.out c.report_end.result
     (g.R.Sources.may_give c.args.rt.now) a
 does g c a is =
-    subst (Does g.O.Sink.written g.O.Sink.has_failed g.O.Sink.is_handed_on c.args.out.now c.run_request-ended.new.out c.report_end.result
+    subst (Does g.O.Sink.state c.args.out.now c.run_request-ended.new.out c.report_end.result
     (g.R.Sources.may_give c.args.rt.now)) is
     (rw c.report_end.ensures c.run_request-ended.ensures)
 
@@ -36,7 +36,7 @@ pub returns-in-Ok-clause-accepted : goal.returns-in-Ok-clause-accepted
 returns-in-Ok-clause-accepted g c = λ a taken. inl (does g c a (is_asked g c a taken))
 
 pub returns-in-Ok-clause-by_words : goal.returns-in-Ok-clause-by_words
-returns-in-Ok-clause-by_words g c = by_words _ _ _ _ _ _ _ _ (returns-in-Ok-clause-accepted g c)
+returns-in-Ok-clause-by_words g c = by_words _ _ _ _ _ _ (returns-in-Ok-clause-accepted g c)
 
 pub returns-in-Ok-clause-best_play : goal.returns-in-Ok-clause-best_play
 returns-in-Ok-clause-best_play g c = plays_best
@@ -56,11 +56,11 @@ returns-in-Ok-clause-refused g c = record {
 }
 
 pub returns-in-Ok-clause-failed : goal.returns-in-Ok-clause-failed
-returns-in-Ok-clause-failed g c = run_fails _ _ _ c.requires.sink (g.R.Sources.may_give c.args.rt.now) _ (does g c _ refl)
+returns-in-Ok-clause-failed g c = run_fails _ c.requires.sink (g.R.Sources.may_give c.args.rt.now) _ (does g c _ refl)
 
 pub returns-in-Ok-clause-unchanged : goal.returns-in-Ok-clause-unchanged
 returns-in-Ok-clause-unchanged g c = λ none.
-    (run_ends _ _ _ c.requires.sink (g.R.Sources.may_give c.args.rt.now) _ (none _ (request_taken g c)) (does g c _ refl)).unchanged
+    (run_ends _ c.requires.sink (g.R.Sources.may_give c.args.rt.now) _ (none _ (request_taken g c)) (does g c _ refl)).unchanged
 
 pub returns-in-Ok-clause-stopped : goal.returns-in-Ok-clause-stopped
 returns-in-Ok-clause-stopped g c = λ question table taken failed sound.
@@ -68,7 +68,7 @@ returns-in-Ok-clause-stopped g c = λ question table taken failed sound.
     (does.0, does.1.1.left, does.1.1.stopped failed sound)
 
 pub returns-in-Ok-clause-handed_on : goal.returns-in-Ok-clause-handed_on
-returns-in-Ok-clause-handed_on g c = run_hands_on _ _ _ c.requires.sink (g.R.Sources.may_give c.args.rt.now) _ (does g c _ refl)
+returns-in-Ok-clause-handed_on g c = run_hands_on _ c.requires.sink (g.R.Sources.may_give c.args.rt.now) _ (does g c _ refl)
 
 -- ---- the parse failed
 
@@ -98,7 +98,7 @@ pub returns-clause-accepted : goal.returns-clause-accepted
 returns-clause-accepted g c = λ a taken. inr (failed g c a taken)
 
 pub returns-clause-by_words : goal.returns-clause-by_words
-returns-clause-by_words g c = by_words _ _ _ _ _ _ _ _ (returns-clause-accepted g c)
+returns-clause-by_words g c = by_words _ _ _ _ _ _ (returns-clause-accepted g c)
 
 pub returns-clause-best_play : goal.returns-clause-best_play
 returns-clause-best_play g c = plays_best
@@ -115,5 +115,5 @@ returns-clause-refused g c = record {
 
 pub returns-clause-stopped : goal.returns-clause-stopped
 returns-clause-stopped g c = λ question table taken stopped kept.
-    subst (λ o. StopsBetweenLines question (g.O.Sink.written c.args.out.now) (g.O.Sink.written o))
-    (sym (failed g c (ask question table) taken).1) (stops_at_once question (g.O.Sink.written c.args.out.now))
+    subst (λ o. StopsBetweenLines question (g.O.Sink.state c.args.out.now).written (g.O.Sink.state o).written)
+    (sym (failed g c (ask question table) taken).1) (stops_at_once question (g.O.Sink.state c.args.out.now).written)

@@ -15,8 +15,8 @@ loop-rank-preserved g c =
     let all : length (range_with_len 0 n) ≡ n = length-range_with_len 0 n in
     let this : c.loop-rank.rank ≡ 0 + c.loop-rank.rank = omega arith in
     record {
-      shown = variations_go_on _ _ _ c.write_ranked.ensures.begun c.loop-rank.invariant.shown c.write_ranked.ensures.line;
-      given = given_more _ _ (ranked_line c.args.board.now) refl c.loop-rank.rank _ _ c.loop-rank.invariant.given _ c.loop-rank.rank
+      shown = variations_go_on _ _ c.write_ranked.ensures.begun c.loop-rank.invariant.shown c.write_ranked.ensures.line;
+      given = given_more _ (ranked_line c.args.board.now) refl c.loop-rank.rank _ _ c.loop-rank.invariant.given _ c.loop-rank.rank
           (omega (arith, few, all)) (this ∙ sym (get_or-range_with_len 0 n c.loop-rank.rank 0 few)) c.write_ranked.ensures.line;
     }
 
@@ -25,6 +25,6 @@ returns g c =
     let n = length (values_of c.args.board.now) in
     let all : length (range_with_len 0 n) ≡ n = length-range_with_len 0 n in
     let done : n ≤ c.loop-rank.rank = omega (arith, c.loop-rank-test.false, c.len-rank-end.ensures.is, ap length c.requires.values) in
-    subst (λ b. WasGiven g.O.Sink.written g.O.Sink.has_failed c.args.out.now c.loop-rank.out (lines_asked b c.args.board.now))
+    subst (λ b. WasGiven g.O.Sink.state c.args.out.now c.loop-rank.out (lines_asked b c.args.board.now))
     (sym c.if-not-lines.false)
-    (given_all _ _ (ranked_line c.args.board.now) refl c.loop-rank.rank _ _ c.loop-rank.invariant.given (omega (arith, done, all)))
+    (given_all _ (ranked_line c.args.board.now) refl c.loop-rank.rank _ _ c.loop-rank.invariant.given (omega (arith, done, all)))

@@ -8,7 +8,7 @@ use Rattle.kalah_cli.proofs.show.write_lines.Given as goal
 
 abbrev pub invariant-loop-rank : goal.invariant-loop-rank
 invariant-loop-rank g l = record {
-  shown : IsOfVariations g.O.Sink.written g.O.Sink.has_failed (begun l.solver) l.board l.out;
-  given : WasGiven g.O.Sink.written g.O.Sink.has_failed l.initial.out l.out
+  shown : IsOfVariations g.O.Sink.state (begun l.solver) l.board l.out;
+  given : WasGiven g.O.Sink.state l.initial.out l.out
       (flat_map (ranked_line l.board) (take l.rank (range_with_len 0 (length (values_of l.board)))));
 }

@@ -26,27 +26,26 @@ output_parts lines p =
 
 pub returns-then-failed : goal.returns-then-failed
 returns-then-failed g c = record {
-  given = subst (WasGiven g.O.Sink.written g.O.Sink.has_failed c.args.out.now c.write_plain.new.out)
-      (sym (output_parts c.args.lines c.args.board.now))
-      (given_cut_off _ _ _ _ _ _ c.write_plain.ensures.given (sym c.failed.ensures ∙ c.if-failed.true));
+  given = subst (WasGiven g.O.Sink.state c.args.out.now c.write_plain.new.out) (sym (output_parts c.args.lines c.args.board.now))
+      (given_cut_off _ _ _ _ _ c.write_plain.ensures.given (sym c.failed.ensures ∙ c.if-failed.true));
   handed_on = c.write_plain.ensures.handed_on;
 }
 
 pub returns : goal.returns
 returns g c =
-    subst (IsPrinted g.O.Sink.written g.O.Sink.has_failed g.O.Sink.is_handed_on c.args.out.now c.flush_unless_failed.new.out)
+    subst (IsPrinted g.O.Sink.state c.args.out.now c.flush_unless_failed.new.out)
     (sym (output_parts c.args.lines c.args.board.now))
-    (printed_flushed _ _ _ _ _ _ _ (given_then _ _ _ _ _ _ _ c.write_plain.ensures.given
-    (given_then _ _ _ _ _ _ _ c.write_values.ensures c.write_lines.ensures))
+    (printed_flushed _ _ _ _ _ (given_then _ _ _ _ _ _ c.write_plain.ensures.given
+    (given_then _ _ _ _ _ _ c.write_values.ensures c.write_lines.ensures))
     c.flush_unless_failed.ensures.given c.flush_unless_failed.ensures.handed_on)
 
 -- the picture is drawn before the search
 pub values-values-requires-clause-shown : goal.values-values-requires-clause-shown
 values-values-requires-clause-shown g c =
-    subst (λ o. WasGiven g.O.Sink.written g.O.Sink.has_failed o c.write_plain.new.out (picture_of c.args.board.now))
+    subst (λ o. WasGiven g.O.Sink.state o c.write_plain.new.out (picture_of c.args.board.now))
     (sym (ap (λ game. game.sink) c.requires)) c.write_plain.ensures.given
 
 -- and the lines are written below the line of values
 pub write_lines-requires-clause-shown : goal.write_lines-requires-clause-shown
 write_lines-requires-clause-shown g c =
-    variations_begin _ _ c.requires c.values-values.ensures.begun c.write_plain.ensures.given c.write_values.ensures
+    variations_begin _ c.requires c.values-values.ensures.begun c.write_plain.ensures.given c.write_values.ensures

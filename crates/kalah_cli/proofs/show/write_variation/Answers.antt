@@ -11,13 +11,13 @@ use Rattle.kalah_cli.proofs.show.write_variation.Goals as goal
 
 pub write_game-requires-clause-shown : goal.write_game-requires-clause-shown
 write_game-requires-clause-shown g c =
-    shown_after _ _ c.args.value c.requires.shown c.write_variation_start.ensures
+    shown_after _ c.args.value c.requires.shown c.write_variation_start.ensures
     (after_step c.apply.result c.in-Again.next c.in-Again.is ∙ ap position_after c.apply.ensures.step) refl
 
 pub returns-clause-line : goal.returns-clause-line
 returns-clause-line g c =
-    subst (λ q. WasGiven g.O.Sink.written g.O.Sink.has_failed c.args.out.now c.write_unless_failed.new.out
+    subst (λ q. WasGiven g.O.Sink.state c.args.out.now c.write_unless_failed.new.out
     (variation_start c.args.value ++ (game_text Houses q (best_game q) ++ line_feed ∷ [])))
     (after_step c.apply.result c.in-Again.next c.in-Again.is ∙ ap position_after c.apply.ensures.step)
-    (given_then _ _ _ _ _ _ _ c.write_variation_start.ensures
-    (given_then _ _ _ _ _ _ _ c.write_game.ensures.printed.given c.write_unless_failed.ensures))
+    (given_then _ _ _ _ _ _ c.write_variation_start.ensures
+    (given_then _ _ _ _ _ _ c.write_game.ensures.printed.given c.write_unless_failed.ensures))

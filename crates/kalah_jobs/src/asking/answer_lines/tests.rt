@@ -90,14 +90,3 @@ fn lines_before_a_read_that_fails_are_answered(rt: HostRuntime) {
     assert!(rt; out.as_slice() == "2 house 2\nfault shape\n".as_bytes());
     assert!(rt; end == Err(AskFault::Read));
 }
-
-#[test]
-fn each_fault_is_told_in_its_words(rt: HostRuntime) {
-    for (fault, words) in [
-        (AskFault::Read, "cannot read"),
-        (AskFault::Write, "write failed"),
-    ] {
-        let told = fault.to_string(rt.alloc()).expect(&rt, "no memory");
-        assert!(rt; told.as_str() == words);
-    }
-}

@@ -39,15 +39,3 @@ fn a_million_empty_lines_are_jobs(rt: HostRuntime) {
         }
     }
 }
-
-#[test]
-fn each_fault_is_told_in_its_words(rt: HostRuntime) {
-    for (fault, text) in [
-        (JobsFault::TooManyFiles, "too many files"),
-        (JobsFault::TooManyLines, "too many lines"),
-        (JobsFault::OutOfMemory, "out of memory"),
-    ] {
-        let told = fault.to_string(rt.alloc()).expect(&rt, "no memory");
-        assert!(rt; told.as_str() == text);
-    }
-}

@@ -1,38 +1,36 @@
 use Rattle.std.proofs.lemmas.Grind.{common_steps}
-use Rattle.std.proofs.Common.{◌∙◌, [], refl, sym, ap, ⊎_elim, inl, inr, arith, rules}
+use Rattle.std.proofs.Common.{◌≡◌, ◌∙◌, [], Err, false, refl, sym, ap, ⊎_elim, inl, inr, arith, rules}
 use Rattle.kalah_jobs.specs.Files.Jobs.{job_count}
-use Rattle.kalah_run.proofs.BatchLemmas.{answered, as_many_jobs, given_kept, given_no_output, given_output, left_without_memory, left_without_worker, starts_none}
+use Rattle.kalah_run.specs.declared.batch.run_fault.RunFault.TheVariants.{NoWorker}
+use Rattle.kalah_run.proofs.BatchLemmas.{answered, as_many_jobs, given_kept, given_no_output, given_output, starts_none}
 use Rattle.kalah_run.proofs.batch.answer_batch.Goals.{then-total-gt0+in_ok-open+in_ok-run, else-total-gt0}
 use Rattle.kalah_run.proofs.batch.answer_batch.Goals as goal
-
-pub returns-in_err-open-clause-answers : goal.returns-in_err-open-clause-answers
-returns-in_err-open-clause-answers g c =
-    let jobs = c.in_ok-jobs.ensures in
-    left_without_memory g.W.Sink.written g.W.Sink.has_failed g.W.Sink.is_handed_on _ jobs.value jobs.too_many_files jobs.too_many_lines
-    refl c.requires.fresh (search rules)
 
 pub returns-in_err-run-clause-answers : goal.returns-in_err-run-clause-answers
 returns-in_err-run-clause-answers g c =
     let jobs = c.in_ok-jobs.ensures in
-    left_without_worker g.W.Sink.written g.W.Sink.has_failed g.W.Sink.is_handed_on _ jobs.value jobs.too_many_files jobs.too_many_lines
-    c.in_err-run.ensures.untouched c.requires.fresh (search rules)
-    (omega (arith, c.if-total-gt0.true, c.total.ensures.lines, as_many_jobs _ _ _ jobs.value))
+    let fault : c.from_residual-in_err-run.result ≡ Err NoWorker = search rules in
+    let sound : (g.W.Sink.state c.run.new.out).has_failed ≡ false = grind (arith, c.in_err-run.ensures.untouched, c.requires.fresh) in
+    rw fault (
+      jobs.0,
+      omega (arith, c.if-total-gt0.true, c.total.ensures.lines, as_many_jobs _ _ _ jobs.1),
+      (c.in_err-run.ensures.untouched, sound),
+    )
 
 -- the sink was given the answers to all lines
 pub returns-clause-answers : goal.returns-clause-answers
 returns-clause-answers g c =
     let jobs = c.in_ok-jobs.ensures in
     let end = c.flush_and_count.ensures in
-    answered g.W.Sink.written g.W.Sink.has_failed g.W.Sink.is_handed_on c.args.request.now.question jobs.value jobs.too_many_files
-    jobs.too_many_lines _ (given_kept {out = g.W.Sink.written c.if-total-gt0.out} {failed = g.W.Sink.has_failed c.if-total-gt0.out}
+    answered g.W.Sink.state c.args.request.now.question _ _ jobs _ _ (given_kept {out = g.W.Sink.state c.if-total-gt0.out}
     (elim c.if-total-gt0.branch [
       | then-total-gt0+in_ok-open+in_ok-run w ↦
           let asked = w.in_ok-open.ensures.asked in
-          rw w.out-is (given_output c.args.request.now.question c.args.request.now.files.now w.in_ok-open.field-0.output _ _ _
-          asked.of_files (w.in_ok-open.ensures.ready.jobs ∙ asked.of_jobs ∙ jobs.value) w.in_ok-run.ensures.given)
+          rw w.out-is (given_output c.args.request.now.question c.args.request.now.files.now w.in_ok-open.field-0.output _ _
+          asked.of_files (w.in_ok-open.ensures.ready.jobs ∙ asked.of_jobs ∙ jobs.1) w.in_ok-run.ensures.given)
       | else-total-gt0 w ↦
           rw w.out-is (given_no_output c.args.request.now.question c.args.request.now.files.now
-          (omega (arith, w.if-total-gt0.false, c.total.ensures.lines, as_many_jobs _ _ _ jobs.value)) _ _)
+          (omega (arith, w.if-total-gt0.false, c.total.ensures.lines, as_many_jobs _ _ _ jobs.1)) _)
     ])
     (starts_none _ _ [] refl end.given.start) (λ sound. (end.given.whole sound).0)) end.counted end.handed_on end.fault
 
@@ -40,12 +38,13 @@ returns-clause-answers g c =
 pub returns-clause-gate_hears_all : goal.returns-clause-gate_hears_all
 returns-clause-gate_hears_all g c = λ unless ok job low.
     let end = c.flush_and_count.ensures in
-    let jobs = as_many_jobs _ _ _ c.in_ok-jobs.ensures.value in
+    let jobs = as_many_jobs _ _ _ c.in_ok-jobs.ensures.1 in
     elim c.if-total-gt0.branch [
       | then-total-gt0+in_ok-open+in_ok-run w ↦
           let asked = w.in_ok-open.ensures.asked in
+          let same = ap (λ o. (g.W.Sink.state o).has_failed) (sym w.out-is) in
           rw (← asked.of_gate) (w.in_ok-run.ensures.gate_hears_all
-          (⊎_elim (λ solve. inl (asked.of_rest ∙ solve)) (λ sound. inr (ap g.W.Sink.has_failed (sym w.out-is) ∙ (end.given.whole sound).0)) unless) job
+          (⊎_elim (λ solve. inl (asked.of_rest ∙ solve)) (λ sound. inr (same ∙ (end.given.whole sound).0)) unless) job
           (omega (arith, low, jobs, ap job_count asked.of_jobs)))
       | else-total-gt0 w ↦ absurd (omega (arith, low, jobs, w.if-total-gt0.false, c.total.ensures.lines))
     ]

@@ -7,11 +7,11 @@ use Rattle.kalah_jobs.proofs.asking.answer_lines.answer_each.Given as goal
 abbrev pub invariant-loop-byte : goal.invariant-loop-byte
 invariant-loop-byte g l =
     let remaining = g.I.Read.remaining in
-    let written = g.O.Sink.written in
+    let state = g.O.Sink.state in
     Underway l.question (unread remaining l.fn.input) (unread remaining l.input)
-    (written l.fn.out) (written l.out) l.line l.all_read
-    × (g.O.Sink.has_failed l.out ≡ false)
-    × (asking_of remaining written l.input ≡ asking_of remaining written l.fn.input)
+    (state l.fn.out).written (state l.out).written l.line l.all_read
+    × ((state l.out).has_failed ≡ false)
+    × (asking_of remaining state l.input ≡ asking_of remaining state l.fn.input)
     × (l.input.input.ghost_name ≡ l.fn.input.input.ghost_name)
 
 abbrev pub decreases-loop-byte : goal.decreases-loop-byte

@@ -7,7 +7,7 @@ use Rattle.kalah_jobs.proofs.asking.told.tell.Goals as goal
 
 pub returns-then-failed-clause-given : goal.returns-then-failed-clause-given
 returns-then-failed-clause-given g c =
-    given_cut_off _ _ _ _ [] _ c.flush_unless_failed.ensures.given (sym c.failed.ensures ∙ c.if-failed.true)
+    given_cut_off _ _ _ [] _ c.flush_unless_failed.ensures.given (sym c.failed.ensures ∙ c.if-failed.true)
 
 pub returns-then-failed-clause-read : goal.returns-then-failed-clause-read
 returns-then-failed-clause-read g c = ap not (c.is_bad-is_read.ensures ∙ ap is_faulty_entry c.of_line-entry.ensures

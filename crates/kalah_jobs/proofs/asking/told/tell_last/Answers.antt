@@ -4,4 +4,4 @@ use Rattle.kalah_jobs.proofs.WritingLemmas.{given_flushed, given_none}
 use Rattle.kalah_jobs.proofs.asking.told.tell_last.Goals as goal
 
 pub returns-clause-given : goal.returns-clause-given
-returns-clause-given g c = given_flushed _ _ _ _ _ _ (grind (arith, common_steps, given_none)) c.flush_unless_failed.ensures.given
+returns-clause-given g c = given_flushed _ _ _ _ _ (grind (arith, common_steps, given_none)) c.flush_unless_failed.ensures.given

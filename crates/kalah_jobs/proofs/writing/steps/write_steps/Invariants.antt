@@ -6,5 +6,5 @@ use Rattle.kalah_jobs.specs.Writing.Given.{WasGiven}
 use Rattle.kalah_jobs.proofs.writing.steps.write_steps.Given as goal
 
 abbrev pub invariant-loop-i : goal.invariant-loop-i
-invariant-loop-i g l = WasGiven g.W.Sink.written g.W.Sink.has_failed l.initial.out l.out
+invariant-loop-i g l = WasGiven g.W.Sink.state l.initial.out l.out
     (flat_map (λ h. ((l.fn.name ++ l.fn.place) ++ step_text_of h (step_of l.board h)) ++ line_feed ∷ []) (take l.i l.moves))

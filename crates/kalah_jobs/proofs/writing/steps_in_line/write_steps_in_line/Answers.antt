@@ -13,15 +13,15 @@ loop-i-preserved g c =
     let moves = c.legal-moves.result in
     let i = c.loop-i.i in
     let more = text_more text moves i (omega (arith, c.loop-i-test.true, c.len-i-end.ensures)) in
-    subst (WasGiven g.W.Sink.written g.W.Sink.has_failed c.args.out.now c.write_next.new.out)
+    subst (WasGiven g.W.Sink.state c.args.out.now c.write_next.new.out)
     (sym (more ∙ ap (λ h. texts_in_line text (take i moves) ++ (cond (i == 0) [] (codes "; ") ++ text h)) (sym c.get.ensures)))
-    (given_then _ _ _ _ _ _ _ c.loop-i.invariant c.write_next.ensures)
+    (given_then _ _ _ _ _ _ c.loop-i.invariant c.write_next.ensures)
 
 pub returns : goal.returns
 returns g c =
     let text : ℕ → List ℕ = λ h. step_text_of h (step_of c.args.board.now h) in
     let moves = c.legal-moves.result in
     let all = take_all c.loop-i.i moves (omega (arith, c.loop-i-test.false, c.len-i-end.ensures)) ∙ c.legal-moves.ensures in
-    subst (WasGiven g.W.Sink.written g.W.Sink.has_failed c.args.out.now c.write_unless_failed.new.out)
+    subst (WasGiven g.W.Sink.state c.args.out.now c.write_unless_failed.new.out)
     (ap (λ ms. texts_in_line text ms ++ line_feed ∷ []) all)
-    (given_then _ _ _ _ _ _ _ c.loop-i.invariant c.write_unless_failed.ensures)
+    (given_then _ _ _ _ _ _ c.loop-i.invariant c.write_unless_failed.ensures)

@@ -6,5 +6,5 @@ use Rattle.kalah_jobs.proofs.WritingLemmas.{texts_in_line}
 use Rattle.kalah_jobs.proofs.writing.steps_in_line.write_steps_in_line.Given as goal
 
 abbrev pub invariant-loop-i : goal.invariant-loop-i
-invariant-loop-i g l = WasGiven g.W.Sink.written g.W.Sink.has_failed l.initial.out l.out
+invariant-loop-i g l = WasGiven g.W.Sink.state l.initial.out l.out
     (texts_in_line (λ h. step_text_of h (step_of l.board h)) (take l.i l.moves))

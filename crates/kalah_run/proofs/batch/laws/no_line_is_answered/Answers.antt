@@ -2,5 +2,4 @@ use Rattle.kalah_run.proofs.BatchLemmas.{nothing_answered}
 use Rattle.kalah_run.proofs.batch.laws.no_line_is_answered.Goals as goal
 
 pub returns : goal.returns
-returns g c question files old new result answers none =
-    nothing_answered question files none _ _ result answers.start answers.tally answers.too_many_lines answers.no_worker
+returns g c question files old new result answers none = nothing_answered question files none _ old new result answers

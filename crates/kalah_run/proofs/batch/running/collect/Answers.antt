@@ -3,10 +3,9 @@ use Rattle.std.proofs.Common.{◌∷◌, [], ℕ, List, inl, inr, length, refl, 
 use Rattle.std.specs.Prelude.{Some}
 use Rattle.std.proofs.lemmas.List.{map-append, length-append}
 use Rattle.kalah_jobs.specs.declared.files.job.Job.{Job}
-use Rattle.kalah_run.specs.Queue.States.{GetState}
+use Rattle.kalah_run.specs.Queue.States.{GetState, outcomes_in}
 use Rattle.kalah_run.specs.Batch.Leaving.{rest_of, DrawsOnlyTheRest}
 use Rattle.kalah_run.specs.Batch.Running.{MayHaveGot}
-use Rattle.kalah_run.specs.Queue.Lists.{outcomes_in}
 use Rattle.kalah_run.specs.Batch.OrderedOutput.{HasWritten, Waits}
 use Rattle.kalah_run.proofs.BatchLemmas.{draws_on, draws_still, given_whole, new_written, progress_offered, still_written}
 use Rattle.kalah_run.proofs.batch.running.collect.Given as given
@@ -20,13 +19,13 @@ loop-init g c = record {
   all = ap (λ (l : List (ℕ × Job)). length l) c.requires.first;
   left = record { own = c.requires.own; rest = refl; same = inl refl };
   few_tries = omega arith;
-  progress = rw c.requires.first (c.write.ensures.writes _ _ [] _ (new_written _ _ _ c.requires.new));
+  progress = rw c.requires.first (c.write.ensures.writes _ _ [] _ (new_written _ _ c.requires.new));
 }
 
 -- an outcome was got, soon or later
-next : (g : given.Over) (c : goal.After-accepts g) → MayHaveGot g.W.Sink.written g.W.Sink.has_failed
-    (rest_of c.leave_after.new.self.left) (g.E.Rule.invariant 1) c.loop.receiver.pass c.match-get_soon.receiver.pass c.loop.out
-    c.match-get_soon.out (Some c.match-get_soon.outcome)
+next : (g : given.Over) (c : goal.After-accepts g) → MayHaveGot (rest_of c.leave_after.new.self.left)
+    (g.E.Rule.invariant 1) c.loop.receiver.pass c.match-get_soon.receiver.pass (g.W.Sink.state c.loop.out)
+    (g.W.Sink.state c.match-get_soon.out) (Some c.match-get_soon.outcome)
 next g c = elim c.match-get_soon.branch [
   | in-Some w ↦ rw (w.out-is, w.receiver-is, w.outcome-is, ← c.leave_after.ensures.pass)
       (record { got = w.in-Some.ensures.got; left = tt; ended = tt; keeps = search rules; sound = λ still. still })
@@ -42,7 +41,7 @@ next g c = elim c.match-get_soon.branch [
 
 -- with its own pass the calling thread has drawn only the rest
 next_left : (g : given.Over) (c : goal.After-accepts g) → DrawsOnlyTheRest c.args.shared.now.desk
-    (g.W.Sink.has_failed c.match-get_soon.out) c.args.receiver.left c.match-get_soon.receiver.left
+    (g.W.Sink.state c.match-get_soon.out).has_failed c.args.receiver.left c.match-get_soon.receiver.left
 next_left g c =
     let asked = draws_on c.loop.invariant.left (rw c.failed.ensures at c.leave_after.ensures.draws) in
     elim c.match-get_soon.branch [
@@ -68,8 +67,8 @@ loop-preserved g c =
       left = draws_still _ c.write-in-loop.ensures.sound next_left;
       few_tries = search rules;
       progress =
-          subst (λ (l : List Job). HasWritten c.args.output.files.now c.args.output.jobs.now l (g.W.Sink.written c.args.out.now)
-          (g.W.Sink.written c.write-in-loop.new.out) (g.W.Sink.has_failed c.write-in-loop.new.out) c.write-in-loop.new.self
+          subst (λ (l : List Job). HasWritten c.args.output.files.now c.args.output.jobs.now l (g.W.Sink.state c.args.out.now)
+          (g.W.Sink.state c.write-in-loop.new.out) c.write-in-loop.new.self
           × Waits c.write-in-loop.new.self)
           (sym (ap (λ (l : List (ℕ × Job)). outcomes_in l) more
           ∙ map-append (λ (p : ℕ × Job). p.1) c.loop.receiver.pass.got ((worker, outcome) ∷ [])))
@@ -97,7 +96,7 @@ returns-clause-collected g c =
       | then-loop-test+in-None+in-None-flush_and_get w ↦
           let left = w.in-None-flush_and_get.ensures.got in
           let before = c.loop.invariant.progress in
-          let so_far = still_written left.keeps left.sound before.0 in
+          let so_far = still_written {later = g.W.Sink.state w.flush_and_get.new.out} left.keeps left.sound before.0 in
           let asked = draws_on c.loop.invariant.left (rw w.failed.ensures at w.leave_after.ensures.draws) in
           let gone = rw w.in-None.ensures.left at left.left in
           rw (w.receiver-is, left.got ∙ w.in-None.ensures.got ∙ w.leave_after.ensures.pass) (record {

@@ -4,7 +4,7 @@ use Rattle.kalah_run.specs.Desk.Rows.{drawn_in, spent_in, AreLawful, DealsEachOn
 use Rattle.kalah_run.specs.Desk.Kept.{rows_in}
 use Rattle.kalah_run.specs.Desk.States.{PassState, drawn_rows}
 use Rattle.kalah_run.specs.declared.desk.rule.DeskView.TheVariants.{Closing}
-use Rattle.kalah_run.proofs.DeskLemmas.{deals_each_once, reclaims, starts_closing, ends, drawn_at_end, spent_at_end}
+use Rattle.kalah_run.proofs.DeskLemmas.{reclaims, starts_closing, ends, drawn_at_end, spent_at_end}
 use Rattle.kalah_run.proofs.desk.Desk.close.Goals as goal
 
 pub load_new_seat-closer-requires : goal.load_new_seat-closer-requires
@@ -31,8 +31,7 @@ returns-clause-deals c =
     let drawn = c.min.ensures ∙ drawn_at_end c.self.inside.total c.word-word.result (drawn_rows c.args.passes.items) (last c).0
     (last c).1 in
     subst (λ (n : ℕ). DealsEachOnce c.args.self.total n (drawn_rows c.args.passes.items)) (sym drawn)
-    (deals_each_once c.args.self.total _ (subst (λ (t : ℕ). AreLawful t (drawn_rows c.args.passes.items))
-    (ap (λ d. d.total) c.self.view_is) (last c).1))
+    (subst (λ (t : ℕ). AreLawful t (drawn_rows c.args.passes.items)) (ap (λ d. d.total) c.self.view_is) (last c).1)
 
 pub returns-clause-spent : goal.returns-clause-spent
 returns-clause-spent c = spent_at_end c.self.inside.total c.word-word.result (drawn_rows c.args.passes.items) (last c).0 (last c).1

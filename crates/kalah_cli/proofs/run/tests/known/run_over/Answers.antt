@@ -6,4 +6,4 @@ pub returns : goal.returns
 returns g c =
     let before : Some c.new-out.result.writer.items ≡ Some [] = (let one = c.new-out.ensures.writer in let two = c.new.ensures.items in cc) in
     let after : Some c.run_words-status.new.out.writer.items ≡ Some c.into_inner.result.items = (let is = c.into_inner.ensures in cc) in
-    answers_what_is_known _ _ _ _ _ _ c.args.disk.now c.args.typed.now _ before after _ c.run_words-status.ensures.accepted
+    answers_what_is_known _ _ _ _ c.args.disk.now c.args.typed.now _ before after _ c.run_words-status.ensures.accepted

@@ -34,10 +34,12 @@ invariant_of-result c =
       so_far.starts,
     )
 
-pub returns-clause-value : goal.returns-clause-value
-returns-clause-value c =
-    let all = take_all c.loop-file.file-index c.args.files.now (omega (arith, c.loop-file-test.false)) in
-    c.loop-file.invariant.read ∙ ap (jobs_to c.args.question) all
+pub returns : goal.returns
+returns c =
+    let all = take_all c.loop-file.file-index c.args.files.now (omega (arith, c.loop-file-test.false)) in (
+      (omega (arith, c.if-files-gt-MOST_FILES.false), omega (arith, c.in-Some.ensures.some)),
+      c.loop-file.invariant.read ∙ ap (jobs_to c.args.question) all,
+    )
 
 pub push_reserved-requires : goal.push_reserved-requires
 push_reserved-requires c =
@@ -66,6 +68,3 @@ loop-file-preserved c =
       room = omega (arith, c.push_reserved-in-loop-file.ensures.capacity, so_far.room);
       starts_room = omega (arith, c.push_reserved.ensures.capacity, so_far.starts_room);
     }
-
-pub returns-in_err-faults-clause-too_many_files : goal.returns-in_err-faults-clause-too_many_files
-returns-in_err-faults-clause-too_many_files c = grind (arith, common_steps)

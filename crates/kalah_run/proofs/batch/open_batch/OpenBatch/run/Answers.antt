@@ -5,8 +5,7 @@ use Rattle.kalah_jobs.specs.Files.Jobs.{job_count}
 use Rattle.kalah_run.specs.Desk.Rows.{DealsEachOnce}
 use Rattle.kalah_run.specs.Desk.States.{PassState, IsPassAt, drawn_rows}
 use Rattle.std.proofs.lemmas.List.Elements.{All-append}
-use Rattle.kalah_run.specs.Queue.States.{GetState, PutState}
-use Rattle.kalah_run.specs.Queue.Lists.{outcomes_in}
+use Rattle.kalah_run.specs.Queue.States.{GetState, PutState, outcomes_in}
 use Rattle.kalah_run.specs.Batch.AtWork.{passes_of}
 use Rattle.kalah_run.specs.Batch.Leaving.{pass_in, HasDrawnNothing}
 use Rattle.kalah_run.specs.declared.batch.worker.Worker.{Worker}

@@ -21,9 +21,8 @@ loop-self-preserved-then-not-failed g c = record {
       (c.as_str.ensures.value ∙ ap (λ (x : NamedBytes). x.name) c.file.view_is) in
       written_on (c.loop-self.invariant.progress files jobs past begun so_far) refl refl
       (λ progress. wrote_line progress c.take.new.self c.in-Some.taken
-      (g.W.Sink.written c.write_answer.new.out) (g.W.Sink.has_failed c.write_answer.new.out) c.in-Some.ensures.takes
-      (λ given was. subst (λ (l : List ℕ). WasGivenSince begun (g.W.Sink.written c.write_answer.new.out)
-      (g.W.Sink.has_failed c.write_answer.new.out) (given ++ l))
+      (g.W.Sink.state c.write_answer.new.out) c.in-Some.ensures.takes
+      (λ given was. subst (λ (l : List ℕ). WasGivenSince begun (g.W.Sink.state c.write_answer.new.out) (given ++ l))
       (sym text) (given_on given _ was (sym c.failed.ensures ∙ c.if-not-failed.true) wrote.start
       (whole_where_sound _ c.write_answer.result _ wrote.fails.0 wrote.adds))));
 }
@@ -33,7 +32,7 @@ loop-self-preserved-else-not-failed g c = record {
   sound = c.loop-self.invariant.sound;
   progress = λ files jobs past begun so_far.
       written_on (c.loop-self.invariant.progress files jobs past begun so_far) refl refl
-      (λ progress. wrote_line progress c.take.new.self c.in-Some.taken _ _ c.in-Some.ensures.takes
+      (λ progress. wrote_line progress c.take.new.self c.in-Some.taken _ c.in-Some.ensures.takes
       (λ given was. given_off given _ was (sym c.failed.ensures ∙ c.if-not-failed.false)));
 }
 
