@@ -10,7 +10,7 @@ INTERFACE, SIGNATURES = "docs/INTERFACE.md", "tests/data/interface.txt"
 PROMISES, EXCERPTS = "docs/PROOFS.md", "CONTRIBUTING.md"
 # Pages that also name what is not there: what has gone, and what a caller or a trial has added.
 CHANGES = "CHANGELOG.md"
-ADDED = {"docs/CALLING.md": {"may_wait", "tests_may"}, "docs/CHANGE_A_RULE.md": {"NoCapture"}, "docs/DECISIONS.md": {"join_mut"}}
+ADDED = {"docs/CALLING.md": {"may_wait", "tests_may"}, "docs/DECISIONS.md": {"join_mut"}}
 # Where an implementation or a trait begins, and where a function begins.
 ROOT = re.compile(r"(?:impl(?:<[^{]*?>)? (?:\w+(?:<.*?>)? for )?&?|pub trait )(\w+)")
 FUNCTION = re.compile(r"( *)(pub )?(?:const )?fn (\w+)")
