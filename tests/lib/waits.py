@@ -27,7 +27,7 @@ LATE_OUTCOMES, LATE_WORKERS, LATE_TICKS = 12, 4, 20
 
 # The places of the results queue.
 LIMITS = Path(__file__).resolve().parents[2] / "crates/kalah_run/src/limits.rt"
-PLACES = int(re.search(r"const QUEUE_PLACES: u32 = (\d+);", LIMITS.read_text())[1])
+CAPACITY = int(re.search(r"const QUEUE_CAPACITY: u32 = (\d+);", LIMITS.read_text())[1])
 
 # The call that sets the size of a pipe, and the least and a great size.
 F_SETPIPE_SZ, SMALL, LARGE = 1031, 1 << 12, 1 << 20
@@ -81,7 +81,7 @@ class WaitTrials:
     def late_outcomes(self):
         """Easy lines are answered though the last outcomes were put late, as there was no room, and the workers are at work on hard lines
         then. Once there is room, the workers hardly run, so that the calling thread finds the queue empty and sleeps before."""
-        easy = 1 + PLACES + LATE_WORKERS
+        easy = 1 + CAPACITY + LATE_WORKERS
         self.put({"a": EASY * easy + HARD_LINE * 40})
         want = reference.answers("solve", [(b"a", EASY * easy)]).out
         for _ in range(LATE_OUTCOMES):

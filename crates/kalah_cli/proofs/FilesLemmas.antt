@@ -6,7 +6,8 @@ use Rattle.std.proofs.lemmas.List.{append-nil}
 use Rattle.kalah_cli.specs.Sources.{MayBeLeft}
 
 -- bytes that are all that a reader had left
-pub read_whole : (may_give : List ℕ → Type 0) (old new : Option (List ℕ)) (bytes : List ℕ) → MayBeLeft may_give old → Consumes old new bytes
+pub read_whole : (may_give : List ℕ → Type 0) (old new : Option (List ℕ)) (bytes : List ℕ) → MayBeLeft may_give old
+    → Consumes old new bytes
     → IsAtEnd new → may_give bytes
 read_whole may_give None new bytes may taken end = may bytes
 read_whole may_give (Some all) None bytes may taken end = absurd taken

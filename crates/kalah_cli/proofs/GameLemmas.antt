@@ -140,7 +140,8 @@ module _ (p : Position) (even : HasEqualSides p) (going : is_over p ≡ false) w
   fewer_next = fewer_left _ (first_step _ refl)
 
 -- more moves than are left make no difference
-same_moves : (n m : ℕ) (p : Position) → HasEqualSides p → moves_left p ≤ n → moves_left p ≤ m → best_moves n p ≡ best_moves m p
+same_moves : (n m : ℕ) (p : Position) → HasEqualSides p → moves_left p ≤ n → moves_left p ≤ m
+    → best_moves n p ≡ best_moves m p
 same_moves zero m p even low high =
     let over = over_at_end p (omega (arith, low)) in
     none_left zero p over ∙ sym (none_left m p over)
@@ -194,7 +195,8 @@ is_game (suc n) p even low = elim (cases_Bool (is_over p)) [
       (next.0, subst (λ houses. BestGame p houses next.0) (sym (one_left n p going)) next.1)
 ]
   where
-    begins_game : (p : Position) (n : ℕ) (even : HasEqualSides p) (going : is_over p ≡ false) (s : Step) → s ≡ step_of p (best_house p)
+    begins_game : (p : Position) (n : ℕ) (even : HasEqualSides p) (going : is_over p ≡ false) (s : Step)
+        → s ≡ step_of p (best_house p)
         → ((q : Position) → HasEqualSides q → moves_left q < moves_left p → (final : Position) × BestGame q (best_moves n q) final)
         → (final : Position) × BestGame p (best_house p ∷ best_moves n (position_after s)) final
     begins_game p n even going (step.Again q) is rest =
@@ -341,7 +343,8 @@ module _ {O : Type 0} (state : O → SinkState) where
       by (moves o q h shown given) flushed = moves o q h shown (given_flushed state _ _ _ _ given flushed)
 
     -- the next one, once its move was given
-    pub shown_next : {now : Begun O} {form : Form} {margin : ℤ} {s : Step} {q : Position} (h : ℕ) → game.form ≡ form → s ≡ step_of p h
+    pub shown_next : {now : Begun O} {form : Form} {margin : ℤ} {s : Step} {q : Position} (h : ℕ) → game.form ≡ form
+        → s ≡ step_of p h
         → q ≡ position_after s → now ≡ game → margin ≡ worth p → WasGiven state between new (move_text form margin h s)
         → IsShown state now new q
     shown_next {form = form} {margin = margin} {s = s} h written_in step next same most given = rw (same, next, step)

@@ -5,7 +5,7 @@ use Rattle.std.specs.Io.KnownBytes.{Appends}
 use Rattle.std.proofs.lemmas.Bool.{false_from_ne_true}
 use Rattle.kalah_rules.specs.Position.{Position}
 use Rattle.kalah_jobs.specs.Line.Line.{Reads}
-use Rattle.kalah_jobs.specs.Writing.Given.{AppendsStart, SinkState, WasGiven}
+use Rattle.kalah_jobs.specs.Writing.Given.{AppendsPrefix, SinkState, WasGiven}
 use Rattle.kalah_jobs.proofs.LineLemmas.{reads_once}
 use Rattle.kalah_jobs.proofs.WritingLemmas.{given_flushed, start_none, start_then}
 use Rattle.kalah_cli.specs.Ends.{AnswersLine, Ends, FailsWithoutOutput, IsPrinted, IsUnread, Prints, ended_by}
@@ -61,8 +61,8 @@ ended_err (Err failure) is = refl
 pub printed_flushed : {O : Type 0} (state : O → SinkState) (old between new : O)
     (text : List ℕ) → WasGiven state old between text → WasGiven state between new []
     → ((state new).has_failed ≡ false → (state new).is_flushed ≡ true) → IsPrinted state old new text
-printed_flushed state old between new text given flushed handed_on =
-    record { given = given_flushed state old between new text given flushed; handed_on = handed_on }
+printed_flushed state old between new text given flushed all_flushed =
+    record { given = given_flushed state old between new text given flushed; all_flushed = all_flushed }
 
 module _ {O : Type 0} (state : O → SinkState) {status : ExitStatus} where
   -- nothing was written
@@ -70,7 +70,7 @@ module _ {O : Type 0} (state : O → SinkState) {status : ExitStatus} where
   ends_unchanged sound = record {
     failed = λ failed. absurd (let both : true ≡ false = sym failed ∙ sound in cc);
     unchanged = λ _ _. refl;
-    handed_on = λ _ was. was;
+    all_flushed = λ _ was. was;
   }
 
   pub prints_nothing : {out : O} {text : List ℕ} → status ≡ Failed → Prints state out out status text
@@ -106,7 +106,7 @@ module _ {O : Type 0} (state : O → SinkState) {status : ExitStatus} where
             ends = record {
               failed = fails.0;
               unchanged = λ failed still. absurd (let both : true ≡ false = sym (fails.1 failed) ∙ still in cc);
-              handed_on = λ went _. printed.handed_on (sound went);
+              all_flushed = λ went _. printed.all_flushed (sound went);
             };
           }) (λ q other never. absurd (never (subst (MayPrint command) (is q other) may)))
 
@@ -171,7 +171,7 @@ files_refused state {names = names} failed sound = record {
 }
 
 -- what was written whole was written from its start
-pub start_whole : (old new : Option (List ℕ)) (bs : List ℕ) → Appends old new bs → AppendsStart old new bs
+pub start_whole : (old new : Option (List ℕ)) (bs : List ℕ) → Appends old new bs → AppendsPrefix old new bs
 start_whole old new bs whole = start_then old new new bs bs [] (sym (append-nil bs)) whole (start_none new [])
 
 -- ---- what `ask` has answered
@@ -207,7 +207,7 @@ module _ {O : Type 0} (state : O → SinkState) {status : ExitStatus} {question 
         begins = begun_so_far none (Keeps-refl unread) (Keeps-refl (state out).written);
         failed = λ has. absurd (let both : true ≡ false = sym has ∙ sound in cc);
         stopped = λ _ _. cut_off none (Keeps-refl unread) (Keeps-refl (state out).written);
-        handed_on = λ _ was. was;
+        all_flushed = λ _ was. was;
       }
 
   -- all was read, or a read or a write failed
@@ -217,16 +217,16 @@ module _ {O : Type 0} (state : O → SinkState) {status : ExitStatus} {question 
       → IsBegun question unread left (state old).written (state new).written → ((state new).has_failed ≡ true) ↔ IsErrOf answered Write
       → ((state new).has_failed ≡ false → (state new).is_flushed ≡ true) → IfOk answered (λ all_read. (status ≡ Clean) ↔ (all_read ≡ true))
       → IsErr answered ↔ (status ≡ Failed) → AnswersInput state old new status question unread
-  input_answered {left} (Ok all_read) is cut begins wrote handed_on clean failed = record {
+  input_answered {left} (Ok all_read) is cut begins wrote all_flushed clean failed = record {
     left = left;
     all_read = all_read;
     asked = λ _. (is, clean);
     begins = begins;
     failed = λ has. absurd (let bad = wrote.0 has in cc);
     stopped = λ fails _. absurd (let bad = failed.1 fails in cc);
-    handed_on = λ sound _. handed_on sound;
+    all_flushed = λ sound _. all_flushed sound;
   }
-  input_answered {left} (Err fault) is cut begins wrote handed_on clean failed = record {
+  input_answered {left} (Err fault) is cut begins wrote all_flushed clean failed = record {
     left = left;
     all_read = true;
     asked = λ went. absurd (went (failed.0 refl));
@@ -234,7 +234,7 @@ module _ {O : Type 0} (state : O → SinkState) {status : ExitStatus} {question 
     failed = λ _. failed.0 refl;
     stopped = λ _ sound. by fault (λ e. cut (ap (λ f. Err f) e))
         (λ e. let both : true ≡ false = sym (wrote.1 (ap (λ f. Err f) e)) ∙ sound in cc);
-    handed_on = λ sound _. handed_on sound;
+    all_flushed = λ sound _. all_flushed sound;
   } where
     by : {P : Type 0} (f : AskFault) → (f ≡ Read → P) → (f ≡ Write → ⊥) → P
     by Read read write = read refl
@@ -293,8 +293,8 @@ module _ {O : Type 0} (state : O → SinkState) {old new : O} {status : ExitStat
       → status ≢ Failed → (state old).is_flushed ≡ true
       → (state new).is_flushed ≡ true
   run_hands_on may_give (ask question table) does = λ went.
-      does.1.1.handed_on (false_from_ne_true (state new).has_failed (λ failed. went (does.1.1.failed failed)))
-  run_hands_on may_give a does = (run_ends may_give a tt does).handed_on
+      does.1.1.all_flushed (false_from_ne_true (state new).has_failed (λ failed. went (does.1.1.failed failed)))
+  run_hands_on may_give a does = (run_ends may_give a tt does).all_flushed
 
 -- so what is promised of arguments that are accepted covers those of `moves`
 pub by_words : {O : Type 0} (state : O → SinkState) (words : List Text) (old new : O)

@@ -17,8 +17,10 @@ module _ {O : Type 0} (state : O → SinkState) (old new : O) (status : ExitStat
   pub record AnswersInput (question : Question) (unread : Option (List ℕ)) : Type 0 where
     pub left : Option (List ℕ)
     pub all_read : Bool
-    pub asked : status ≢ Failed → IsAnswered question unread left (state old).written (state new).written all_read × (status ≡ Clean ↔ all_read ≡ true)
+    pub asked : status ≢ Failed
+        → IsAnswered question unread left (state old).written (state new).written all_read × (status ≡ Clean ↔ all_read ≡ true)
     pub begins : IsBegun question unread left (state old).written (state new).written
     pub failed : (state new).has_failed ≡ true → status ≡ Failed
-    pub stopped : status ≡ Failed → (state new).has_failed ≡ false → IsCutOff question unread left (state old).written (state new).written
-    pub handed_on : (state new).has_failed ≡ false → (state old).is_flushed ≡ true → (state new).is_flushed ≡ true
+    pub stopped : status ≡ Failed → (state new).has_failed ≡ false
+        → IsCutOff question unread left (state old).written (state new).written
+    pub all_flushed : (state new).has_failed ≡ false → (state old).is_flushed ≡ true → (state new).is_flushed ≡ true

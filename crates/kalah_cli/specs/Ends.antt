@@ -3,7 +3,7 @@ use Rattle.std.specs.Prelude.{◌≡◌, ◌≢◌, ℕ, List, false, true, Resu
 use Rattle.std.specs.Io.KnownBytes.{Appends}
 use Rattle.kalah_rules.specs.Position.{Position}
 use Rattle.kalah_jobs.specs.Line.Line.{Reads}
-use Rattle.kalah_jobs.specs.Writing.Given.{AppendsStart, SinkState, WasGiven}
+use Rattle.kalah_jobs.specs.Writing.Given.{AppendsPrefix, SinkState, WasGiven}
 use Rattle.kalah_cli.specs.declared.failure.Failure.{Failure}
 use Rattle.kalah_cli.specs.declared.status.ExitStatus.{ExitStatus}
 use Rattle.kalah_cli.specs.declared.status.ExitStatus.TheVariants.{Failed, LineFaults}
@@ -17,7 +17,7 @@ ended_by (Err failure) = Failed
 module _ {O : Type 0} (state : O → SinkState) (old new : O) where
   pub record IsPrinted (text : List ℕ) : Type 0 where
     pub given : WasGiven state old new text
-    pub handed_on : (state new).has_failed ≡ false → (state new).is_flushed ≡ true
+    pub all_flushed : (state new).has_failed ≡ false → (state new).is_flushed ≡ true
 
 -- no position is written by the line
 abbrev pub IsUnread : List ℕ → Type 0
@@ -33,11 +33,11 @@ module _ {O : Type 0} (state : O → SinkState) (old new : O) (status : ExitStat
   pub record Ends : Type 0 where
     pub failed : (state new).has_failed ≡ true → status ≡ Failed
     pub unchanged : status ≡ Failed → (state new).has_failed ≡ false → new ≡ old
-    pub handed_on : status ≢ Failed → (state old).is_flushed ≡ true → (state new).is_flushed ≡ true
+    pub all_flushed : status ≢ Failed → (state old).is_flushed ≡ true → (state new).is_flushed ≡ true
 
   -- the text was written, if the program did not fail; in any case a prefix of it was, and nothing else
   pub record Prints (text : List ℕ) : Type 0 where
-    pub start : AppendsStart (state old).written (state new).written text
+    pub start : AppendsPrefix (state old).written (state new).written text
     pub whole : status ≢ Failed → Appends (state old).written (state new).written text
 
   -- what a request about a line does: it prints the text of the position that the line writes, and nothing if the line writes none

@@ -65,6 +65,7 @@ module _ {O : Type 0} (state : O → SinkState) (words : List Text) (old new : O
     -- they ask for neither help nor the version
     pub usage : IsRefused words → AsksNot DisplayHelp words → AsksNot DisplayVersion words → (status ≡ Failed) × (new ≡ old)
     -- they don't ask for help: with status 0 the version was written, and no more
-    pub version : IsRefused words → AsksNot DisplayHelp words → status ≡ Clean → Appends (state old).written (state new).written version_line
+    pub version : IsRefused words → AsksNot DisplayHelp words → status ≡ Clean
+        → Appends (state old).written (state new).written version_line
     -- they have no line
     pub no_line : IsRefused words → status ≢ LineFaults

@@ -55,7 +55,7 @@ fn refuse<O: Sink, E: Write>(
     ensures no_line { ended_by result ≢ ExitStatus.LineFaults }
     ensures version { kind_of error.now ≢ DisplayHelp → ended_by result ≡ ExitStatus.Clean
         → Appends (O.state out.old).written (O.state out.new).written version_line }
-    ensures handed_on { ended_by result ≢ ExitStatus.Failed → (O.state out.new).is_flushed ≡ true }
+    ensures all_flushed { ended_by result ≢ ExitStatus.Failed → (O.state out.new).is_flushed ≡ true }
 {
     let Ok(text) = error.to_string(alloc) else {
         return Err(Failure::OutOfMemory);
@@ -139,7 +139,7 @@ pub fn run_words<R: Sources + Clock + Terminal + Threads + Wait + Sync, O: Sink,
     ensures stopped { (question : Question) (table : ℕ) → IsTakenAs (texts_of words.items) (ask question table) → result ≡ ExitStatus.Failed
         → (O.state out.new).has_failed ≡ false → StopsBetweenLines question (O.state out.old).written (O.state out.new).written }
     // If it did not, all that was written is flushed.
-    ensures handed_on { result ≢ ExitStatus.Failed → (O.state out.old).is_flushed ≡ true → (O.state out.new).is_flushed ≡ true }
+    ensures all_flushed { result ≢ ExitStatus.Failed → (O.state out.old).is_flushed ≡ true → (O.state out.new).is_flushed ≡ true }
 {
     let with_tips = rt.shows_errors(); // Tips go only to a terminal.
     match parse(alloc, words.as_slice()) {

@@ -59,7 +59,7 @@ impl<O: Sink> GameSolver<O> {
     /// Finds the best move of a board, as `Solver::solve` does. All that leads to the board is written and flushed: how its game begins, and
     /// each move.
     pub(crate) fn solve(&mut self, board: &Board, _out: &O) -> Verdict
-        requires handed_on { (O.state _out.now).is_flushed ≡ true }
+        requires all_flushed { (O.state _out.now).is_flushed ≡ true }
         requires shown { IsShown O.state (begun self.old) _out.now board.now }
         ensures begun { begun self.new ≡ begun self.old }
         ensures verdict { result ≡ verdict_of board.now }
@@ -71,7 +71,7 @@ impl<O: Sink> GameSolver<O> {
 
     /// Finds what each move of a board is worth, as `Solver::values` does. The picture of the board is written and flushed.
     pub(crate) fn values(&mut self, board: &Board, _out: &O) -> MoveValues
-        requires handed_on { (O.state _out.now).is_flushed ≡ true }
+        requires all_flushed { (O.state _out.now).is_flushed ≡ true }
         requires shown { WasGiven O.state self.old.sink.value _out.now (picture_of board.now) }
         ensures begun { begun self.new ≡ begun self.old }
         ensures values { result ≡ values_of board.now }

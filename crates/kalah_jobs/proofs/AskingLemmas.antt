@@ -22,7 +22,7 @@ use Rattle.kalah_jobs.specs.Files.Question.{entry_asked, entry_to}
 use Rattle.kalah_jobs.specs.Line.Line.{without_cr}
 use Rattle.kalah_jobs.specs.Line.Reading.{reading_of}
 use Rattle.kalah_jobs.specs.declared.line.line_fault.LineFault.TheVariants.{Long}
-use Rattle.kalah_jobs.specs.Writing.Answer.{answer_of, answer_words, is_fault, place_words, IsOfOneLine}
+use Rattle.kalah_jobs.specs.Writing.Answer.{answer_of, joined_text, is_fault, place_text, IsOfOneLine}
 use Rattle.kalah_jobs.specs.Writing.Output.{is_faulty, line_output}
 use Rattle.kalah_jobs.specs.Writing.Splitting.{EndsWithItsLine}
 use Rattle.kalah_jobs.proofs.FilesLemmas.{lines_of-ended, lines_of-open, IsNoFeed}
@@ -31,7 +31,7 @@ use Rattle.kalah_jobs.proofs.WritingLemmas.{files_split_between_lines, one_line_
 use Rattle.std.specs.Io.KnownBytes.{Appends, Consumes, IsAtEnd, Keeps}
 use Rattle.std.proofs.KnownBytes.{Appends-kept, Appends-nil, Appends-trans, Consumes-kept, Consumes-nil, Consumes-trans, Consumes-whole, Keeps-refl}
 use Rattle.std.proofs.lemmas.List.Elements.{All-nil, All-push}
-use Rattle.kalah_jobs.specs.Writing.Given.{AppendsStart}
+use Rattle.kalah_jobs.specs.Writing.Given.{AppendsPrefix}
 
 -- ==== What is answered, line by line
 
@@ -118,7 +118,7 @@ kept_says line = elim (cases_lt kept_bytes (length line)) [
 
 -- and are answered as it is
 pub kept_told : (question : Question) (line : List ℕ) → told question (take kept_bytes line) ≡ told question line
-kept_told question line = ap (λ entry. answer_words (answer_of (entry_asked question entry)) ++ line_feed ∷ []) (kept_says line)
+kept_told question line = ap (λ entry. joined_text (answer_of (entry_asked question entry)) ++ line_feed ∷ []) (kept_says line)
 
 pub kept_faulty : (line : List ℕ) → is_faulty (take kept_bytes line) ≡ is_faulty line
 kept_faulty line = ap (λ entry. is_fault (answer_of entry)) (kept_says line)
@@ -169,15 +169,15 @@ one_line_asked question other line = one_line_read question other (reading_of li
 
 -- so its answer line is the place, and then the answer
 line_parts : (question : Question) → question ≢ Steps → (name : List ℕ) (number : ℕ) (line : List ℕ) →
-    line_output question name (number, line) ≡ place_words name number ++ told question line
+    line_output question name (number, line) ≡ place_text name number ++ told question line
 line_parts question other name number line =
     let answer = answer_of (entry_to question line) in
     ap (λ l. l ++ line_feed ∷ []) (one_line_parts name number answer (λ p e. subst IsOfOneLine e (one_line_asked question other line)))
-    ∙ append_assoc (place_words name number) (answer_words answer) (line_feed ∷ [])
+    ∙ append_assoc (place_text name number) (joined_text answer) (line_feed ∷ [])
 
 lines_parts : (question : Question) → question ≢ Steps → (name : List ℕ) (number : ℕ) (lines : List (List ℕ)) →
     flat_map (line_output question name) (enumerate_from number lines)
-    ≡ flat_map (λ p. place_words name p.0 ++ told question p.1) (enumerate_from number lines)
+    ≡ flat_map (λ p. place_text name p.0 ++ told question p.1) (enumerate_from number lines)
 lines_parts question other name number [] = refl
 lines_parts question other name number (line ∷ lines) =
     ap₂ (λ (l m : List ℕ). l ++ m) (line_parts question other name number line) (lines_parts question other name (number + 1) lines)
@@ -312,7 +312,7 @@ module _ {question : Question} {before now old new : Option (List ℕ)} {line : 
 
   -- as much was read as makes one line at most, and its answer was begun
   begun : {next more : Option (List ℕ)} (kept : Option (List ℕ)) (last answer : List ℕ) → length (lines_of last) ≤ 1
-      → Consumes before next (u.lines ++ last) → answer ≡ answers_to question last → Keeps new kept → AppendsStart kept more answer
+      → Consumes before next (u.lines ++ last) → answer ≡ answers_to question last → Keeps new kept → AppendsPrefix kept more answer
       → IsBegun question before next old more
   begun {next} {more} kept last answer one taken is keeps start = record {
     lines = u.lines;
@@ -327,7 +327,7 @@ module _ {question : Question} {before now old new : Option (List ℕ)} {line : 
 
   -- of a line that ended
   pub begun_line : {next more : Option (List ℕ)} (kept : Option (List ℕ)) → Consumes now next (line_feed ∷ []) → Keeps new kept
-      → AppendsStart kept more (told question line) → IsBegun question before next old more
+      → AppendsPrefix kept more (told question line) → IsBegun question before next old more
   begun_line {next} kept end =
       let one = lines_of_ended u.part u.unended in
       begun kept (u.part ++ line_feed ∷ []) (told question line) (rw one (omega arith)) (more_taken next (line_feed ∷ []) end)
@@ -335,7 +335,7 @@ module _ {question : Question} {before now old new : Option (List ℕ)} {line : 
 
   -- of what stands after the last line feed, where nothing is left
   pub begun_last : {next more : Option (List ℕ)} (kept : Option (List ℕ)) → Consumes now next [] → Keeps new kept
-      → AppendsStart kept more (told_last question line) → IsBegun question before next old more
+      → AppendsPrefix kept more (told_last question line) → IsBegun question before next old more
   begun_last {next} kept end =
       begun kept u.part (told_last question line) (one_line u.part u.unended) (all_taken next end) told_part
 

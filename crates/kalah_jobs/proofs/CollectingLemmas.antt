@@ -129,7 +129,8 @@ in_class class p w [] = 0
 in_class class p w (t ∷ ts) = cond (class t == w && p t) 1 0 + in_class class p w ts
 
 -- as many elements pass as pass of all classes
-by_class : {T : Type 0} (class : T → ℕ) (p : T → Bool) (ts : List T) (counts : List ℕ) → All (λ t. class t < length counts) ts →
+by_class : {T : Type 0} (class : T → ℕ) (p : T → Bool) (ts : List T) (counts : List ℕ)
+    → All (λ t. class t < length counts) ts →
     ((w : ℕ) → w < length counts → in_class class p w ts ≡ get_or counts w 0) → count_by p ts ≡ sum counts
 by_class class p [] counts below own =
     omega (arith, sum_by-le (λ n. n) 0 counts (λ k d low. omega (arith, get_or_default counts k d 0 low, own k low)))

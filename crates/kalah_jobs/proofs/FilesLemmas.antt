@@ -23,7 +23,7 @@ use Rattle.kalah_jobs.specs.Files.JobList.{entries_of, line_job, file_jobs, jobs
 use Rattle.kalah_jobs.specs.Files.Jobs.{lines_in_all, lines_in, entries_to, jobs_to, job_count, AreStarts}
 use Rattle.kalah_jobs.specs.Files.Question.{entry_to, entry_asked}
 use Rattle.kalah_jobs.specs.declared.files.question.Question.{Question}
-use Rattle.kalah_rules.specs.Position.{is_over, final_margin, IsWithinLimits, rows_of, seeds_in_houses}
+use Rattle.kalah_rules.specs.Position.{is_over, final_margin, IsWithinLimits, houses_in, seeds_in_houses}
 use Rattle.kalah_jobs.specs.Writing.Answer.{answer_of, is_fault, is_faulty_entry}
 use Rattle.kalah_jobs.specs.Writing.Output.{is_faulty_job}
 use Rattle.kalah_rules.proofs.KeyLemmas.{same_key}
@@ -136,7 +136,8 @@ open_lines before last some pieces_are bytes_are =
     inr (record { before = before; last = last; pieces_are = pieces_are; bytes_are = bytes_are; some_bytes = some })
 
 -- a byte before lines stands in the first, or in one of its own
-parts_after_byte : (byte : ℕ) (bytes : List ℕ) (lines : List (List ℕ)) → (bytes ≡ with_line_feeds lines) ⊎ EndsInOpenLine bytes lines →
+parts_after_byte : (byte : ℕ) (bytes : List ℕ) (lines : List (List ℕ))
+    → (bytes ≡ with_line_feeds lines) ⊎ EndsInOpenLine bytes lines →
     (byte ∷ bytes ≡ with_line_feeds (onto_first byte lines)) ⊎ EndsInOpenLine (byte ∷ bytes) (onto_first byte lines)
 parts_after_byte byte bytes [] (inl closed) = open_lines [] (byte ∷ []) (λ e. cc) refl (ap (λ rest. byte ∷ rest) closed)
 parts_after_byte byte bytes (line ∷ lines) (inl closed) = inl (ap (λ rest. byte ∷ rest) closed)
@@ -405,7 +406,7 @@ same_board p q = (board_eq.ghosts).eq p q
 -- boards that are equal by `==` show the same position
 pub same_board_means : (p q : position.Position) → IsWithinLimits p → IsWithinLimits q → same_board p q ≡ true → p ≡ q
 same_board_means p q p_limits q_limits h =
-    let rows : rows_of p ≡ rows_of q = same_key (rows_of p) (rows_of q) (rows_within p p_limits) (rows_within q q_limits)
+    let rows : houses_in p ≡ houses_in q = same_key (houses_in p) (houses_in q) (rows_within p p_limits) (rows_within q q_limits)
     (grind (arith, nat_tests)) in
     let own_store : p.own_store ≡ q.own_store = grind (arith, nat_tests) in
     let other_store : p.other_store ≡ q.other_store = grind (arith, nat_tests) in

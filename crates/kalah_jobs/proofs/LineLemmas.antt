@@ -285,7 +285,8 @@ module _ {bytes : List ℕ} {side : Side} {rest : List ℕ} {n : ℕ} {after : L
       number_at more ≡ Some (store, following) → side_at bytes ≡ Some (houses, store, following)
   store_follows is slash_is stored = goes_on_after ∙ rw (is, slash_is, stored) refl
 
-  pub no_store : {mark : ℕ} {more : List ℕ} → after ≡ mark ∷ more → mark ≡ slash → number_at more ≡ None → side_at bytes ≡ None
+  pub no_store : {mark : ℕ} {more : List ℕ} → after ≡ mark ∷ more → mark ≡ slash → number_at more ≡ None
+      → side_at bytes ≡ None
   no_store is slash_is none = goes_on_after ∙ rw (is, slash_is, none) refl
 
   pub house_follows : {new : Side} {mark : ℕ} {more : List ℕ} → after ≡ mark ∷ more → mark ≡ comma →
@@ -344,7 +345,8 @@ unfolding written_of
 sides_are_written text rest own_read mark is other_read rule_read = rw (own_read, mark, is, other_read, rule_read) refl
 
 -- and without an ending they don't
-pub sides_are_no_line : (text rest : List ℕ) {own other : Found} {mark : ℕ} → side_at text ≡ Some own → own.2 ≡ mark ∷ rest →
+pub sides_are_no_line : (text rest : List ℕ) {own other : Found} {mark : ℕ} → side_at text ≡ Some own
+    → own.2 ≡ mark ∷ rest →
     mark ≡ space → side_at rest ≡ Some other → rule_of other.2 ≡ None → written_of text ≡ None
 unfolding written_of
 sides_are_no_line text rest own_read mark is other_read none = rw (own_read, mark, is, other_read, none) refl

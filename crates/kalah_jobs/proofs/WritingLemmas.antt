@@ -15,12 +15,12 @@ use Rattle.std.proofs.KnownBytes.{Appends-kept, Appends-nil, Appends-trans}
 use Rattle.std.proofs.Math.Seq.{take-append-add}
 use Rattle.std.proofs.Math.ListN.{drop_of_length-le}
 use Rattle.std.proofs.lemmas.List.{take-append-drop, length-take-le, length-drop, drop_at, drop-drop, flat_map_more, take_more, take_all, drop_more}
-use Rattle.kalah_jobs.specs.Writing.Given.{AppendsStart, SinkState, WasGiven}
+use Rattle.kalah_jobs.specs.Writing.Given.{AppendsPrefix, SinkState, WasGiven}
 use Rattle.std.specs.List.{join_with_byte, range_with_len, flat_map, enumerate_from, onto_first, count_by}
 use Rattle.std.proofs.lemmas.Bool.{ne_eqb, cases_eq}
 use Rattle.std.proofs.lemmas.Grind.{flat_map-append}
 use Rattle.kalah_jobs.specs.Files.Lines.{line_feed, lines_of}
-use Rattle.kalah_jobs.specs.Writing.Answer.{in_one_line, answer_line, answer_words, place_words, value_words, values_words, answer_of, is_faulty_entry}
+use Rattle.kalah_jobs.specs.Writing.Answer.{in_one_line, answer_line, joined_text, place_text, value_text, values_text, answer_of, is_faulty_entry}
 use Rattle.kalah_jobs.specs.Writing.Picture.{cell, column_width, empty_columns}
 use Rattle.kalah_jobs.specs.declared.writing.answer.Answer.{Answer}
 use Rattle.kalah_jobs.specs.declared.writing.answer.Answer.TheVariants.{Best, Over, Values, Steps, Fault}
@@ -42,7 +42,7 @@ use Rattle.kalah_jobs.specs.Files.Question.{entry_to}
 use Rattle.kalah_jobs.specs.declared.files.question.Question.{Question}
 use Rattle.kalah_jobs.specs.Files.JobList.{job_list}
 use Rattle.kalah_jobs.specs.Files.Jobs.{entries_to, jobs_to}
-use Rattle.kalah_jobs.specs.Writing.Output.{line_output, file_output, output_to, is_faulty, tally_of, text_of_line, text_of_file, answer_text_of, output_of_jobs, names_of, is_faulty_job, FilesAreTheirJobs, LineCounts}
+use Rattle.kalah_jobs.specs.Writing.Output.{line_output, file_output, output_to, is_faulty, tally_of, text_of_line, text_of_file, answer_text_of, output_of_jobs, names_of, is_faulty_job, FilesAreTheirJobs, TallyState}
 use Rattle.kalah_jobs.proofs.FilesLemmas.{asked_fault, faulty_jobs, all_entries, count_map, length-job_list, job_count-jobs_to, lines_of-feed, lines_of-byte, length-lines_of}
 use Rattle.kalah_jobs.specs.declared.files.question.Question.TheVariants.{BestMove}
 use Rattle.kalah_jobs.specs.Writing.Splitting.{counted_together, OutputSplitsByFiles, EndsWithItsLine, output_from, tally_in, FilesSplitBetweenLines}
@@ -75,7 +75,8 @@ pub blanks_are_text : (n : ℕ) → IsUtf8 (replicate n space)
 blanks_are_text n = IsUtf8-from_ascii (replicate n space) (blanks_are_ascii n)
 
 -- blanks were put in front of a text that the bytes end with
-pub blanks_before : (bytes : List ℕ) {part old : List ℕ} (start n : ℕ) → length bytes ≡ 128 → start ≤ 128 → drop start bytes ≡ old
+pub blanks_before : (bytes : List ℕ) {part old : List ℕ} (start n : ℕ) → length bytes ≡ 128 → start ≤ 128
+    → drop start bytes ≡ old
     → n + length old ≤ 128
     → part ≡ replicate (length (take (start - (start - n)) (drop (start - n) bytes))) space
     → drop (start - n) (take (start - n) bytes ++ (part ++ drop (start - (start - n)) (drop (start - n) bytes)))
@@ -90,32 +91,32 @@ blanks_before bytes start n many low is room blank =
 -- ==== Prefixes of what was to be written
 
 -- nothing is a prefix of everything
-pub start_none : (old : Option (List ℕ)) (bs : List ℕ) → AppendsStart old old bs
+pub start_none : (old : Option (List ℕ)) (bs : List ℕ) → AppendsPrefix old old bs
 start_none old bs = (0, Appends-nil old)
 
 -- if the bytes are left as they were
-pub start_kept_all : (old new : Option (List ℕ)) (bs : List ℕ) → Keeps old new → AppendsStart old new bs
+pub start_kept_all : (old new : Option (List ℕ)) (bs : List ℕ) → Keeps old new → AppendsPrefix old new bs
 start_kept_all old new bs kept = (0, Appends-kept old old new [] (Appends-nil old) kept)
 
 -- a first part of the bytes, and then a prefix of the rest
 pub start_then : (old between new : Option (List ℕ)) (bs done rest : List ℕ) → bs ≡ done ++ rest → Appends old between done →
-    AppendsStart between new rest
-    → AppendsStart old new bs
+    AppendsPrefix between new rest
+    → AppendsPrefix old new bs
 start_then old between new bs done rest parts first start =
     let is : take (length done + start.0) bs ≡ done ++ take start.0 rest = ap (take (length done + start.0)) parts
     ∙ take-append-add done rest start.0 in
     (length done + start.0, subst (λ l. Appends old new l) (sym is) (Appends-trans old between new done (take start.0 rest) first start.1))
 
 -- a prefix is also one of what is longer
-pub start_longer : (old new : Option (List ℕ)) (bs cs : List ℕ) → AppendsStart old new bs → AppendsStart old new (bs ++ cs)
+pub start_longer : (old new : Option (List ℕ)) (bs cs : List ℕ) → AppendsPrefix old new bs → AppendsPrefix old new (bs ++ cs)
 start_longer old new bs cs start =
     let all : bs ++ cs ≡ take start.0 bs ++ (drop start.0 bs ++ cs) =
     ap (λ l. l ++ cs) (sym (take-append-drop start.0 bs)) ∙ append_assoc (take start.0 bs) (drop start.0 bs) cs in
     start_then old new new (bs ++ cs) (take start.0 bs) (drop start.0 bs ++ cs) all start.1 (start_none new (drop start.0 bs ++ cs))
 
 -- what keeps the bytes keeps the prefix
-pub start_kept : (old between new : Option (List ℕ)) (bs : List ℕ) → AppendsStart old between bs → Keeps between new
-    → AppendsStart old new bs
+pub start_kept : (old between new : Option (List ℕ)) (bs : List ℕ) → AppendsPrefix old between bs → Keeps between new
+    → AppendsPrefix old new bs
 start_kept old between new bs start kept = (start.0, Appends-kept old between new (take start.0 bs) start.1 kept)
 
 -- ==== Bytes that are written in part
@@ -131,7 +132,7 @@ left_all old bytes = record { done = []; is = refl; written = Appends-nil old }
 
 module _ (old now next : Option (List ℕ)) (bytes rest : List ℕ) (left : IsLeft old now bytes rest) where
   -- a prefix of the rest was written
-  pub left_start : AppendsStart now next rest → AppendsStart old next bytes
+  pub left_start : AppendsPrefix now next rest → AppendsPrefix old next bytes
   left_start start = start_then old now next bytes left.done rest left.is left.written start
 
   -- the rest was written
@@ -143,7 +144,8 @@ module _ (old now next : Option (List ℕ)) (bytes rest : List ℕ) (left : IsLe
   left_kept keeps = record { done = left.done; is = left.is; written = Appends-kept old now next left.done left.written keeps }
 
   -- a part of the rest was written
-  pub left_part : (taken : ℕ) → Appends now next (take taken rest) → IsLeft old next bytes (take (length rest - taken) (drop taken rest))
+  pub left_part : (taken : ℕ) → Appends now next (take taken rest)
+      → IsLeft old next bytes (take (length rest - taken) (drop taken rest))
   left_part taken part =
       let others = take_all (length rest - taken) (drop taken rest) (omega (arith, length-drop taken rest)) in
       let parts = ap (λ l. take taken rest ++ l) others ∙ take-append-drop taken rest in
@@ -205,15 +207,17 @@ module _ {O : Type 0} (state : O → SinkState) where
   given_none out = record { start = start_none (state out).written []; whole = λ sound. (sound, Appends-nil (state out).written); quiet = λ failed. refl }
 
   -- a text by one call, which is not made after a failure
-  pub given_once : {A E : Type 0} (r : Result A E) (old new : O) (text : List ℕ) → (state old).has_failed ≡ false → IsErr r ↔ ((state new).has_failed ≡ true)
-      → OnOk r (Appends (state old).written (state new).written text) → AppendsStart (state old).written (state new).written text
+  pub given_once : {A E : Type 0} (r : Result A E) (old new : O) (text : List ℕ) → (state old).has_failed ≡ false
+      → IsErr r ↔ ((state new).has_failed ≡ true)
+      → OnOk r (Appends (state old).written (state new).written text) → AppendsPrefix (state old).written (state new).written text
       → WasGiven state old new text
   given_once (Ok x) old new text sound fails adds start = record { start = start; whole = λ still. (sound, adds); quiet = λ failed. cc }
   given_once (Err e) old new text sound fails adds start =
       record { start = start; whole = λ still. absurd (cc (fails.0 refl)); quiet = λ failed. cc }
 
   -- no text by a flush
-  pub given_flush : (old new : O) → (state old).has_failed ≡ false → Keeps (state old).written (state new).written → WasGiven state old new []
+  pub given_flush : (old new : O) → (state old).has_failed ≡ false → Keeps (state old).written (state new).written
+      → WasGiven state old new []
   given_flush old new sound keeps = record {
     start = start_kept_all (state old).written (state new).written [] keeps;
     whole = λ still. (sound, Appends-kept (state old).written (state old).written (state new).written [] (Appends-nil (state old).written) keeps);
@@ -235,8 +239,8 @@ module _ {O : Type 0} (state : O → SinkState) where
     );
     quiet = λ failed. let was = first.quiet failed in second.quiet (ap (λ o. (state o).has_failed) was ∙ failed) ∙ was;
   } where
-    by : (b : Bool) → (state between).has_failed ≡ b → AppendsStart (state old).written (state new).written (text ++ more)
-    by true failed = subst (λ o. AppendsStart (state old).written (state o).written (text ++ more)) (sym (second.quiet failed))
+    by : (b : Bool) → (state between).has_failed ≡ b → AppendsPrefix (state old).written (state new).written (text ++ more)
+    by true failed = subst (λ o. AppendsPrefix (state old).written (state o).written (text ++ more)) (sym (second.quiet failed))
         (start_longer _ _ text more first.start)
     by false sound = start_then _ _ _ (text ++ more) text more refl (first.whole sound).1 second.start
 
@@ -305,7 +309,8 @@ module _ (text : ℕ → List ℕ) where
 -- ==== Texts with a byte between any two, put together from the last on
 
 -- the items from place i on begin with the one at place i
-pub items_from : {A : Type 0} (items : List A) (i : ℕ) (item : A) → slice_get items i ≡ Some item → drop i items ≡ item ∷ drop (i + 1) items
+pub items_from : {A : Type 0} (items : List A) (i : ℕ) (item : A) → slice_get items i ≡ Some item
+    → drop i items ≡ item ∷ drop (i + 1) items
 items_from items i item is =
     drop_more items i item (slice_get_within items i item is)
     ∙ ap (λ x. x ∷ drop (i + 1) items) (get_or_from_slice_get items i item item is)
@@ -317,15 +322,15 @@ read_back v z fits is =
 
 -- an answer that begins with its margin
 pub from_margin : (answer : Answer) (margin : ℤ) (rest old : List ℕ) {text all : List ℕ} → SFits w32 margin
-    → answer_words answer ≡ signed_decimal margin ++ rest
-    → text ≡ rest ++ old → all ≡ signed_decimal (to_z w32 (of_z w32 margin)) ++ text → all ≡ answer_words answer ++ old
+    → joined_text answer ≡ signed_decimal margin ++ rest
+    → text ≡ rest ++ old → all ≡ signed_decimal (to_z w32 (of_z w32 margin)) ++ text → all ≡ joined_text answer ++ old
 from_margin answer margin rest old fits words is last = rw (last, is, words, to_z-of_z w32 margin fits) (simp append_assoc)
 
 module _ (values : List MoveValue) (i : ℕ) (v : MoveValue) (is : slice_get values i ≡ Some v) where
-  pub last_value : i + 1 ≡ length values → values_words (drop i values) ≡ value_words v
+  pub last_value : i + 1 ≡ length values → values_text (drop i values) ≡ value_text v
   last_value many = rw (items_from values i v is, drop_of_length-le values {i = i + 1} (omega arith)) refl
 
-  pub value_before : i + 1 < length values → values_words (drop i values) ≡ value_words v ++ space ∷ values_words (drop (i + 1) values)
+  pub value_before : i + 1 < length values → values_text (drop i values) ≡ value_text v ++ space ∷ values_text (drop (i + 1) values)
   value_before within = rw (items_from values i v is, drop_more values (i + 1) v within) refl
 
 -- a side with the number at place i from those after it
@@ -347,7 +352,8 @@ abbrev pub columns : (ℕ → ℕ) → ℕ → ℕ → List ℕ
 columns f from n = flat_map (λ column. cell (f column)) (range_with_len from n)
 
 -- one more column in front of those that stand there
-pub columns_before : (f : ℕ → ℕ) (m column : ℕ) {n : ℕ} (old : List ℕ) {before after : List ℕ} → n ≡ f column → 0 < column →
+pub columns_before : (f : ℕ → ℕ) (m column : ℕ) {n : ℕ} (old : List ℕ) {before after : List ℕ} → n ≡ f column
+    → 0 < column →
     column ≤ m →
     before ≡ columns f (column + 1) (m - column) ++ old → after ≡ cell n ++ before →
     after ≡ columns f (column - 1 + 1) (m - (column - 1)) ++ old
@@ -360,7 +366,7 @@ columns_before f m column old is low high so_far e =
 
 -- the answer line of an answer that isn't of steps is the place, and then the answer
 pub one_line_parts : (name : List ℕ) (line : ℕ) (a : Answer) → ((p : Position) → a ≡ Steps p → ⊥) →
-    answer_line name (record { line = line; answer = a }) ≡ place_words name line ++ answer_words a
+    answer_line name (record { line = line; answer = a }) ≡ place_text name line ++ joined_text a
 one_line_parts name line (Best margin house) other = refl
 one_line_parts name line (Over margin) other = refl
 one_line_parts name line (Values values) other = refl
@@ -369,7 +375,7 @@ one_line_parts name line (Fault fault) other = refl
 
 -- it is put together from its end, before what follows it
 pub line_before : (name : List ℕ) (taken : Taken) (after words text : List ℕ) → ((p : Position) → taken.answer ≡ Steps p → ⊥)
-    → words ≡ answer_words taken.answer ++ after → text ≡ codes ":" ++ (decimal (taken.line + 1) ++ (codes " " ++ words))
+    → words ≡ joined_text taken.answer ++ after → text ≡ codes ":" ++ (decimal (taken.line + 1) ++ (codes " " ++ words))
     → name ++ text ≡ answer_line name taken ++ after
 line_before name taken after words text other is place =
     rw (place, is, one_line_parts name taken.line taken.answer other) (simp append_assoc)
@@ -540,7 +546,7 @@ zero-add : (n : ℕ) → 0 + n ≡ n
 zero-add n = omega arith
 
 -- the counts, from their two numbers
-abbrev counts : ℕ → ℕ → LineCounts
+abbrev counts : ℕ → ℕ → TallyState
 counts lines faults = record { lines = lines; faults = faults }
 
 -- ---- files

@@ -5,10 +5,10 @@ use Rattle.std.proofs.Math.Nat.{pow-succ', mul_assoc, div-div-eq-div-mul}
 use Rattle.std.proofs.lemmas.List.{map_push, length-drop, drop_more, length-replicate, get_or-replicate, take-append-drop}
 use Rattle.std.proofs.lemmas.List.Sums.{sum_by-cons, sum_by-append, sum_by-take-drop}
 use Rattle.std.proofs.lemmas.Bool.{cases_eq}
-use Rattle.kalah_rules.specs.Position.{seeds, Rows, IsWithinHouses, seeds_in_houses, bare, without_seeds}
+use Rattle.kalah_rules.specs.Position.{seeds, HousesState, IsWithinHouses, seeds_in_houses, storeless, without_seeds}
 use Rattle.kalah_rules.specs.Sowing.{row_of, lap_length, gain, own_distance, other_distance}
 use Rattle.kalah_rules.proofs.PlayLemmas.{range_more, length-row_of, same_as_row, row_of_same, seeds-set_same, seeds-set_other, sum-zeros}
-use Rattle.kalah_rules.specs.Key.{number_of, cells, rule_bit, rows_number, key_of, game_of, side_at, rows_at, IsKey}
+use Rattle.kalah_rules.specs.Key.{number_of, cells, rule_bit, rows_number, key_of, variant_of, side_at, rows_at, IsKey}
 use Rattle.kalah_rules.specs.Packed.{ones, up_to, unpacked, IsPacked, IsPackedRow}
 use Rattle.kalah_rules.specs.Sowings.{own_gained, other_gained, store_gained}
 use Rattle.std.proofs.lemmas.Grind.{same_number_lists}
@@ -287,7 +287,7 @@ pub drop-padded : (xs : List ℕ) → All (λ x. x ≡ 0) (drop (length xs) (pad
 drop-padded xs = rw (drop-append_seam xs _) (All-replicate (λ x. x ≡ 0) _ 0 refl)
 
 -- what a key determines of its houses
-pub record KeySays (a : Rows) (k : ℕ) : Type 0 where
+pub record KeySays (a : HousesState) (k : ℕ) : Type 0 where
   pub own_cells : cells 6 k ≡ padded a.own
   pub other_cells : cells 6 (k / 2 ^ 30) ≡ padded a.other
   pub side : k / 2 ^ 60 % 8 ≡ length a.own
@@ -309,7 +309,7 @@ rule_bit-small Classic = omega arith
 rule_bit-small EmptyCapture = omega arith
 
 -- the content of the key of houses
-pub key_says : {a : Rows} {k : ℕ} → IsWithinHouses a → key_of a ≡ k → KeySays a k
+pub key_says : {a : HousesState} {k : ℕ} → IsWithinHouses a → key_of a ≡ k → KeySays a k
 key_says {a} {k} h e =
     let other_long : length a.other ≤ 6 = omega arith in
     let own_few : sum a.own ≤ 31 = omega arith in
@@ -330,7 +330,7 @@ key_says {a} {k} h e =
     }
 
 -- a value's key may hold
-pub key_holds : {a : Rows} {k : ℕ} → IsWithinHouses a → key_of a ≡ k → IsKey k
+pub key_holds : {a : HousesState} {k : ℕ} → IsWithinHouses a → key_of a ≡ k → IsKey k
 key_holds {a} h e =
     let says = key_says h e in
     rw (says.side, says.own_cells, says.other_cells) (record {
@@ -349,17 +349,17 @@ rule_bit-same EmptyCapture Classic e = cc
 rule_bit-same EmptyCapture EmptyCapture e = refl
 
 -- houses with the same parts are the same
-pub same_rows_of : {a b : Rows} → a.own ≡ b.own → a.other ≡ b.other → a.rule ≡ b.rule → a ≡ b
-same_rows_of x y z = grind arith
+pub same_houses_in : {a b : HousesState} → a.own ≡ b.own → a.other ≡ b.other → a.rule ≡ b.rule → a ≡ b
+same_houses_in x y z = grind arith
 
 -- the houses that have a key, by its parts
-pub rows_of_key : (a : Rows) (k : ℕ) (rule : Rule) → IsWithinHouses a → key_of a ≡ k → rule_bit rule ≡ k / 2 ^ 63 →
+pub rows_of_key : (a : HousesState) (k : ℕ) (rule : Rule) → IsWithinHouses a → key_of a ≡ k → rule_bit rule ≡ k / 2 ^ 63 →
     rows_from (side_at k) (cells 6 k) (cells 6 (k / 2 ^ 30)) rule ≡ a
 rows_of_key a k rule h e bit =
     let says = key_says h e in
     let other_shown : take _ _ ≡ a.other =
     rw (says.side, says.other_cells, sym h.same_side) (take-padded _) in
-    same_rows_of (rw (says.side, says.own_cells) (take-padded _)) other_shown (rule_bit-same _ _ (omega arith))
+    same_houses_in (rw (says.side, says.own_cells) (take-padded _)) other_shown (rule_bit-same _ _ (omega arith))
 
 -- the parts of a key make the key
 key_from_parts : {k side : ℕ} {own other : List ℕ} (rule : Rule) → number_of own + 2 ^ 30 * (k / 2 ^ 30) ≡ k →
@@ -382,41 +382,43 @@ rule_at-bit (suc zero) h = refl
 rule_at-bit (suc (suc n)) h = omega arith
 
 -- the houses of a key are those whose key it is
-pub rows_at_key : {a : Rows} → IsWithinHouses a → rows_at (key_of a) ≡ a
+pub rows_at_key : {a : HousesState} → IsWithinHouses a → rows_at (key_of a) ≡ a
 rows_at_key {a} h =
     let says = key_says h refl in
     let bit : key_of a / 2 ^ 63 ≤ 1 = omega (arith, rule_bit-small) in
     rows_of_key a _ _ h refl (rule_at-bit _ bit)
 
 -- a key fits sixty-four bits
-pub key_fits : (b : Rows) → IsWithinHouses b → key_of b < 2 ^ 64
+pub key_fits : (b : HousesState) → IsWithinHouses b → key_of b < 2 ^ 64
 key_fits b h = grind (arith, number_of-small)
 
 -- the parts of the key of houses, with their number of seeds, are those houses packed
-pub packed_as : (b : Rows) (rows seeds game : ℕ) → IsWithinHouses b → rows ≡ rows_number b → seeds ≡ seeds_in_houses (bare b) →
-    game ≡ game_of b → IsPacked rows seeds game × (unpacked rows game ≡ b)
-packed_as b rows seeds game h rows_are seeds_are game_is =
-    let key_is : rows + 2 ^ 60 * game ≡ key_of b = omega arith in
-    let same : unpacked rows game ≡ b = ap rows_at key_is ∙ rows_at_key h in
+pub packed_as : (b : HousesState) (rows seeds variant : ℕ) → IsWithinHouses b → rows ≡ rows_number b
+    → seeds ≡ seeds_in_houses (storeless b) →
+    variant ≡ variant_of b → IsPacked rows seeds variant × (unpacked rows variant ≡ b)
+packed_as b rows seeds variant h rows_are seeds_are variant_is =
+    let key_is : rows + 2 ^ 60 * variant ≡ key_of b = omega arith in
+    let same : unpacked rows variant ≡ b = ap rows_at key_is ∙ rows_at_key h in
     grind arith
 
 -- what the fields of packed houses determine of the houses
-pub record IsPackOf (a : Rows) (rows seeds game : ℕ) : Type 0 where
+pub record IsPackOf (a : HousesState) (rows seeds variant : ℕ) : Type 0 where
   pub limits : IsWithinHouses a
   pub rows_are : rows ≡ rows_number a
-  pub seeds_are : seeds ≡ seeds_in_houses (bare a)
-  pub game_is : game ≡ game_of a
+  pub seeds_are : seeds ≡ seeds_in_houses (storeless a)
+  pub variant_is : variant ≡ variant_of a
 
-pub pack_of : {a : Rows} {rows seeds game : ℕ} → IsPacked rows seeds game → unpacked rows game ≡ a → IsPackOf a rows seeds game
+pub pack_of : {a : HousesState} {rows seeds variant : ℕ} → IsPacked rows seeds variant → unpacked rows variant ≡ a
+    → IsPackOf a rows seeds variant
 pack_of is e = grind arith
 
 -- both rows fit sixty bits, the own row thirty
-pub record AreRows (a : Rows) (rows : ℕ) : Type 0 where
+pub record AreRows (a : HousesState) (rows : ℕ) : Type 0 where
   pub fit : rows < 2 ^ 60
   pub own : number_of a.own ≡ rows % 2 ^ 30
   pub other : number_of a.other ≡ rows / 2 ^ 30
 
-pub rows_of_pack : {a : Rows} {rows seeds game : ℕ} → IsPackOf a rows seeds game → AreRows a rows
+pub rows_of_pack : {a : HousesState} {rows seeds variant : ℕ} → IsPackOf a rows seeds variant → AreRows a rows
 rows_of_pack {a} is =
     let own_small = number_of-small 6 a.own is.limits.at_most_six (omega (arith, is.limits.few_seeds)) in
     let other_small = number_of-small 6 a.other (omega (arith, is.limits.same_side)) (omega (arith, is.limits.few_seeds)) in
@@ -442,7 +444,8 @@ pub record IsRead (xs : List ℕ) (k number : ℕ) : Type 0 where
   pub small : number < 2 ^ 30
 
 -- one house more is read
-pub read_more : {xs : List ℕ} {number x : ℕ} (m passed : ℕ) → length xs ≤ 6 → sum xs ≤ 31 → m ≡ length xs → passed < m →
+pub read_more : {xs : List ℕ} {number x : ℕ} (m passed : ℕ) → length xs ≤ 6 → sum xs ≤ 31 → m ≡ length xs
+    → passed < m →
     IsRead xs (m - passed) number → x ≡ get_or xs (m - passed - 1) 0 → IsRead xs (m - (passed + 1)) (32 * number + x)
 read_more {xs} {number} {x} m passed few sum_few long more is at =
     let k = m - (passed + 1) in
@@ -460,29 +463,31 @@ read_more {xs} {number} {x} m passed few sum_few long more is at =
 -- what `Houses::new` answers at the parts of a key
 module _ (k : ℕ) (rule : Rule) (bit : rule_bit rule ≡ k / 2 ^ 63) where
   -- the parts of a key as houses
-  abbrev parts : Rows
+  abbrev parts : HousesState
   parts = rows_from (side_at k) (cells 6 k) (cells 6 (k / 2 ^ 30)) rule
 
   -- what is found has the key
-  pub unpacks_same : (o : Option Rows) → (IsSome o ↔ IsKey k) → IfSome o (λ a. a ≡ parts) → IfSome o (λ a. key_of a ≡ k)
+  pub unpacks_same : (o : Option HousesState) → (IsSome o ↔ IsKey k) → IfSome o (λ a. a ≡ parts)
+      → IfSome o (λ a. key_of a ≡ k)
   unpacks_same None valid value = tt
   unpacks_same (Some a) valid value = ap key_of value ∙ key_of_rows _ (valid.0 (search rules)) bit
 
   -- and the houses of a key are found
-  pub unpacks_found : (o : Option Rows) → (IsSome o ↔ IsKey k) → IfSome o (λ a. a ≡ parts) → (a : Rows) → IsWithinHouses a →
+  pub unpacks_found : (o : Option HousesState) → (IsSome o ↔ IsKey k) → IfSome o (λ a. a ≡ parts) → (a : HousesState)
+      → IsWithinHouses a →
       key_of a ≡ k → o ≡ Some a
   unpacks_found None valid value a h e = grind (arith, key_holds)
   unpacks_found (Some b) valid value a h e = ap Some (value ∙ rows_of_key _ _ _ h e bit)
 
 -- two values of houses with one key are one
-pub same_key : (a b : Rows) → IsWithinHouses a → IsWithinHouses b → key_of a ≡ key_of b → a ≡ b
+pub same_key : (a b : HousesState) → IsWithinHouses a → IsWithinHouses b → key_of a ≡ key_of b → a ≡ b
 same_key a b ha hb e =
     let bit = sym (key_says ha e).rule in
     sym (rows_of_key _ _ _ ha e bit) ∙ rows_of_key _ _ _ hb refl bit
 
--- without seeds only the game is left
-pub without_seeds_packed : {a : Rows} {rows seeds game : ℕ} → IsPackOf a rows seeds game →
-    IsPacked 0 0 game × (unpacked 0 game ≡ without_seeds a)
+-- without seeds only the variant is left
+pub without_seeds_packed : {a : HousesState} {rows seeds variant : ℕ} → IsPackOf a rows seeds variant →
+    IsPacked 0 0 variant × (unpacked 0 variant ≡ without_seeds a)
 without_seeds_packed {a} is =
     let side = length-replicate {A = ℕ} (length a.own) 0 in
     let none = sum-zeros (length a.own) in
@@ -490,7 +495,7 @@ without_seeds_packed {a} is =
     (omega arith)
     (omega (arith, number_of-zeros))
     (omega arith)
-    (omega (arith, is.game_is))
+    (omega (arith, is.variant_is))
 
 -- ==== The houses of one side in one number
 
@@ -522,13 +527,13 @@ module _ {count number seeds : ℕ} (x : ℕ) (row : IsPackedRow count number se
 -- ---- two rows
 
 -- two rows and a rule, packed
-pub packed_rows : {own other : List ℕ} {rule : Rule} {own_number other_number m game seeds : ℕ} →
+pub packed_rows : {own other : List ℕ} {rule : Rule} {own_number other_number m variant seeds : ℕ} →
     IsWithinHouses (record { own = own; other = other; rule = rule }) →
-    own_number ≡ number_of own → other_number ≡ number_of other → m ≡ length own → game ≡ m + 8 * rule_bit rule
+    own_number ≡ number_of own → other_number ≡ number_of other → m ≡ length own → variant ≡ m + 8 * rule_bit rule
     → seeds ≡ sum own + sum other →
-    IsPacked (own_number + 2 ^ 30 * other_number) seeds game
-    × (unpacked (own_number + 2 ^ 30 * other_number) game ≡ record { own = own; other = other; rule = rule })
-packed_rows within own_is other_is m_is game_is seeds_are = packed_as _ _ _ _ within (omega arith) seeds_are (omega arith)
+    IsPacked (own_number + 2 ^ 30 * other_number) seeds variant
+    × (unpacked (own_number + 2 ^ 30 * other_number) variant ≡ record { own = own; other = other; rule = rule })
+packed_rows within own_is other_is m_is variant_is seeds_are = packed_as _ _ _ _ within (omega arith) seeds_are (omega arith)
 
 -- ==== Houses from six cells a row
 
@@ -537,12 +542,12 @@ sum-shown : (m : ℕ) (cells : List ℕ) → padded (take m cells) ≡ cells →
 sum-shown m cells same = grind (arith, sum-padded)
 
 -- the cells, packed
-pub packed_new : {m : ℕ} {own other : List ℕ} (rule : Rule) {own_number other_number game seeds : ℕ} → length own ≡ 6 →
+pub packed_new : {m : ℕ} {own other : List ℕ} (rule : Rule) {own_number other_number variant seeds : ℕ} → length own ≡ 6 →
     length other ≡ 6 → CanBeHouses m own other → own_number ≡ number_of own → other_number ≡ number_of other →
-    game ≡ m + 8 * rule_bit rule → seeds ≡ sum own + sum other →
-    IsPacked (own_number + 2 ^ 30 * other_number) seeds game
-    × (unpacked (own_number + 2 ^ 30 * other_number) game ≡ rows_from m own other rule)
-packed_new {m} {own} {other} rule own_long other_long can own_is other_is game_is seeds_are =
+    variant ≡ m + 8 * rule_bit rule → seeds ≡ sum own + sum other →
+    IsPacked (own_number + 2 ^ 30 * other_number) seeds variant
+    × (unpacked (own_number + 2 ^ 30 * other_number) variant ≡ rows_from m own other rule)
+packed_new {m} {own} {other} rule own_long other_long can own_is other_is variant_is seeds_are =
     let own_shown = length-take-le m own (omega arith) in
     let other_shown = length-take-le m other (omega arith) in
     let own_padded = padded_from_zeros m _ own_long can.at_most_six can.own_past in

@@ -6,7 +6,7 @@ use Rattle.std.proofs.lemmas.Nat.{mod_below, div-add-mod', and_block, and_mask, 
 use Rattle.std.proofs.Math.Nat.{div-eq_of_lt, mod-eq_of_lt, div-div-eq-div-mul}
 use Rattle.std.proofs.lemmas.Bool.{cases_Bool, cases_eq, cases_lt, and_parts, eqb-true}
 use Rattle.std.proofs.lemmas.Bool.Decides.{nat_tests}
-use Rattle.kalah_rules.specs.Position.{Position, Rows, IsWithinHouses, side_length, seeds, opposite, seeds_in_houses, bare, IsWithinLimits, is_over, swapped, rows_of, with_stores, without_seeds}
+use Rattle.kalah_rules.specs.Position.{Position, HousesState, IsWithinHouses, side_length, seeds, opposite, seeds_in_houses, storeless, IsWithinLimits, is_over, swapped, houses_in, with_stores, without_seeds}
 use Rattle.kalah_rules.specs.Lap.{HoldsSeeds, lifted}
 use Rattle.kalah_rules.specs.Sowing.{lap_length, own_distance, other_distance, store_distance, sow, sown, last_distance, is_again, captures, can_capture, captured, after}
 use Rattle.kalah_rules.proofs.PlayLemmas.{set_less, sow_side, sow_keeps, sow_other_store, own_distance_past, own_distance_back, last_house_own, last_house_store, last_house_other, after_at, legal_holds, after_nearer, sum-zeros, with_more, after_of_rows, legal_going}
@@ -94,16 +94,16 @@ store_gains : (m h c : ℕ) → 1 ≤ h → h ≤ m → c + h ≡ m + 1 → Gain
 store_gains m h c low high ends =
     grind (arith, div-eq_of_lt, mod-eq_of_lt, number_of-all, number_of-up_to, own_gain, other_gain)
 
-module _ (a : Rows) (h : ℕ) (w : IsWithinHouses a) (holds : HoldsSeeds (bare a) h) where
+module _ (a : HousesState) (h : ℕ) (w : IsWithinHouses a) (holds : HoldsSeeds (storeless a) h) where
   -- the position after the sowing
   abbrev q : Position
-  q = sown (bare a) h
+  q = sown (storeless a) h
 
   -- a sowing loses no seed
-  pub sown_keeps : KeepsSeeds (bare a) q
+  pub sown_keeps : KeepsSeeds (storeless a) q
   sown_keeps =
       let side = sow_side _ h _ in
-      let keeps = sow_keeps (bare a) h holds.first holds.last w.same_side (seeds a.own h) in
+      let keeps = sow_keeps (storeless a) h holds.first holds.last w.same_side (seeds a.own h) in
       record {
         play = omega arith;
         other_store = sow_other_store _ h _;
@@ -132,7 +132,7 @@ module _ (a : Rows) (h : ℕ) (w : IsWithinHouses a) (holds : HoldsSeeds (bare a
   house_read row n row_is read = grind (arith, read_seeds)
 
   -- the row without the house's seeds
-  pub lifted_is : number_of (lifted (bare a) h).own + 32 ^ (h - 1) * seeds a.own h ≡ number_of a.own
+  pub lifted_is : number_of (lifted (storeless a) h).own + 32 ^ (h - 1) * seeds a.own h ≡ number_of a.own
   lifted_is = omega (arith, number_of-set)
 
   -- the sowing leaves few seeds
@@ -199,7 +199,8 @@ module _ (a : Rows) (h : ℕ) (w : IsWithinHouses a) (holds : HoldsSeeds (bare a
       ∙ read_seeds _ _ (omega arith) (omega (arith, few)))
 
   -- all that a capture does to the rows, read and written by bits
-  capture_shows : {r : RowNumbers} {i house seed across caught_seeds count : ℕ} → IsPackedPosition r q → 1 ≤ i → i ≤ length a.own →
+  capture_shows : {r : RowNumbers} {i house seed across caught_seeds count : ℕ} → IsPackedPosition r q → 1 ≤ i
+      → i ≤ length a.own →
       IsLastHouse (length a.own) i house seed across → Caught a.rule r house seed across caught_seeds count →
       LeavesRows r caught_seeds count (captured q (Some i))
   capture_shows {r} {i} {house} {seed} {across} {caught_seeds} {count} shows low high at told =
@@ -244,7 +245,8 @@ captured_keeps None k = k
 captured_keeps {p} {q} (Some i) k = grind (arith, cases_Bool, set_less, length-set)
 
 -- no seed is lost in a move
-pub after_keeps : (a : Rows) (h : ℕ) → IsWithinHouses a → HoldsSeeds (bare a) h → KeepsSeeds (bare a) (after (bare a) h)
+pub after_keeps : (a : HousesState) (h : ℕ) → IsWithinHouses a → HoldsSeeds (storeless a) h
+    → KeepsSeeds (storeless a) (after (storeless a) h)
 unfolding after
 after_keeps a h w holds = captured_keeps _ (sown_keeps a h w holds)
 
@@ -321,7 +323,8 @@ module _ (p : Position) (h : ℕ) (holds : HoldsSeeds p h) where
   again_at = grind (arith, cases_eq, place_past, eq-eqb, place_near)
 
 -- where no house has one seed, nothing is caught
-none_caught : (rule : Rule) (r : RowNumbers) (seeds count : ℕ) {p : Position} → Caught rule r 0 1 0 seeds count → IsPackedPosition r p →
+none_caught : (rule : Rule) (r : RowNumbers) (seeds count : ℕ) {p : Position} → Caught rule r 0 1 0 seeds count
+    → IsPackedPosition r p →
     LeavesRows r seeds count p
 none_caught rule r seeds count told shows = grind (arith, and_le_r)
 
@@ -330,9 +333,10 @@ pub across_within : {m : ℕ} (h c : ℕ) (s : Sowing) → IsSowing m h c s → 
 across_within {m} h c s sowing few = grind arith
 
 -- the rows after the move are those of the sowing, less what is caught
-pub move_leaves : {a : Rows} {h : ℕ} {s : Sowing} {r : RowNumbers} {rule : Rule} {caught_seeds count : ℕ} → IsWithinHouses a →
-    HoldsSeeds (bare a) h → IsSowing (length a.own) h (seeds a.own h) s → IsPackedPosition r (sown (bare a) h) → rule ≡ a.rule →
-    Caught rule r s.last_house s.last_seed s.across caught_seeds count → LeavesRows r caught_seeds count (after (bare a) h)
+pub move_leaves : {a : HousesState} {h : ℕ} {s : Sowing} {r : RowNumbers} {rule : Rule} {caught_seeds count : ℕ}
+    → IsWithinHouses a →
+    HoldsSeeds (storeless a) h → IsSowing (length a.own) h (seeds a.own h) s → IsPackedPosition r (sown (storeless a) h) → rule ≡ a.rule →
+    Caught rule r s.last_house s.last_seed s.across caught_seeds count → LeavesRows r caught_seeds count (after (storeless a) h)
 move_leaves {a} {h} {s} {r} {rule} {caught_seeds} {count} w holds sowing shows same caught =
     let place = last_place _ h _ in
     let told = rw same at caught in
@@ -346,7 +350,8 @@ move_leaves {a} {h} {s} {r} {rule} {caught_seeds} {count} w holds sowing shows s
     ]
 
 -- where the last seed and the seeds across stand, is room in a number
-pub caught_fits : {m : ℕ} (h c x : ℕ) (s : Sowing) → IsSowing m h c s → m ≤ 6 → x < 32 → s.last_seed + x * 2 ^ s.across % 2 ^ 64 < 2 ^ 64
+pub caught_fits : {m : ℕ} (h c x : ℕ) (s : Sowing) → IsSowing m h c s → m ≤ 6 → x < 32
+    → s.last_seed + x * 2 ^ s.across % 2 ^ 64 < 2 ^ 64
 caught_fits {m} h c x s sowing side small = elim (cases_lt m (last_place m h c)) [
   | inl past ↦
       let no = sowing.elsewhere past in
@@ -370,12 +375,12 @@ step_over q again over = rw over refl
 
 -- a game that goes on with the mover
 pub step_again : (q : Position) (again : Bool) → is_over q ≡ false → again ≡ true
-    → houses_step_to q again ≡ Again q.own_store (rows_of q)
+    → houses_step_to q again ≡ Again q.own_store (houses_in q)
 step_again q again going more = cc
 
 -- and with the other player
 pub step_turn : (q : Position) (again : Bool) → is_over q ≡ false → again ≡ false
-    → houses_step_to q again ≡ Turn q.own_store (rows_of (swapped q))
+    → houses_step_to q again ≡ Turn q.own_store (houses_in (swapped q))
 step_turn q again going more = cc
 
 -- what holds of both
@@ -388,46 +393,47 @@ pub over_swapped : (q : Position) → is_over q ≡ false → is_over (swapped q
 over_swapped q going = grind arith
 
 -- the houses of a board are within their limits
-pub rows_within : (p : Position) → IsWithinLimits p → IsWithinHouses (rows_of p)
+pub rows_within : (p : Position) → IsWithinLimits p → IsWithinHouses (houses_in p)
 rows_within p l = omega arith
 
 -- a move keeps the houses within the limits
-pub after_within : (a : Rows) (h : ℕ) → IsWithinHouses a → HoldsSeeds (bare a) h → IsWithinHouses (rows_of (after (bare a) h))
+pub after_within : (a : HousesState) (h : ℕ) → IsWithinHouses a → HoldsSeeds (storeless a) h
+    → IsWithinHouses (houses_in (after (storeless a) h))
 after_within a h w holds = grind (arith, after_keeps)
 
 -- also as the other player sees them
-pub swapped_within : (q : Position) → IsWithinHouses (rows_of q) → IsWithinHouses (rows_of (swapped q))
+pub swapped_within : (q : Position) → IsWithinHouses (houses_in q) → IsWithinHouses (houses_in (swapped q))
 swapped_within q w = omega arith
 
 -- ---- what `play` computes
 -- the move of house h leads to this step with the houses that are packed so
-pub record IsStepTo (a : Rows) (h rows seeds game : ℕ) (step : Rows → HousesStep) : Type 0 where
-  pub packed : IsPacked rows seeds game
-  pub is : step (unpacked rows game) ≡ houses_step a h
+pub record IsStepTo (a : HousesState) (h rows seeds variant : ℕ) (step : HousesState → HousesStep) : Type 0 where
+  pub packed : IsPacked rows seeds variant
+  pub is : step (unpacked rows variant) ≡ houses_step a h
 
-pub store_small : {a : Rows} {h : ℕ} {r : RowNumbers} → IsWithinHouses a → Contains (legal_houses (bare a)) h
-    → IsPackedPosition r (after (bare a) h) →
+pub store_small : {a : HousesState} {h : ℕ} {r : RowNumbers} → IsWithinHouses a → Contains (legal_houses (storeless a)) h
+    → IsPackedPosition r (after (storeless a) h) →
     r.store ≤ 31
 store_small {a} {h} {r} w has shows =
     let keeps = after_keeps _ _ w (legal_holds _ _ has) in
     omega (arith, keeps.play)
 
-module _ {a : Rows} {h rows seeds game : ℕ} {r : RowNumbers} (packed : IsPacked rows seeds game) (view : unpacked rows game ≡ a)
-    (has : Contains (legal_houses (bare a)) h) (shows : IsPackedPosition r (after (bare a) h)) where
+module _ {a : HousesState} {h rows seeds variant : ℕ} {r : RowNumbers} (packed : IsPacked rows seeds variant) (view : unpacked rows variant ≡ a)
+    (has : Contains (legal_houses (storeless a)) h) (shows : IsPackedPosition r (after (storeless a) h)) where
   -- the meaning of the fields
-  is : IsPackOf a rows seeds game
+  is : IsPackOf a rows seeds variant
   is = pack_of packed view
 
   -- the position after the move
   abbrev moved : Position
-  moved = after (bare a) h
+  moved = after (storeless a) h
 
   -- which lost no seed
-  keeps : KeepsSeeds (bare a) moved
+  keeps : KeepsSeeds (storeless a) moved
   keeps = after_keeps _ _ is.limits (legal_holds _ _ has)
 
   -- and keeps the limits
-  within : IsWithinHouses (rows_of moved)
+  within : IsWithinHouses (houses_in moved)
   within = after_within _ _ is.limits (legal_holds _ _ has)
 
   -- what came is among the seeds
@@ -441,7 +447,7 @@ module _ {a : Rows} {h rows seeds game : ℕ} {r : RowNumbers} (packed : IsPacke
       let mine : r.store ≡ moved.own_store + sum moved.own = omega (arith, shows.store) in
       let theirs : seeds - r.store ≡ moved.other_store + sum moved.other =
       omega (arith, shows.store, keeps.play, keeps.other_store, is.seeds_are) in
-      cc (mine, theirs, step_over moved (is_again (bare a) h) (rw empty refl))
+      cc (mine, theirs, step_over moved (is_again (storeless a) h) (rw empty refl))
 
   -- or the other player has none
   pub over_other : r.rows / 2 ^ 30 ≡ 0 → Over seeds 0 ≡ houses_step a h
@@ -449,7 +455,7 @@ module _ {a : Rows} {h rows seeds game : ℕ} {r : RowNumbers} (packed : IsPacke
       let empty = sum-zero moved.other (sym shows.other ∙ none) in
       let mine : seeds ≡ moved.own_store + sum moved.own = omega (arith, keeps.play, is.seeds_are) in
       let theirs : 0 ≡ moved.other_store + sum moved.other = omega (arith, keeps.other_store) in
-      cc (mine, theirs, step_over moved (is_again (bare a) h) (grind (arith, nat_tests)))
+      cc (mine, theirs, step_over moved (is_again (storeless a) h) (grind (arith, nat_tests)))
 
   module _ (own_some : r.rows % 2 ^ 30 ≢ 0) (other_some : r.rows / 2 ^ 30 ≢ 0) where
     -- or the game goes on
@@ -457,35 +463,35 @@ module _ {a : Rows} {h rows seeds game : ℕ} {r : RowNumbers} (packed : IsPacke
     going = grind (arith, number_of-zero)
 
     -- with the mover
-    pub again_packed : is_again (bare a) h ≡ true → IsStepTo a h r.rows (seeds - r.store) game (Again r.store)
+    pub again_packed : is_again (storeless a) h ≡ true → IsStepTo a h r.rows (seeds - r.store) variant (Again r.store)
     again_packed more =
         let rule = ap rule_bit keeps.rule in
-        let there = packed_as _ _ _ game within
-        (omega (arith, shows.own, shows.other)) (omega (arith, keeps.play, is.seeds_are)) (omega (arith, is.game_is, keeps.side)) in
+        let there = packed_as _ _ _ variant within
+        (omega (arith, shows.own, shows.other)) (omega (arith, keeps.play, is.seeds_are)) (omega (arith, is.variant_is, keeps.side)) in
         record { packed = there.0; is = rw (shows.store, there.1) (sym (step_again _ _ going more)) }
 
     -- or with the other player
-    pub turn_packed : is_again (bare a) h ≡ false →
-        IsStepTo a h (r.rows / 2 ^ 30 + 2 ^ 30 * (r.rows % 2 ^ 30)) (seeds - r.store) game (Turn r.store)
+    pub turn_packed : is_again (storeless a) h ≡ false →
+        IsStepTo a h (r.rows / 2 ^ 30 + 2 ^ 30 * (r.rows % 2 ^ 30)) (seeds - r.store) variant (Turn r.store)
     turn_packed passed =
         let rule = ap rule_bit keeps.rule in
-        let there = packed_as (rows_of (swapped moved)) _ (seeds - _) game
+        let there = packed_as (houses_in (swapped moved)) _ (seeds - _) variant
         (swapped_within moved within)
         (omega (arith, shows.own, shows.other))
         (omega (arith, keeps.play, is.seeds_are))
-        (omega (arith, is.game_is, keeps.other_side, is.limits.same_side)) in
+        (omega (arith, is.variant_is, keeps.other_side, is.limits.same_side)) in
         record { packed = there.0; is = rw (shows.store, there.1) (sym (step_turn moved _ going passed)) }
 
 -- ---- a step on houses, applied to a position
 -- the step of a position whose houses make this one
 abbrev pub step_with : Position → HousesStep → Step
-step_with p (Over own other) = step.Over (with_stores (without_seeds (rows_of p)) (p.own_store + own) (p.other_store + other))
+step_with p (Over own other) = step.Over (with_stores (without_seeds (houses_in p)) (p.own_store + own) (p.other_store + other))
 step_with p (Again gained b) = step.Again (with_stores b (p.own_store + gained) p.other_store)
 step_with p (Turn gained b) = step.Turn (with_stores b p.other_store (p.own_store + gained))
 
 -- which keeps the limits
 abbrev pub IsStepWithin : Position → HousesStep → Type 0
-IsStepWithin p (Over own other) = IsWithinLimits (with_stores (without_seeds (rows_of p)) (p.own_store + own) (p.other_store + other))
+IsStepWithin p (Over own other) = IsWithinLimits (with_stores (without_seeds (houses_in p)) (p.own_store + own) (p.other_store + other))
 IsStepWithin p (Again gained b) = IsWithinLimits (with_stores b (p.own_store + gained) p.other_store)
 IsStepWithin p (Turn gained b) = IsWithinLimits (with_stores b p.other_store (p.own_store + gained))
 
@@ -497,8 +503,8 @@ step_with_to p q false true side rule none is = grind arith
 step_with_to p q false false side rule none is = grind arith
 
 -- the step of a board is that of its houses
-pub step_is : (p : Position) (h : ℕ) → IsWithinHouses (rows_of p) → HoldsSeeds (bare (rows_of p)) h →
-    step_with p (houses_step (rows_of p) h) ≡ step_of p h
+pub step_is : (p : Position) (h : ℕ) → IsWithinHouses (houses_in p) → HoldsSeeds (storeless (houses_in p)) h →
+    step_with p (houses_step (houses_in p) h) ≡ step_of p h
 step_is p h w holds =
     let q = after _ h in
     let keeps = after_keeps _ _ w holds in
@@ -506,10 +512,10 @@ step_is p h w holds =
     ∙ ap (λ x. step_to x (is_again p h)) (sym (after_of_rows p h))
 
 -- and within the limits
-pub step_within : {p : Position} (h : ℕ) → IsWithinLimits p → HoldsSeeds (bare (rows_of p)) h
-    → IsStepWithin p (houses_step (rows_of p) h)
+pub step_within : {p : Position} (h : ℕ) → IsWithinLimits p → HoldsSeeds (storeless (houses_in p)) h
+    → IsStepWithin p (houses_step (houses_in p) h)
 step_within {p} h l holds =
-    let a = rows_of p in
+    let a = houses_in p in
     let q = after _ h in
     let w = rows_within p l in
     let keeps = after_keeps a h w holds in
@@ -526,7 +532,7 @@ step_within {p} h l holds =
       own_store_low = omega arith;
       other_store_low = omega (arith, keeps.play);
     })
-    (λ going. on_cond (IsStepWithin p) (is_again (bare a) h) _ _
+    (λ going. on_cond (IsStepWithin p) (is_again (storeless a) h) _ _
     (omega arith)
     (omega arith))
 
@@ -536,7 +542,7 @@ pub record IsStepOf (p : Position) (h : ℕ) (s : HousesStep) : Type 0 where
   pub within : IsStepWithin p s
   pub nearer : IsNearerEnd (after p h) p
 
-pub board_step : {b : Rows} {own_store other_store h : ℕ} {p : Position} {s t : HousesStep}
+pub board_step : {b : HousesState} {own_store other_store h : ℕ} {p : Position} {s t : HousesStep}
     → IsWithinLimits (with_stores b own_store other_store) →
     with_stores b own_store other_store ≡ p → Contains (legal_houses p) h → t ≡ s → t ≡ houses_step b h →
     IsStepOf (with_stores b own_store other_store) h s
@@ -553,21 +559,21 @@ board_step {b} {own_store} {other_store} {h} l view has to is =
 
 -- ==== Moves whose last seed falls into the store without a lap
 
-module _ {a : Rows} {h rows seeds game : ℕ} {r : RowNumbers} (packed : IsPacked rows seeds game) (view : unpacked rows game ≡ a)
-    (has : Contains (legal_houses (bare a)) h)
-    (ends : position.seeds a.own h + h ≡ length a.own + 1) (shows : IsPackedPosition r (sown (bare a) h)) where
+module _ {a : HousesState} {h rows seeds variant : ℕ} {r : RowNumbers} (packed : IsPacked rows seeds variant) (view : unpacked rows variant ≡ a)
+    (has : Contains (legal_houses (storeless a)) h)
+    (ends : position.seeds a.own h + h ≡ length a.own + 1) (shows : IsPackedPosition r (sown (storeless a) h)) where
   w : IsWithinHouses a
   w = (pack_of packed view).limits
 
-  holds : HoldsSeeds (bare a) h
+  holds : HoldsSeeds (storeless a) h
   holds = legal_holds _ _ has
 
   -- the last seed falls as far as the house has seeds
-  distance : last_distance (bare a) h ≡ position.seeds a.own h
+  distance : last_distance (storeless a) h ≡ position.seeds a.own h
   distance = short_distance _ h holds (omega arith)
 
   -- the mover moves again
-  again : is_again (bare a) h ≡ true
+  again : is_again (storeless a) h ≡ true
   again = omega (arith, eq-eqb, distance)
 
   -- its place is that of the store
@@ -575,7 +581,7 @@ module _ {a : Rows} {h rows seeds game : ℕ} {r : RowNumbers} (packed : IsPacke
   place = eqb-true _ _ (sym (again_at _ h holds) ∙ again)
 
   -- nothing is captured
-  pub store_shows : IsPackedPosition r (after (bare a) h)
+  pub store_shows : IsPackedPosition r (after (storeless a) h)
   store_shows = after_past _ h holds r (omega (arith, place)) shows
 
   -- and the other player has seeds as before
@@ -583,22 +589,23 @@ module _ {a : Rows} {h rows seeds game : ℕ} {r : RowNumbers} (packed : IsPacke
   other_some none = grind (arith, legal_going, sum-zero, other_is, w, holds)
 
   -- so the game goes on with the mover, if the mover has seeds left
-  pub store_packed : 0 < r.rows % 2 ^ 30 → IsStepTo a h r.rows (seeds - r.store) game (Again r.store)
+  pub store_packed : 0 < r.rows % 2 ^ 30 → IsStepTo a h r.rows (seeds - r.store) variant (Again r.store)
   store_packed some = again_packed packed view has store_shows (omega arith) other_some again
 
 -- what a move does to both rows whose last seed falls into the store without a lap: `house` are the seeds of the
 -- house where they stand in the row, `own_more` is one seed in each house after it
-pub record MovesIntoStore (a : Rows) (h rows seeds game house own_more : ℕ) : Type 0 where
+pub record MovesIntoStore (a : HousesState) (h rows seeds variant house own_more : ℕ) : Type 0 where
   pub fits : house ≤ rows
-  pub goes_on : 0 < (rows - house + own_more) % 2 ^ 30 → IsStepTo a h (rows - house + own_more) (seeds - 1) game (Again 1)
+  pub goes_on : 0 < (rows - house + own_more) % 2 ^ 30 → IsStepTo a h (rows - house + own_more) (seeds - 1) variant (Again 1)
   pub over : (rows - house + own_more) % 2 ^ 30 ≡ 0 → Over 1 (seeds - 1) ≡ houses_step a h
 
-pub moves_into_store : {a : Rows} {h rows seeds game house own_more : ℕ} → IsPacked rows seeds game → unpacked rows game ≡ a
-    → Contains (legal_houses (bare a)) h →
+pub moves_into_store : {a : HousesState} {h rows seeds variant house own_more : ℕ} → IsPacked rows seeds variant
+    → unpacked rows variant ≡ a
+    → Contains (legal_houses (storeless a)) h →
     position.seeds a.own h + h ≡ length a.own + 1 → house ≡ 32 ^ (h - 1) * position.seeds a.own h
     → own_more + ones h ≡ ones (length a.own) →
-    MovesIntoStore a h rows seeds game house own_more
-moves_into_store {a} {h} {rows} {seeds} {game} {house} {own_more} packed view has ends house_is own_more_is =
+    MovesIntoStore a h rows seeds variant house own_more
+moves_into_store {a} {h} {rows} {seeds} {variant} {house} {own_more} packed view has ends house_is own_more_is =
     let pack = pack_of packed view in
     let w = pack.limits in
     let holds = legal_holds _ _ has in

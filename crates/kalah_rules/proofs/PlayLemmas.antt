@@ -9,7 +9,7 @@ use Rattle.std.proofs.lemmas.List.Sums.{sum_by-set, sum_by-cons, length-filter, 
 use Rattle.kalah_rules.specs.Sowing.{own_distance, gain, row_of, lap_length, store_distance, other_distance, sow, last_distance, last_house, sown, after, captured, capture, is_again}
 use Rattle.std.proofs.lemmas.Grind.{same_number_lists}
 use Rattle.std.proofs.lemmas.List.FromFn.{length-map-range_with_len, get_or-map-range_with_len, length-range_with_len, get_or-range_with_len}
-use Rattle.kalah_rules.specs.Position.{Position, seeds, side_length, seeds_in_houses, is_over, rows_of, bare, HasEqualSides, swapped, Rows, swept}
+use Rattle.kalah_rules.specs.Position.{Position, seeds, side_length, seeds_in_houses, is_over, houses_in, storeless, HasEqualSides, swapped, HousesState, swept}
 use Rattle.kalah_rules.specs.Lap.{Cell, Own, Store, Other, distance, IsCellOf, with_seed, lifted, HoldsSeeds}
 use Rattle.std.proofs.lemmas.List.Elements.{filter-append, filter_passes, All-filter, All-contains, Contains-append_left, Contains-append_right, Contains-push}
 use Rattle.kalah_rules.specs.Play.{legal_houses, position_after, step_to}
@@ -388,7 +388,7 @@ contains_range f a (suc n) i low high here = elim (cases_eq a i) [
 all_range : (a n : ℕ) → All (λ i. (a ≤ i) × (i < a + n)) (range_with_len a n)
 all_range a n = omega (arith, length-range_with_len, get_or-range_with_len)
 
--- the legal_houses houses hold seeds, and each house with seeds is legal_houses while the game goes on
+-- the legal houses hold seeds, and each house with seeds is legal while the game goes on
 pub legal_going : (p : Position) (h : ℕ) → Contains (legal_houses p) h → is_over p ≡ false
 legal_going p h has = grind arith
 
@@ -435,11 +435,11 @@ unfolding after
 after_with_more a b p h = grind (arith, sow_with_more)
 
 -- a position is its houses, with what the stores hold added
-pub is_with_more : (p : Position) → p ≡ with_more p.own_store p.other_store (bare (rows_of p))
+pub is_with_more : (p : Position) → p ≡ with_more p.own_store p.other_store (storeless (houses_in p))
 is_with_more p = grind arith
 
 -- a move of a position is that of its houses
-pub after_of_rows : (p : Position) (h : ℕ) → after p h ≡ with_more p.own_store p.other_store (after (bare (rows_of p)) h)
+pub after_of_rows : (p : Position) (h : ℕ) → after p h ≡ with_more p.own_store p.other_store (after (storeless (houses_in p)) h)
 after_of_rows p h = ap (λ q. after q h) (is_with_more p) ∙ after_with_more _ _ _ h
 
 -- ==== Every move brings the game nearer to its end
@@ -588,15 +588,15 @@ ways_with_more (suc n) a b p = ways_suc n _
     ∙ sym (ways_suc n p)
 
 -- the ways of a position are those of its houses
-pub ways_of_rows : (n : ℕ) (p : Position) → ways n p ≡ ways n (bare (rows_of p))
+pub ways_of_rows : (n : ℕ) (p : Position) → ways n p ≡ ways n (storeless (houses_in p))
 ways_of_rows n p = ap (ways n) (is_with_more p) ∙ ways_with_more n _ _ _
 
 -- ---- steps on houses
 -- the ways after a step
 abbrev pub ways_from : ℕ → HousesStep → ℕ
 ways_from n (Over own other) = if n == 0 then 1 else 0
-ways_from n (Again gained a) = ways n (bare a)
-ways_from n (Turn gained a) = ways n (bare a)
+ways_from n (Again gained a) = ways n (storeless a)
+ways_from n (Turn gained a) = ways n (storeless a)
 
 -- a truth value as a number
 pub one_if : (b : Bool) → bool_byte b ≡ (if b then 1 else 0)
@@ -614,16 +614,16 @@ ways_step_to n q false true is = rw is (ways_of_rows n q)
 ways_step_to n q false false is = rw is (ways_of_rows n _)
 
 -- the ways after a move are those after the step of the houses
-pub ways_by_step : (n : ℕ) (a : Rows) (h : ℕ) (s t : HousesStep) → t ≡ houses_step a h → t ≡ s
-    → ways_from n s ≡ ways_by n (bare a) h
+pub ways_by_step : (n : ℕ) (a : HousesState) (h : ℕ) (s t : HousesStep) → t ≡ houses_step a h → t ≡ s
+    → ways_from n s ≡ ways_by n (storeless a) h
 ways_by_step n a h s t is to = grind (arith, ways_step_to)
 
 -- the ways after a move of a position are those of its houses
-pub ways_by_of_rows : (n : ℕ) (p : Position) (h : ℕ) → ways_by n (bare (rows_of p)) h ≡ ways_by n p h
+pub ways_by_of_rows : (n : ℕ) (p : Position) (h : ℕ) → ways_by n (storeless (houses_in p)) h ≡ ways_by n p h
 ways_by_of_rows n p h =
     let a = p.own_store in
     let b = p.other_store in
-    let q = bare _ in
+    let q = storeless _ in
     sym (ap (λ (o : Position). ways_by n o h) (is_with_more p)
     ∙ ap (λ (o : Position). ways n (position_after (step_to o (is_again q h)))) (after_with_more a b q h)
     ∙ step_with_more n a b (after q h) _ _ refl (ways_with_more n))

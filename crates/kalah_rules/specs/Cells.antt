@@ -2,18 +2,18 @@
 use Rattle.std.specs.Prelude.{◌≡◌, ℕ, ◌+◌, ◌-◌, ◌≤◌, List, ◌++◌, length, take, drop, replicate, All, sum}
 use Rattle.std.proofs.Common.{arith, length-take-le}
 use Rattle.kalah_rules.specs.Limits.{most_houses, most_seeds, most_in_store}
-use Rattle.kalah_rules.specs.Position.{Position, Rows, with_stores, IsWithinHouses}
+use Rattle.kalah_rules.specs.Position.{Position, HousesState, with_stores, IsWithinHouses}
 use Rattle.kalah_rules.specs.declared.rule.Rule.{Rule}
 
 -- the rows of m houses, which are the first of six cells
-abbrev pub rows_from : ℕ → List ℕ → List ℕ → Rule → Rows
+abbrev pub rows_from : ℕ → List ℕ → List ℕ → Rule → HousesState
 rows_from m own other rule = record { own = take m own; other = take m other; rule = rule }
 
 -- their position, with these seeds in the stores
 abbrev pub position_of : ℕ → List ℕ → ℕ → List ℕ → ℕ → Rule → Position
 position_of m own own_store other other_store rule = with_stores (rows_from m own other rule) own_store other_store
 
--- the cells hold houses of the game, and nothing past them
+-- the cells hold houses of the variant, and nothing past them
 pub record CanBeHouses (m : ℕ) (own : List ℕ) (other : List ℕ) : Type 0 where
   pub some_house : 1 ≤ m
   pub at_most_six : m ≤ most_houses
@@ -28,7 +28,7 @@ pub record CanStart (m : ℕ) (own : List ℕ) (own_store : ℕ) (other : List �
   pub other_store_low : other_store ≤ most_in_store
 
 -- the same, if the houses are given as rows
-pub record CanStartFrom (rows : Rows) (own_store other_store : ℕ) : Type 0 where
+pub record CanStartFrom (rows : HousesState) (own_store other_store : ℕ) : Type 0 where
   pub houses : IsWithinHouses rows
   pub own_store_low : own_store ≤ most_in_store
   pub other_store_low : other_store ≤ most_in_store

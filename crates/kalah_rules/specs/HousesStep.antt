@@ -1,6 +1,6 @@
 -- A move on houses without stores.
 use Rattle.std.specs.Prelude.{ℕ, Bool, if◌then◌else◌, ◌+◌, sum}
-use Rattle.kalah_rules.specs.Position.{Position, Rows, rows_of, bare, is_over, swapped}
+use Rattle.kalah_rules.specs.Position.{Position, HousesState, houses_in, storeless, is_over, swapped}
 use Rattle.kalah_rules.specs.Sowing.{after, is_again}
 use Rattle.kalah_rules.specs.declared.step.HousesStep.{HousesStep}
 use Rattle.kalah_rules.specs.declared.step.HousesStep.TheVariants.{Over, Again, Turn}
@@ -10,8 +10,8 @@ use Rattle.kalah_rules.specs.declared.step.HousesStep.TheVariants.{Over, Again, 
 abbrev pub houses_step_to : Position → Bool → HousesStep
 houses_step_to q again =
     if is_over q then Over (q.own_store + sum q.own) (q.other_store + sum q.other) else
-    (if again then Again q.own_store (rows_of q) else Turn q.own_store (rows_of (swapped q)))
+    (if again then Again q.own_store (houses_in q) else Turn q.own_store (houses_in (swapped q)))
 
 -- what the move of house h leads to
-abbrev pub houses_step : Rows → ℕ → HousesStep
-houses_step a h = houses_step_to (after (bare a) h) (is_again (bare a) h)
+abbrev pub houses_step : HousesState → ℕ → HousesStep
+houses_step a h = houses_step_to (after (storeless a) h) (is_again (storeless a) h)

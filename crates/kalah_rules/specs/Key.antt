@@ -2,7 +2,7 @@
 use Rattle.std.specs.Prelude.{ℕ, zero, suc, ◌+◌, ◌*◌, ◌/◌, ◌%◌, ◌^◌, ◌==◌, List, [], ◌∷◌, length, if◌then◌else◌}
 use Rattle.kalah_rules.specs.declared.rule.Rule.{Rule}
 use Rattle.kalah_rules.specs.declared.rule.Rule.TheVariants.{Classic, EmptyCapture}
-use Rattle.kalah_rules.specs.Position.{Rows}
+use Rattle.kalah_rules.specs.Position.{HousesState}
 use Rattle.kalah_rules.specs.Cells.{CanBeHouses, rows_from}
 
 -- a row as a number, with five bits for each house, house 1 lowest
@@ -21,16 +21,16 @@ rule_bit Classic = 0
 rule_bit EmptyCapture = 1
 
 -- both rows as a number, the own row lowest
-abbrev pub rows_number : Rows → ℕ
+abbrev pub rows_number : HousesState → ℕ
 rows_number a = number_of a.own + 2 ^ 30 * number_of a.other
 
 -- own houses from bit 0, other houses from bit 30, the houses per side from bit 60, the rule at bit 63
-abbrev pub key_of : Rows → ℕ
+abbrev pub key_of : HousesState → ℕ
 key_of a = number_of a.own + 2 ^ 30 * number_of a.other + 2 ^ 60 * length a.own + 2 ^ 63 * rule_bit a.rule
 
--- the game of houses: how many there are per side, and 8 more for the empty-capture rule
-abbrev pub game_of : Rows → ℕ
-game_of a = length a.own + 8 * rule_bit a.rule
+-- the variant of houses: how many there are per side, and 8 more for the empty-capture rule
+abbrev pub variant_of : HousesState → ℕ
+variant_of a = length a.own + 8 * rule_bit a.rule
 
 -- the houses per side that a key names
 abbrev pub side_at : ℕ → ℕ
@@ -45,5 +45,5 @@ abbrev pub IsKey : ℕ → Type 0
 IsKey k = CanBeHouses (side_at k) (cells 6 k) (cells 6 (k / 2 ^ 30))
 
 -- the houses whose key the number is
-abbrev pub rows_at : ℕ → Rows
+abbrev pub rows_at : ℕ → HousesState
 rows_at k = rows_from (side_at k) (cells 6 k) (cells 6 (k / 2 ^ 30)) (rule_at k)

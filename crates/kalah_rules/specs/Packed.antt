@@ -1,21 +1,21 @@
 -- Houses in numbers.
 use Rattle.std.specs.Prelude.{◌≡◌, ℕ, ◌≤◌, ◌+◌, ◌-◌, ◌*◌, ◌/◌, ◌%◌, ◌^◌, if◌then◌else◌, nat_le, sum}
-use Rattle.kalah_rules.specs.Position.{Position, Rows, seeds_in_houses, bare, IsWithinHouses}
+use Rattle.kalah_rules.specs.Position.{Position, HousesState, seeds_in_houses, storeless, IsWithinHouses}
 use Rattle.kalah_rules.specs.Sowing.{row_of}
 use Rattle.kalah_rules.specs.Limits.{most_houses, most_seeds}
-use Rattle.kalah_rules.specs.Key.{number_of, cells, rows_number, game_of, rows_at}
+use Rattle.kalah_rules.specs.Key.{number_of, cells, rows_number, variant_of, rows_at}
 use Rattle.kalah_rules.specs.declared.houses.play.RowNumbers.{RowNumbers}
 
--- the houses whose key has these rows, and this game above them
-abbrev pub unpacked : ℕ → ℕ → Rows
-unpacked rows game = rows_at (rows + 2 ^ 60 * game)
+-- the houses whose key has these rows, and this variant above them
+abbrev pub unpacked : ℕ → ℕ → HousesState
+unpacked rows variant = rows_at (rows + 2 ^ 60 * variant)
 
--- both rows of houses, the number of seeds in them, and their game
-pub record IsPacked (rows seeds game : ℕ) : Type 0 where
-  pub limits : IsWithinHouses (unpacked rows game)
-  pub rows_are : rows_number (unpacked rows game) ≡ rows
-  pub seeds_are : seeds_in_houses (bare (unpacked rows game)) ≡ seeds
-  pub game_is : game_of (unpacked rows game) ≡ game
+-- both rows of houses, the number of seeds in them, and their variant
+pub record IsPacked (rows seeds variant : ℕ) : Type 0 where
+  pub limits : IsWithinHouses (unpacked rows variant)
+  pub rows_are : rows_number (unpacked rows variant) ≡ rows
+  pub seeds_are : seeds_in_houses (storeless (unpacked rows variant)) ≡ seeds
+  pub variant_is : variant_of (unpacked rows variant) ≡ variant
 
 -- the number of some houses of a side, with the number of seeds in them
 pub record IsPackedRow (count number seeds : ℕ) : Type 0 where

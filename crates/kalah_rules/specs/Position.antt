@@ -72,16 +72,16 @@ pub record IsWithinLimits (p : Position) : Type 0 where
   pub other_store_low : p.other_store + seeds_in_houses p ≤ most_in_play
 
 -- the houses of a position and its rule, without stores
-pub record Rows : Type 0 where
+pub record HousesState : Type 0 where
   pub own : List ℕ
   pub other : List ℕ
   pub rule : Rule
 
-abbrev pub rows_of : Position → Rows
-rows_of p = record { own = p.own; other = p.other; rule = p.rule }
+abbrev pub houses_in : Position → HousesState
+houses_in p = record { own = p.own; other = p.other; rule = p.rule }
 
 -- the position of these houses, with these seeds in the stores
-abbrev pub with_stores : Rows → ℕ → ℕ → Position
+abbrev pub with_stores : HousesState → ℕ → ℕ → Position
 with_stores a own_store other_store = record {
   own = a.own;
   own_store = own_store;
@@ -91,15 +91,15 @@ with_stores a own_store other_store = record {
 }
 
 -- the position of these houses, with both stores empty
-abbrev pub bare : Rows → Position
-bare a = with_stores a 0 0
+abbrev pub storeless : HousesState → Position
+storeless a = with_stores a 0 0
 
 -- the same houses with no seeds in them
-abbrev pub without_seeds : Rows → Rows
+abbrev pub without_seeds : HousesState → HousesState
 without_seeds a = record { own = replicate (length a.own) 0; other = replicate (length a.own) 0; rule = a.rule }
 
 -- what holds of the houses of every board
-pub record IsWithinHouses (a : Rows) : Type 0 where
+pub record IsWithinHouses (a : HousesState) : Type 0 where
   pub some_house : 1 ≤ length a.own
   pub at_most_six : length a.own ≤ most_houses
   pub same_side : length a.other ≡ length a.own

@@ -1,6 +1,6 @@
 //! Boards: positions within the limits.
 ghost use Rattle.std.specs.Prelude.{◌≡◌, ◌≤◌, ◌↔◌, IsTrue, IsSome, IfSome};
-ghost use Rattle.kalah_rules.specs.Position.{side_length, seeds, is_over, final_margin, IsWithinLimits, rows_of, with_stores, IsSmallMargin};
+ghost use Rattle.kalah_rules.specs.Position.{side_length, seeds, is_over, final_margin, IsWithinLimits, houses_in, with_stores, IsSmallMargin};
 ghost use Rattle.kalah_rules.specs.Cells.{CanStart, CanStartFrom, position_of};
 
 mod play;
@@ -26,7 +26,7 @@ pub struct Board {
 }
 
 impl Model for Board {
-    ghost use Rattle.kalah_rules.specs.Position.{Position, with_stores, rows_of, IsWithinLimits};
+    ghost use Rattle.kalah_rules.specs.Position.{Position, with_stores, houses_in, IsWithinLimits};
 
     ghost Value = { Position };
 
@@ -34,7 +34,7 @@ impl Model for Board {
 
     ghost invariant = { λ b. IsWithinLimits (with_stores b.houses b.own_store b.other_store) };
 
-    ghost inverse = { λ p. record { houses = rows_of p; own_store = p.own_store; other_store = p.other_store } };
+    ghost inverse = { λ p. record { houses = houses_in p; own_store = p.own_store; other_store = p.other_store } };
 }
 
 impl Board {
@@ -141,7 +141,7 @@ impl Board {
 
     /// Returns the houses and the rule, without the stores.
     pub fn houses(&self) -> Houses
-        ensures { result ≡ rows_of self.now }
+        ensures { result ≡ houses_in self.now }
     {
         self.houses
     }

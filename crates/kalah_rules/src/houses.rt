@@ -1,8 +1,8 @@
 //! The houses of a board without the stores, as numbers.
 ghost use Rattle.std.specs.Prelude.{◌≡◌, ◌<◌, ◌≤◌, ◌^◌, ◌↔◌, length, sum, IsSome, IfSome, IsTrue, Some};
-ghost use Rattle.kalah_rules.specs.Position.{Rows, seeds, seeds_in_houses, is_over, bare, without_seeds, IsWithinHouses};
+ghost use Rattle.kalah_rules.specs.Position.{HousesState, seeds, seeds_in_houses, is_over, storeless, without_seeds, IsWithinHouses};
 ghost use Rattle.kalah_rules.specs.Cells.{CanBeHouses, rows_from};
-ghost use Rattle.kalah_rules.specs.Key.{number_of, key_of, game_of, IsKey};
+ghost use Rattle.kalah_rules.specs.Key.{number_of, key_of, variant_of, IsKey};
 
 pub(crate) mod house;
 pub(crate) mod house_row;
@@ -13,7 +13,7 @@ pub(crate) mod sowings;
 use crate::houses::house::House;
 use crate::houses::house_row::HouseRow;
 use crate::houses::numbers::{
-    OTHER_ROW, RULE, SIDE, cells_of, game_number, number_of, rule_of, seeds_at,
+    OTHER_ROW, RULE, SIDE, cells_of, number_of, rule_of, seeds_at, variant_number,
 };
 use crate::limits::{MOST_HOUSES, MOST_SEEDS};
 use crate::row::{is_empty_past, total};
@@ -23,33 +23,33 @@ use std::marker::Model;
 /// The houses of a board and its rule, without the stores. Stores change neither the legal moves nor what they do, so
 /// this is all that a solver needs.
 ///
-/// They are stored as both rows in one number, the number of seeds, and the game. A search that knows its game computes nothing of it.
+/// They are stored as both rows in one number, the number of seeds, and the variant. A search that knows its variant computes nothing of it.
 #[derive(Clone, Copy, Debug, PartialEq, Eq)]
 pub struct Houses {
     // The lowest 60 bits of the key.
     rows: u64,
-    // As wide as half of the rows, like the game, so that a copy has no gap.
+    // As wide as half of the rows, like the variant, so that a copy has no gap.
     seeds: u32,
     // The upper four bits of the key.
-    game: u32,
+    variant: u32,
 }
 
 impl Model for Houses {
-    ghost use Rattle.kalah_rules.specs.Position.{Rows};
+    ghost use Rattle.kalah_rules.specs.Position.{HousesState};
 
-    ghost Value = { Rows };
+    ghost Value = { HousesState };
 
-    ghost use Rattle.kalah_rules.specs.Position.{bare, seeds_in_houses};
-    ghost use Rattle.kalah_rules.specs.Key.{rows_number, game_of};
+    ghost use Rattle.kalah_rules.specs.Position.{storeless, seeds_in_houses};
+    ghost use Rattle.kalah_rules.specs.Key.{rows_number, variant_of};
     ghost use Rattle.kalah_rules.specs.Packed.{IsPacked, unpacked};
 
-    ghost view = { λ a. unpacked a.rows a.game };
+    ghost view = { λ a. unpacked a.rows a.variant };
 
-    ghost invariant = { λ a. IsPacked a.rows a.seeds a.game };
+    ghost invariant = { λ a. IsPacked a.rows a.seeds a.variant };
 
-    ghost inverse = { λ a. record { rows = rows_number a; seeds = seeds_in_houses (bare a); game = game_of a } };
+    ghost inverse = { λ a. record { rows = rows_number a; seeds = seeds_in_houses (storeless a); variant = variant_of a } };
 
-    ghost inverse_ok = { λ a h i. record { rows = h.rows_are i; seeds = h.seeds_are i; game = h.game_is i } };
+    ghost inverse_ok = { λ a h i. record { rows = h.rows_are i; seeds = h.seeds_are i; variant = h.variant_is i } };
 }
 
 impl Houses {
@@ -73,7 +73,7 @@ impl Houses {
         Some(Houses {
             rows: number_of(&own) + OTHER_ROW * number_of(&other),
             seeds: seeds as u32,
-            game: game_number(m, rule),
+            variant: variant_number(m, rule),
         })
     }
 
@@ -90,7 +90,7 @@ impl Houses {
         Some(Houses {
             rows: own.number() + OTHER_ROW * other.number(),
             seeds: seeds as u32,
-            game: game_number(m, rule),
+            variant: variant_number(m, rule),
         })
     }
 
@@ -101,7 +101,7 @@ impl Houses {
     pub fn of_key(key: u64) -> Option<Houses>
         ensures valid { IsSome result ↔ IsKey key }
         ensures same { IfSome result (λ a. key_of a ≡ key) }
-        ensures found { (a : Rows) → IsWithinHouses a → key_of a ≡ key → result ≡ Some a }
+        ensures found { (a : HousesState) → IsWithinHouses a → key_of a ≡ key → result ≡ Some a }
     {
         Houses::new(
             (key / SIDE % 8) as u8,
@@ -120,12 +120,12 @@ impl Houses {
         ensures key { result ≡ key_of self.now }
         ensures limits { IsWithinHouses self.now }
     {
-        self.rows + SIDE * self.game as u64
+        self.rows + SIDE * self.variant as u64
     }
 
     /// Returns the number of seeds in the houses of both players, at most 31.
     pub fn seeds(&self) -> u8
-        ensures seeds { result ≡ seeds_in_houses (bare self.now) }
+        ensures seeds { result ≡ seeds_in_houses (storeless self.now) }
         ensures limits { IsWithinHouses self.now }
     {
         self.seeds as u8
@@ -136,35 +136,35 @@ impl Houses {
         ensures side { result ≡ length self.now.own }
         ensures limits { IsWithinHouses self.now }
     {
-        (self.game % 8) as u8
+        (self.variant % 8) as u8
     }
 
     /// Returns the rule of capture.
     pub fn rule(&self) -> Rule
         ensures { result ≡ self.now.rule }
     {
-        rule_of(self.game as u64 / 8)
+        rule_of(self.variant as u64 / 8)
     }
 
-    /// Returns the game of the houses, the upper four bits of their key: the number of houses a side, and 8 more for the empty-capture
+    /// Returns the variant of the houses, the upper four bits of their key: the number of houses a side, and 8 more for the empty-capture
     /// rule.
-    pub fn game(&self) -> u8
-        ensures game { result ≡ game_of self.now }
+    pub fn variant(&self) -> u8
+        ensures variant { result ≡ variant_of self.now }
         ensures limits { IsWithinHouses self.now }
     {
-        self.game as u8
+        self.variant as u8
     }
 
-    /// Returns these houses, which must be of this game. If it is a constant, what is computed of the result is compiled for this game.
+    /// Returns these houses, which must be of this variant. If it is a constant, what is computed of the result is compiled for this variant.
     #[inline(always)]
-    pub fn known_game(self, game: u8) -> Houses
-        requires { game_of self ≡ game }
+    pub fn known_variant(self, variant: u8) -> Houses
+        requires { variant_of self ≡ variant }
         ensures { result ≡ self }
     {
         Houses {
             rows: self.rows,
             seeds: self.seeds,
-            game: game as u32,
+            variant: variant as u32,
         }
     }
 
@@ -222,14 +222,14 @@ impl Houses {
 
     /// Returns whether the game is over: the houses of one of the players are all empty.
     pub fn is_over(&self) -> bool
-        ensures { result ≡ is_over (bare self.now) }
+        ensures { result ≡ is_over (storeless self.now) }
     {
         self.own_row() == 0 || self.other_row() == 0
     }
 
     // Returns the number of seeds that each player has in houses at the end of a game: the mover's, and the other player's.
     pub(crate) fn left(&self) -> (u8, u8)
-        requires { IsTrue (is_over (bare self.now)) }
+        requires { IsTrue (is_over (storeless self.now)) }
         ensures own { result.0 ≡ sum self.now.own }
         ensures other { result.1 ≡ sum self.now.other }
     {
@@ -247,7 +247,7 @@ impl Houses {
         Houses {
             rows: 0,
             seeds: 0,
-            game: self.game,
+            variant: self.variant,
         }
     }
 }

@@ -1,6 +1,6 @@
 //! The numbers of ways to play on.
 ghost use Rattle.std.specs.Prelude.{◌≡◌, ◌≤◌, ◌<◌, ◌^◌, length, Contains};
-ghost use Rattle.kalah_rules.specs.Position.{bare};
+ghost use Rattle.kalah_rules.specs.Position.{storeless};
 ghost use Rattle.kalah_rules.specs.Play.{legal_houses};
 ghost use Rattle.kalah_rules.specs.Limits.{most_depth, most_houses};
 ghost use Rattle.kalah_rules.specs.Ways.{ways, ways_by};
@@ -17,7 +17,7 @@ use crate::step::HousesStep;
 impl Houses {
     // Returns the number of legal moves.
     fn legal_count(&self) -> u64
-        ensures count { result ≡ length (legal_houses (bare self.now)) }
+        ensures count { result ≡ length (legal_houses (storeless self.now)) }
         ensures few { result ≤ most_houses }
     {
         if self.is_over() {
@@ -36,7 +36,7 @@ impl Houses {
     #[cycle(ways)]
     fn ways(&self, sowings: &Sowings, depth: u8) -> u64
         requires { depth ≤ most_depth }
-        ensures ways { result ≡ ways depth (bare self.now) }
+        ensures ways { result ≡ ways depth (storeless self.now) }
         ensures small { result ≤ most_houses ^ depth }
     {
         if depth == 0 {
@@ -60,9 +60,9 @@ impl Houses {
     // Returns the number of ways to play on for `depth` moves, 0 to 19, after the move of house `h`.
     #[cycle(ways)]
     fn ways_by(&self, sowings: &Sowings, h: u8, depth: u8) -> u64
-        requires legal { Contains (legal_houses (bare self.now)) h }
+        requires legal { Contains (legal_houses (storeless self.now)) h }
         requires depth { depth < most_depth }
-        ensures ways { result ≡ ways_by depth (bare self.now) h }
+        ensures ways { result ≡ ways_by depth (storeless self.now) h }
         ensures small { result ≤ most_houses ^ depth }
     {
         let _side = self.m(); // For its clause: the houses are within the limits.

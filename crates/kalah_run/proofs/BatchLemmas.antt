@@ -15,7 +15,7 @@ use Rattle.kalah_run.specs.Batch.AtWork.{drawn_jobs, passes_of, puts_of, AreAtWo
 use Rattle.std.specs.Io.KnownBytes.{Appends, Keeps}
 use Rattle.std.proofs.Math.Seq.{take-nil}
 use Rattle.std.proofs.KnownBytes.{Appends-kept, Appends-nil, Appends-trans, Keeps-refl}
-use Rattle.kalah_jobs.specs.Writing.Given.{AppendsStart, SinkState}
+use Rattle.kalah_jobs.specs.Writing.Given.{AppendsPrefix, SinkState}
 use Rattle.kalah_jobs.proofs.WritingLemmas.{start_none, start_then, start_longer, start_kept, files_are_their_jobs}
 use Rattle.kalah_run.specs.Batch.UnderWay.{WasGivenSince, text_of_job, written_upto, IsUnderWay}
 use Rattle.kalah_run.specs.Batch.Leaving.{rest_of, pass_in, HasDrawnNothing, IsLeft, DrawsOnlyTheRest}
@@ -27,7 +27,7 @@ use Rattle.kalah_jobs.specs.declared.collecting.refusal.Refusal.{Refusal}
 use Rattle.kalah_jobs.specs.Writing.Answer.{answer_line}
 use Rattle.kalah_jobs.specs.Collecting.CollectorState.{FileState, state_of, front, HasEnded, with_one_taken, new_files, after_take}
 use Rattle.kalah_jobs.specs.Collecting.CollectorEvents.{Offers, Takes, answered_line}
-use Rattle.kalah_jobs.specs.Writing.Output.{text_of_line, text_of_file, text_of_jobs, answer_text_of, output_to, output_of_jobs, names_of, tally_of, LineCounts, is_faulty_job}
+use Rattle.kalah_jobs.specs.Writing.Output.{text_of_line, text_of_file, text_of_jobs, answer_text_of, output_to, output_of_jobs, names_of, tally_of, TallyState, is_faulty_job}
 use Rattle.kalah_jobs.proofs.CollectingLemmas.{state_same, state_other, files_many, lines_are, start, taken_is, new_taken, fronts_full, gets_each_job_once, as_many_as_numbers, kept_by_offer, kept_by_take}
 use Rattle.kalah_jobs.specs.Collecting.Held.{Kept}
 use Rattle.kalah_jobs.specs.Files.Lines.{line_feed}
@@ -93,7 +93,7 @@ given_none begun = record { start = start_none begun.written []; whole = λ soun
 
 -- it is given more, and takes a prefix of it, or all if it has not failed then
 pub given_on : {begun out more : SinkState} (bs cs : List ℕ) → WasGivenSince begun out bs → out.has_failed ≡ false
-    → AppendsStart out.written more.written cs → (more.has_failed ≡ false → Appends out.written more.written cs)
+    → AppendsPrefix out.written more.written cs → (more.has_failed ≡ false → Appends out.written more.written cs)
     → WasGivenSince begun more (bs ++ cs)
 given_on {begun} {out} {more} bs cs given sound start all = record {
   start = start_then begun.written out.written more.written (bs ++ cs) bs cs refl (given.whole sound) start;
@@ -343,7 +343,8 @@ ready_lines files = sum_by (λ (s : FileState). front s - s.taken) files
 
 -- ==== Workers put together from their passes, the last one first
 
-last_first : (workers workers' : List Worker) (w : Worker) → workers' ≡ workers ++ w ∷ [] → reverse workers' ≡ w ∷ reverse workers
+last_first : (workers workers' : List Worker) (w : Worker) → workers' ≡ workers ++ w ∷ []
+    → reverse workers' ≡ w ∷ reverse workers
 last_first workers workers' w is = ap (λ (l : List Worker). reverse l) is ∙ reverse-append workers (w ∷ [])
 
 -- the last of what waits is given to one worker more
@@ -358,7 +359,8 @@ one_given {X} f workers {workers'} {w} rest {x} is its took so_far =
     ∙ ap (λ (l : List X). l ++ map f (reverse workers)) (sym took)
     ∙ so_far
 
-pub tables_more : (workers workers' : List Worker) (w : Worker) (entries : ℕ) → workers' ≡ workers ++ w ∷ [] → HasOwnTable entries w
+pub tables_more : (workers workers' : List Worker) (w : Worker) (entries : ℕ) → workers' ≡ workers ++ w ∷ []
+    → HasOwnTable entries w
     → HaveOwnTables entries (reverse workers) → HaveOwnTables entries (reverse workers')
 tables_more workers workers' w entries is has so_far =
     subst (λ l. HaveOwnTables entries l) (sym (last_first workers workers' w is))
@@ -374,7 +376,8 @@ put_queue id n (p ∷ ps) zero d from within = from.0
 put_queue id n (p ∷ ps) (suc k) d from within = put_queue id (suc n) ps k d from.2 (omega arith)
 
 -- there are as many workers as passes
-pub as_many_workers : (workers : List Worker) (passes : List PassState) (count : ℕ) → passes_of workers ≡ passes → length passes ≡ count
+pub as_many_workers : (workers : List Worker) (passes : List PassState) (count : ℕ) → passes_of workers ≡ passes
+    → length passes ≡ count
     → length workers ≡ count
 as_many_workers workers passes count are many =
     sym (length-map workers (λ (w : Worker). w.pass)) ∙ ap (λ (l : List PassState). length l) are ∙ many
@@ -635,13 +638,13 @@ appends_none (Some xs) None bytes none appends = absurd appends
 appends_none (Some xs) (Some ys) bytes none appends = appends ∙ (ap (λ l. xs ++ l) none ∙ append-nil xs)
 
 -- a prefix of nothing is nothing
-pub starts_none : (old new : Option (List ℕ)) (bytes : List ℕ) → bytes ≡ [] → AppendsStart old new bytes → Keeps old new
+pub starts_none : (old new : Option (List ℕ)) (bytes : List ℕ) → bytes ≡ [] → AppendsPrefix old new bytes → Keeps old new
 starts_none old new bytes none start = appends_none old new (take start.0 bytes) (ap (take start.0) none ∙ take-nil start.0) start.1
 
 -- what a batch promises
 module _ {W : Type 0} (state : W → SinkState) (question : Question) (files : List NamedBytes) (old : W) where
   -- if the sink was given the answers to all lines, and is flushed
-  pub answered : {jobs : List (List Entry)} → MakesJobs question files (Ok jobs) → (new : W) (result : Result LineCounts RunFault)
+  pub answered : {jobs : List (List Entry)} → MakesJobs question files (Ok jobs) → (new : W) (result : Result TallyState RunFault)
       → WasGivenSince (state old) (state new) (output_to question files)
       → IfOk result (λ tally. tally ≡ counts_of jobs) → OnOk result (((state new).has_failed ≡ false) × ((state new).is_flushed ≡ true))
       → IfErr result (λ e. (e ≡ Write) × ((state new).has_failed ≡ true))
@@ -677,9 +680,9 @@ module _ (question : Question) (files : List NamedBytes) (none : lines_in_all fi
   no_tally : tally_of files ≡ record { lines = 0; faults = 0 }
   no_tally =
       sym (counted_tally question files)
-      ∙ ap (λ (l : List Job). let c : LineCounts = record { lines = length l; faults = count_by is_faulty_job l } in c) no_jobs
+      ∙ ap (λ (l : List Job). let c : TallyState = record { lines = length l; faults = count_by is_faulty_job l } in c) no_jobs
 
-  pub nothing_answered : {W : Type 0} (state : W → SinkState) (old new : W) (result : Result LineCounts RunFault)
+  pub nothing_answered : {W : Type 0} (state : W → SinkState) (old new : W) (result : Result TallyState RunFault)
       → AnswersBatch state (output_to question files) files old new result → AnswersNothing (state old).written (state new).written result
   nothing_answered state old new (Ok tally) is = record {
     unwritten = appends_none _ _ _ no_output is.written;

@@ -460,7 +460,8 @@ begins plan total passes = record {
     only (suc seat) v at = absurd (some-ne-none v (sym at))
 
 -- the next pass is handed out
-pub hands_out : {S : Type 0} (plan : DeskPlan) (seat : ℕ) (v : DeskView) (total handed_out left : ℕ) → v ≡ Opening total handed_out left
+pub hands_out : {S : Type 0} (plan : DeskPlan) (seat : ℕ) (v : DeskView) (total handed_out left : ℕ)
+    → v ≡ Opening total handed_out left
     → 0 < left → Splits {S = S} (IsKept plan) seat v (after_handing_out v) (pass_handed_out v)
 hands_out {S} plan seat v total handed_out left is some_left = rw is (λ s kept at.
     let a : DeskView = Opening total (handed_out + 1) (left - 1) in

@@ -36,11 +36,13 @@ other_pair : (w : ℕ) (t : ℕ × Job) (l : List Job) → t.0 ≢ w → (if t.0
 other_pair w t l e = ap (λ (b : Bool). if b then t.1 ∷ l else l) (ne_eqb t.0 w e)
 
 -- the worker's own pair goes after what it sent
-pub of_more : (w : ℕ) (xs : List (ℕ × Job)) (t : ℕ × Job) → t.0 ≡ w → sent_by_worker w (xs ++ t ∷ []) ≡ sent_by_worker w xs ++ t.1 ∷ []
+pub of_more : (w : ℕ) (xs : List (ℕ × Job)) (t : ℕ × Job) → t.0 ≡ w
+    → sent_by_worker w (xs ++ t ∷ []) ≡ sent_by_worker w xs ++ t.1 ∷ []
 of_more w xs t e = of_append w xs (t ∷ []) ∙ ap (λ (l : List Job). sent_by_worker w xs ++ l) (own_pair w t e)
 
 -- another worker's pair changes nothing
-pub of_same : (w : ℕ) (xs : List (ℕ × Job)) (t : ℕ × Job) → t.0 ≢ w → sent_by_worker w (xs ++ t ∷ []) ≡ sent_by_worker w xs
+pub of_same : (w : ℕ) (xs : List (ℕ × Job)) (t : ℕ × Job) → t.0 ≢ w
+    → sent_by_worker w (xs ++ t ∷ []) ≡ sent_by_worker w xs
 of_same w xs t e =
     of_append w xs (t ∷ [])
     ∙ (ap (λ (l : List Job). sent_by_worker w xs ++ l) (other_pair w t [] e) ∙ append-nil (sent_by_worker w xs))
@@ -123,7 +125,8 @@ all_are_of id n (x ∷ xs) h (suc k) d lt = all_are_of id (suc n) xs h.2 k d (om
 -- ==== Each step keeps the rule of the results queue
 
 -- the first view changes if it is set
-first_set : (views : List QueueView) (place : ℕ) (w : QueueView) → place ≡ 0 → 0 < length views → get_elem? (set views place w) 0 ≡ some w
+first_set : (views : List QueueView) (place : ℕ) (w : QueueView) → place ≡ 0 → 0 < length views
+    → get_elem? (set views place w) 0 ≡ some w
 first_set views place w is some_view = ap (λ n. get_elem? (set views n w) 0) is ∙ set_here views 0 w some_view
 
 -- the rule, from what each view fits, how many views there are, and which is the first

@@ -1,7 +1,7 @@
 -- The most workers of a batch, the largest table of each, and the most places of a results queue.
 use Rattle.std.specs.Prelude.{◌<◌, ◌≤◌, ℕ, suc}
 use Rattle.kalah_solve.specs.Table.Entries.{most_entries}
-use Rattle.kalah_run.specs.declared.limits.TheConstants.{MOST_PLACES, MOST_WORKERS}
+use Rattle.kalah_run.specs.declared.limits.TheConstants.{MOST_CAPACITY, MOST_WORKERS}
 
 abbrev pub most_workers : ℕ
 most_workers = MOST_WORKERS
@@ -18,9 +18,9 @@ most_passes = suc most_workers
 abbrev pub IsTableSize : ℕ → Type 0
 IsTableSize entries = (0 < entries) × (entries ≤ most_entries)
 
-abbrev pub most_places : ℕ
-most_places = MOST_PLACES
+abbrev pub most_capacity : ℕ
+most_capacity = MOST_CAPACITY
 
 -- a number of places that a queue may have
-abbrev pub AreQueuePlaces : ℕ → Type 0
-AreQueuePlaces places = (0 < places) × (places ≤ most_places)
+abbrev pub IsQueueCapacity : ℕ → Type 0
+IsQueueCapacity places = (0 < places) × (places ≤ most_capacity)

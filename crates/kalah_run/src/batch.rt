@@ -50,9 +50,9 @@ pub struct Tally {
 }
 
 impl Model for Tally {
-    ghost use Rattle.kalah_jobs.specs.Writing.Output.{LineCounts};
+    ghost use Rattle.kalah_jobs.specs.Writing.Output.{TallyState};
 
-    ghost Value = { LineCounts };
+    ghost Value = { TallyState };
 
     ghost view = { λ t. record { lines = t.lines; faults = t.faults } };
 
@@ -103,7 +103,7 @@ pub fn answer_batch<R: Threads + Wait + Sync, G: Gate, V: Watch, W: Sink>(
 fn flush_and_count<W: Sink>(jobs: &Jobs, out: &mut W) -> Result<Tally, RunFault>
     ensures given { WasGiven W.state out.old out.new [] }
     ensures counted { IfOk result (λ tally. tally ≡ counts_of jobs.now) }
-    ensures handed_on { OnOk result (((W.state out.new).has_failed ≡ false) × ((W.state out.new).is_flushed ≡ true)) }
+    ensures all_flushed { OnOk result (((W.state out.new).has_failed ≡ false) × ((W.state out.new).is_flushed ≡ true)) }
     ensures fault { IfErr result (λ e. (e ≡ RunFault.Write) × ((W.state out.new).has_failed ≡ true)) }
 {
     flush_unless_failed(out);

@@ -17,7 +17,7 @@ pub use batch::{Tally, answer_batch, solve_batch};
 pub use desk::laws::desk_is_lawful;
 pub use desk::pass::Pass;
 pub use desk::{ClosedDesk, Desk};
-pub use limits::{MOST_PLACES, MOST_WORKERS, limits_of_runs};
+pub use limits::{MOST_CAPACITY, MOST_WORKERS, limits_of_runs};
 pub use queue::laws::queue_is_lawful;
 pub use queue::passes::{GetPass, PutPass};
 pub use queue::{ClosedQueue, ResultsQueue};

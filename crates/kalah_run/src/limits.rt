@@ -1,16 +1,16 @@
 //! The limits of a batch.
 ghost use Rattle.std.specs.Prelude.{◌≡◌};
-ghost use Rattle.kalah_run.specs.Limits.{most_places, most_workers};
-ghost use Rattle.kalah_run.specs.declared.limits.TheConstants.{MOST_TRIES, QUEUE_PLACES};
+ghost use Rattle.kalah_run.specs.Limits.{most_capacity, most_workers};
+ghost use Rattle.kalah_run.specs.declared.limits.TheConstants.{MOST_TRIES, QUEUE_CAPACITY};
 
 /// The most workers that answer a batch.
 pub const MOST_WORKERS: u32 = 64;
 
 /// The most places of a results queue.
-pub const MOST_PLACES: u32 = 1024;
+pub const MOST_CAPACITY: u32 = 1024;
 
 /// The most outcomes that may be on their way to the calling thread. A worker of short lines seldom finds no room then.
-pub(crate) const QUEUE_PLACES: u32 = 256;
+pub(crate) const QUEUE_CAPACITY: u32 = 256;
 
 /// The most tries that are saved up. They take longer than waking a worker that found the queue full.
 pub(crate) const MOST_TRIES: u32 = 64;
@@ -18,7 +18,7 @@ pub(crate) const MOST_TRIES: u32 = 64;
 /// The limits of what is run, as numbers. A law over the definitions that contracts cite, and the places and tries of a batch.
 pub fn limits_of_runs()
     ensures workers { most_workers ≡ 64 }
-    ensures places { most_places ≡ 1024 }
-    ensures queue { QUEUE_PLACES ≡ 256 }
+    ensures places { most_capacity ≡ 1024 }
+    ensures queue { QUEUE_CAPACITY ≡ 256 }
     ensures tries { MOST_TRIES ≡ 64 }
 {}

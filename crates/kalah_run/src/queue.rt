@@ -2,7 +2,7 @@
 ghost use Rattle.std.specs.Prelude.{◌≡◌, ◌≤◌, ◌<◌, ℕ, true, false, List, [], ◌∷◌, ◌++◌, length, All, IfNone, IfOk, MatchOption, vec_len};
 ghost use Rattle.crossbeam_queue.specs.Passes.{view, IsPassOf};
 ghost use Rattle.kalah_jobs.specs.declared.files.job.Job.{Job};
-ghost use Rattle.kalah_run.specs.Limits.{AreQueuePlaces, AreWorkers};
+ghost use Rattle.kalah_run.specs.Limits.{IsQueueCapacity, AreWorkers};
 ghost use Rattle.kalah_run.specs.declared.queue.rule.QueueView.TheVariants.{Getting};
 ghost use Rattle.kalah_run.specs.Queue.States.{ArePassesFrom, HasGot, sent_by, Accounts};
 ghost use Rattle.kalah_run.specs.Queue.Steps.{got_in, made_in};
@@ -46,14 +46,14 @@ pub struct ResultsQueue {
 impl Model for ResultsQueue {
     ghost use Rattle.std.specs.Prelude.{◌≤◌};
     ghost use Rattle.crossbeam_queue.specs.Passes.{ruled_capacity};
-    ghost use Rattle.kalah_run.specs.Limits.{most_places};
+    ghost use Rattle.kalah_run.specs.Limits.{most_capacity};
     ghost use Rattle.kalah_run.specs.Queue.States.{QueueState};
 
     ghost Value = { QueueState };
 
     ghost view = { λ q. record { id = q.outcomes.table.shared.table_id; capacity = ruled_capacity q.outcomes } };
 
-    ghost invariant = { λ q. ruled_capacity q.outcomes ≤ most_places };
+    ghost invariant = { λ q. ruled_capacity q.outcomes ≤ most_capacity };
 }
 
 impl ResultsQueue {
@@ -66,7 +66,7 @@ impl ResultsQueue {
         capacity: u32,
         workers: u32,
     ) -> Result<(ResultsQueue, Vec<PutPass>, GetPass), AllocError>
-        requires capacity { AreQueuePlaces capacity }
+        requires capacity { IsQueueCapacity capacity }
         requires workers { AreWorkers workers }
         ensures queue { IfOk result (λ r. r.0.capacity ≡ capacity) }
         ensures puts { IfOk result (λ r. (vec_len r.1 ≡ workers) × ArePassesFrom r.0.id 0 r.1.items × All (λ p. p.sent ≡ []) r.1.items) }

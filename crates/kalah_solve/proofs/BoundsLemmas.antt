@@ -4,9 +4,9 @@ use Rattle.std.specs.Int.{int_max, int_min}
 use Rattle.std.proofs.lemmas.Int.{ints, clamps}
 use Rattle.kalah_rules.specs.Limits.{most_seeds}
 use Rattle.kalah_solve.specs.declared.bounds.window.Window.{Window}
-use Rattle.kalah_solve.specs.Bounds.Intervals.{IsHalf, within, least_margin, most_margin, Encloses}
+use Rattle.kalah_solve.specs.Bounds.Intervals.{IsHalf, clamped, least_margin, most_margin, Encloses}
 use Rattle.std.proofs.lemmas.Bool.{cases_Bool}
-use Rattle.kalah_rules.specs.Position.{Rows, IsWithinHouses, seeds_in_houses, is_over, bare}
+use Rattle.kalah_rules.specs.Position.{HousesState, IsWithinHouses, seeds_in_houses, is_over, storeless}
 use Rattle.kalah_rules.specs.Measure.{moves_left}
 use Rattle.kalah_rules.specs.Play.{legal_houses}
 use Rattle.kalah_rules.specs.HousesStep.{houses_step}
@@ -31,8 +31,8 @@ module _ (window : Window) (n low high : ℕ) (is_low : IsHalf (window.lo +ℤ p
   bounds_high few = omega (arith, ints, clamps)
 
   -- a number that is raised and lowered to them makes the same margin in the window
-  pub bounds_apart : (t : ℕ) → t ≤ n → within window.lo window.hi (pos (2 * max low (min high t)) -ℤ pos n)
-      ≡ within window.lo window.hi (pos (2 * t) -ℤ pos n)
+  pub bounds_apart : (t : ℕ) → t ≤ n → clamped window.lo window.hi (pos (2 * max low (min high t)) -ℤ pos n)
+      ≡ clamped window.lo window.hi (pos (2 * t) -ℤ pos n)
   bounds_apart t few = omega (arith, ints, clamps)
 
 -- the bounds of an interval's ends
@@ -55,20 +55,20 @@ pub record IsWonOf (n : ℕ) (z : ℤ) (t : ℕ) : Type 0 where
   pub is : z +ℤ pos n ≡ pos (t + t)
 
 -- some number is won by a step, if some is of the houses that it leads to
-some_won_by_step : (a : Rows) (s : HousesStep) → LeadsOn a s →
-    ((b : Rows) (gained : ℕ) → LeadsTo a gained b → (t : ℕ) × IsWonOf (seeds_in_houses (bare b)) (houses_worth b) t) →
-    (t : ℕ) × IsWonOf (seeds_in_houses (bare a)) (worth_of_step s) t
+some_won_by_step : (a : HousesState) (s : HousesStep) → LeadsOn a s →
+    ((b : HousesState) (gained : ℕ) → LeadsTo a gained b → (t : ℕ) × IsWonOf (seeds_in_houses (storeless b)) (houses_worth b) t) →
+    (t : ℕ) × IsWonOf (seeds_in_houses (storeless a)) (worth_of_step s) t
 some_won_by_step a (Over own other) leads each = (own, record { few = omega arith; is = omega (arith, ints) })
 some_won_by_step a (Again gained b) leads each =
     let on = each b _ leads in
     (gained + on.0, record { few = omega arith; is = omega (arith, ints) })
 some_won_by_step a (Turn gained b) leads each =
     let on = each b _ leads in
-    (gained + seeds_in_houses (bare b) - on.0, record { few = omega arith; is = omega (arith, ints) })
+    (gained + seeds_in_houses (storeless b) - on.0, record { few = omega arith; is = omega (arith, ints) })
 
 -- what houses are worth is the margin of some number of their seeds, by the moves left
-some_won : (n : ℕ) (a : Rows) → IsWithinHouses a → moves_left (bare a) < n → (t : ℕ)
-    × IsWonOf (seeds_in_houses (bare a)) (houses_worth a) t
+some_won : (n : ℕ) (a : HousesState) → IsWithinHouses a → moves_left (storeless a) < n → (t : ℕ)
+    × IsWonOf (seeds_in_houses (storeless a)) (houses_worth a) t
 some_won zero a w few = absurd (omega arith)
 some_won (suc n) a w few = elim (cases_Bool _) [
   | inl over ↦ (sum a.own, rw (worth_of_over _ over) (record { few = omega arith; is = omega (arith, ints) }))
@@ -82,14 +82,15 @@ some_won (suc n) a w few = elim (cases_Bool _) [
 won_is_one : (n : ℕ) (z : ℤ) (t : ℕ) → IsWonOf n z t → count (z +ℤ pos n) / 2 ≡ t
 won_is_one n z t bounds = rw bounds.is (omega arith)
 
-pub won_of_houses : {a : Rows} → IsWithinHouses a → IsWonOf (seeds_in_houses (bare a)) (houses_worth a) (won a)
+pub won_of_houses : {a : HousesState} → IsWithinHouses a → IsWonOf (seeds_in_houses (storeless a)) (houses_worth a) (won a)
 unfolding won
 won_of_houses {a} w =
-    let bounds = some_won (suc (moves_left (bare a))) a w (omega arith) in
+    let bounds = some_won (suc (moves_left (storeless a))) a w (omega arith) in
     rw (won_is_one _ _ _ bounds.1) bounds.1
 
 -- so houses are worth what the mover wins less the others
-pub worth_of_won : (a : Rows) → IsWithinHouses a → houses_worth a ≡ pos (won a + won a) -ℤ pos (seeds_in_houses (bare a))
+pub worth_of_won : (a : HousesState) → IsWithinHouses a
+    → houses_worth a ≡ pos (won a + won a) -ℤ pos (seeds_in_houses (storeless a))
 worth_of_won a w = omega (arith, ints, (won_of_houses w).is)
 
 -- and so no more than their seeds
@@ -97,25 +98,26 @@ pub record IsUpTo (n : ℕ) (z : ℤ) : Type 0 where
   pub low : (pos 0 -ℤ pos n) ≤ℤ z
   pub high : z ≤ℤ pos n
 
-pub worth_up_to : {a : Rows} → IsWithinHouses a → IsUpTo (seeds_in_houses (bare a)) (houses_worth a)
+pub worth_up_to : {a : HousesState} → IsWithinHouses a → IsUpTo (seeds_in_houses (storeless a)) (houses_worth a)
 worth_up_to w =
     let bounds = won_of_houses w in
     record { low = omega (arith, ints); high = omega (arith, ints) }
 
 -- which lies in the widest window
-pub worth_low : (a : Rows) → IsWithinHouses a → least_margin ≤ℤ houses_worth a
+pub worth_low : (a : HousesState) → IsWithinHouses a → least_margin ≤ℤ houses_worth a
 worth_low a w = omega (arith, ints, (worth_up_to w).low)
 
-pub worth_high : (a : Rows) → IsWithinHouses a → houses_worth a ≤ℤ most_margin
+pub worth_high : (a : HousesState) → IsWithinHouses a → houses_worth a ≤ℤ most_margin
 worth_high a w = omega (arith, ints, (worth_up_to w).high)
 
 -- and the mover wins half of what they are worth and hold together
-pub half_is : (a : Rows) (worth : ℤ) (half : ℕ) → IsWithinHouses a → worth ≡ houses_worth a →
-    IsHalf (worth +ℤ pos (seeds_in_houses (bare a))) half → half ≡ won a
+pub half_is : (a : HousesState) (worth : ℤ) (half : ℕ) → IsWithinHouses a → worth ≡ houses_worth a →
+    IsHalf (worth +ℤ pos (seeds_in_houses (storeless a))) half → half ≡ won a
 half_is a worth half w e is = grind (arith, won_of_houses)
 
 -- what is won by a step
-won_of_step : (a : Rows) (s : HousesStep) → LeadsOn a s → IsWonOf (seeds_in_houses (bare a)) (worth_of_step s) (won_by_step s)
+won_of_step : (a : HousesState) (s : HousesStep) → LeadsOn a s
+    → IsWonOf (seeds_in_houses (storeless a)) (worth_of_step s) (won_by_step s)
 won_of_step a (Over own other) leads = omega (arith, ints)
 won_of_step a (Again gained b) leads =
     let on = won_of_houses leads.limits in
@@ -124,43 +126,44 @@ won_of_step a (Turn gained b) leads =
     let on = won_of_houses leads.limits in
     record { few = omega arith; is = omega (arith, ints) }
 
-module _ (a : Rows) (w : IsWithinHouses a) where
+module _ (a : HousesState) (w : IsWithinHouses a) where
   -- what is won by the move of house h
-  pub won_of_move : (h : ℕ) → Contains (legal_houses (bare a)) h →
-      IsWonOf (seeds_in_houses (bare a)) (value_of_move (bare a) h) (won_by_step (houses_step a h))
+  pub won_of_move : (h : ℕ) → Contains (legal_houses (storeless a)) h →
+      IsWonOf (seeds_in_houses (storeless a)) (value_of_move (storeless a) h) (won_by_step (houses_step a h))
   won_of_move h has = rw (value_is a h w has) (won_of_step a _ (leads_on a h w has))
 
   -- no move wins more than best play
-  pub won_at_most : (h : ℕ) → Contains (legal_houses (bare a)) h → won_by_step (houses_step a h) ≤ won a
+  pub won_at_most : (h : ℕ) → Contains (legal_houses (storeless a)) h → won_by_step (houses_step a h) ≤ won a
   won_at_most h has = omega (arith, ints, (won_of_move h has).is, (won_of_houses w).is, value_le_worth a h w has)
 
   -- and some move wins as many
-  pub won_reached : is_over (bare a) ≡ false → (h : ℕ) × Contains (legal_houses (bare a)) h
+  pub won_reached : is_over (storeless a) ≡ false → (h : ℕ) × Contains (legal_houses (storeless a)) h
       × (won_by_step (houses_step a h) ≡ won a)
   won_reached going = grind (arith, worth_reached, won_of_move, won_of_houses)
 
 -- ==== The answer of the search in a window
 
 -- which is in it
-pub within_both : (lo hi z : ℤ) → lo <ℤ hi → (lo ≤ℤ within lo hi z) × (within lo hi z ≤ℤ hi)
+pub within_both : (lo hi z : ℤ) → lo <ℤ hi → (lo ≤ℤ clamped lo hi z) × (clamped lo hi z ≤ℤ hi)
 within_both lo hi z ordered = omega (arith, ints, clamps)
 
 -- an interval that leaves nothing of it open answers
 pub known_answers : (lo hi z : ℤ) (k : Interval) → lo <ℤ hi → Encloses k z → int_min hi k.hi ≤ℤ int_max lo k.lo →
-    within lo hi k.lo ≡ within lo hi z
+    clamped lo hi k.lo ≡ clamped lo hi z
 known_answers lo hi z k ordered holds none = omega (arith, ints, clamps)
 
 -- what the mover wins, raised and lowered to the bounds that a window distinguishes, makes the worth in the window
-pub won_by_bounds : {a : Rows} (lo hi : ℤ) (asked : SeedBounds) {m : ℤ} {n t : ℕ} → IsWithinHouses a → n ≡ seeds_in_houses (bare a) →
+pub won_by_bounds : {a : HousesState} (lo hi : ℤ) (asked : SeedBounds) {m : ℤ} {n t : ℕ} → IsWithinHouses a
+    → n ≡ seeds_in_houses (storeless a) →
     asked.least ≤ asked.most →
-    ((u : ℕ) → u ≤ n → within lo hi (pos (2 * max asked.least (min asked.most u)) -ℤ pos n) ≡ within lo hi
+    ((u : ℕ) → u ≤ n → clamped lo hi (pos (2 * max asked.least (min asked.most u)) -ℤ pos n) ≡ clamped lo hi
     (pos (2 * u) -ℤ pos n)) →
-    t ≡ max asked.least (min asked.most (won a)) → m ≡ pos (2 * t) -ℤ pos n → within lo hi m ≡ within lo hi (houses_worth a)
+    t ≡ max asked.least (min asked.most (won a)) → m ≡ pos (2 * t) -ℤ pos n → clamped lo hi m ≡ clamped lo hi (houses_worth a)
 won_by_bounds {a} lo hi asked {n = n} w all ordered apart is m_is =
     let worth_is : pos (2 * won a) -ℤ pos n ≡ houses_worth a = omega (arith, ints, worth_of_won a w) in
-    rw (m_is, is) (apart _ (omega (arith, (won_of_houses w).few)) ∙ ap (within lo hi) worth_is)
+    rw (m_is, is) (apart _ (omega (arith, (won_of_houses w).few)) ∙ ap (clamped lo hi) worth_is)
 
 -- so does what the mover wins of an ending
-pub told_by_won : {a : Rows} {m : ℤ} {n t : ℕ} → IsWithinHouses a → n ≡ seeds_in_houses (bare a) → t ≡ won a →
+pub told_by_won : {a : HousesState} {m : ℤ} {n t : ℕ} → IsWithinHouses a → n ≡ seeds_in_houses (storeless a) → t ≡ won a →
     m ≡ pos (2 * t) -ℤ pos n → m ≡ houses_worth a
 told_by_won {a} w all is m_is = omega (arith, ints, worth_of_won a w)

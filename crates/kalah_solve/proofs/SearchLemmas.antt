@@ -10,7 +10,7 @@ use Rattle.kalah_rules.specs.Packed.{BeginsHouse}
 use Rattle.kalah_rules.proofs.KeyLemmas.{pow_five}
 use Rattle.kalah_solve.specs.RowMarks.{cell, each, distances, AreMarks, IsLastMark}
 use Rattle.std.proofs.lemmas.List.{get_or_past, get_or-set_same, get_or-set_other, get_or_default}
-use Rattle.kalah_rules.specs.Position.{Rows, IsWithinHouses, seeds, seeds_in_houses, is_over, bare}
+use Rattle.kalah_rules.specs.Position.{HousesState, IsWithinHouses, seeds, seeds_in_houses, is_over, storeless}
 use Rattle.kalah_solve.specs.Search.Tried.{EndsInStore, IsSoftBound, WinsAtMost, IsTurnOf, AreWaiting}
 use Rattle.kalah_rules.specs.Play.{legal_houses}
 use Rattle.kalah_rules.specs.HousesStep.{houses_step}
@@ -240,7 +240,7 @@ one_other x f e f_is single within = grind arith
 
 -- ==== Marks of a player's houses, by the cells of their row
 
-module _ (a : Rows) (row : ℕ) (w : IsWithinHouses a) (row_is : row ≡ number_of a.own) where
+module _ (a : HousesState) (row : ℕ) (w : IsWithinHouses a) (row_is : row ≡ number_of a.own) where
   -- the cells of the mover's row
   own_cell : (i : ℕ) → cell row i ≡ slice_index a.own i
   own_cell i = grind (arith, cell_of_row)
@@ -321,87 +321,90 @@ module _ (a : Rows) (row : ℕ) (w : IsWithinHouses a) (row_is : row ≡ number_
 -- ==== The moves that were tried, and those that wait with a priority
 
 -- the meaning of a passed test, and of a failed one
-pub enough_of : (r : Bool) (bar x : ℕ) → (IsTrue r ↔ bar ≤ x) → r ≡ true → bar ≤ x
-enough_of r bar x says here = says.0 here
+pub enough_of : (r : Bool) (beta x : ℕ) → (IsTrue r ↔ beta ≤ x) → r ≡ true → beta ≤ x
+enough_of r beta x says here = says.0 here
 
-pub short_of : (r : Bool) (bar x : ℕ) → (IsTrue r ↔ bar ≤ x) → r ≡ false → x < bar
-short_of r bar x says fails = grind arith
+pub short_of : (r : Bool) (beta x : ℕ) → (IsTrue r ↔ beta ≤ x) → r ≡ false → x < beta
+short_of r beta x says fails = grind arith
 
--- a bound is at most the greater of `bar` and the number
-pub bound_up_to : {bar number bound : ℕ} → IsSoftBound bar number bound → bound ≤ max bar number
-bound_up_to {bar} {number} {bound} is = grind arith
+-- a bound is at most the greater of `beta` and the number
+pub bound_up_to : {beta number bound : ℕ} → IsSoftBound beta number bound → bound ≤ max beta number
+bound_up_to {beta} {number} {bound} is = grind arith
 
 -- the most of some bounds that fall short falls short too, unless it is 0
-pub low_more : (bar most bound new : ℕ) → (bar ≤ most → most ≡ 0) → bound < bar → new ≡ max most bound → bar ≤ new
+pub low_more : (beta most bound new : ℕ) → (beta ≤ most → most ≡ 0) → bound < beta → new ≡ max most bound → beta ≤ new
     → new ≡ 0
-low_more bar most bound new low short is enough = omega arith
+low_more beta most bound new low short is enough = omega arith
 
 -- what is left of all is bounded by what the bound leaves
-pub bound_left : {bar number bound : ℕ} (all seeds gained : ℕ) → all ≡ gained + seeds → number ≤ seeds → gained < bar
-    → bar ≤ all →
-    IsSoftBound (all - bar + 1) number bound → IsSoftBound bar (gained + (seeds - number)) (all - bound)
+pub bound_left : {beta number bound : ℕ} (all seeds gained : ℕ) → all ≡ gained + seeds → number ≤ seeds → gained < beta
+    → beta ≤ all →
+    IsSoftBound (all - beta + 1) number bound → IsSoftBound beta (gained + (seeds - number)) (all - bound)
 bound_left all seeds gained is few low high b = omega arith
 
 -- a house with seeds may be moved, if the game goes on
-pub filled_legal : (a : Rows) (h : ℕ) → is_over (bare a) ≡ false → 1 ≤ h → h ≤ length a.own → 0 < seeds a.own h →
-    Contains (legal_houses (bare a)) h
-filled_legal a h going first last some = holds_legal (bare a) h (omega arith) going
+pub filled_legal : (a : HousesState) (h : ℕ) → is_over (storeless a) ≡ false → 1 ≤ h → h ≤ length a.own
+    → 0 < seeds a.own h →
+    Contains (legal_houses (storeless a)) h
+filled_legal a h going first last some = holds_legal (storeless a) h (omega arith) going
 
 -- a bound of a move that is enough is no more than best play wins
-pub move_enough : (a : Rows) (bar h bound : ℕ) → IsWithinHouses a → Contains (legal_houses (bare a)) h →
-    IsSoftBound bar (won_by_step (houses_step a h)) bound → bar ≤ bound → bound ≤ won a
-move_enough a bar h bound w has is enough = omega (arith, won_at_most a w h has)
+pub move_enough : (a : HousesState) (beta h bound : ℕ) → IsWithinHouses a → Contains (legal_houses (storeless a)) h →
+    IsSoftBound beta (won_by_step (houses_step a h)) bound → beta ≤ bound → bound ≤ won a
+move_enough a beta h bound w has is enough = omega (arith, won_at_most a w h has)
 
 -- the same of a turn that was kept
-turn_bound : (a : Rows) (bar h priority bound : ℕ) (b : Rows) → IsTurnOf a h priority b →
-    IsSoftBound bar (seeds_in_houses (bare a) - seeds_in_houses (bare b) + (seeds_in_houses (bare b) - won b)) bound →
-    IsSoftBound bar (won_by_step (houses_step a h)) bound
-turn_bound a bar h priority bound b turn is = rw turn.step is
+turn_bound : (a : HousesState) (beta h priority bound : ℕ) (b : HousesState) → IsTurnOf a h priority b →
+    IsSoftBound beta (seeds_in_houses (storeless a) - seeds_in_houses (storeless b) + (seeds_in_houses (storeless b) - won b)) bound →
+    IsSoftBound beta (won_by_step (houses_step a h)) bound
+turn_bound a beta h priority bound b turn is = rw turn.step is
 
-pub turn_enough : {a : Rows} {bar h priority : ℕ} (bound : ℕ) (b : Rows) → IsWithinHouses a → IsTurnOf a h priority b →
-    IsSoftBound bar (seeds_in_houses (bare a) - seeds_in_houses (bare b) + (seeds_in_houses (bare b) - won b)) bound → bar ≤ bound
+pub turn_enough : {a : HousesState} {beta h priority : ℕ} (bound : ℕ) (b : HousesState) → IsWithinHouses a
+    → IsTurnOf a h priority b →
+    IsSoftBound beta (seeds_in_houses (storeless a) - seeds_in_houses (storeless b) + (seeds_in_houses (storeless b) - won b)) bound → beta ≤ bound
     → bound ≤ won a
 turn_enough bound b w turn is = move_enough _ _ _ _ w turn.legal (turn_bound _ _ _ _ _ _ turn is)
 
-pub turn_at_most : {a : Rows} {bar h priority : ℕ} (bound : ℕ) (b : Rows) → IsTurnOf a h priority b →
-    IsSoftBound bar (seeds_in_houses (bare a) - seeds_in_houses (bare b) + (seeds_in_houses (bare b) - won b)) bound → bound < bar
+pub turn_at_most : {a : HousesState} {beta h priority : ℕ} (bound : ℕ) (b : HousesState) → IsTurnOf a h priority b →
+    IsSoftBound beta (seeds_in_houses (storeless a) - seeds_in_houses (storeless b) + (seeds_in_houses (storeless b) - won b)) bound → bound < beta
     → WinsAtMost a bound h
 turn_at_most bound b turn is short = grind arith
 
 -- a turn that was played waits
-pub turn_of : {a : Rows} {h priority gained : ℕ} {b : Rows} → IsWithinHouses a → Contains (legal_houses (bare a)) h →
+pub turn_of : {a : HousesState} {h priority gained : ℕ} {b : HousesState} → IsWithinHouses a
+    → Contains (legal_houses (storeless a)) h →
     Turn gained b ≡ houses_step a h → priority % 8 + 1 ≡ h → IsTurnOf a h priority b
 turn_of {a} {h} {priority} {gained} {b} w has is house =
     let on = leads_by _ _ w has is in
-    let brought : gained ≡ seeds_in_houses (bare a) - seeds_in_houses (bare b) = omega arith in
+    let brought : gained ≡ seeds_in_houses (storeless a) - seeds_in_houses (storeless b) = omega arith in
     record { legal = has; step = sym is ∙ ap (λ g. Turn g b) brought; house = house }
 
 -- the other player has no more seeds than there were
-pub turn_keeps : (a : Rows) (h priority : ℕ) (b : Rows) → IsWithinHouses a → IsTurnOf a h priority b →
-    seeds_in_houses (bare b) ≤ seeds_in_houses (bare a)
+pub turn_keeps : (a : HousesState) (h priority : ℕ) (b : HousesState) → IsWithinHouses a → IsTurnOf a h priority b →
+    seeds_in_houses (storeless b) ≤ seeds_in_houses (storeless a)
 turn_keeps a h priority b w turn =
     let on = leads_by _ _ w turn.legal (sym turn.step) in
     omega arith
 
 -- best play wins no more than each legal move does
-pub all_at_most : (a : Rows) (most : ℕ) → IsWithinHouses a → is_over (bare a) ≡ false →
-    ((h : ℕ) → Contains (legal_houses (bare a)) h → WinsAtMost a most h) → won a ≤ most
+pub all_at_most : (a : HousesState) (most : ℕ) → IsWithinHouses a → is_over (storeless a) ≡ false →
+    ((h : ℕ) → Contains (legal_houses (storeless a)) h → WinsAtMost a most h) → won a ≤ most
 all_at_most a most w going each = grind (arith, won_reached)
 
 -- each house with a priority waits with its turn
-pub record AreTurns (a : Rows) (priorities : List ℕ) (turns : List Rows) : Type 0 where
+pub record AreTurns (a : HousesState) (priorities : List ℕ) (turns : List HousesState) : Type 0 where
   pub cells : length priorities ≡ 8
-  pub each : (k : ℕ) → 0 < get_or priorities k 0 → (d : Rows) → IsTurnOf a (k + 1) (get_or priorities k 0) (get_or turns k d)
+  pub each : (k : ℕ) → 0 < get_or priorities k 0 → (d : HousesState) → IsTurnOf a (k + 1) (get_or priorities k 0) (get_or turns k d)
 
 -- one house more
-turns_more : {a b : Rows} {h v : ℕ} {priorities : List ℕ} {turns : List Rows} → AreTurns a priorities turns →
+turns_more : {a b : HousesState} {h v : ℕ} {priorities : List ℕ} {turns : List HousesState} → AreTurns a priorities turns →
     length turns ≡ 6 → 1 ≤ h → h ≤ 6 → IsTurnOf a h v b →
     AreTurns a (slice_set priorities (h - 1) v) (slice_set turns (h - 1) b)
-turns_more are places low last is =
+turns_more are slots low last is =
     grind (arith, length-set, cases_eq, get_or-set_same, get_or-set_other)
 
 -- one that waits no more
-turns_fewer : (a : Rows) (priorities : List ℕ) (turns : List Rows) (at : ℕ) → AreTurns a priorities turns → at < 6 →
+turns_fewer : (a : HousesState) (priorities : List ℕ) (turns : List HousesState) (at : ℕ) → AreTurns a priorities turns → at < 6 →
     AreTurns a (slice_set priorities at 0) turns
 turns_fewer a priorities turns at are place = let inside : at < length _ = omega arith in record {
   cells = length-set _ at 0 ∙ are.cells;
@@ -415,35 +418,35 @@ turns_fewer a priorities turns at are place = let inside : at < length _ = omega
 }
 
 -- the house that a priority names waits with it
-pub record WaitsWith (a : Rows) (priorities : List ℕ) (turns : List Rows) (r : ℕ) : Type 0 where
+pub record WaitsWith (a : HousesState) (priorities : List ℕ) (turns : List HousesState) (r : ℕ) : Type 0 where
   pub place : r % 8 < 6
   pub priority : get_or priorities (r % 8) 0 ≡ r
-  pub turn : (d : Rows) → IsTurnOf a (r % 8 + 1) r (get_or turns (r % 8) d)
+  pub turn : (d : HousesState) → IsTurnOf a (r % 8 + 1) r (get_or turns (r % 8) d)
 
 -- each house with a priority waits, and each other one that may be moved wins at most `most` seeds, or ends in the store, or is
 -- still marked
-pub record ArePlayed (a : Rows) (most marks : ℕ) (priorities : List ℕ) (turns : List Rows) : Type 0 where
+pub record ArePlayed (a : HousesState) (most marks : ℕ) (priorities : List ℕ) (turns : List HousesState) : Type 0 where
   pub waiting : AreTurns a priorities turns
-  pub places : length turns ≡ 6
-  pub others : (i : ℕ) → Contains (legal_houses (bare a)) i → cell marks (i - 1) ≡ 0 → get_or priorities (i - 1) 0 ≡ 0 →
+  pub slots : length turns ≡ 6
+  pub others : (i : ℕ) → Contains (legal_houses (storeless a)) i → cell marks (i - 1) ≡ 0 → get_or priorities (i - 1) 0 ≡ 0 →
       ¬ EndsInStore a i → WinsAtMost a most i
 
 -- the last marked house was played
-module _ (a : Rows) (most marks h : ℕ) (priorities : List ℕ) (turns : List Rows) (is : ArePlayed a most marks priorities turns)
+module _ (a : HousesState) (most marks h : ℕ) (priorities : List ℕ) (turns : List HousesState) (is : ArePlayed a most marks priorities turns)
     (last : IsLastMark marks h) where
   -- and waits with a priority
-  pub played_more : (v : ℕ) (b : Rows) → 0 < v → IsTurnOf a h v b →
+  pub played_more : (v : ℕ) (b : HousesState) → 0 < v → IsTurnOf a h v b →
       ArePlayed a most (marks - 32 ^ (h - 1)) (slice_set priorities (h - 1) v) (slice_set turns (h - 1) b)
   played_more v b some turn = let inside : h - 1 < length _ = omega arith in record {
-    waiting = turns_more is.waiting is.places last.first last.last turn;
-    places = length-set turns _ b ∙ is.places;
+    waiting = turns_more is.waiting is.slots last.first last.last turn;
+    slots = length-set turns _ b ∙ is.slots;
     others = λ i may gone none apart. elim (cases_eq i h) [
       | inl same ↦
           let at = sym (get_or-set_same _ (h - 1) v 0 inside)
           ∙ subst (λ j. get_or (slice_set priorities (h - 1) v) (j - 1) 0 ≡ 0) same none in
           absurd (omega arith)
       | inr other ↦
-          let first = (legal_holds (bare a) i may).first in
+          let first = (legal_holds (storeless a) i may).first in
           let place : i - 1 ≢ h - 1 = omega arith in
           is.others i may (gone_before marks h last _ place gone)
           (rw (get_or-set_other _ (h - 1) _ v 0 place) at none) apart
@@ -455,34 +458,34 @@ module _ (a : Rows) (most marks h : ℕ) (priorities : List ℕ) (turns : List R
       → ArePlayed a new (marks - 32 ^ (h - 1)) priorities turns
   played_bound bound new takes new_is = record {
     waiting = is.waiting;
-    places = is.places;
+    slots = is.slots;
     others = λ i may gone none apart. elim (cases_eq i h) [
       | inl same ↦ rw same (omega arith)
       | inr other ↦
-          let first = (legal_holds (bare a) i may).first in
+          let first = (legal_holds (storeless a) i may).first in
           let place : i - 1 ≢ h - 1 = omega arith in
           omega (arith, is.others i may (gone_before marks h last _ place gone) none apart)
     ];
   }
 
 -- before any was played
-pub played_none : {a : Rows} {most marks : ℕ} {priorities : List ℕ} {turns : List Rows} → length priorities ≡ 8
+pub played_none : {a : HousesState} {most marks : ℕ} {priorities : List ℕ} {turns : List HousesState} → length priorities ≡ 8
     → length turns ≡ 6 →
     ((k : ℕ) → get_or priorities k 0 ≡ 0) →
     ((i : ℕ) → (0 < cell marks i) ↔ ((0 < get_or a.own i 0) × ¬ EndsInStore a (i + 1))) → ArePlayed a most marks priorities turns
-played_none {a} cells places empty marked = record {
+played_none {a} cells slots empty marked = record {
   waiting = record { cells = cells; each = λ k some. absurd (omega arith) };
-  places = places;
+  slots = slots;
   others = λ i may gone none apart. absurd (
-      let holds = legal_holds (bare a) i may in
+      let holds = legal_holds (storeless a) i may in
       let at : i - 1 + 1 ≡ i = omega arith in
       let some = (marked _).1 (holds.some, λ ends. apart (subst (EndsInStore a) at ends)) in
       omega arith);
 }
 
 -- each marked house with seeds may be moved
-pub marked_legal : {a : Rows} (i : ℕ) → IsWithinHouses a → is_over (bare a) ≡ false → 0 < get_or a.own i 0 →
-    Contains (legal_houses (bare a)) (i + 1)
+pub marked_legal : {a : HousesState} (i : ℕ) → IsWithinHouses a → is_over (storeless a) ≡ false → 0 < get_or a.own i 0 →
+    Contains (legal_houses (storeless a)) (i + 1)
 marked_legal {a} i w going some = elim (cases_lt i (length a.own)) [
   | inl inside ↦
       let at : i + 1 - 1 ≡ i = omega arith in
@@ -491,9 +494,9 @@ marked_legal {a} i w going some = elim (cases_lt i (length a.own)) [
 ]
 
 -- and so may each that ends in the store
-pub ending_legal : {a : Rows} (i : ℕ) → IsWithinHouses a → is_over (bare a) ≡ false → i < length a.own
+pub ending_legal : {a : HousesState} (i : ℕ) → IsWithinHouses a → is_over (storeless a) ≡ false → i < length a.own
     → EndsInStore a (i + 1) →
-    Contains (legal_houses (bare a)) (i + 1)
+    Contains (legal_houses (storeless a)) (i + 1)
 ending_legal {a} i w going inside ends = grind (arith, filled_legal)
 
 -- what holds of each marked house holds of those that stay marked
@@ -506,79 +509,81 @@ pub each_last : (P : ℕ → Type 0) (marks h : ℕ) → IsLastMark marks h → 
 each_last P marks h last each = grind (arith, last_marked)
 
 -- marked houses that may all be moved
-pub record MayMove (a : Rows) (marks : ℕ) : Type 0 where
+pub record MayMove (a : HousesState) (marks : ℕ) : Type 0 where
   pub are : AreMarks marks
-  pub legal : (i : ℕ) → 0 < cell marks i → Contains (legal_houses (bare a)) (i + 1)
+  pub legal : (i : ℕ) → 0 < cell marks i → Contains (legal_houses (storeless a)) (i + 1)
 
 -- the last of them
-pub last_legal : {a : Rows} {marks h : ℕ} → MayMove a marks → IsLastMark marks h → Contains (legal_houses (bare a)) h
+pub last_legal : {a : HousesState} {marks h : ℕ} → MayMove a marks → IsLastMark marks h → Contains (legal_houses (storeless a)) h
 last_legal {a} {marks} {h} may last = each_last (Contains _) marks h last may.legal
 
 -- and those before it
-pub moves_fewer : {a : Rows} {marks h : ℕ} → MayMove a marks → IsLastMark marks h → MayMove a (marks - 32 ^ (h - 1))
+pub moves_fewer : {a : HousesState} {marks h : ℕ} → MayMove a marks → IsLastMark marks h → MayMove a (marks - 32 ^ (h - 1))
 moves_fewer {a} {marks} {h} may last = record {
   are = marks_fewer may.are last;
   legal = each_fewer (Contains _) marks h last may.legal;
 }
 
 -- each house that ends in the store is still marked, or wins at most `most` seeds
-abbrev pub AreAgain : Rows → ℕ → ℕ → Type 0
-AreAgain a most marks = (h : ℕ) → Contains (legal_houses (bare a)) h → EndsInStore a h → cell marks (h - 1) ≡ 0
+abbrev pub AreAgain : HousesState → ℕ → ℕ → Type 0
+AreAgain a most marks = (h : ℕ) → Contains (legal_houses (storeless a)) h → EndsInStore a h → cell marks (h - 1) ≡ 0
     → WinsAtMost a most h
 
-pub again_none : (a : Rows) (most marks : ℕ) → ((i : ℕ) → (0 < cell marks i) ↔ ((i < length a.own) × EndsInStore a (i + 1))) →
+pub again_none : (a : HousesState) (most marks : ℕ)
+    → ((i : ℕ) → (0 < cell marks i) ↔ ((i < length a.own) × EndsInStore a (i + 1))) →
     AreAgain a most marks
 again_none a most marks marked h may ends gone = absurd (
-    let holds = legal_holds (bare a) h may in
+    let holds = legal_holds (storeless a) h may in
     let at : h ≡ h - 1 + 1 = omega arith in
     let some = (marked _).1 (omega arith, subst (EndsInStore a) at ends) in
     omega arith)
 
-pub again_fewer : (a : Rows) (most : ℕ) {marks h : ℕ} (bound : ℕ) {new : ℕ} → AreAgain a most marks → IsLastMark marks h
+pub again_fewer : (a : HousesState) (most : ℕ) {marks h : ℕ} (bound : ℕ) {new : ℕ} → AreAgain a most marks → IsLastMark marks h
     → WinsAtMost a bound h → new ≡ max most bound →
     AreAgain a new (marks - 32 ^ (h - 1))
 again_fewer a most {marks} {h} bound are last takes new_is i may ends gone = elim (cases_eq i h) [
   | inl same ↦ rw same (omega arith)
   | inr other ↦
-      let first = (legal_holds (bare a) i may).first in
+      let first = (legal_holds (storeless a) i may).first in
       let place : i - 1 ≢ h - 1 = omega arith in
       omega (arith, are i may ends (gone_before marks h last _ place gone))
 ]
 
 -- the moves with a priority are still to be tried, and the others win at most `most` seeds
-pub record AreUntried (a : Rows) (most : ℕ) (priorities : List ℕ) (turns : List Rows) : Type 0 where
+pub record AreUntried (a : HousesState) (most : ℕ) (priorities : List ℕ) (turns : List HousesState) : Type 0 where
   pub waiting : AreTurns a priorities turns
-  pub tried : (h : ℕ) → Contains (legal_houses (bare a)) h → get_or priorities (h - 1) 0 ≡ 0 → WinsAtMost a most h
+  pub tried : (h : ℕ) → Contains (legal_houses (storeless a)) h → get_or priorities (h - 1) 0 ≡ 0 → WinsAtMost a most h
 
 -- the move with a given priority waits with its turn
-pub turn_at : {a : Rows} {most : ℕ} {priorities : List ℕ} {turns : List Rows} {priority : ℕ} → IsWithinHouses a →
+pub turn_at : {a : HousesState} {most : ℕ} {priorities : List ℕ} {turns : List HousesState} {priority : ℕ} → IsWithinHouses a →
     AreUntried a most priorities turns → Contains priorities priority → 0 < priority → WaitsWith a priorities turns priority
 turn_at {a} {most} {priorities} {turns} {priority} w untried found some =
     let are = untried.waiting in
     let k = found.0 in
     let here = get_or_default _ k 0 _ found.1 ∙ found.2 in
-    let turn : (d : Rows) → IsTurnOf a _ priority _ =
+    let turn : (d : HousesState) → IsTurnOf a _ priority _ =
     λ d. subst (λ r. IsTurnOf a (k + 1) r (get_or turns k d)) here (are.each k (omega arith) d) in
     let same : priority % 8 ≡ k = omega (arith, (turn a).house) in
-    let holds = legal_holds (bare a) _ (turn a).legal in
+    let holds = legal_holds (storeless a) _ (turn a).legal in
     record { place = omega arith; priority = rw same here; turn = rw same turn }
 
 -- before any was tried, but those that end in the store
-pub untried_first : {a : Rows} {bar others new : ℕ} {priorities : List ℕ} {turns : List Rows} (again : ℕ) → length priorities ≡ 8 →
-    AreWaiting a bar others priorities turns → ((h : ℕ) → Contains (legal_houses (bare a)) h → EndsInStore a h
+pub untried_first : {a : HousesState} {beta others new : ℕ} {priorities : List ℕ} {turns : List HousesState} (again : ℕ)
+    → length priorities ≡ 8 →
+    AreWaiting a beta others priorities turns → ((h : ℕ) → Contains (legal_houses (storeless a)) h → EndsInStore a h
     → WinsAtMost a again h) →
-    others < bar → new ≡ max again others → AreUntried a new priorities turns
+    others < beta → new ≡ max again others → AreUntried a new priorities turns
 untried_first again cells are ends short new_is = grind arith
 
 -- one move more was tried
-pub untried_fewer : {a : Rows} {most new : ℕ} {priorities : List ℕ} {turns : List Rows} (at bound : ℕ)
+pub untried_fewer : {a : HousesState} {most new : ℕ} {priorities : List ℕ} {turns : List HousesState} (at bound : ℕ)
     → AreUntried a most priorities turns →
     at < 6 → WinsAtMost a bound (at + 1) → new ≡ max most bound → AreUntried a new (slice_set priorities at 0) turns
 untried_fewer {a} {priorities = priorities} at bound is place takes new_is = record {
   waiting = turns_fewer a _ _ at is.waiting place;
   tried = λ h has none. elim (cases_eq (h - 1) at) [
     | inl same ↦
-        let first = (legal_holds (bare a) h has).first in
+        let first = (legal_holds (storeless a) h has).first in
         let house : at + 1 ≡ h = omega arith in
         omega (arith, subst (WinsAtMost a bound) house takes)
     | inr other ↦ omega (arith, is.tried h has (rw (get_or-set_other priorities at _ 0 0 other) at none))
@@ -586,7 +591,7 @@ untried_fewer {a} {priorities = priorities} at bound is place takes new_is = rec
 }
 
 -- if no priority is left, best play wins at most as many
-pub none_untried : {a : Rows} {most : ℕ} {priorities : List ℕ} {turns : List Rows} (highest : ℕ) → IsWithinHouses a
-    → is_over (bare a) ≡ false →
+pub none_untried : {a : HousesState} {most : ℕ} {priorities : List ℕ} {turns : List HousesState} (highest : ℕ) → IsWithinHouses a
+    → is_over (storeless a) ≡ false →
     AreUntried a most priorities turns → ((k : ℕ) → get_or priorities k 0 ≤ highest) → highest ≡ 0 → won a ≤ most
 none_untried {a} {most} highest w going is above none = all_at_most a _ w going (omega arith)

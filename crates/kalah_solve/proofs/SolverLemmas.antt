@@ -1,7 +1,7 @@
 -- Games, best play, and what a solver says of it.
 use Rattle.std.proofs.Common.{zero, suc, ◌≡◌, ℕ, ◌<◌, ◌≤◌, inl, inr, List, [], ◌∷◌, length, get_or, arith, ap, sym, subst, ◌∙◌, refl, ◌+◌, w32, to_z, of_z, FitsSigned, ◌++◌, take, length-append, length-take-le, false, Contains, ℤ, ◌≤ℤ◌, Bool, if◌then◌else◌, filter, nat_lt, neg_ℤ, true, map, pos, ◌<ℤ◌, All, find, option_map, Some, ◌+ℤ◌, ◌-ℤ◌, replicate, slice_set, int_eq}
 use Rattle.std.proofs.lemmas.Bool.{cases_Bool, cases_eq}
-use Rattle.kalah_rules.specs.Position.{Position, HasEqualSides, is_over, swapped, final_margin, side_length, seeds, IsWithinLimits, IsSmallMargin, Rows, IsWithinHouses, rows_of, bare}
+use Rattle.kalah_rules.specs.Position.{Position, HasEqualSides, is_over, swapped, final_margin, side_length, seeds, IsWithinLimits, IsSmallMargin, HousesState, IsWithinHouses, houses_in, storeless}
 use Rattle.kalah_rules.specs.Sowing.{after}
 use Rattle.kalah_rules.specs.Play.{legal_houses}
 use Rattle.kalah_rules.specs.Measure.{moves_left}
@@ -22,7 +22,7 @@ use Rattle.std.proofs.lemmas.List.Elements.{All-map, All-from_get_or, Contains-g
 use Rattle.kalah_solve.specs.Solver.MoveValues.{TellMoves, ValueIsWorthOfMove, WorthOfMoveIsOne, ValuesTellVerdict, move_value, values_of, no_value}
 use Rattle.kalah_solve.specs.declared.solver.move_values.MoveValue.{MoveValue}
 use Rattle.kalah_rules.proofs.PackedLemmas.{rows_within}
-use Rattle.kalah_solve.specs.Bounds.Intervals.{least_margin, most_margin, within}
+use Rattle.kalah_solve.specs.Bounds.Intervals.{least_margin, most_margin, clamped}
 use Rattle.kalah_rules.specs.HousesStep.{houses_step}
 use Rattle.kalah_solve.specs.Bounds.Won.{won, won_by_step}
 use Rattle.kalah_solve.proofs.BoundsLemmas.{worth_up_to, worth_low, worth_high, won_of_houses, won_of_move, won_at_most}
@@ -431,64 +431,64 @@ find_at p (x ∷ xs) (suc i) within fails here =
     rw (fails 0 (omega arith)) (find_at p xs i (omega arith) (λ k low. fails (suc k) (omega arith)) here)
 
 -- in the whole window the answer is the worth
-pub whole_window : {a : Rows} (found lo hi : ℤ) → IsWithinHouses a → lo ≡ least_margin → hi ≡ most_margin →
-    found ≡ within lo hi (houses_worth a) → found ≡ houses_worth a
+pub whole_window : {a : HousesState} (found lo hi : ℤ) → IsWithinHouses a → lo ≡ least_margin → hi ≡ most_margin →
+    found ≡ clamped lo hi (houses_worth a) → found ≡ houses_worth a
 whole_window {a} found lo hi limits lo_is hi_is e = omega (arith, ints, clamps, worth_low a limits, worth_high a limits)
 
 -- the first i houses are worth less than the margin of best play
-abbrev pub FallShort : Rows → ℕ → Type 0
-FallShort a i = (k : ℕ) → k < i → int_eq (value_of_move (bare a) (get_or (legal_houses (bare a)) k 0)) (houses_worth a) ≡ false
+abbrev pub FallShort : HousesState → ℕ → Type 0
+FallShort a i = (k : ℕ) → k < i → int_eq (value_of_move (storeless a) (get_or (legal_houses (storeless a)) k 0)) (houses_worth a) ≡ false
 
-module _ (a : Rows) (w : IsWithinHouses a) where
+module _ (a : HousesState) (w : IsWithinHouses a) where
   -- a house that wins as many seeds as best play is worth as much
-  enough_is : (h : ℕ) → Contains (legal_houses (bare a)) h → won a ≤ won_by_step (houses_step a h)
-      → value_of_move (bare a) h ≡ houses_worth a
+  enough_is : (h : ℕ) → Contains (legal_houses (storeless a)) h → won a ≤ won_by_step (houses_step a h)
+      → value_of_move (storeless a) h ≡ houses_worth a
   enough_is h has enough = grind (arith, won_at_most, won_of_move, won_of_houses)
 
   -- and one that wins fewer is worth less
-  short_is : (h : ℕ) → Contains (legal_houses (bare a)) h → won_by_step (houses_step a h) < won a
-      → value_of_move (bare a) h <ℤ houses_worth a
+  short_is : (h : ℕ) → Contains (legal_houses (storeless a)) h → won_by_step (houses_step a h) < won a
+      → value_of_move (storeless a) h <ℤ houses_worth a
   short_is h has less = grind (arith, won_of_move, won_of_houses)
 
   -- the first house that is worth the margin is the one
-  root_is : (i : ℕ) → i < length (legal_houses (bare a)) → FallShort a i →
-      value_of_move (bare a) (get_or (legal_houses (bare a)) i 0) ≡ houses_worth a →
-      get_or (legal_houses (bare a)) i 0 ≡ best_house (bare a)
+  root_is : (i : ℕ) → i < length (legal_houses (storeless a)) → FallShort a i →
+      value_of_move (storeless a) (get_or (legal_houses (storeless a)) i 0) ≡ houses_worth a →
+      get_or (legal_houses (storeless a)) i 0 ≡ best_house (storeless a)
   root_is i inside short is = grind (arith, find_at)
 
   -- a house that wins enough, if those before it fall short
-  pub root_found : (i : ℕ) → i < length (legal_houses (bare a)) → FallShort a i →
-      won a ≤ won_by_step (houses_step a (get_or (legal_houses (bare a)) i 0)) →
-      get_or (legal_houses (bare a)) i 0 ≡ best_house (bare a)
+  pub root_found : (i : ℕ) → i < length (legal_houses (storeless a)) → FallShort a i →
+      won a ≤ won_by_step (houses_step a (get_or (legal_houses (storeless a)) i 0)) →
+      get_or (legal_houses (storeless a)) i 0 ≡ best_house (storeless a)
   root_found i inside short enough = root_is i inside short (enough_is _ (Contains-get_or _ i 0 inside) enough)
 
   -- one that falls short, too
-  pub root_short : (i : ℕ) → i < length (legal_houses (bare a)) → FallShort a i →
-      won_by_step (houses_step a (get_or (legal_houses (bare a)) i 0)) < won a →
+  pub root_short : (i : ℕ) → i < length (legal_houses (storeless a)) → FallShort a i →
+      won_by_step (houses_step a (get_or (legal_houses (storeless a)) i 0)) < won a →
       FallShort a (i + 1)
   root_short i inside short less k low = grind (arith, cases_eq, eq_no, short_is, Contains-get_or)
 
   -- if all but the last fall short, it is the last
-  pub root_last : (n : ℕ) → is_over (bare a) ≡ false → length (legal_houses (bare a)) ≡ n + 1 → FallShort a n →
-      get_or (legal_houses (bare a)) n 0 ≡ best_house (bare a)
+  pub root_last : (n : ℕ) → is_over (storeless a) ≡ false → length (legal_houses (storeless a)) ≡ n + 1 → FallShort a n →
+      get_or (legal_houses (storeless a)) n 0 ≡ best_house (storeless a)
   root_last n going many short =
       let one = greatest_is_one (value_of_move _) _ (omega arith) in
       let inside = one.1.1 in
-      let place = get_or_default (legal_houses (bare a)) one.1.0 0 one.0 inside
+      let place = get_or_default (legal_houses (storeless a)) one.1.0 0 one.0 inside
       ∙ one.1.2 in
-      let is = ap (value_of_move (bare a)) place ∙ one.2 ∙ sym (worth_of_going _ (record { same = w.same_side }) going) in
+      let is = ap (value_of_move (storeless a)) place ∙ one.2 ∙ sym (worth_of_going _ (record { same = w.same_side }) going) in
       elim (cases_eq one.1.0 n) [
         | inl same ↦ root_is n (omega arith) short (rw same at is)
         | inr other ↦ absurd (let here = eq_yes _ _ is in let there = short one.1.0 (omega arith) in cc)
       ]
 
 -- ---- with the stores
-margin_is : (p : Position) (best margin : ℤ) → best ≡ houses_worth (rows_of p) →
+margin_is : (p : Position) (best margin : ℤ) → best ≡ houses_worth (houses_in p) →
     margin ≡ best +ℤ (pos p.own_store -ℤ pos p.other_store) → margin ≡ worth p
 margin_is p best margin best_is e = grind (arith, worth_of_rows)
 
 -- the margin is one that a player can have
-pub margin_small : (p : Position) (best margin : ℤ) → IsWithinLimits p → best ≡ houses_worth (rows_of p) →
+pub margin_small : (p : Position) (best margin : ℤ) → IsWithinLimits p → best ≡ houses_worth (houses_in p) →
     margin ≡ best +ℤ (pos p.own_store -ℤ pos p.other_store)
     → IsSmallMargin margin
 margin_small p best margin limits best_is e =
@@ -503,7 +503,7 @@ abbrev pub stored : ℤ → ℕ → ℕ → ℤ
 stored best own other = to_z w32 (of_z w32 (to_z w32 (of_z w32 best) +ℤ to_z w32 (of_z w32 (to_z w32 own -ℤ to_z w32 other))))
 
 module _ (p : Position) (best : ℤ) (own other : ℕ) (limits : IsWithinLimits p)
-    (best_is : best ≡ houses_worth (rows_of p)) (own_is : own ≡ p.own_store) (other_is : other ≡ p.other_store) where
+    (best_is : best ≡ houses_worth (houses_in p)) (own_is : own ≡ p.own_store) (other_is : other ≡ p.other_store) where
   -- no sum is too large
   pub told_fits : FitsSigned w32 (to_z w32 (of_z w32 best) +ℤ to_z w32 (of_z w32 (to_z w32 own -ℤ to_z w32 other)))
   told_fits =
@@ -528,7 +528,7 @@ module _ (p : Position) (best : ℤ) (own other : ℕ) (limits : IsWithinLimits 
 -- the value of a move
 pub value_small : (p : Position) (h : ℕ) → IsWithinLimits p → Contains (legal_houses p) h → IsSmallMargin (value_of_move p h)
 value_small p h limits has =
-    let bounds = won_of_move (rows_of p) (rows_within p limits) h has in
+    let bounds = won_of_move (houses_in p) (rows_within p limits) h has in
     record {
       low = omega (arith, ints, value_of_rows p h, bounds.is);
       high = omega (arith, ints, value_of_rows p h, bounds.few, bounds.is);

@@ -1,4 +1,4 @@
--- What a table keeps, and the places of endings and of houses.
+-- What a table keeps, and where endings and houses stand in it.
 use Rattle.std.proofs.Common.{◌≡◌, ◌≢◌, ℕ, zero, suc, ◌+◌, ◌*◌, ◌/◌, ◌%◌, ◌^◌, ◌-◌, ◌<◌, ◌≤◌, inl, inr, arith, sym, refl, ap, List, [], ◌∷◌, ◌++◌, length, get_or, drop, length-append, ◌∙◌, lit<, lit≤, true, eqb-true, Option, Some, None, Result, Ok, Err, nat_eq, IfSome, IsSome, IsOk, OnOk, OnErr, ◌⊎◌, subst, pow_mono, sum, slice_set, slice_index, false, Contains, max, ◌↔◌}
 use Rattle.std.proofs.Math.Nat.{add-mul-div_right, div-div-eq-div-mul, mul_comm, add-mul}
 use Rattle.std.proofs.lemmas.Nat.{pow_pos, pow-add, mul-le}
@@ -7,8 +7,8 @@ use Rattle.std.proofs.lemmas.List.{append_cancel_left, drop_more, length-drop, g
 use Rattle.std.proofs.Math.Seq.{take-append_seam}
 use Rattle.std.proofs.Math.ListN.{take, replicate, length-replicate, length-set}
 use Rattle.std.proofs.lemmas.List.Sums.{sum_by-cons, sum_by-take-drop, sum_by-append}
-use Rattle.kalah_rules.specs.Position.{Rows, IsWithinHouses, bare, is_over, seeds_in_houses}
-use Rattle.kalah_rules.specs.Key.{number_of, game_of, key_of}
+use Rattle.kalah_rules.specs.Position.{HousesState, IsWithinHouses, storeless, is_over, seeds_in_houses}
+use Rattle.kalah_rules.specs.Key.{number_of, variant_of, key_of}
 use Rattle.kalah_rules.proofs.KeyLemmas.{same_key, number_of-append, pow_five, rule_bit-small, key_fits}
 use Rattle.kalah_solve.specs.Table.RowRank.{choose, row_rank, sums_number, rank_of_houses}
 use Rattle.kalah_solve.specs.Table.EndgameTable.{choice_at, AreChoices, pair_at, ArePairs, IsEnding, StoresWon, AreTrueWords, word_of, stored_at}
@@ -30,8 +30,8 @@ use Rattle.kalah_solve.specs.Solver.Worth.{houses_worth}
 use Rattle.kalah_solve.specs.Bounds.Intervals.{Encloses}
 use Rattle.kalah_solve.specs.Table.Entries.{TableState, IsTrueEntry, AreTrue}
 use Rattle.kalah_rules.specs.Limits.{most_seeds}
-use Rattle.kalah_solve.specs.Table.DirectTable.{mixed, place_among, left_open, stored_rest, stored_least, stored_most, IsWithinPlace, StoreBounds, AreEnough}
-use Rattle.kalah_solve.specs.declared.table.direct_table.Place.{Place}
+use Rattle.kalah_solve.specs.Table.DirectTable.{mixed, slot_among, left_open, stored_rest, stored_least, stored_most, IsWithinSlot, StoreBounds, AreEnough}
+use Rattle.kalah_solve.specs.declared.table.direct_table.Slot.{Slot}
 
 -- ==== The digits of a number, of four bits each
 
@@ -62,8 +62,8 @@ put_there k n d none small = omega (arith, add-mul-div_right, pow_pos)
 pub same_before : (j k n d : ℕ) → j < k → (n + d * 2 ^ (4 * k)) / 2 ^ (4 * j) % 16 ≡ n / 2 ^ (4 * j) % 16
 same_before j k n d before =
     let past = k - suc j in
-    let places : 4 * k ≡ 4 * suc past + 4 * j = omega arith in
-    let worth : 2 ^ (4 * k) ≡ 16 * 2 ^ (4 * past) * 2 ^ (4 * j) = rw (places, pow-add 2 (4 * suc past) (4 * j), next_place past) refl in
+    let slots : 4 * k ≡ 4 * suc past + 4 * j = omega arith in
+    let worth : 2 ^ (4 * k) ≡ 16 * 2 ^ (4 * past) * 2 ^ (4 * j) = rw (slots, pow-add 2 (4 * suc past) (4 * j), next_place past) refl in
     let all : d * 2 ^ (4 * k) ≡ d * (16 * 2 ^ (4 * past)) * 2 ^ (4 * j) =
     rw worth (omega arith) in
     rw (all, add-mul-div_right n (d * (16 * 2 ^ (4 * past))) (pow_pos (4 * j))) (omega arith)
@@ -165,17 +165,17 @@ rank_same (x ∷ xs) (y ∷ ys) long same =
     let cons = sum_by-cons (λ (z : ℕ). z) x xs in
     let cons' = sum_by-cons (λ (z : ℕ). z) y ys in
     let cells : length xs ≡ length ys = omega arith in
-    let places : x + sum xs + length xs ≡ y + sum ys + length ys = omega arith in
+    let slots : x + sum xs + length xs ≡ y + sum ys + length ys = omega arith in
     let first : choose (x + sum xs + length xs) (suc (length xs)) ≡ choose (y + sum ys + length ys) (suc (length ys)) =
-    rw (places, cells) refl in
+    rw (slots, cells) refl in
     let rest = rank_same xs ys cells (omega arith) in
     let here : x ≡ y = omega (arith, ap sum rest) in
     rw (here, rest) refl
 
--- houses of one game with one rank are the same
-pub same_houses : (a b : Rows) → IsWithinHouses a → IsWithinHouses b → game_of a ≡ game_of b
+-- houses of one variant with one rank are the same
+pub same_houses : (a b : HousesState) → IsWithinHouses a → IsWithinHouses b → variant_of a ≡ variant_of b
     → rank_of_houses a ≡ rank_of_houses b → a ≡ b
-same_houses a b ha hb game rank =
+same_houses a b ha hb variant rank =
     let side : length a.own ≡ length b.own = omega arith in
     let cells : length (a.own ++ a.other) ≡ length (b.own ++ b.other) =
     omega (arith, length-append a.own a.other, length-append b.own b.other) in
@@ -209,7 +209,7 @@ sums_are (x ∷ xs) number seeds some is all below =
     }
 
 -- both rows of houses in one number
-pub both_rows : {a : Rows} (own other m : ℕ) → IsWithinHouses a → own ≡ number_of a.own → other ≡ number_of a.other
+pub both_rows : {a : HousesState} (own other m : ℕ) → IsWithinHouses a → own ≡ number_of a.own → other ≡ number_of a.other
     → own < 2 ^ 30 →
     other < 2 ^ 30 → m ≡ length a.own →
     (own + other * 2 ^ (5 * m) % 2 ^ 64 ≡ number_of (a.own ++ a.other)) × (own + other * 2 ^ (5 * m) % 2 ^ 64 < 2 ^ 60)
@@ -336,7 +336,7 @@ pairs_more pairs i v inside before is k below few = grind (arith, cases_eq, get_
 
 -- ==== What words of endings state stays true
 
--- ---- the words of different games are different
+-- ---- the words of different variants are different
 
 -- the ways to choose 0, 1, .. of one thing more
 abbrev one_more : ℕ → List ℕ → List ℕ
@@ -381,11 +381,11 @@ ways_are (suc n) (suc k) few =
     let inside : suc k < length (ways n) = omega (arith, ways_long n, few) in
     omega (arith, one_more_at, ways_are n k (omega (arith, few)), ways_are n (suc k) few)
 
--- the first word of those games of the classic rule that have m houses a side
+-- the first word of those variants of the classic rule that have m houses a side
 abbrev first : ℕ → ℕ
 first m = slice_index FIRST_WORDS m
 
--- a game has a word for each sixteen of its endings
+-- a variant has a word for each sixteen of its endings
 enough : (m : ℕ) → 1 ≤ m → m ≤ 6 → choose (9 + 2 * m) (2 * m) + 16 * first m ≤ 16 * first (suc m)
 enough zero some most = omega arith
 enough (suc zero) some most = omega (arith, ways_are 11 2 (lit< tt))
@@ -409,9 +409,10 @@ first_up (suc (suc (suc (suc (suc (suc (suc m))))))) most = omega arith
 first_rises : (m n : ℕ) → m ≤ n → n ≤ 7 → first m ≤ first n
 first_rises m n below most = grind arith
 
--- so an ending's word is one of its game's
-pub its_game : (a : Rows) → IsWithinHouses a → IsEnding a → first (length a.own) + rank_of_houses a / 16 < first (suc (length a.own))
-its_game a within few =
+-- so an ending's word is one of its variant's
+pub its_variant : (a : HousesState) → IsWithinHouses a → IsEnding a
+    → first (length a.own) + rank_of_houses a / 16 < first (suc (length a.own))
+its_variant a within few =
     let m = length a.own in
     let row = a.own ++ a.other in
     let cells : length row ≡ 2 * m = omega (arith, length-append a.own a.other) in
@@ -421,14 +422,14 @@ its_game a within few =
     let below = rw cells at all in
     omega (arith, enough m within.some_house within.at_most_six)
 
-pub word_inside : {a : Rows} → IsWithinHouses a → IsEnding a → word_of a < 52054
-word_inside {a} within few = grind (arith, its_game)
+pub word_inside : {a : HousesState} → IsWithinHouses a → IsEnding a → word_of a < 52054
+word_inside {a} within few = grind (arith, its_variant)
 
 -- endings of one word and one place in it are the same
-same_told : (a b : Rows) → IsWithinHouses a → IsWithinHouses b → IsEnding a → IsEnding b → word_of a ≡ word_of b →
+same_told : (a b : HousesState) → IsWithinHouses a → IsWithinHouses b → IsEnding a → IsEnding b → word_of a ≡ word_of b →
     rank_of_houses a % 16 ≡ rank_of_houses b % 16 → a ≡ b
 same_told a b ha hb few few_b word place =
-    grind (arith, its_game, first_rises, lit≤, rule_bit-small, cases_lt, same_houses)
+    grind (arith, its_variant, first_rises, lit≤, rule_bit-small, cases_lt, same_houses)
 
 -- ---- what the words state
 
@@ -438,7 +439,7 @@ unfolding StoresWon
 states_nothing i a within few is stored = omega arith
 
 -- after one more ending is stored
-pub states_more : (word : ℕ) (a : Rows) → StoresWon (word_of a) word → IsWithinHouses a → IsEnding a →
+pub states_more : (word : ℕ) (a : HousesState) → StoresWon (word_of a) word → IsWithinHouses a → IsEnding a →
     stored_at word (rank_of_houses a % 16) ≡ 0 → won a ≤ 9 →
     StoresWon (word_of a) (word + suc (won a) * 2 ^ (4 * (rank_of_houses a % 16)))
 unfolding StoresWon
@@ -446,7 +447,7 @@ states_more word a before ha few none small b hb few_b one stored =
     grind (arith, rank_of_houses, won, cases_eq, same_told, put_there, same_elsewhere, stored)
 
 -- a stored ending is right
-pub stored : (word : ℕ) (a : Rows) → StoresWon (word_of a) word → IsWithinHouses a → IsEnding a →
+pub stored : (word : ℕ) (a : HousesState) → StoresWon (word_of a) word → IsWithinHouses a → IsEnding a →
     stored_at word (rank_of_houses a % 16) ≢ 0 → stored_at word (rank_of_houses a % 16) ≡ suc (won a)
 unfolding StoresWon
 stored word a states within few some = states a within few refl some
@@ -480,38 +481,39 @@ writes slots i word states s holds homes small =
 -- ==== The most that a move wins
 
 -- no move wins more but of the houses that are still marked, nor does best play win fewer
-pub record IsMost (a : Rows) (marks most : ℕ) : Type 0 where
+pub record IsMost (a : HousesState) (marks most : ℕ) : Type 0 where
   pub reached : most ≤ won a
-  pub all : (i : ℕ) → Contains (legal_houses (bare a)) i → cell marks (i - 1) ≡ 0 → won_by_step (houses_step a i) ≤ most
+  pub all : (i : ℕ) → Contains (legal_houses (storeless a)) i → cell marks (i - 1) ≡ 0 → won_by_step (houses_step a i) ≤ most
 
 -- as long as all houses with seeds are marked
-pub most_of_none : {a : Rows} {marks : ℕ} → ((i : ℕ) → (0 < cell marks i) ↔ (0 < get_or a.own i 0)) → IsMost a marks 0
+pub most_of_none : {a : HousesState} {marks : ℕ} → ((i : ℕ) → (0 < cell marks i) ↔ (0 < get_or a.own i 0)) → IsMost a marks 0
 most_of_none {a} marked = record {
   reached = omega arith;
-  all = λ i has gone. absurd (let some = (marked _).1 (legal_holds (bare a) i has).some in omega arith);
+  all = λ i has gone. absurd (let some = (marked _).1 (legal_holds (storeless a) i has).some in omega arith);
 }
 
 -- the last marked house, with what it wins
-pub most_more : {a : Rows} {marks most h : ℕ} (v new : ℕ) → IsWithinHouses a → IsMost a marks most → IsLastMark marks h →
-    Contains (legal_houses (bare a)) h →
+pub most_more : {a : HousesState} {marks most h : ℕ} (v new : ℕ) → IsWithinHouses a → IsMost a marks most → IsLastMark marks h →
+    Contains (legal_houses (storeless a)) h →
     v ≡ won_by_step (houses_step a h) → new ≡ max most v → IsMost a (marks - 32 ^ (h - 1)) new
 most_more {a} {marks} {most} {h} v new w is last has v_is new_is = record {
   reached = omega (arith, won_at_most a w h has);
   all = λ i may gone. elim (cases_eq i h) [
     | inl same ↦ rw same (omega arith)
     | inr other ↦
-        let place : i - 1 ≢ h - 1 = omega (arith, (legal_holds (bare a) i may).first) in
+        let place : i - 1 ≢ h - 1 = omega (arith, (legal_holds (storeless a) i may).first) in
         omega (arith, is.all i may (gone_before marks h last _ place gone))
   ];
 }
 
 -- if all seeds are won, best play wins as many
-pub most_all : (a : Rows) (marks most : ℕ) → IsWithinHouses a → IsMost a marks most → seeds_in_houses (bare a) ≤ most
+pub most_all : (a : HousesState) (marks most : ℕ) → IsWithinHouses a → IsMost a marks most → seeds_in_houses (storeless a) ≤ most
     → most ≡ won a
 most_all a marks most w is full = omega (arith, (won_of_houses w).few)
 
 -- and so it does once no house is marked
-pub most_won : (a : Rows) (marks most : ℕ) → IsWithinHouses a → is_over (bare a) ≡ false → IsMost a marks most → marks ≡ 0
+pub most_won : (a : HousesState) (marks most : ℕ) → IsWithinHouses a → is_over (storeless a) ≡ false → IsMost a marks most
+    → marks ≡ 0
     → most ≡ won a
 most_won a marks most w going is none = grind (arith, won_reached, cell_none)
 
@@ -522,7 +524,7 @@ same_number : (m n : ℕ) → nat_eq m n ≡ true → m ≡ n
 same_number m n h = eqb-true m n h
 
 -- what a look-up finds holds the houses_worth
-pub found_holds : (es : List (ℕ × Interval)) (a : Rows) (k : ℕ) → AreTrue es → IsWithinHouses a → k ≡ key_of a →
+pub found_holds : (es : List (ℕ × Interval)) (a : HousesState) (k : ℕ) → AreTrue es → IsWithinHouses a → k ≡ key_of a →
     (o : Option Interval) → lookup (nat_eq k) es ≡ o
     → IfSome o (λ i. Encloses i (houses_worth a))
 found_holds es a k entries within key None h = tt
@@ -536,7 +538,7 @@ found_holds es a k entries within key (Some i) h =
 pub true_promoted : (es : List (ℕ × Interval)) (k : ℕ) → AreTrue es → AreTrue (promoted (nat_eq k) es)
 true_promoted es k entries = λ e h. entries e (Contains-promoted _ es e h)
 
-module _ (c : LruCache ℕ Interval) (a : Rows) (k : ℕ) (i : Interval) (entries : AreTrue c.entries) (within : IsWithinHouses a)
+module _ (c : LruCache ℕ Interval) (a : HousesState) (k : ℕ) (i : Interval) (entries : AreTrue c.entries) (within : IsWithinHouses a)
     (key : k ≡ key_of a) (holds : Encloses i (houses_worth a)) where
   -- the new entry is true
   put_entry : (e : ℕ × Interval) → e.1 ≡ i → e.0 ≡ k → IsTrueEntry e
@@ -578,7 +580,7 @@ pub put_again : {X E : Type 0} (r : Result X E) (c new : LruCache ℕ Interval) 
 put_again (Ok x) c new k i ok succeeds some = rw ok (lookup-put_entries nat_eq c k i nat_eq_equiv)
 put_again (Err x) c new k i ok succeeds some = cc (succeeds some)
 
--- ==== What the places of houses state stays true: a key's place, and what the place leaves open of it, determine the key
+-- ==== What the slots of houses state stays true: a key's slot, and what the slot leaves open of it, determine the key
 
 -- a mixed key determines the key
 unmixed : (k : ℕ) → k < 2 ^ 64 → (mixed k * 17428512612931826493) % 2 ^ 64 ≡ k
@@ -588,29 +590,29 @@ unmixed k small = omega arith
 same_unmixed : (k l : ℕ) → k < 2 ^ 64 → l < 2 ^ 64 → mixed k ≡ mixed l → k ≡ l
 same_unmixed k l hk hl same = sym (unmixed _ hk) ∙ ap (λ x. (x * 17428512612931826493) % 2 ^ 64) same ∙ unmixed _ hl
 
--- of two numbers that leave the same open the greater has a later place
-place_later : (n x y : ℕ) → 1024 ≤ n → left_open x ≡ left_open y → x < y → place_among n x < place_among n y
-place_later n x y enough rest less = grind (arith, add-mul)
+-- of two numbers that leave the same open the greater has a later slot
+slot_later : (n x y : ℕ) → 1024 ≤ n → left_open x ≡ left_open y → x < y → slot_among n x < slot_among n y
+slot_later n x y enough rest less = grind (arith, add-mul)
 
--- so two with one place are one
-place_same : (n x y : ℕ) → 1024 ≤ n → left_open x ≡ left_open y → place_among n x ≡ place_among n y → x ≡ y
-place_same n x y enough rest same = grind (arith, place_later)
+-- so two with one slot are one
+slot_same : (n x y : ℕ) → 1024 ≤ n → left_open x ≡ left_open y → slot_among n x ≡ slot_among n y → x ≡ y
+slot_same n x y enough rest same = grind (arith, slot_later)
 
-same_placed : (n : ℕ) (a b : Rows) → 1024 ≤ n → IsWithinHouses a → IsWithinHouses b →
+same_slotted : (n : ℕ) (a b : HousesState) → 1024 ≤ n → IsWithinHouses a → IsWithinHouses b →
     left_open (mixed (key_of a)) ≡ left_open (mixed (key_of b)) →
-    place_among n (mixed (key_of a)) ≡ place_among n (mixed (key_of b)) → a ≡ b
-same_placed n a b enough ha hb rest place = grind (arith, same_key, same_unmixed, key_fits, place_same)
+    slot_among n (mixed (key_of a)) ≡ slot_among n (mixed (key_of b)) → a ≡ b
+same_slotted n a b enough ha hb rest place = grind (arith, same_key, same_unmixed, key_fits, slot_same)
 
 -- after more is kept
-pub bounds_more : (places : List Place) {a : Rows} {number at : ℕ} {p : Place} → AreEnough (length places) → StoreBounds places
+pub bounds_more : (slots : List Slot) {a : HousesState} {number at : ℕ} {p : Slot} → AreEnough (length slots) → StoreBounds slots
     → IsWithinHouses a →
-    number ≡ mixed (key_of a) → at ≡ place_among (length places) number → at < length places
+    number ≡ mixed (key_of a) → at ≡ slot_among (length slots) number → at < length slots
     → stored_rest p ≡ left_open number →
-    IsWithinPlace p (won a) → StoreBounds (slice_set places at p)
-bounds_more places enough before within is place inside rest known b number_b d within_b is_b inside_b rest_b =
-    grind (arith, length-set, cases_eq, get_or-set_same, same_placed, get_or-set_other)
+    IsWithinSlot p (won a) → StoreBounds (slice_set slots at p)
+bounds_more slots enough before within is place inside rest known b number_b d within_b is_b inside_b rest_b =
+    grind (arith, length-set, cases_eq, get_or-set_same, same_slotted, get_or-set_other)
 
--- places that all hold what is known of all houses
-pub bounds_unknown : (count : ℕ) (p : Place) → stored_least p ≡ 0 → stored_most p ≡ most_seeds → StoreBounds (replicate count p)
+-- slots that all hold what is known of all houses
+pub bounds_unknown : (count : ℕ) (p : Slot) → stored_least p ≡ 0 → stored_most p ≡ most_seeds → StoreBounds (replicate count p)
 bounds_unknown count p none all a number d within is inside rest =
     grind (arith, won_of_houses, get_or-replicate, length-replicate)

@@ -9,7 +9,7 @@ use Rattle.std.proofs.lemmas.List.Elements.{Contains-get_or, Contains-append_rig
 use Rattle.lru.proofs.Splits.{Contains-head, Contains-tail, Contains-cons}
 use Rattle.kalah_solve.specs.Solver.Worth.{greatest, worth, best_house, value_by, worth_within, value_of_move, houses_worth}
 use Rattle.std.proofs.lemmas.Bool.Decides.{Decides-int_eq}
-use Rattle.kalah_rules.specs.Position.{Position, IsWithinLimits, is_over, final_margin, HasEqualSides, seeds_in_houses, swapped, swept, rows_of, bare, Rows, IsWithinHouses}
+use Rattle.kalah_rules.specs.Position.{Position, IsWithinLimits, is_over, final_margin, HasEqualSides, seeds_in_houses, swapped, swept, houses_in, storeless, HousesState, IsWithinHouses}
 use Rattle.kalah_rules.specs.Play.{legal_houses, step_of}
 use Rattle.kalah_rules.proofs.PlayLemmas.{legal_holds, holds_legal, sum-zeros, after_equal_sides, after_fewer, swap_fewer, with_more, after_with_more, is_with_more, legal_going}
 use Rattle.std.proofs.lemmas.List.Sums.{sum_by-le}
@@ -18,7 +18,7 @@ use Rattle.kalah_rules.specs.Measure.{moves_left}
 use Rattle.kalah_rules.specs.declared.step.Step.{Step}
 use Rattle.kalah_solve.specs.Solver.Laws.{CountPlaysNoPart, WorthIsMostOfMoves}
 use Rattle.std.specs.Int.{int_max}
-use Rattle.kalah_rules.specs.Key.{game_of, rule_bit}
+use Rattle.kalah_rules.specs.Key.{variant_of, rule_bit}
 use Rattle.kalah_rules.specs.declared.step.HousesStep.{HousesStep}
 use Rattle.kalah_rules.specs.declared.step.HousesStep.TheVariants.{Over, Again, Turn}
 use Rattle.kalah_rules.specs.HousesStep.{houses_step_to, houses_step}
@@ -246,7 +246,8 @@ pub again_fewer : (p : Position) (h : ℕ) (e : Position) → HasEqualSides p �
 again_fewer p h e even is_legal is = grind (arith, again_step, after_fewer, legal_holds)
 
 -- if the turn passes
-pub turn_fewer : (p : Position) (h : ℕ) (e : Position) → HasEqualSides p → Contains (legal_houses p) h → board.Turn e ≡ step_of p h →
+pub turn_fewer : (p : Position) (h : ℕ) (e : Position) → HasEqualSides p → Contains (legal_houses p) h
+    → board.Turn e ≡ step_of p h →
     moves_left e < moves_left p
 turn_fewer p h e even is_legal is =
     grind (arith, turn_step, swap_fewer, after_equal_sides, after_fewer, legal_holds)
@@ -389,11 +390,11 @@ unfolding worth
 worth_shift a b p = worth_with_more _ a b p
 
 -- the margin of best play is that of the houses, moved by the stores
-pub worth_of_rows : (p : Position) → worth p ≡ houses_worth (rows_of p) +ℤ (pos p.own_store -ℤ pos p.other_store)
+pub worth_of_rows : (p : Position) → worth p ≡ houses_worth (houses_in p) +ℤ (pos p.own_store -ℤ pos p.other_store)
 worth_of_rows p = ap worth (is_with_more p) ∙ worth_shift _ p.other_store _
 
 -- the law on the worth
-pub worth_by_stores : (p : Position) → worth p ≡ pos p.own_store -ℤ pos p.other_store +ℤ houses_worth (rows_of p)
+pub worth_by_stores : (p : Position) → worth p ≡ pos p.own_store -ℤ pos p.other_store +ℤ houses_worth (houses_in p)
 worth_by_stores p = omega (arith, ints, worth_of_rows p)
 
 -- the same search by tests that agree
@@ -412,11 +413,11 @@ best_with_more a b p = ap (λ o. unwrap_or o 0) (find_same _ _ (legal_houses p) 
     rw (value, worth_shift a b p) (int_eq_shift _ (worth p) _)))
 
 -- the best house is that of the houses
-pub best_of_rows : (p : Position) → best_house p ≡ best_house (bare (rows_of p))
-best_of_rows p = ap best_house (is_with_more p) ∙ best_with_more p.own_store _ (bare (rows_of p))
+pub best_of_rows : (p : Position) → best_house p ≡ best_house (storeless (houses_in p))
+best_of_rows p = ap best_house (is_with_more p) ∙ best_with_more p.own_store _ (storeless (houses_in p))
 
 -- the value of a move is that of the move of the houses, moved by the stores
-pub value_of_rows : (p : Position) (h : ℕ) → value_of_move p h ≡ value_of_move (bare (rows_of p)) h +ℤ
+pub value_of_rows : (p : Position) (h : ℕ) → value_of_move p h ≡ value_of_move (storeless (houses_in p)) h +ℤ
     (pos p.own_store -ℤ pos p.other_store)
 value_of_rows p h =
     let a = p.own_store in
@@ -434,34 +435,34 @@ worth_of_step (Again gained b) = pos gained +ℤ houses_worth b
 worth_of_step (Turn gained b) = pos gained -ℤ houses_worth b
 
 -- the houses b go on from a, with `gained` seeds fewer
-pub record LeadsTo (a : Rows) (gained : ℕ) (b : Rows) : Type 0 where
-  pub kept : gained + seeds_in_houses (bare b) ≡ seeds_in_houses (bare a)
-  pub fewer : moves_left (bare b) < moves_left (bare a)
-  pub going : is_over (bare b) ≡ false
+pub record LeadsTo (a : HousesState) (gained : ℕ) (b : HousesState) : Type 0 where
+  pub kept : gained + seeds_in_houses (storeless b) ≡ seeds_in_houses (storeless a)
+  pub fewer : moves_left (storeless b) < moves_left (storeless a)
+  pub going : is_over (storeless b) ≡ false
   pub limits : IsWithinHouses b
-  pub same : game_of b ≡ game_of a
+  pub same : variant_of b ≡ variant_of a
 
 -- the houses to which a step leads go on from a, and at the end of the game no seed is lost
-abbrev pub LeadsOn : Rows → HousesStep → Type 0
-LeadsOn a (Over own other) = own + other ≡ seeds_in_houses (bare a)
+abbrev pub LeadsOn : HousesState → HousesStep → Type 0
+LeadsOn a (Over own other) = own + other ≡ seeds_in_houses (storeless a)
 LeadsOn a (Again gained b) = LeadsTo a gained b
 LeadsOn a (Turn gained b) = LeadsTo a gained b
 
 -- the most moves that are left after a step
 abbrev pub moves_after : HousesStep → ℕ
 moves_after (Over own other) = 0
-moves_after (Again gained b) = moves_left (bare b)
-moves_after (Turn gained b) = moves_left (bare b)
+moves_after (Again gained b) = moves_left (storeless b)
+moves_after (Turn gained b) = moves_left (storeless b)
 
 -- ==== The result of a move on houses, and its worth
 
 -- ---- what a move is worth
-worth_again : (q : Position) → q.other_store ≡ 0 → worth q ≡ pos q.own_store +ℤ houses_worth (rows_of q)
+worth_again : (q : Position) → q.other_store ≡ 0 → worth q ≡ pos q.own_store +ℤ houses_worth (houses_in q)
 worth_again q none = worth_of_rows q ∙ omega (arith, ints)
 
 -- the same if the turn passes
 worth_turn : (q : Position) → q.other_store ≡ 0 → neg_ℤ (worth (swapped q)) ≡ pos q.own_store -ℤ houses_worth
-    (rows_of (swapped q))
+    (houses_in (swapped q))
 worth_turn q none = ap neg_ℤ (worth_of_rows _) ∙ omega (arith, ints)
 
 -- what a position after a move is worth, by its step
@@ -471,22 +472,22 @@ worth_by_step : (q : Position) (again : Bool) → q.other_store ≡ 0 →
 worth_by_step q again none = grind (arith, cases_Bool, worth_again, worth_turn)
 
 -- what a move is worth, by its step
-pub value_is : (a : Rows) (h : ℕ) → IsWithinHouses a → Contains (legal_houses (bare a)) h
-    → value_of_move (bare a) h ≡ worth_of_step (houses_step a h)
+pub value_is : (a : HousesState) (h : ℕ) → IsWithinHouses a → Contains (legal_houses (storeless a)) h
+    → value_of_move (storeless a) h ≡ worth_of_step (houses_step a h)
 value_is a h w has = worth_by_step (after _ h) _ (after_keeps a h w (legal_holds _ h has)).other_store
 
 -- ---- where it leads
 -- each step leads to houses of the game with fewer moves left
-pub leads_on : (a : Rows) (h : ℕ) → IsWithinHouses a → Contains (legal_houses (bare a)) h → LeadsOn a (houses_step a h)
+pub leads_on : (a : HousesState) (h : ℕ) → IsWithinHouses a → Contains (legal_houses (storeless a)) h → LeadsOn a (houses_step a h)
 leads_on a h w has =
     let holds = legal_holds _ h has in
     let q = after _ h in
     let keeps = after_keeps a h w holds in
-    let fewer = after_fewer (bare a) h holds (record { same = w.same_side }) in
+    let fewer = after_fewer (storeless a) h holds (record { same = w.same_side }) in
     let play = keeps.play in
     let within = after_within a h w holds in
     let rule = ap rule_bit keeps.rule in
-    on_cond (LeadsOn a) (is_over q) _ _ (omega arith) (λ going. on_cond (LeadsOn a) (is_again (bare a) h) _ _
+    on_cond (LeadsOn a) (is_over q) _ _ (omega arith) (λ going. on_cond (LeadsOn a) (is_again (storeless a) h) _ _
     (λ again. record {
       kept = omega arith;
       fewer = fewer;
@@ -503,48 +504,52 @@ leads_on a h w has =
     }))
 
 -- a step that was played leads there
-pub leads_by : {a : Rows} (h : ℕ) (s : HousesStep) → IsWithinHouses a → Contains (legal_houses (bare a)) h → s ≡ houses_step a h
+pub leads_by : {a : HousesState} (h : ℕ) (s : HousesStep) → IsWithinHouses a → Contains (legal_houses (storeless a)) h
+    → s ≡ houses_step a h
     → LeadsOn a s
 leads_by {a} h s w has e = grind (arith, leads_on)
 
 -- ---- what the search needs of a step
-goes_on_to : {a b : Rows} {game gained : ℕ} → IsWithinHouses a → game_of a ≡ game → LeadsTo a gained b → GoesOnAt game gained b
+goes_on_to : {a b : HousesState} {game gained : ℕ} → IsWithinHouses a → variant_of a ≡ game → LeadsTo a gained b
+    → GoesOnAt game gained b
 goes_on_to w is leads = grind arith
 
-goes_on_of : (a : Rows) (game : ℕ) (s : HousesStep) → IsWithinHouses a → game_of a ≡ game → LeadsOn a s → GoesOn game s
+goes_on_of : (a : HousesState) (game : ℕ) (s : HousesStep) → IsWithinHouses a → variant_of a ≡ game → LeadsOn a s
+    → GoesOn game s
 goes_on_of a game (Over own other) w is leads = omega arith
 goes_on_of a game (Again gained b) w is leads = goes_on_to w is leads
 goes_on_of a game (Turn gained b) w is leads = goes_on_to w is leads
 
 -- a step goes on in the game
-pub goes_on : (a : Rows) (game h : ℕ) (s : HousesStep) → game_of a ≡ game → IsWithinHouses a → Contains (legal_houses (bare a)) h
+pub goes_on : (a : HousesState) (game h : ℕ) (s : HousesStep) → variant_of a ≡ game → IsWithinHouses a
+    → Contains (legal_houses (storeless a)) h
     → s ≡ houses_step a h → GoesOn game s
 goes_on a game h s is w has e = goes_on_of _ _ _ w is (leads_by _ _ w has e)
 
 -- each step leaves fewer moves
-falls_of : (a : Rows) (s : HousesStep) → 0 < moves_left (bare a) → LeadsOn a s → moves_after s < moves_left (bare a)
+falls_of : (a : HousesState) (s : HousesStep) → 0 < moves_left (storeless a) → LeadsOn a s → moves_after s < moves_left (storeless a)
 falls_of a (Over own other) some leads = some
 falls_of a (Again gained b) some leads = leads.fewer
 falls_of a (Turn gained b) some leads = leads.fewer
 
 -- a step leaves fewer moves
-pub step_falls : (a : Rows) (h : ℕ) (s : HousesStep) → IsWithinHouses a → Contains (legal_houses (bare a)) h
+pub step_falls : (a : HousesState) (h : ℕ) (s : HousesStep) → IsWithinHouses a → Contains (legal_houses (storeless a)) h
     → s ≡ houses_step a h →
-    moves_after s < moves_left (bare a)
+    moves_after s < moves_left (storeless a)
 step_falls a h s w has e =
-    let fewer = after_fewer (bare a) h (legal_holds (bare a) h has) (record { same = w.same_side }) in
+    let fewer = after_fewer (storeless a) h (legal_holds (storeless a) h has) (record { same = w.same_side }) in
     falls_of a s (omega (arith, fewer)) (leads_by _ _ w has e)
 
 -- ==== What houses are worth
 
 -- no move is worth more
-pub value_le_worth : (a : Rows) (h : ℕ) → IsWithinHouses a → Contains (legal_houses (bare a)) h
-    → value_of_move (bare a) h ≤ℤ houses_worth a
-value_le_worth a h w has = value_most _ _ (omega arith) (legal_going (bare a) h has) has
+pub value_le_worth : (a : HousesState) (h : ℕ) → IsWithinHouses a → Contains (legal_houses (storeless a)) h
+    → value_of_move (storeless a) h ≤ℤ houses_worth a
+value_le_worth a h w has = value_most _ _ (omega arith) (legal_going (storeless a) h has) has
 
 -- and some move is worth as much
-pub worth_reached : (a : Rows) → IsWithinHouses a → is_over (bare a) ≡ false →
-    (h : ℕ) × Contains (legal_houses (bare a)) h × (houses_worth a ≡ value_of_move (bare a) h)
+pub worth_reached : (a : HousesState) → IsWithinHouses a → is_over (storeless a) ≡ false →
+    (h : ℕ) × Contains (legal_houses (storeless a)) h × (houses_worth a ≡ value_of_move (storeless a) h)
 worth_reached a w going =
     let even : HasEqualSides _ = omega arith in
-    (best_house (bare a), (best_found _ even going).0, sym (best_attains even going))
+    (best_house (storeless a), (best_found _ even going).0, sym (best_attains even going))

@@ -1,6 +1,6 @@
 //! A distinct number for each value of houses, by which a table keeps them.
 ghost use Rattle.std.specs.Prelude.{◌≡◌, ◌↔◌, IsSome, IfSome, Some};
-ghost use Rattle.kalah_rules.specs.Position.{Rows, IsWithinHouses};
+ghost use Rattle.kalah_rules.specs.Position.{HousesState, IsWithinHouses};
 ghost use Rattle.kalah_rules.specs.Key.{key_of, IsKey};
 
 use kalah_rules::Houses;
@@ -17,7 +17,7 @@ pub fn pack(houses: &Houses) -> u64
 pub fn unpack(key: u64) -> Option<Houses>
     ensures valid { IsSome result ↔ IsKey key }
     ensures same { IfSome result (λ a. key_of a ≡ key) }
-    ensures found { (a : Rows) → IsWithinHouses a → key_of a ≡ key → result ≡ Some a }
+    ensures found { (a : HousesState) → IsWithinHouses a → key_of a ≡ key → result ≡ Some a }
 {
     Houses::of_key(key)
 }

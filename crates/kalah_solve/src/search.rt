@@ -1,13 +1,13 @@
 //! The search. It closes in on what houses are worth by tests whether the mover wins at least a number of seeds. Margins are used at
 //! the root and among the entries; the tests count seeds that the mover wins.
 ghost use Rattle.std.specs.Prelude.{◌≡◌, ◌↔◌, ℕ, ◌+◌, ◌-◌, ◌≤◌, ◌<◌, false, IsTrue, max, min, IfOk, Contains, slice_index};
-ghost use Rattle.kalah_rules.specs.Position.{is_over, bare, seeds_in_houses};
+ghost use Rattle.kalah_rules.specs.Position.{is_over, storeless, seeds_in_houses};
 ghost use Rattle.kalah_rules.specs.Play.{legal_houses};
-ghost use Rattle.kalah_rules.specs.Key.{game_of};
+ghost use Rattle.kalah_rules.specs.Key.{variant_of};
 ghost use Rattle.kalah_rules.specs.HousesStep.{houses_step};
 ghost use Rattle.kalah_solve.specs.Solver.Worth.{houses_worth};
 ghost use Rattle.kalah_solve.specs.Solver.StepWorth.{GoesOn, GoesOnAt};
-ghost use Rattle.kalah_solve.specs.Bounds.Intervals.{within};
+ghost use Rattle.kalah_solve.specs.Bounds.Intervals.{clamped};
 ghost use Rattle.kalah_solve.specs.Bounds.Won.{won, won_by_step};
 ghost use Rattle.kalah_solve.specs.Search.Tried.{IsSoftBound, WinsAtMost, EndsInStore, IsLook, AreWaiting};
 ghost use Rattle.kalah_solve.specs.Table.Entries.{most_entries, empty_table};
@@ -28,17 +28,17 @@ use crate::table::Table;
 use kalah_rules::{House, Houses, HousesStep};
 use std::alloc::{AllocError, Allocator, Global};
 
-/// What is known of houses with at most this many seeds is kept in their place, and of others among the entries.
-const MOST_PLACED: u8 = 20;
+/// What is known of houses with at most this many seeds is kept in their slot, and of others among the entries.
+const MOST_SLOTTED: u8 = 20;
 
 /// An answer that took fewer nodes than this is not worth an entry.
 const LEAST_WORK: u64 = 60;
 
-// Calls a method that has the number of the game of some houses as its constant parameter. It is compiled for each game. The number is
+// Calls a method that has the number of the variant of some houses as its constant parameter. It is compiled for each variant. The number is
 // that of houses a side, and 8 more under the empty-capture rule.
-macro_rules! in_its_game {
+macro_rules! in_its_variant {
     ($self:ident.$method:ident($houses:ident, $($more:expr),*)) => {
-        match $houses.game() {
+        match $houses.variant() {
             1 => $self.$method::<1>($houses, $($more),*),
             2 => $self.$method::<2>($houses, $($more),*),
             3 => $self.$method::<3>($houses, $($more),*),
@@ -60,7 +60,7 @@ macro_rules! in_its_game {
 pub struct Search<A: Allocator + Clone = Global> {
     table: Table<A>,
     order: MoveOrder,
-    most_placed: u8,
+    most_slotted: u8,
     least_work: u64,
     ending_limit: EndingLimit,
     work: Work,
@@ -83,7 +83,7 @@ impl<A: Allocator + Clone> Search<A> {
         Search {
             table,
             order: MoveOrder::new(),
-            most_placed: MOST_PLACED,
+            most_slotted: MOST_SLOTTED,
             least_work: LEAST_WORK,
             ending_limit: work.ending_limit(),
             work,
@@ -106,7 +106,7 @@ impl<A: Allocator + Clone> Search<A> {
         Search {
             table,
             order: MoveOrder::new(),
-            most_placed: 0,
+            most_slotted: 0,
             least_work: 0,
             ending_limit: EndingLimit::none(),
             work: Work::new(),
@@ -126,17 +126,17 @@ impl<A: Allocator + Clone> Search<A> {
     /// Returns the worth of the houses, raised to the window's lower end and lowered to its upper one. That of an ending is looked up,
     /// and what is learned of others is kept as an entry of the table.
     pub fn search(&mut self, houses: &Houses, window: Window) -> i32
-        requires going { is_over (bare houses.now) ≡ false }
-        ensures { result ≡ within window.lo window.hi (houses_worth houses.now) }
+        requires going { is_over (storeless houses.now) ≡ false }
+        ensures { result ≡ clamped window.lo window.hi (houses_worth houses.now) }
     {
-        in_its_game!(self.search_game(houses, window))
+        in_its_variant!(self.search_variant(houses, window))
     }
 
-    // Returns the worth of houses of this game, raised to the window's lower end and lowered to its upper one.
-    fn search_game<const GAME: u8>(&mut self, houses: &Houses, window: Window) -> i32
-        requires going { is_over (bare houses.now) ≡ false }
-        requires game { game_of houses.now ≡ GAME }
-        ensures { result ≡ within window.lo window.hi (houses_worth houses.now) }
+    // Returns the worth of houses of this variant, raised to the window's lower end and lowered to its upper one.
+    fn search_variant<const VARIANT: u8>(&mut self, houses: &Houses, window: Window) -> i32
+        requires going { is_over (storeless houses.now) ≡ false }
+        requires variant { variant_of houses.now ≡ VARIANT }
+        ensures { result ≡ clamped window.lo window.hi (houses_worth houses.now) }
     {
         let seeds = houses.seeds();
         if seeds > SEEDS_THAT_ALWAYS_PAY {
@@ -144,7 +144,7 @@ impl<A: Allocator + Clone> Search<A> {
             self.grow_endings();
         }
         if seeds <= self.ending_limit.seeds {
-            let won = self.table.won::<GAME>(*houses);
+            let won = self.table.won::<VARIANT>(*houses);
             return window.clamp(margin_of(won, seeds));
         }
         let known = self.known_margins(houses);
@@ -152,7 +152,7 @@ impl<A: Allocator + Clone> Search<A> {
             return window.clamp(known.lo as i32);
         };
         let before = self.work.nodes();
-        let won = self.won_within::<GAME>(houses, SeedBounds::of_window(narrow, seeds));
+        let won = self.won_within::<VARIANT>(houses, SeedBounds::of_window(narrow, seeds));
         let answer = narrow.clamp(margin_of(won, seeds));
         let work = self.work.nodes().saturating_sub(before);
         self.learn_margins(
@@ -165,82 +165,87 @@ impl<A: Allocator + Clone> Search<A> {
 
     // Returns how many seeds the mover wins, raised to the least that is asked and lowered to the most. Tests close in on it, the first a
     // little above half of all.
-    fn won_within<const GAME: u8>(&mut self, houses: &Houses, asked: SeedBounds) -> u8
-        requires going { is_over (bare houses.now) ≡ false }
-        requires game { game_of houses.now ≡ GAME }
+    fn won_within<const VARIANT: u8>(&mut self, houses: &Houses, asked: SeedBounds) -> u8
+        requires going { is_over (storeless houses.now) ≡ false }
+        requires variant { variant_of houses.now ≡ VARIANT }
         requires ordered { asked.least ≤ asked.most }
         ensures { result ≡ max asked.least (min asked.most (won houses.now)) }
     {
-        let houses = houses.known_game(GAME);
+        let houses = houses.known_variant(VARIANT);
         let mut low = asked.least;
         let mut high = asked.most;
-        let mut bar = houses.seeds() / 2 + 1;
+        let mut beta = houses.seeds() / 2 + 1;
         while low < high {
-            let asked_bar = bar.clamp(low + 1, high);
-            let bound = self.explore::<GAME>(&houses, asked_bar);
-            if asked_bar <= bound {
+            let asked_beta = beta.clamp(low + 1, high);
+            let bound = self.explore::<VARIANT>(&houses, asked_beta);
+            if asked_beta <= bound {
                 low = bound.min(high);
-                bar = low + 1;
+                beta = low + 1;
             } else {
                 high = bound.max(low);
-                bar = high;
+                beta = high;
             }
         }
         low
     }
 
-    /// Returns whether house `h` wins at least `bar` seeds.
-    pub fn move_reaches(&mut self, houses: &Houses, h: u8, bar: u8) -> bool
-        requires legal { Contains (legal_houses (bare houses.now)) h }
-        ensures { IsTrue result ↔ bar ≤ won_by_step (houses_step houses.now h) }
+    /// Returns whether house `h` wins at least `beta` seeds.
+    pub fn move_reaches(&mut self, houses: &Houses, h: u8, beta: u8) -> bool
+        requires legal { Contains (legal_houses (storeless houses.now)) h }
+        ensures { IsTrue result ↔ beta ≤ won_by_step (houses_step houses.now h) }
     {
-        in_its_game!(self.move_reaches_game(houses, h, bar))
+        in_its_variant!(self.move_reaches_in_variant(houses, h, beta))
     }
 
-    // Returns whether house `h` wins at least `bar` seeds, for houses of this game.
-    fn move_reaches_game<const GAME: u8>(&mut self, houses: &Houses, h: u8, bar: u8) -> bool
-        requires legal { Contains (legal_houses (bare houses.now)) h }
-        requires game { game_of houses.now ≡ GAME }
-        ensures { IsTrue result ↔ bar ≤ won_by_step (houses_step houses.now h) }
+    // Returns whether house `h` wins at least `beta` seeds, for houses of this variant.
+    fn move_reaches_in_variant<const VARIANT: u8>(
+        &mut self,
+        houses: &Houses,
+        h: u8,
+        beta: u8,
+    ) -> bool
+        requires legal { Contains (legal_houses (storeless houses.now)) h }
+        requires variant { variant_of houses.now ≡ VARIANT }
+        ensures { IsTrue result ↔ beta ≤ won_by_step (houses_step houses.now h) }
     {
         let _seeds = houses.seeds(); // For its clause: the houses are within the limits.
-        bar <= self.bound_step::<GAME>(houses.play(h), bar)
+        beta <= self.bound_step::<VARIANT>(houses.play(h), beta)
     }
 
-    // Returns a fail-soft bound of how many seeds the mover wins. From `bar` on it is a lower bound, and below `bar` an upper one.
+    // Returns a fail-soft bound of how many seeds the mover wins. From `beta` on it is a lower bound, and below `beta` an upper one.
     #[inline(always)]
     #[cycle(search)]
-    fn bound<const GAME: u8>(&mut self, houses: Houses, bar: u8) -> u8
-        requires going { is_over (bare houses) ≡ false }
-        requires game { game_of houses ≡ GAME }
-        ensures { IsSoftBound bar (won houses) result }
+    fn bound<const VARIANT: u8>(&mut self, houses: Houses, beta: u8) -> u8
+        requires going { is_over (storeless houses) ≡ false }
+        requires variant { variant_of houses ≡ VARIANT }
+        ensures { IsSoftBound beta (won houses) result }
     {
         if houses.seeds() <= self.ending_limit.seeds {
-            return self.table.won::<GAME>(houses);
+            return self.table.won::<VARIANT>(houses);
         }
-        self.bound_by_search::<GAME>(houses, bar)
+        self.bound_by_search::<VARIANT>(houses, beta)
     }
 
     // Returns a fail-soft bound of how many seeds the mover wins. The houses are no ending that is looked up.
     #[cycle(search)]
     #[inline(never)]
-    fn bound_by_search<const GAME: u8>(&mut self, houses: Houses, bar: u8) -> u8
-        requires going { is_over (bare houses) ≡ false }
-        requires game { game_of houses ≡ GAME }
-        ensures { IsSoftBound bar (won houses) result }
+    fn bound_by_search<const VARIANT: u8>(&mut self, houses: Houses, beta: u8) -> u8
+        requires going { is_over (storeless houses) ≡ false }
+        requires variant { variant_of houses ≡ VARIANT }
+        ensures { IsSoftBound beta (won houses) result }
     {
-        let houses = houses.known_game(GAME);
+        let houses = houses.known_variant(VARIANT);
         let known = self.known(&houses);
-        if bar <= known.least {
+        if beta <= known.least {
             return known.least;
         }
-        if known.most < bar {
+        if known.most < beta {
             return known.most;
         }
         let before = self.count_node();
-        let bound = self.explore::<GAME>(&houses, bar);
+        let bound = self.explore::<VARIANT>(&houses, beta);
         let work = self.work.nodes().saturating_sub(before);
-        let learned = if bar <= bound {
+        let learned = if beta <= bound {
             SeedBounds {
                 least: bound,
                 most: known.most,
@@ -258,21 +263,21 @@ impl<A: Allocator + Clone> Search<A> {
     // Returns a fail-soft bound of how many seeds the mover wins, found by trying the moves.
     #[inline(always)]
     #[cycle(search)]
-    fn explore<const GAME: u8>(&mut self, houses: &Houses, bar: u8) -> u8
-        requires going { is_over (bare houses.now) ≡ false }
-        requires game { game_of houses.now ≡ GAME }
-        ensures { IsSoftBound bar (won houses.now) result }
+    fn explore<const VARIANT: u8>(&mut self, houses: &Houses, beta: u8) -> u8
+        requires going { is_over (storeless houses.now) ≡ false }
+        requires variant { variant_of houses.now ≡ VARIANT }
+        ensures { IsSoftBound beta (won houses.now) result }
     {
         let houses = *houses;
         let seeds = houses.seeds();
-        let again = self.bound_again::<GAME>(&houses, bar);
-        if bar <= again {
+        let again = self.bound_again::<VARIANT>(&houses, beta);
+        if beta <= again {
             return again;
         }
         let mut priorities = [0u16; 8];
-        let mut turns = [houses.without_seeds(); 6]; // Of a known game they are a constant.
-        let others = self.others_waiting::<GAME>(&houses, bar, &mut priorities, &mut turns);
-        if bar <= others {
+        let mut turns = [houses.without_seeds(); 6]; // Of a known variant they are a constant.
+        let others = self.others_waiting::<VARIANT>(&houses, beta, &mut priorities, &mut turns);
+        if beta <= others {
             return others;
         }
         let mut most = again.max(others);
@@ -281,8 +286,8 @@ impl<A: Allocator + Clone> Search<A> {
             let at = (priority % 8) as usize;
             priorities[at] = 0;
             let next = turns[at];
-            let bound = self.bound_turn::<GAME>(seeds - next.seeds(), next, bar);
-            if bar <= bound {
+            let bound = self.bound_turn::<VARIANT>(seeds - next.seeds(), next, beta);
+            if beta <= bound {
                 return bound;
             }
             most = most.max(bound);
@@ -294,11 +299,11 @@ impl<A: Allocator + Clone> Search<A> {
     // Tries the moves that end in the store, the nearest to it first. Returns the most that they win, or a bound that is enough.
     #[inline(always)]
     #[cycle(search)]
-    fn bound_again<const GAME: u8>(&mut self, houses: &Houses, bar: u8) -> u8
-        requires going { is_over (bare houses.now) ≡ false }
-        requires game { game_of houses.now ≡ GAME }
-        ensures lower { bar ≤ result → result ≤ won houses.now }
-        ensures upper { result < bar → (h : ℕ) → Contains (legal_houses (bare houses.now)) h → EndsInStore houses.now h →
+    fn bound_again<const VARIANT: u8>(&mut self, houses: &Houses, beta: u8) -> u8
+        requires going { is_over (storeless houses.now) ≡ false }
+        requires variant { variant_of houses.now ≡ VARIANT }
+        ensures lower { beta ≤ result → result ≤ won houses.now }
+        ensures upper { result < beta → (h : ℕ) → Contains (legal_houses (storeless houses.now)) h → EndsInStore houses.now h →
             WinsAtMost houses.now result h }
     {
         let _seeds = houses.seeds(); // For its clause: the houses are within the limits.
@@ -307,8 +312,8 @@ impl<A: Allocator + Clone> Search<A> {
         while left > 0 {
             let (house, rest) = split_last(left);
             left = rest;
-            let bound = self.bound_step::<GAME>(houses.play_into_store(house), bar);
-            if bar <= bound {
+            let bound = self.bound_step::<VARIANT>(houses.play_into_store(house), beta);
+            if beta <= bound {
                 return bound;
             }
             most = most.max(bound);
@@ -320,31 +325,31 @@ impl<A: Allocator + Clone> Search<A> {
     // down, each with its priority, which is 0 for the others.
     #[inline(always)]
     #[cycle(search)]
-    fn others_waiting<const GAME: u8>(
+    fn others_waiting<const VARIANT: u8>(
         &mut self,
         houses: &Houses,
-        bar: u8,
+        beta: u8,
         priorities: &mut Priorities,
         turns: &mut [Houses; 6],
     ) -> u8
-        requires going { is_over (bare houses.now) ≡ false }
-        requires game { game_of houses.now ≡ GAME }
+        requires going { is_over (storeless houses.now) ≡ false }
+        requires variant { variant_of houses.now ≡ VARIANT }
         requires none { (k : ℕ) → slice_index priorities.old k ≡ 0 }
-        ensures { AreWaiting houses.now bar result priorities.new turns.new }
+        ensures { AreWaiting houses.now beta result priorities.new turns.new }
     {
         let mut most = 0;
         let mut left = other_houses(houses);
         while left > 0 {
             let (house, rest) = split_last(left);
             left = rest;
-            match self.look::<GAME>(houses, house, bar) {
+            match self.look::<VARIANT>(houses, house, beta) {
                 Look::Waits(priority, next) => {
                     let at = (priority % 8) as usize;
                     priorities[at] = priority;
                     turns[at] = next;
                 }
                 Look::Bounded(bound) => {
-                    if bar <= bound {
+                    if beta <= bound {
                         return bound;
                     }
                     most = most.max(bound);
@@ -357,59 +362,59 @@ impl<A: Allocator + Clone> Search<A> {
     // Plays this house. It waits if it is a turn that must be searched.
     #[inline(always)]
     #[cycle(search)]
-    fn look<const GAME: u8>(&mut self, houses: &Houses, house: House, bar: u8) -> Look
-        requires legal { Contains (legal_houses (bare houses.now)) house }
-        requires game { game_of houses.now ≡ GAME }
-        ensures { IsLook houses.now bar house result }
+    fn look<const VARIANT: u8>(&mut self, houses: &Houses, house: House, beta: u8) -> Look
+        requires legal { Contains (legal_houses (storeless houses.now)) house }
+        requires variant { variant_of houses.now ≡ VARIANT }
+        ensures { IsLook houses.now beta house result }
     {
         let _seeds = houses.seeds(); // For its clause: the houses are within the limits.
         let step = houses.play_by(&self.table.endings.sowings, house);
         match step {
             HousesStep::Turn(gained, next) => {
-                if gained < bar && next.seeds() > self.ending_limit.seeds {
+                if gained < beta && next.seeds() > self.ending_limit.seeds {
                     let priority = self.order.priority(houses.m(), house, gained, &next);
                     return Look::Waits(priority, next);
                 }
-                Look::Bounded(self.bound_turn::<GAME>(gained, next, bar))
+                Look::Bounded(self.bound_turn::<VARIANT>(gained, next, beta))
             }
-            _ => Look::Bounded(self.bound_step::<GAME>(step, bar)),
+            _ => Look::Bounded(self.bound_step::<VARIANT>(step, beta)),
         }
     }
 
     // Returns a fail-soft bound of what a step wins.
     #[inline(always)]
     #[cycle(search)]
-    fn bound_step<const GAME: u8>(&mut self, step: HousesStep, bar: u8) -> u8
-        requires on { GoesOn GAME step }
-        ensures { IsSoftBound bar (won_by_step step) result }
+    fn bound_step<const VARIANT: u8>(&mut self, step: HousesStep, beta: u8) -> u8
+        requires on { GoesOn VARIANT step }
+        ensures { IsSoftBound beta (won_by_step step) result }
     {
         match step {
             HousesStep::Over { own, .. } => own,
             HousesStep::Again(gained, next) => {
-                if bar <= gained {
+                if beta <= gained {
                     gained
                 } else {
-                    gained + self.bound::<GAME>(next, bar - gained)
+                    gained + self.bound::<VARIANT>(next, beta - gained)
                 }
             }
-            HousesStep::Turn(gained, next) => self.bound_turn::<GAME>(gained, next, bar),
+            HousesStep::Turn(gained, next) => self.bound_turn::<VARIANT>(gained, next, beta),
         }
     }
 
     // Returns a fail-soft bound of what a turn wins: the `gained` seeds that it brought to the store, and what the other player leaves.
     #[inline(always)]
     #[cycle(search)]
-    fn bound_turn<const GAME: u8>(&mut self, gained: u8, next: Houses, bar: u8) -> u8
-        requires on { GoesOnAt GAME gained next }
-        ensures { IsSoftBound bar (gained + (seeds_in_houses (bare next) - won next)) result }
+    fn bound_turn<const VARIANT: u8>(&mut self, gained: u8, next: Houses, beta: u8) -> u8
+        requires on { GoesOnAt VARIANT gained next }
+        ensures { IsSoftBound beta (gained + (seeds_in_houses (storeless next) - won next)) result }
     {
         let all = gained + next.seeds();
-        if bar <= gained {
+        if beta <= gained {
             gained
-        } else if all < bar {
+        } else if all < beta {
             all
         } else {
-            all - self.bound::<GAME>(next, all - bar + 1)
+            all - self.bound::<VARIANT>(next, all - beta + 1)
         }
     }
 }

@@ -1,6 +1,6 @@
 //! The solver: the worth of positions, by a search with a table.
 ghost use Rattle.std.specs.Prelude.{◌≡◌, ◌≤◌, IfOk, false};
-ghost use Rattle.kalah_rules.specs.Position.{is_over, bare};
+ghost use Rattle.kalah_rules.specs.Position.{is_over, storeless};
 ghost use Rattle.kalah_rules.specs.Play.{legal_houses};
 ghost use Rattle.kalah_solve.specs.Solver.Worth.{best_house, houses_worth};
 ghost use Rattle.kalah_solve.specs.Table.Entries.{most_entries, empty_table};
@@ -73,15 +73,15 @@ impl<A: Allocator + Clone> Solver<A> {
         }
         let houses = board.houses();
         let best = self.worth(&houses);
-        let bar = won_of(best, houses.seeds());
-        let house = self.first_house(&houses, &board.legal(), bar);
+        let beta = won_of(best, houses.seeds());
+        let house = self.first_house(&houses, &board.legal(), beta);
         let margin = best + (board.own_store() as i32 - board.other_store() as i32);
         Verdict::Best { margin, house }
     }
 
     // Returns what houses are worth to the player to move, by a search in the whole window.
     fn worth(&mut self, houses: &Houses) -> i32
-        requires { is_over (bare houses.now) ≡ false }
+        requires { is_over (storeless houses.now) ≡ false }
         ensures { result ≡ houses_worth houses.now }
     {
         let _seeds = houses.seeds(); // For its clause: the houses are within the limits.
@@ -89,17 +89,17 @@ impl<A: Allocator + Clone> Solver<A> {
     }
 
     // Returns the lowest-numbered house that wins as many seeds as best play. If all but the last fall short, it is the last.
-    fn first_house(&mut self, houses: &Houses, moves: &Moves, bar: u8) -> u8
-        requires moves { moves.now ≡ legal_houses (bare houses.now) }
-        requires going { is_over (bare houses.now) ≡ false }
-        requires best { bar ≡ won houses.now }
-        ensures { result ≡ best_house (bare houses.now) }
+    fn first_house(&mut self, houses: &Houses, moves: &Moves, beta: u8) -> u8
+        requires moves { moves.now ≡ legal_houses (storeless houses.now) }
+        requires going { is_over (storeless houses.now) ≡ false }
+        requires best { beta ≡ won houses.now }
+        ensures { result ≡ best_house (storeless houses.now) }
     {
         let _seeds = houses.seeds(); // For its clause: the houses are within the limits.
         let last = moves.len() - 1;
         for i in 0..last {
             let h = moves.get(i);
-            if self.search.move_reaches(houses, h, bar) {
+            if self.search.move_reaches(houses, h, beta) {
                 return h;
             }
         }

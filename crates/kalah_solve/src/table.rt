@@ -1,10 +1,10 @@
 //! A bounded table of what is known of houses.
 ghost use Rattle.std.specs.Prelude.{◌≡◌, ◌≤◌, ◌⊎◌, length, min, nat_eq, IfOk, IfSome, IsSome, Some, false};
 ghost use Rattle.std.specs.Map.{lookup};
-ghost use Rattle.kalah_rules.specs.Key.{key_of, game_of};
-ghost use Rattle.kalah_rules.specs.Position.{bare, is_over};
+ghost use Rattle.kalah_rules.specs.Key.{key_of, variant_of};
+ghost use Rattle.kalah_rules.specs.Position.{storeless, is_over};
 ghost use Rattle.kalah_solve.specs.Table.Entries.{most_entries, empty_table};
-ghost use Rattle.kalah_solve.specs.Table.DirectTable.{places_for};
+ghost use Rattle.kalah_solve.specs.Table.DirectTable.{slots_for};
 ghost use Rattle.kalah_solve.specs.Table.EndgameTable.{IsEnding};
 ghost use Rattle.kalah_solve.specs.Solver.Worth.{houses_worth};
 
@@ -31,29 +31,29 @@ pub fn limit_of_tables()
     ensures { most_entries ≡ 1048576 }
 {}
 
-/// The most places that a table has until all are laid out: they are made at once, and stay near the processor.
-const FIRST_PLACES: u32 = 8_192;
+/// The most slots that a table has until all are laid out: they are made at once, and stay near the processor.
+const FIRST_SLOTS: u32 = 8_192;
 
-/// What is known of houses: entries, places and endings. Contracts see the entries: intervals that hold the worth of houses, by their
+/// What is known of houses: entries, slots and endings. Contracts see the entries: intervals that hold the worth of houses, by their
 /// keys. If the table is full, a new entry replaces the least recently used one.
 #[derive(Drop)]
 pub struct Table<A: Allocator + Clone = Global> {
     entries: LruCache<u64, Interval, DefaultHasher, A>,
-    // What is known of houses with few seeds, each in its place.
-    pub(crate) places: DirectTable<A>,
+    // What is known of houses with few seeds, each in its slot.
+    pub(crate) slots: DirectTable<A>,
     // How many seeds the mover wins of endings, which have still fewer. Tables may share them.
     pub(crate) endings: Arc<EndgameTable<A>, A>,
 }
 
 impl<A: Allocator + Clone> Model for Table<A> {
-    ghost use Rattle.kalah_solve.specs.Table.DirectTable.{ArePlaces};
+    ghost use Rattle.kalah_solve.specs.Table.DirectTable.{AreSlots};
     ghost use Rattle.kalah_solve.specs.Table.Entries.{TableState, AreTrue};
 
     ghost Value = { TableState };
 
     ghost view = { λ t. record { entries = t.entries.entries; capacity = t.entries.cap } };
 
-    ghost invariant = { λ t. AreTrue t.entries.entries × ArePlaces t.entries.cap t.places };
+    ghost invariant = { λ t. AreTrue t.entries.entries × AreSlots t.entries.cap t.slots };
 }
 
 impl<A: Allocator + Clone> Table<A> {
@@ -93,48 +93,48 @@ impl<A: Allocator + Clone> Table<A> {
         requires high { capacity ≤ most_entries }
         ensures { IfOk result (λ t. t ≡ empty_table capacity) }
     {
-        let places = DirectTable::new(alloc.clone()?, capacity.min(FIRST_PLACES))?;
+        let slots = DirectTable::new(alloc.clone()?, capacity.min(FIRST_SLOTS))?;
         let capacity = NonZeroUsize::new(capacity as usize).unwrap();
         let entries = LruCache::sparse(alloc, capacity)?;
         Ok(Table {
             entries,
-            places,
+            slots,
             endings,
         })
     }
 
-    // Makes as many places as there is room for entries, with nothing known. It fails if there is no memory for them.
-    fn all_places(&self) -> Result<DirectTable<A>, AllocError>
-        ensures { IfOk result (λ p. length p ≡ places_for (min self.now.capacity most_entries)) }
+    // Makes as many slots as there is room for entries, with nothing known. It fails if there is no memory for them.
+    fn all_slots(&self) -> Result<DirectTable<A>, AllocError>
+        ensures { IfOk result (λ p. length p ≡ slots_for (min self.now.capacity most_entries)) }
     {
         let count = self.entries.cap().get().min(MOST_ENTRIES as usize);
         DirectTable::new(self.entries.allocator().clone()?, count as u32)
     }
 
-    // Lays out all places, unless they are, or there is no memory for them. The contents of the first ones are dropped.
+    // Lays out all slots, unless they are, or there is no memory for them. The contents of the first ones are dropped.
     #[cold]
     #[inline(never)]
     pub(crate) fn grow(&mut self)
         ensures { self.new ≡ self.old }
     {
-        if self.places.len() >= self.entries.cap().get() {
+        if self.slots.len() >= self.entries.cap().get() {
             return;
         }
-        if let Ok(places) = self.all_places() {
-            self.places = places;
+        if let Ok(slots) = self.all_slots() {
+            self.slots = slots;
         }
     }
 
     // Returns how many seeds the mover wins of an ending. It stands apart from the search, whose own functions are
     // small enough to be inlined then.
     #[inline(never)]
-    pub(crate) fn won<const GAME: u8>(&self, houses: Houses) -> u8
-        requires going { is_over (bare houses) ≡ false }
-        requires game { game_of houses ≡ GAME }
+    pub(crate) fn won<const VARIANT: u8>(&self, houses: Houses) -> u8
+        requires going { is_over (storeless houses) ≡ false }
+        requires variant { variant_of houses ≡ VARIANT }
         requires few { IsEnding houses }
         ensures { result ≡ won houses }
     {
-        self.endings.won::<GAME>(houses)
+        self.endings.won::<VARIANT>(houses)
     }
 
     // Returns the interval known for the houses, which become the most recently used.

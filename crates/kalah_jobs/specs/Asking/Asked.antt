@@ -14,7 +14,7 @@ use Rattle.kalah_jobs.specs.Limits.{most_bytes}
 use Rattle.kalah_jobs.specs.Files.Lines.{line_feed, lines_of, HasNoLineFeed}
 use Rattle.kalah_jobs.specs.Files.NamedBytes.{NamedBytes}
 use Rattle.kalah_jobs.specs.Files.Question.{entry_to}
-use Rattle.kalah_jobs.specs.Writing.Answer.{answer_of, answer_texts, answer_words, in_one_line, place_words}
+use Rattle.kalah_jobs.specs.Writing.Answer.{answer_of, answer_texts, joined_text, in_one_line, place_text}
 use Rattle.kalah_jobs.specs.Writing.Output.{is_faulty, output_to, line_output}
 use Rattle.kalah_jobs.specs.Writing.Given.{SinkState}
 use Rattle.kalah_jobs.specs.Writing.Splitting.{EndsWithItsLine}
@@ -30,7 +30,7 @@ bytes_of (Some byte) = byte ∷ []
 
 -- the answer to a line, and a line feed
 abbrev pub told : Question → List ℕ → List ℕ
-told question line = answer_words (answer_of (entry_to question line)) ++ line_feed ∷ []
+told question line = joined_text (answer_of (entry_to question line)) ++ line_feed ∷ []
 
 -- the answer to what stands after the last line feed, if anything does, and whether it is read
 abbrev pub told_last : Question → List ℕ → List ℕ
@@ -114,12 +114,12 @@ texts_told question line = answer_texts (answer_of (entry_to question line))
 -- begins with whole lines is answered as they are, and then as the rest is.
 pub record AnswersAreThoseOfAFile : Type 0 where
   pub lines : (question : Question) → question ≢ Steps → (name : List ℕ) (number : ℕ) (line : List ℕ) →
-      line_output question name (number, line) ≡ place_words name number ++ told question line
+      line_output question name (number, line) ≡ place_text name number ++ told question line
   pub file : (question : Question) → question ≢ Steps → (file : NamedBytes) →
-      output_to question (file ∷ []) ≡ flat_map (λ p. place_words file.name p.0 ++ told question p.1)
+      output_to question (file ∷ []) ≡ flat_map (λ p. place_text file.name p.0 ++ told question p.1)
       (enumerate_from 0 (lines_of file.bytes))
   pub texts : (question : Question) (line : List ℕ) → told question line ≡ in_one_line (texts_told question line) ++ line_feed ∷ []
   pub placed : (question : Question) (name : List ℕ) (number : ℕ) (line : List ℕ) → line_output question name (number, line)
-      ≡ join_with_byte line_feed (map (λ text. place_words name number ++ text) (texts_told question line)) ++ line_feed ∷ []
+      ≡ join_with_byte line_feed (map (λ text. place_text name number ++ text) (texts_told question line)) ++ line_feed ∷ []
   pub parts : (question : Question) (lines more : List ℕ) → EndsWithItsLine lines →
       answers_to question (lines ++ more) ≡ answers_to question lines ++ answers_to question more

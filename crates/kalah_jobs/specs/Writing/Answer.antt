@@ -49,12 +49,12 @@ abbrev pub is_faulty_entry : Entry → Bool
 is_faulty_entry entry = is_fault (answer_of entry)
 
 -- `H:V`
-abbrev pub value_words : MoveValue → List ℕ
-value_words v = decimal v.house ++ (codes ":" ++ signed_decimal v.value)
+abbrev pub value_text : MoveValue → List ℕ
+value_text v = decimal v.house ++ (codes ":" ++ signed_decimal v.value)
 
 -- the values with a space between any two
-abbrev pub values_words : List MoveValue → List ℕ
-values_words values = join_with_byte space (map value_words values)
+abbrev pub values_text : List MoveValue → List ℕ
+values_text values = join_with_byte space (map value_text values)
 
 -- `H POSITION again`, `H POSITION turn` or `H POSITION over` for each legal house, in ascending order
 abbrev pub steps_texts : position.Position → List (List ℕ)
@@ -65,7 +65,7 @@ steps_texts p = map (λ h. step_text_of h (step_of p h)) (legal_houses p)
 abbrev pub answer_texts : Answer → List (List ℕ)
 answer_texts (Best margin house) = (signed_decimal margin ++ (codes " house " ++ decimal house)) ∷ []
 answer_texts (Over margin) = (signed_decimal margin ++ codes " over") ∷ []
-answer_texts (Values values) = values_words values ∷ []
+answer_texts (Values values) = values_text values ∷ []
 answer_texts (Steps p) = steps_texts p
 answer_texts (Fault fault) = (codes "fault " ++ word_of fault) ∷ []
 
@@ -84,13 +84,13 @@ in_one_line (text ∷ []) = text
 in_one_line (text ∷ next ∷ texts) = text ++ (codes "; " ++ in_one_line (next ∷ texts))
 
 -- the answer in one line
-abbrev pub answer_words : Answer → List ℕ
-answer_words answer = in_one_line (answer_texts answer)
+abbrev pub joined_text : Answer → List ℕ
+joined_text answer = in_one_line (answer_texts answer)
 
 -- what stands before each text in the line that has it, of a line given with its number, which counts from 0: `NAME:LINE `
-abbrev pub place_words : List ℕ → ℕ → List ℕ
-place_words name number = name ++ (codes ":" ++ (decimal (number + 1) ++ codes " "))
+abbrev pub place_text : List ℕ → ℕ → List ℕ
+place_text name number = name ++ (codes ":" ++ (decimal (number + 1) ++ codes " "))
 
 -- `NAME:LINE TEXT`, where lines count from 1, for each text of the answer, with a line feed between any two
 abbrev pub answer_line : List ℕ → Taken → List ℕ
-answer_line name taken = join_with_byte line_feed (map (λ text. place_words name taken.line ++ text) (answer_texts taken.answer))
+answer_line name taken = join_with_byte line_feed (map (λ text. place_text name taken.line ++ text) (answer_texts taken.answer))

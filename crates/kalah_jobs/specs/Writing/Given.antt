@@ -3,8 +3,8 @@ use Rattle.std.specs.Prelude.{◌≡◌, ℕ, Bool, true, false, List, Option, t
 use Rattle.std.specs.Io.KnownBytes.{Appends}
 
 -- known bytes stay at the front and grow by a prefix of bs: by its first n bytes, for some n
-abbrev pub AppendsStart : Option (List ℕ) → Option (List ℕ) → List ℕ → Type 0
-AppendsStart old new bs = (n : ℕ) × Appends old new (take n bs)
+abbrev pub AppendsPrefix : Option (List ℕ) → Option (List ℕ) → List ℕ → Type 0
+AppendsPrefix old new bs = (n : ℕ) × Appends old new (take n bs)
 
 -- what a contract sees of a sink: the bytes written so far, if they are known; whether a call has failed; whether all that was
 -- written is flushed; and whether it may keep bytes in its buffer while the caller waits
@@ -22,6 +22,7 @@ IsReady sink = sink.has_failed ≡ false → sink.may_buffer ≡ false → sink.
 -- it, and nothing else. If a call had failed before, it was not called again.
 module _ {O : Type 0} (state : O → SinkState) where
   pub record WasGiven (old new : O) (text : List ℕ) : Type 0 where
-    pub start : AppendsStart (state old).written (state new).written text
-    pub whole : (state new).has_failed ≡ false → ((state old).has_failed ≡ false) × Appends (state old).written (state new).written text
+    pub start : AppendsPrefix (state old).written (state new).written text
+    pub whole : (state new).has_failed ≡ false
+        → ((state old).has_failed ≡ false) × Appends (state old).written (state new).written text
     pub quiet : (state old).has_failed ≡ true → new ≡ old

@@ -39,11 +39,11 @@ abbrev pub is_faulty : List ℕ → Bool
 is_faulty line = is_faulty_entry (entry_of line)
 
 -- the number of lines answered, and the number of faults among them
-pub record LineCounts : Type 0 where
+pub record TallyState : Type 0 where
   pub lines : ℕ
   pub faults : ℕ
 
-unfoldable pub tally_of : List NamedBytes → LineCounts
+unfoldable pub tally_of : List NamedBytes → TallyState
 tally_of files = record {
   lines = sum_by (λ file. length (lines_of file.bytes)) files;
   faults = sum_by (λ file. count_by is_faulty (lines_of file.bytes)) files;

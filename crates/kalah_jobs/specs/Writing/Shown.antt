@@ -19,12 +19,12 @@ value_columns filled [] = []
 value_columns filled (v ∷ vs) = empty_columns (v.house - filled) ++ (value_cell v.value ++ value_columns (v.house + 1) vs)
 
 -- `over, margin M`
-abbrev pub over_words : ℤ → List ℕ
-over_words margin = codes "over, margin " ++ signed_decimal margin
+abbrev pub over_text : ℤ → List ℕ
+over_text margin = codes "over, margin " ++ signed_decimal margin
 
 -- below a picture: the final margin of a game that is over, otherwise what each move is worth, below its house
 abbrev pub values_line : Position → List ℕ
-values_line p = if is_over p then over_words (final_margin p) else value_columns 0 (values_of p)
+values_line p = if is_over p then over_text (final_margin p) else value_columns 0 (values_of p)
 
 -- the picture, and that line
 unfoldable pub shown_of : Position → List ℕ

@@ -33,7 +33,7 @@ fn answer_each<I: Read + Drop, O: Sink>(
     ensures begins { IsBegun question (unread I.remaining input.old) (unread I.remaining input.new)
         (O.state out.old).written (O.state out.new).written }
     ensures failed { (O.state out.new).has_failed ≡ true ↔ IsErrOf result AskFault.Write }
-    ensures handed_on { (O.state out.new).has_failed ≡ false → (O.state out.new).is_flushed ≡ true }
+    ensures all_flushed { (O.state out.new).has_failed ≡ false → (O.state out.new).is_flushed ≡ true }
     // After a read fault no byte is left to give, of the most that a `u64` counts.
     ensures none_left { IsErrOf result AskFault.Read → input.new.left ≡ 0 }
 {
@@ -86,7 +86,7 @@ pub fn answer_lines<I: Read + Drop, O: Sink>(
         (O.state out.old).written (O.state out.new).written }
     ensures failed { (O.state out.new).has_failed ≡ true ↔ IsErrOf result AskFault.Write }
     // If no write failed, all that was written is flushed.
-    ensures handed_on { (O.state out.new).has_failed ≡ false → (O.state out.new).is_flushed ≡ true }
+    ensures all_flushed { (O.state out.new).has_failed ≡ false → (O.state out.new).is_flushed ≡ true }
 {
     let mut reader = PromptReader::new(input, question, out);
     answer_each(&mut reader, question, &mut PromptSolver::new(solver), out)

@@ -42,7 +42,7 @@ fn read_ahead<I: Read + Drop, O: Sink>(
     left: &mut u64,
     _out: &O,
 ) -> Result<(), AskFault>
-    requires handed_on { (O.state _out.now).is_flushed ≡ true }
+    requires all_flushed { (O.state _out.now).is_flushed ≡ true }
     ensures keeps { Keeps (reader_remaining I.remaining input.old) (reader_remaining I.remaining input.new) }
     ensures end { OnOk result (reader_buffer input.new ≡ []
         → IsAtEnd (reader_remaining I.remaining input.old)) }
@@ -94,7 +94,7 @@ impl<'a, I: Read + Drop, O: Sink> PromptReader<'a, I, O> {
         ensures untaken { OnErr result (Keeps (unread I.remaining self.old) (unread I.remaining self.new)) }
         ensures keeps { Keeps (O.state out.old).written (O.state out.new).written }
         ensures failed { (O.state out.new).has_failed ≡ true ↔ IsErrOf result AskFault.Write }
-        ensures handed_on { IsErrOf result AskFault.Read → (O.state out.new).is_flushed ≡ true }
+        ensures all_flushed { IsErrOf result AskFault.Read → (O.state out.new).is_flushed ≡ true }
         ensures counted { IfOk result (λ byte. self.new.left + length (bytes_of byte) ≡ self.old.left) }
         ensures none_left { IsErrOf result AskFault.Read → self.new.left ≡ 0 }
     {

@@ -36,7 +36,7 @@ impl<'a> PromptSolver<'a> {
 
     // Finds the answer to what a line asks. Only if that may take a while is all flushed.
     pub(crate) fn answer<O: Sink>(&mut self, entry: &Entry, _out: &O) -> Answer
-        requires handed_on { TakesLong entry.now → (O.state _out.now).is_flushed ≡ true }
+        requires all_flushed { TakesLong entry.now → (O.state _out.now).is_flushed ≡ true }
         ensures { result ≡ answer_of entry.now }
     {
         answer_to(entry, self.solver)

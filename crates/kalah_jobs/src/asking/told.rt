@@ -8,7 +8,7 @@ use crate::asking::line_head::LineHead;
 use crate::asking::prompt_solver::{PromptSolver, takes_long};
 use crate::files::entry::Entry;
 use crate::files::question::Question;
-use crate::writing::answer_line::write_words;
+use crate::writing::answer_line::write_text;
 use crate::writing::sink::{Sink, flush_unless_failed};
 
 // Writes the answer to a line, and a line feed, and returns whether the line was read.
@@ -30,7 +30,7 @@ pub(crate) fn tell<O: Sink>(
         }
     }
     let answer = solver.answer(&entry, out);
-    write_words(out, &answer);
+    write_text(out, &answer);
     is_read
 }
 
@@ -44,7 +44,7 @@ pub(crate) fn tell_last<O: Sink>(
 ) -> bool
     ensures given { WasGiven O.state out.old out.new (told_last question line.now) }
     ensures read { result ≡ is_last_read line.now }
-    ensures handed_on { (O.state out.new).has_failed ≡ false → (O.state out.new).is_flushed ≡ true }
+    ensures all_flushed { (O.state out.new).has_failed ≡ false → (O.state out.new).is_flushed ≡ true }
 {
     let is_read = line.bytes().is_empty() || tell(line, question, solver, out);
     flush_unless_failed(out);

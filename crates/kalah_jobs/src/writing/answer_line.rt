@@ -2,8 +2,8 @@
 ghost use Rattle.std.specs.Prelude.{◌≡◌, ◌+◌, ◌*◌, ◌≤◌, ◌↔◌, ◌∷◌, [], ◌++◌, true, false, IfOk, IsErr, OnOk, drop, length, codes, decimal, string_bytes};
 ghost use Rattle.std.specs.Io.KnownBytes.{Appends};
 ghost use Rattle.kalah_jobs.specs.Files.Lines.{line_feed};
-ghost use Rattle.kalah_jobs.specs.Writing.Answer.{answer_line, answer_words, value_words, values_words, IsOfOneLine};
-ghost use Rattle.kalah_jobs.specs.Writing.Given.{AppendsStart, WasGiven};
+ghost use Rattle.kalah_jobs.specs.Writing.Answer.{answer_line, joined_text, value_text, values_text, IsOfOneLine};
+ghost use Rattle.kalah_jobs.specs.Writing.Given.{AppendsPrefix, WasGiven};
 
 use crate::writing::answer::{Answer, Taken};
 use crate::writing::named_text::write_named;
@@ -18,7 +18,7 @@ use std::io;
 // Puts the value of a move, with its house before it, in front of the text.
 fn prepend_value(text: &mut StackText, value: MoveValue)
     requires { length text.old + 15 ≤ ROOM }
-    ensures value { text.new ≡ value_words value ++ text.old }
+    ensures value { text.new ≡ value_text value ++ text.old }
     ensures short { length text.new ≤ length text.old + 15 }
 {
     text.prepend_margin(i32::from(value.value));
@@ -32,7 +32,7 @@ fn prepend_value(text: &mut StackText, value: MoveValue)
 fn prepend_values(text: &mut StackText, values: &MoveValues, i: u8)
     requires within { i ≤ length values.now }
     requires room { length text.old + 96 ≤ ROOM }
-    ensures values { text.new ≡ values_words (drop i values.now) ++ text.old }
+    ensures values { text.new ≡ values_text (drop i values.now) ++ text.old }
     ensures short { length text.new + 16 * i ≤ length text.old + 96 }
 {
     if i == values.len() {
@@ -49,10 +49,10 @@ fn prepend_values(text: &mut StackText, values: &MoveValues, i: u8)
 
 // Puts an answer in words in front of the text.
 #[inline(always)]
-fn prepend_words(text: &mut StackText, answer: &Answer)
+fn prepend_text(text: &mut StackText, answer: &Answer)
     requires room { length text.old + 96 ≤ ROOM }
     requires one_line { IsOfOneLine answer.now }
-    ensures words { text.new ≡ answer_words answer.now ++ text.old }
+    ensures words { text.new ≡ joined_text answer.now ++ text.old }
     ensures short { length text.new ≤ length text.old + 96 }
 {
     match *answer {
@@ -103,7 +103,7 @@ pub fn answer_text(alloc: Global, name: &str, taken: &Taken) -> Result<String, A
             push_steps(&mut text, name, ending.as_str(), board)?;
         }
         _ => {
-            prepend_words(&mut ending, &taken.answer);
+            prepend_text(&mut ending, &taken.answer);
             prepend_place(&mut ending, taken.line);
             text.push_str(name)?;
             text.push_str(ending.as_str())?;
@@ -125,7 +125,7 @@ fn write_texts<W: Sink>(out: &mut W, name: &str, taken: &Taken)
         }
         _ => {
             text.prepend("\n");
-            prepend_words(&mut text, &taken.answer);
+            prepend_text(&mut text, &taken.answer);
             prepend_place(&mut text, taken.line);
             write_named(out, name, &mut text);
         }
@@ -142,7 +142,7 @@ pub fn write_answer<W: Sink>(out: &mut W, name: &str, taken: &Taken) -> Result<(
     ensures fails { IsErr result ↔ ((W.state out.new).has_failed ≡ true) }
     ensures adds { OnOk result
         (Appends (W.state out.old).written (W.state out.new).written (answer_line name.now taken.now ++ line_feed ∷ [])) }
-    ensures start { AppendsStart (W.state out.old).written (W.state out.new).written (answer_line name.now taken.now ++ line_feed ∷ []) }
+    ensures start { AppendsPrefix (W.state out.old).written (W.state out.new).written (answer_line name.now taken.now ++ line_feed ∷ []) }
 {
     write_texts(out, name, taken);
     if out.failed() {
@@ -152,15 +152,15 @@ pub fn write_answer<W: Sink>(out: &mut W, name: &str, taken: &Taken) -> Result<(
 }
 
 // Writes an answer in words, and a line feed.
-pub(crate) fn write_words<W: Sink>(out: &mut W, answer: &Answer)
-    ensures { WasGiven W.state out.old out.new (answer_words answer.now ++ line_feed ∷ []) }
+pub(crate) fn write_text<W: Sink>(out: &mut W, answer: &Answer)
+    ensures { WasGiven W.state out.old out.new (joined_text answer.now ++ line_feed ∷ []) }
 {
     match answer {
         Answer::Steps(board) => write_steps_in_line(out, board),
         _ => {
             let mut text = StackText::new();
             text.prepend("\n");
-            prepend_words(&mut text, answer);
+            prepend_text(&mut text, answer);
             write_unless_failed(out, text.bytes());
         }
     }

@@ -5,7 +5,7 @@ ghost use Rattle.kalah_rules.specs.Position.{IsSmallMargin};
 ghost use Rattle.kalah_solve.specs.Solver.MoveValues.{values_of};
 ghost use Rattle.kalah_jobs.specs.Files.Lines.{line_feed};
 ghost use Rattle.kalah_jobs.specs.Writing.Given.{WasGiven};
-ghost use Rattle.kalah_jobs.specs.Writing.Shown.{AreSmall, AscendFrom, over_words, value_cell, value_columns, values_line};
+ghost use Rattle.kalah_jobs.specs.Writing.Shown.{AreSmall, AscendFrom, over_text, value_cell, value_columns, values_line};
 
 use crate::writing::picture::COLUMN;
 use crate::writing::sink::{Sink, write_unless_failed};

@@ -1,7 +1,7 @@
 //! The sinks that answers are written to: bytes go out in order until a call fails, and none after that.
 ghost use Rattle.std.specs.Prelude.{◌≡◌, ◌↔◌, [], true, false, OnOk, IsErr};
 ghost use Rattle.std.specs.Io.KnownBytes.{Appends, Keeps};
-ghost use Rattle.kalah_jobs.specs.Writing.Given.{AppendsStart, IsReady, SinkState, WasGiven};
+ghost use Rattle.kalah_jobs.specs.Writing.Given.{AppendsPrefix, IsReady, SinkState, WasGiven};
 
 use std::io;
 
@@ -16,7 +16,7 @@ pub trait Sink {
         requires { (state self.old).has_failed ≡ false }
         ensures fails { IsErr result ↔ ((state self.new).has_failed ≡ true) }
         ensures adds { OnOk result (Appends (state self.old).written (state self.new).written bytes.now) }
-        ensures start { AppendsStart (state self.old).written (state self.new).written bytes.now };
+        ensures start { AppendsPrefix (state self.old).written (state self.new).written bytes.now };
 
     /// Flushes what is still buffered, and writes nothing of its own. It fails exactly when
     /// the sink has failed afterwards; otherwise nothing is buffered any more.
@@ -56,7 +56,7 @@ pub fn write_unless_failed<O: Sink>(out: &mut O, bytes: &[u8])
 #[tactic(auto, using(crate::proofs::WritingLemmas::given_flush, crate::proofs::WritingLemmas::given_off))]
 pub fn flush_unless_failed<O: Sink>(out: &mut O)
     ensures given { WasGiven O.state out.old out.new [] }
-    ensures handed_on { (O.state out.new).has_failed ≡ false → (O.state out.new).is_flushed ≡ true }
+    ensures all_flushed { (O.state out.new).has_failed ≡ false → (O.state out.new).is_flushed ≡ true }
 {
     if !out.failed() {
         let _ = out.flush();

@@ -1,7 +1,7 @@
 //! The sink over a writer.
 ghost use Rattle.std.specs.Prelude.{◌≡◌, false, true, OnOk};
 ghost use Rattle.std.specs.Io.KnownBytes.{Appends};
-ghost use Rattle.kalah_jobs.specs.Writing.Given.{AppendsStart};
+ghost use Rattle.kalah_jobs.specs.Writing.Given.{AppendsPrefix};
 ghost use Rattle.kalah_jobs.specs.Writing.Stream.{stream_failed, stream_flushed, stream_writer};
 
 use crate::Sink;
@@ -15,7 +15,7 @@ use std::io::{ErrorKind, Write};
 fn write_rest<W: Write>(writer: &mut W, bytes: &[u8]) -> io::Result<()>
     ensures adds { OnOk result
         (Appends (W.contents writer.old) (W.contents writer.new) bytes.now) }
-    ensures start { AppendsStart (W.contents writer.old) (W.contents writer.new) bytes.now }
+    ensures start { AppendsPrefix (W.contents writer.old) (W.contents writer.new) bytes.now }
 {
     let mut rest = bytes;
     for _ in 0..u64::MAX {
@@ -39,7 +39,7 @@ fn write_rest<W: Write>(writer: &mut W, bytes: &[u8]) -> io::Result<()>
 pub fn write_pieces<W: Write>(writer: &mut W, bytes: &[u8]) -> io::Result<()>
     ensures adds { OnOk result
         (Appends (W.contents writer.old) (W.contents writer.new) bytes.now) }
-    ensures start { AppendsStart (W.contents writer.old) (W.contents writer.new) bytes.now }
+    ensures start { AppendsPrefix (W.contents writer.old) (W.contents writer.new) bytes.now }
 {
     if bytes.is_empty() {
         return Ok(());

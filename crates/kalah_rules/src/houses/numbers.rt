@@ -47,8 +47,8 @@ pub(super) fn cells_of(number: u64) -> [u8; 6]
     ]
 }
 
-// Returns the number of the game with `m` houses a side and this rule.
-pub(super) fn game_number(m: u8, rule: Rule) -> u32
+// Returns the number of the variant with `m` houses a side and this rule.
+pub(super) fn variant_number(m: u8, rule: Rule) -> u32
     ensures { result ≡ m + 8 * rule_bit rule }
 {
     match rule {

@@ -1,6 +1,6 @@
 //! The one sowing: moves on houses, by whole rows.
 ghost use Rattle.std.specs.Prelude.{◌≡◌, ◌+◌, ◌-◌, ◌*◌, ◌<◌, ◌≤◌, ◌==◌, ◌&&◌, length, Contains, MatchBool};
-ghost use Rattle.kalah_rules.specs.Position.{bare, seeds, IsWithinHouses};
+ghost use Rattle.kalah_rules.specs.Position.{storeless, seeds, IsWithinHouses};
 ghost use Rattle.kalah_rules.specs.Lap.{HoldsSeeds};
 ghost use Rattle.kalah_rules.specs.Play.{legal_houses};
 ghost use Rattle.kalah_rules.specs.Sowing.{sown, captures, after, is_again};
@@ -43,9 +43,9 @@ impl Houses {
     // Sows this house.
     #[inline(always)]
     fn sow(&self, house: House, sowing: Sowing) -> RowNumbers
-        requires holds { HoldsSeeds (bare self.now) house }
+        requires holds { HoldsSeeds (storeless self.now) house }
         requires sowing { IsSowing (length self.now.own) house (seeds self.now.own house) sowing }
-        ensures shows { IsPackedPosition result (sown (bare self.now) house) }
+        ensures shows { IsPackedPosition result (sown (storeless self.now) house) }
         ensures few { result.store ≤ 31 }
         ensures limits { IsWithinHouses self.now }
     {
@@ -58,9 +58,9 @@ impl Houses {
     // Returns the rows after the move of this house: those of its sowing, less what the last seed captures.
     #[inline(always)]
     fn after(&self, house: House, sowing: Sowing) -> RowNumbers
-        requires holds { HoldsSeeds (bare self.now) house }
+        requires holds { HoldsSeeds (storeless self.now) house }
         requires sowing { IsSowing (length self.now.own) house (seeds self.now.own house) sowing }
-        ensures { IsPackedPosition result (after (bare self.now) house) }
+        ensures { IsPackedPosition result (after (storeless self.now) house) }
     {
         let sown = self.sow(house, sowing);
         let single = sown.rows & sowing.last_house == sowing.last_seed;
@@ -77,7 +77,7 @@ impl Houses {
     /// of `play`, computed with less work.
     #[inline(always)]
     pub fn play_into_store(&self, house: House) -> HousesStep
-        requires legal { Contains (legal_houses (bare self.now)) house }
+        requires legal { Contains (legal_houses (storeless self.now)) house }
         requires ends { seeds self.now.own house + house ≡ length self.now.own + 1 }
         ensures { result ≡ houses_step self.now house }
     {
@@ -85,8 +85,15 @@ impl Houses {
         let rows = lifted + (one_each(self.m()) - one_each_to(house));
         let seeds = self.seeds - 1;
         if rows % OTHER_ROW > 0 {
-            let game = self.game;
-            return HousesStep::Again(1, Houses { rows, seeds, game });
+            let variant = self.variant;
+            return HousesStep::Again(
+                1,
+                Houses {
+                    rows,
+                    seeds,
+                    variant,
+                },
+            );
         }
         HousesStep::Over {
             own: 1,
@@ -97,9 +104,9 @@ impl Houses {
     // Returns the step of this house, from the rows after its move and whether it moves again.
     #[inline(always)]
     fn step(&self, house: House, rows: RowNumbers, again: bool) -> HousesStep
-        requires legal { Contains (legal_houses (bare self.now)) house }
-        requires rows { IsPackedPosition rows (after (bare self.now) house) }
-        requires again { again ≡ is_again (bare self.now) house }
+        requires legal { Contains (legal_houses (storeless self.now)) house }
+        requires rows { IsPackedPosition rows (after (storeless self.now) house) }
+        requires again { again ≡ is_again (storeless self.now) house }
         ensures { result ≡ houses_step self.now house }
     {
         let seeds = self.seeds - rows.store;
@@ -118,20 +125,34 @@ impl Houses {
                 other: 0,
             };
         }
-        let game = self.game;
+        let variant = self.variant;
         if again {
             let rows = rows.rows;
-            HousesStep::Again(gained, Houses { rows, seeds, game })
+            HousesStep::Again(
+                gained,
+                Houses {
+                    rows,
+                    seeds,
+                    variant,
+                },
+            )
         } else {
             let rows = other + OTHER_ROW * own;
-            HousesStep::Turn(gained, Houses { rows, seeds, game })
+            HousesStep::Turn(
+                gained,
+                Houses {
+                    rows,
+                    seeds,
+                    variant,
+                },
+            )
         }
     }
 
     // Plays this house, whose seeds are sown so.
     #[inline(always)]
     fn play_as(&self, house: House, sowing: Sowing) -> HousesStep
-        requires legal { Contains (legal_houses (bare self.now)) house }
+        requires legal { Contains (legal_houses (storeless self.now)) house }
         requires sowing { IsSowing (length self.now.own) house (seeds self.now.own house) sowing }
         ensures { result ≡ houses_step self.now house }
     {
@@ -146,7 +167,7 @@ impl Houses {
     /// If the houses of one player are then all empty, the game is over, and each player's houses are swept into that
     /// player's store.
     pub fn play(&self, h: u8) -> HousesStep
-        requires { Contains (legal_houses (bare self.now)) h }
+        requires { Contains (legal_houses (storeless self.now)) h }
         ensures { result ≡ houses_step self.now h }
     {
         let sowing = Sowing::new(self.m(), h, self.own(h));
@@ -156,7 +177,7 @@ impl Houses {
     /// Plays a house of the mover, which must be legal. The result is that of `play`, computed with less work.
     #[inline(always)]
     pub fn play_by(&self, sowings: &Sowings, house: House) -> HousesStep
-        requires { Contains (legal_houses (bare self.now)) house }
+        requires { Contains (legal_houses (storeless self.now)) house }
         ensures { result ≡ houses_step self.now house }
     {
         self.play_as(house, sowings.get(self.m(), house, self.own_in(house)))

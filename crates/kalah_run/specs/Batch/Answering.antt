@@ -1,23 +1,23 @@
 -- What a batch promises, for each question.
 use Rattle.std.specs.Prelude.{◌≡◌, ◌<◌, ◌≤◌, ℕ, List, Bool, Result, Ok, Err, length, count_by, true, false, IfErr, ◌⊎◌, Option, IfOk}
 use Rattle.std.specs.Io.KnownBytes.{Appends, Keeps}
-use Rattle.kalah_jobs.specs.Writing.Given.{AppendsStart, SinkState}
+use Rattle.kalah_jobs.specs.Writing.Given.{AppendsPrefix, SinkState}
 use Rattle.kalah_jobs.specs.Limits.{most_files, most_lines}
 use Rattle.kalah_jobs.specs.Files.Jobs.{AreFew, lines_in_all}
 use Rattle.kalah_jobs.specs.declared.files.entry.Entry.{Entry}
 use Rattle.kalah_jobs.specs.Files.JobList.{job_list}
 use Rattle.kalah_jobs.specs.Files.NamedBytes.{NamedBytes}
-use Rattle.kalah_jobs.specs.Writing.Output.{LineCounts, tally_of, is_faulty_job, output_to}
+use Rattle.kalah_jobs.specs.Writing.Output.{TallyState, tally_of, is_faulty_job, output_to}
 use Rattle.kalah_run.specs.declared.batch.run_fault.RunFault.{RunFault}
 use Rattle.kalah_run.specs.declared.batch.run_fault.RunFault.TheVariants.{TooManyFiles, TooManyLines, OutOfMemory, NoWorker, Write}
 use Rattle.kalah_jobs.specs.declared.files.question.Question.{Question}
 
 -- the lines of these jobs, and those of them that are answered by a fault
-abbrev pub counts_of : List (List Entry) → LineCounts
+abbrev pub counts_of : List (List Entry) → TallyState
 counts_of jobs = record { lines = length (job_list jobs); faults = count_by is_faulty_job (job_list jobs) }
 
 -- The gate hears of the job of each line, unless the batch failed otherwise than by a write.
-abbrev pub HearsAll : (ℕ → Bool) → List NamedBytes → Result LineCounts RunFault → Type 0
+abbrev pub HearsAll : (ℕ → Bool) → List NamedBytes → Result TallyState RunFault → Type 0
 HearsAll knows files result = IfErr result (λ e. e ≡ Write) → (job : ℕ) → job < lines_in_all files → knows job ≡ true
 
 -- The lines of these files have this output, and a sink was `old` before they were answered and is `new` afterwards.
@@ -27,7 +27,7 @@ module _ {W : Type 0} (state : W → SinkState) (output : List ℕ) (files : Lis
   IsUntouched = (new ≡ old) × ((state new).has_failed ≡ false)
 
   -- the output was written, and nothing else, all of it is flushed, and lines and faults are counted
-  pub record AnswersAll (tally : LineCounts) : Type 0 where
+  pub record AnswersAll (tally : TallyState) : Type 0 where
     pub few : AreFew files
     pub written : Appends (state old).written (state new).written output
     pub sound : (state new).has_failed ≡ false
@@ -35,25 +35,25 @@ module _ {W : Type 0} (state : W → SinkState) (output : List ℕ) (files : Lis
     pub counted : tally ≡ tally_of files
 
   -- what each result says
-  abbrev pub AnswersBatch : Result LineCounts RunFault → Type 0
+  abbrev pub AnswersBatch : Result TallyState RunFault → Type 0
   AnswersBatch (Ok tally) = AnswersAll tally
   AnswersBatch (Err TooManyFiles) = (most_files < length files) × IsUntouched
   AnswersBatch (Err TooManyLines) = (length files ≤ most_files) × (most_lines < lines_in_all files) × IsUntouched
   AnswersBatch (Err OutOfMemory) = AreFew files × IsUntouched
   AnswersBatch (Err NoWorker) = AreFew files × (0 < lines_in_all files) × IsUntouched
   -- a prefix of the output was written, and nothing else
-  AnswersBatch (Err Write) = AreFew files × AppendsStart (state old).written (state new).written output × ((state new).has_failed ≡ true)
+  AnswersBatch (Err Write) = AreFew files × AppendsPrefix (state old).written (state new).written output × ((state new).has_failed ≡ true)
 
 -- ==== The result of a batch whose files have no line
 
 -- Nothing is written, and no line and no fault is counted, unless one of three faults comes instead.
-pub record AnswersNothing (old new : Option (List ℕ)) (result : Result LineCounts RunFault) : Type 0 where
+pub record AnswersNothing (old new : Option (List ℕ)) (result : Result TallyState RunFault) : Type 0 where
   pub unwritten : Keeps old new
   pub uncounted : IfOk result (λ tally. tally ≡ record { lines = 0; faults = 0 })
   pub fault : IfErr result (λ e. (e ≡ TooManyFiles) ⊎ (e ≡ OutOfMemory) ⊎ (e ≡ Write))
 
 -- So it is with every batch that keeps its promises, for each question and a sink of any kind.
 abbrev pub NoLineIsAnswered : {W : Type 0} → (W → SinkState) → Type 0
-NoLineIsAnswered {W} state = (question : Question) (files : List NamedBytes) (old new : W) (result : Result LineCounts RunFault)
+NoLineIsAnswered {W} state = (question : Question) (files : List NamedBytes) (old new : W) (result : Result TallyState RunFault)
     → AnswersBatch state (output_to question files) files old new result → lines_in_all files ≡ 0
     → AnswersNothing (state old).written (state new).written result

@@ -15,7 +15,7 @@ use Rattle.kalah_run.specs.Queue.States.{ArePassesFrom, GetState, HasGot, outcom
 use Rattle.kalah_run.specs.Batch.AtWork.{puts_of, AreAtWork, HaveRun}
 use Rattle.kalah_run.specs.Batch.OrderedOutput.{IsNew, whole_output}
 use Rattle.kalah_run.specs.declared.batch.request.BatchRequest.{BatchRequest}
-use Rattle.kalah_run.specs.declared.limits.TheConstants.{QUEUE_PLACES}
+use Rattle.kalah_run.specs.declared.limits.TheConstants.{QUEUE_CAPACITY}
 use Rattle.kalah_run.specs.declared.batch.worker.Worker.{Worker}
 use Rattle.kalah_run.specs.declared.batch.open_batch.OpenBatch.{OpenBatch}
 use Rattle.kalah_jobs.specs.Collecting.Batch.{AreJobsInSomeOrder}
@@ -48,7 +48,7 @@ module _ {G : Type 0} where
     pub of_jobs : b.shared.jobs.now ≡ jobs
     pub of_rest : rest_of b.left ≡ request.rest
     pub of_gate : b.shared.gate.now ≡ gate
-    pub queue : b.shared.queue.capacity ≡ QUEUE_PLACES
+    pub queue : b.shared.queue.capacity ≡ QUEUE_CAPACITY
 
   -- there is a worker; each is at work and has its place, nothing was got, and nothing is written
   pub record IsReadyToRun (knows : G → ℕ → Bool) (b : OpenBatch G) : Type 0 where

@@ -10,12 +10,12 @@ use Rattle.kalah_jobs.specs.Files.Jobs.{job_count}
 use Rattle.kalah_jobs.specs.Collecting.CollectorState.{FileState, state_of}
 use Rattle.kalah_jobs.specs.Collecting.Held.{Kept}
 use Rattle.kalah_jobs.specs.Writing.Output.{text_of_line}
-use Rattle.kalah_jobs.specs.Writing.Given.{AppendsStart, SinkState}
+use Rattle.kalah_jobs.specs.Writing.Given.{AppendsPrefix, SinkState}
 
 -- A sink that had `begun` was given bs, in order. It has all of them after that, unless a call of it has failed; and then it
 -- has a prefix of them, and nothing else.
 pub record WasGivenSince (begun out : SinkState) (bs : List ℕ) : Type 0 where
-  pub start : AppendsStart begun.written out.written bs
+  pub start : AppendsPrefix begun.written out.written bs
   pub whole : out.has_failed ≡ false → Appends begun.written out.written bs
 
 -- the text of a job, if `text` gives the text of what is taken of a file

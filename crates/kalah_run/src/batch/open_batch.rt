@@ -23,7 +23,7 @@ use crate::batch::watch::Watch;
 use crate::batch::worker::Worker;
 use crate::desk::Desk;
 use crate::desk::pass::Pass;
-use crate::limits::QUEUE_PLACES;
+use crate::limits::QUEUE_CAPACITY;
 use crate::queue::ResultsQueue;
 use crate::queue::passes::{GetPass, PutPass};
 use kalah_jobs::{Jobs, Sink};
@@ -141,7 +141,7 @@ impl<'a, G: Gate> OpenBatch<'a, G> {
         let total = jobs.total();
         let count = request.workers.min(total).max(1);
         let (desk, mut passes, left) = open_desk(alloc, total, count, request.rest)?;
-        let (queue, mut puts, get) = ResultsQueue::open(alloc, QUEUE_PLACES, count)?;
+        let (queue, mut puts, get) = ResultsQueue::open(alloc, QUEUE_CAPACITY, count)?;
         let workers = put_together(alloc, &mut passes, &mut puts, request.table)?;
         Ok(OpenBatch {
             shared: SharedWork {

@@ -21,8 +21,8 @@ pub record Encloses (i : Interval) (z : ℤ) : Type 0 where
   pub high : z ≤ℤ i.hi
 
 -- the number, raised to lo and lowered to hi
-abbrev pub within : ℤ → ℤ → ℤ → ℤ
-within lo hi z = int_max lo (int_min z hi)
+abbrev pub clamped : ℤ → ℤ → ℤ → ℤ
+clamped lo hi z = int_max lo (int_min z hi)
 
 -- half of a number, rounded down, and 0 for one below 0
 pub record IsHalf (z : ℤ) (half : ℕ) : Type 0 where

@@ -1,6 +1,6 @@
 -- Laws over all positions and strategies.
 use Rattle.std.specs.Prelude.{◌≡◌, ◌↔◌, ℕ, ◌<◌, ◌≤◌, true, false, List, length, map, Contains, ℤ, pos, ◌+ℤ◌, ◌-ℤ◌, ◌≤ℤ◌}
-use Rattle.kalah_rules.specs.Position.{Position, HasEqualSides, is_over, final_margin, rows_of, bare}
+use Rattle.kalah_rules.specs.Position.{Position, HasEqualSides, is_over, final_margin, houses_in, storeless}
 use Rattle.kalah_rules.specs.Play.{legal_houses}
 use Rattle.kalah_rules.specs.Measure.{moves_left}
 use Rattle.kalah_solve.specs.Solver.Worth.{greatest, worth_within, worth, value_of_move, best_house, houses_worth}
@@ -44,11 +44,11 @@ BestHouseIsLowest = (p : Position) → HasEqualSides p → is_over p ≡ false �
 
 -- the worth of a position is what the stores differ by, and the worth of its houses with empty stores
 abbrev pub StoresShiftWorth : Type 0
-StoresShiftWorth = (p : Position) → worth p ≡ pos p.own_store -ℤ pos p.other_store +ℤ houses_worth (rows_of p)
+StoresShiftWorth = (p : Position) → worth p ≡ pos p.own_store -ℤ pos p.other_store +ℤ houses_worth (houses_in p)
 
 -- the best house does not depend on the stores
 abbrev pub StoresKeepBestHouse : Type 0
-StoresKeepBestHouse = (p : Position) → best_house p ≡ best_house (bare (rows_of p))
+StoresKeepBestHouse = (p : Position) → best_house p ≡ best_house (storeless (houses_in p))
 
 -- two strategies play a game to its end
 abbrev pub StrategiesPlayAGame : Type 0

@@ -1,16 +1,16 @@
 -- Steps after which the game goes on within its limits.
 use Rattle.std.specs.Prelude.{ℕ, ◌≡◌, ◌+◌, ◌≤◌, false}
-use Rattle.kalah_rules.specs.Position.{Rows, IsWithinHouses, bare, seeds_in_houses, is_over}
-use Rattle.kalah_rules.specs.Key.{game_of}
+use Rattle.kalah_rules.specs.Position.{HousesState, IsWithinHouses, storeless, seeds_in_houses, is_over}
+use Rattle.kalah_rules.specs.Key.{variant_of}
 use Rattle.kalah_rules.specs.Limits.{most_seeds}
 use Rattle.kalah_rules.specs.declared.step.HousesStep.{HousesStep}
 use Rattle.kalah_rules.specs.declared.step.HousesStep.TheVariants.{Over, Again, Turn}
 
 -- the houses to which a step leads are houses of this game, and it goes on there
-pub record GoesOnAt (game gained : ℕ) (b : Rows) : Type 0 where
-  pub same : game_of b ≡ game
-  pub few : gained + seeds_in_houses (bare b) ≤ most_seeds
-  pub going : is_over (bare b) ≡ false
+pub record GoesOnAt (game gained : ℕ) (b : HousesState) : Type 0 where
+  pub same : variant_of b ≡ game
+  pub few : gained + seeds_in_houses (storeless b) ≤ most_seeds
+  pub going : is_over (storeless b) ≡ false
   pub limits : IsWithinHouses b
 
 abbrev pub GoesOn : ℕ → HousesStep → Type 0

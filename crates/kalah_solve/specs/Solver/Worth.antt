@@ -2,7 +2,7 @@
 use Rattle.std.specs.Prelude.{ℕ, zero, suc, if◌then◌else◌, List, [], ◌∷◌, map, fold, find, unwrap_or, ℤ, pos, neg_ℤ}
 use Rattle.std.specs.Int.{int_max}
 use Rattle.std.specs.Ordering.{int_eq}
-use Rattle.kalah_rules.specs.Position.{Position, Rows, bare, is_over, final_margin, swapped}
+use Rattle.kalah_rules.specs.Position.{Position, HousesState, storeless, is_over, final_margin, swapped}
 use Rattle.kalah_rules.specs.Sowing.{after, is_again}
 use Rattle.kalah_rules.specs.Play.{legal_houses}
 use Rattle.kalah_rules.specs.Measure.{moves_left}
@@ -36,5 +36,5 @@ abbrev pub best_house : Position → ℕ
 best_house p = unwrap_or (find (λ h. int_eq (value_of_move p h) (worth p)) (legal_houses p)) 0
 
 -- the margin of best play of houses without their stores
-abbrev pub houses_worth : Rows → ℤ
-houses_worth a = worth (bare a)
+abbrev pub houses_worth : HousesState → ℤ
+houses_worth a = worth (storeless a)

@@ -1,6 +1,6 @@
 -- What the words of endings store.
 use Rattle.std.specs.Prelude.{◌≡◌, ℕ, ◌+◌, ◌*◌, ◌/◌, ◌%◌, ◌^◌, ◌<◌, ◌≤◌, ◌≢◌, suc, List, length, slice_index}
-use Rattle.kalah_rules.specs.Position.{Rows, bare, seeds_in_houses, IsWithinHouses}
+use Rattle.kalah_rules.specs.Position.{HousesState, storeless, seeds_in_houses, IsWithinHouses}
 use Rattle.kalah_rules.specs.Key.{rule_bit}
 use Rattle.kalah_solve.specs.Table.RowRank.{choose, rank_of_houses}
 use Rattle.kalah_solve.specs.declared.table.endgame_table.TheConstants.{MOST_ENDING_SEEDS, COUNTS, PAIR}
@@ -12,8 +12,8 @@ abbrev pub most_ending_seeds : ℕ
 most_ending_seeds = MOST_ENDING_SEEDS
 
 -- houses with so few seeds are an ending
-abbrev pub IsEnding : Rows → Type 0
-IsEnding a = seeds_in_houses (bare a) ≤ most_ending_seeds
+abbrev pub IsEnding : HousesState → Type 0
+IsEnding a = seeds_in_houses (storeless a) ≤ most_ending_seeds
 
 -- cell k of the choices: the number of ways to choose j + 1 of s + j things, where k is COUNTS * j + s
 abbrev pub choice_at : ℕ → ℕ
@@ -32,9 +32,9 @@ pair_at k = choose (k % 32 + 2 * (k / PAIR) + 1) (2 * (k / PAIR) + 2) + choose (
 abbrev pub ArePairs : ℕ → List ℕ → Type 0
 ArePairs n pairs = (k : ℕ) → k < n → k % 32 < COUNTS → slice_index pairs k ≡ pair_at k
 
--- the index of the word of an ending: first come the games of the classic rule, each of these by its houses a side, and then by rank, of
+-- the index of the word of an ending: first come the variants of the classic rule, each of these by its houses a side, and then by rank, of
 -- which sixteen share a word
-abbrev pub word_of : Rows → ℕ
+abbrev pub word_of : HousesState → ℕ
 word_of a = slice_index FIRST_WORDS (length a.own) + RULE_WORDS * rule_bit a.rule + rank_of_houses a / 16
 
 -- a word stores in four bits, for each ending of it, nothing or one more than the mover wins
@@ -43,7 +43,7 @@ stored_at word at = word / 2 ^ (4 * at) % 16
 
 -- what word i states is what the mover wins
 unfoldable pub StoresWon : ℕ → ℕ → Type 0
-StoresWon i word = (a : Rows) → IsWithinHouses a → IsEnding a → word_of a ≡ i → stored_at word (rank_of_houses a % 16) ≢ 0 →
+StoresWon i word = (a : HousesState) → IsWithinHouses a → IsEnding a → word_of a ≡ i → stored_at word (rank_of_houses a % 16) ≢ 0 →
     stored_at word (rank_of_houses a % 16) ≡ suc (won a)
 
 -- and so does each

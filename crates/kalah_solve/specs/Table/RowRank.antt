@@ -1,6 +1,6 @@
 -- A number for each row of cells with few seeds, so that a short list has room for all such rows.
 use Rattle.std.specs.Prelude.{ℕ, zero, suc, ◌+◌, ◌*◌, List, [], ◌∷◌, ◌++◌, length, sum}
-use Rattle.kalah_rules.specs.Position.{Rows}
+use Rattle.kalah_rules.specs.Position.{HousesState}
 
 -- the number of ways to choose k of n things
 unfoldable pub choose : ℕ → ℕ → ℕ
@@ -20,5 +20,5 @@ sums_number [] = 0
 sums_number (x ∷ xs) = x + sum xs + 32 * sums_number xs
 
 -- the rank of the houses of both players in one row
-abbrev pub rank_of_houses : Rows → ℕ
+abbrev pub rank_of_houses : HousesState → ℕ
 rank_of_houses a = row_rank (a.own ++ a.other)

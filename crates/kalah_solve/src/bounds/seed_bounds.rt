@@ -1,8 +1,8 @@
 //! Bounds on the number of seeds that a player wins.
 ghost use Rattle.std.specs.Prelude.{◌≡◌, ◌+◌, ◌*◌, max, min, ◌≤◌, ◌≤ℤ◌, ◌+ℤ◌, ◌-ℤ◌, ℕ, ℤ, pos};
 ghost use Rattle.kalah_rules.specs.Limits.{most_seeds};
-ghost use Rattle.kalah_rules.specs.Position.{bare, seeds_in_houses};
-ghost use Rattle.kalah_solve.specs.Bounds.Intervals.{Encloses, IsHalf, within};
+ghost use Rattle.kalah_rules.specs.Position.{storeless, seeds_in_houses};
+ghost use Rattle.kalah_solve.specs.Bounds.Intervals.{Encloses, IsHalf, clamped};
 
 use crate::bounds::interval::Interval;
 use crate::bounds::window::Window;
@@ -39,7 +39,7 @@ impl SeedBounds {
     // Returns what the mover can win of the seeds in these houses.
     pub(crate) fn unknown(houses: &Houses) -> SeedBounds
         ensures least { result.least ≡ 0 }
-        ensures most { result.most ≡ seeds_in_houses (bare houses.now) }
+        ensures most { result.most ≡ seeds_in_houses (storeless houses.now) }
         ensures held { IsWithinBounds result (won houses.now) }
     {
         SeedBounds {
@@ -52,8 +52,8 @@ impl SeedBounds {
     pub(crate) fn of_window(window: Window, seeds: u8) -> SeedBounds
         requires { seeds ≤ most_seeds }
         ensures ordered { result.least ≤ result.most }
-        ensures apart { (t : ℕ) → t ≤ seeds → within window.lo window.hi (pos (2 * max result.least (min result.most t)) -ℤ pos seeds)
-            ≡ within window.lo window.hi (pos (2 * t) -ℤ pos seeds) }
+        ensures apart { (t : ℕ) → t ≤ seeds → clamped window.lo window.hi (pos (2 * max result.least (min result.most t)) -ℤ pos seeds)
+            ≡ clamped window.lo window.hi (pos (2 * t) -ℤ pos seeds) }
     {
         SeedBounds {
             least: won_of(window.lo, seeds),

@@ -1,6 +1,6 @@
 //! The window of a search.
 ghost use Rattle.std.specs.Prelude.{◌≡◌, ◌≤ℤ◌, ◌<ℤ◌, ℤ, IfSome, IsNone};
-ghost use Rattle.kalah_solve.specs.Bounds.Intervals.{Encloses, from_to, least_margin, most_margin, within};
+ghost use Rattle.kalah_solve.specs.Bounds.Intervals.{Encloses, from_to, least_margin, most_margin, clamped};
 
 use crate::bounds::interval::{Interval, MOST_MARGIN};
 
@@ -30,8 +30,8 @@ impl Window {
     /// Returns the margins in this window that the interval leaves open, or `None` if it determines the answer.
     pub fn narrowed(self, known: Interval) -> Option<Window>
         ensures within_known { IfSome result (λ narrow. (known.lo ≤ℤ narrow.lo) × (narrow.hi ≤ℤ known.hi)) }
-        ensures some { IfSome result (λ narrow. (z : ℤ) → Encloses known z → within narrow.lo narrow.hi z ≡ within self.lo self.hi z) }
-        ensures none { IsNone result → (z : ℤ) → Encloses known z → within self.lo self.hi known.lo ≡ within self.lo self.hi z }
+        ensures some { IfSome result (λ narrow. (z : ℤ) → Encloses known z → clamped narrow.lo narrow.hi z ≡ clamped self.lo self.hi z) }
+        ensures none { IsNone result → (z : ℤ) → Encloses known z → clamped self.lo self.hi known.lo ≡ clamped self.lo self.hi z }
     {
         let lo = self.lo.max(known.lo as i32);
         let hi = self.hi.min(known.hi as i32);
@@ -44,7 +44,7 @@ impl Window {
 
     /// Returns the margin, raised to the lower end and lowered to the upper one.
     pub fn clamp(self, margin: i32) -> i32
-        ensures { result ≡ within self.lo self.hi margin }
+        ensures { result ≡ clamped self.lo self.hi margin }
     {
         margin.clamp(self.lo, self.hi)
     }
@@ -57,7 +57,7 @@ impl Window {
         ensures at_most { answer ≡ self.lo → result ≡ from_to least_margin self.lo }
         ensures at_least { answer ≡ self.hi → result ≡ from_to self.hi most_margin }
         ensures exact { self.lo <ℤ answer → answer <ℤ self.hi → result ≡ from_to answer answer }
-        ensures held { (z : ℤ) → least_margin ≤ℤ z → z ≤ℤ most_margin → answer ≡ within self.lo self.hi z → Encloses result z }
+        ensures held { (z : ℤ) → least_margin ≤ℤ z → z ≤ℤ most_margin → answer ≡ clamped self.lo self.hi z → Encloses result z }
     {
         let answer_there = answer as i8;
         if answer <= self.lo {

@@ -28,8 +28,8 @@ impl<A: Allocator + Clone> Search<A> {
     pub(super) fn known(&mut self, houses: &Houses) -> SeedBounds
         ensures { IsWithinBounds result (won houses.now) }
     {
-        if houses.seeds() <= self.most_placed {
-            self.table.places.look_up(houses)
+        if houses.seeds() <= self.most_slotted {
+            self.table.slots.look_up(houses)
         } else {
             self.known_by_entry(*houses)
         }
@@ -51,8 +51,8 @@ impl<A: Allocator + Clone> Search<A> {
         requires { IsWithinBounds bounds (won houses.now) }
     {
         let seeds = houses.seeds();
-        if seeds <= self.most_placed {
-            self.table.places.keep(houses, bounds);
+        if seeds <= self.most_slotted {
+            self.table.slots.keep(houses, bounds);
         } else {
             self.learn_margins(*houses, bounds.margins(seeds), work);
         }
@@ -67,7 +67,7 @@ impl<A: Allocator + Clone> Search<A> {
         }
     }
 
-    // Counts one more node, and returns how many of the game there were before.
+    // Counts one more node, and returns how many of the variant there were before.
     pub(super) fn count_node(&mut self) -> u64 {
         let before = self.work.nodes();
         if !self.work.count_node() {
@@ -76,7 +76,7 @@ impl<A: Allocator + Clone> Search<A> {
         before
     }
 
-    // Counts a node, and uses more endings, and all places.
+    // Counts a node, and uses more endings, and all slots.
     #[cold]
     #[inline(never)]
     fn grow(&mut self) {

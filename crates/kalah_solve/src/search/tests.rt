@@ -9,7 +9,7 @@ use std::process::Abort;
 type Position = (u8, [u8; 6], [u8; 6], i32);
 
 // Games as they begin.
-static GAMES: [Position; 5] = [
+static VARIANTS: [Position; 5] = [
     (2, [7, 7, 0, 0, 0, 0], [7, 7, 0, 0, 0, 0], 8),
     (3, [5, 5, 5, 0, 0, 0], [5, 5, 5, 0, 0, 0], 6),
     (4, [3, 3, 3, 3, 0, 0], [3, 3, 3, 3, 0, 0], 6),
@@ -36,9 +36,9 @@ static SMALL: [Position; 8] = [
     (5, [1, 2, 0, 0, 2, 0], [2, 2, 2, 1, 0, 0], -2),
 ];
 
-// Prints the number of nodes that the positions take in order, which is within 5 % of this one. Returns the number of places that are
+// Prints the number of nodes that the positions take in order, which is within 5 % of this one. Returns the number of slots that are
 // laid out then.
-fn places_after(
+fn slots_after(
     rt: &(impl Abort + AllocGlobal + Print),
     positions: &[Position],
     expected: u64,
@@ -53,25 +53,25 @@ fn places_after(
     let nodes = search.nodes();
     println!(rt; "{nodes} nodes").expect(rt, "no output");
     assert!(rt; nodes.abs_diff(expected) < expected / 20);
-    search.table.places.len()
+    search.table.slots.len()
 }
 
 #[test]
 fn games_as_they_begin_take_few_nodes(rt: HostRuntime) {
-    places_after(&rt, &GAMES, 58_977);
+    slots_after(&rt, &VARIANTS, 58_977);
 }
 
 #[test]
 fn hard_positions_take_few_nodes(rt: HostRuntime) {
-    assert!(rt; places_after(&rt, &HARD, 214_767) == 65_536);
+    assert!(rt; slots_after(&rt, &HARD, 214_767) == 65_536);
 }
 
 #[test]
 fn small_positions_take_few_nodes(rt: HostRuntime) {
-    assert!(rt; places_after(&rt, &SMALL, 428) == 8_192);
+    assert!(rt; slots_after(&rt, &SMALL, 428) == 8_192);
 }
 
-// Houses with that many seeds get no place. The second search finds nothing kept, and keeps nothing, either.
+// Houses with that many seeds get no slot. The second search finds nothing kept, and keeps nothing, either.
 #[test]
 fn answers_after_few_nodes_get_no_entry(rt: HostRuntime) {
     let table = Table::new(rt.alloc(), 1).expect(&rt, "no memory for a table");
@@ -87,7 +87,7 @@ fn answers_after_few_nodes_get_no_entry(rt: HostRuntime) {
 }
 
 #[test]
-fn places_are_laid_out_once(rt: HostRuntime) {
+fn slots_are_laid_out_once(rt: HostRuntime) {
     let table = Table::new(rt.alloc(), 65_536).expect(&rt, "no memory for a table");
     let mut search = Search::new(table);
     let (m, own, other, _) = SMALL[1];

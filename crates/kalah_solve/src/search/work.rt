@@ -1,21 +1,21 @@
-//! The work of a search: how many nodes it had of each game, and which endings pay after them.
+//! The work of a search: how many nodes it had of each variant, and which endings pay after them.
 ghost use Rattle.std.specs.Prelude.{◌≤◌, ◌<◌};
 ghost use Rattle.kalah_solve.specs.Table.EndgameTable.{most_ending_seeds};
 
 use crate::table::endgame_table::MOST_ENDING_SEEDS;
 use kalah_rules::Houses;
 
-/// Endings of up to this many seeds pay in each game from its first node on.
+/// Endings of up to this many seeds pay in each variant from its first node on.
 pub(super) const SEEDS_THAT_ALWAYS_PAY: u8 = 7;
 
-// The nodes of a game from which on all places pay.
-const NODES_FOR_ALL_PLACES: u64 = 8_000;
+// The nodes of a variant from which on all slots pay.
+const NODES_FOR_ALL_SLOTS: u64 = 8_000;
 
-// The nodes of a game from which on endings of 8 seeds pay. To find an ending costs as much as a node, and with six houses a side there
+// The nodes of a variant from which on endings of 8 seeds pay. To find an ending costs as much as a node, and with six houses a side there
 // are 75,582 of 8 seeds.
 const NODES_FOR_8_SEEDS: u64 = 42_000;
 
-// The nodes of a game from which on endings of 9 seeds pay, the most, once houses with many seeds were asked about. There are 167,960 of
+// The nodes of a variant from which on endings of 9 seeds pay, the most, once houses with many seeds were asked about. There are 167,960 of
 // 9 seeds.
 const NODES_FOR_9_SEEDS: u64 = 120_000;
 
@@ -40,35 +40,35 @@ impl EndingLimit {
 /// The nodes of a search.
 #[derive(Drop)]
 pub(super) struct Work {
-    // The game that is searched: houses a side and rule, as in the upper bits of a key.
-    game: usize,
-    // How many nodes of it there were, and of each game before it was searched last.
+    // The variant that is searched: houses a side and rule, as in the upper bits of a key.
+    variant: usize,
+    // How many nodes of it there were, and of each variant before it was searched last.
     nodes: u64,
     nodes_before: [u64; 16],
     // The number of its nodes from which on more may pay: up to it, a node is only counted.
     next_event: u64,
     // Whether houses with many seeds were asked about.
     seen_many_seeds: bool,
-    ghost is_game: { game < 16 },
+    ghost is_variant: { variant < 16 },
 }
 
 impl Work {
     /// Makes a count of no nodes.
     pub(super) fn new() -> Work {
         Work {
-            game: 0,
+            variant: 0,
             nodes: 0,
             nodes_before: [0; 16],
-            next_event: NODES_FOR_ALL_PLACES,
+            next_event: NODES_FOR_ALL_SLOTS,
             seen_many_seeds: false,
         }
     }
 
-    /// Goes on with the game of these houses, which are asked about.
+    /// Goes on with the variant of these houses, which are asked about.
     pub(super) fn turn_to(&mut self, houses: &Houses) {
-        self.nodes_before[self.game] = self.nodes;
-        self.game = houses.game() as usize;
-        self.nodes = self.nodes_before[self.game];
+        self.nodes_before[self.variant] = self.nodes;
+        self.variant = houses.variant() as usize;
+        self.nodes = self.nodes_before[self.variant];
         self.set_next_event();
         self.seen_many_seeds |= houses.seeds() >= MANY_SEEDS;
     }
@@ -87,15 +87,15 @@ impl Work {
         }
     }
 
-    /// Returns how many nodes of the game there were.
+    /// Returns how many nodes of the variant there were.
     pub(super) fn nodes(&self) -> u64 {
         self.nodes
     }
 
     // Sets the number of nodes from which on more may pay.
     fn set_next_event(&mut self) {
-        self.next_event = if self.nodes < NODES_FOR_ALL_PLACES {
-            NODES_FOR_ALL_PLACES
+        self.next_event = if self.nodes < NODES_FOR_ALL_SLOTS {
+            NODES_FOR_ALL_SLOTS
         } else if self.nodes < NODES_FOR_8_SEEDS {
             NODES_FOR_8_SEEDS
         } else if self.nodes < NODES_FOR_9_SEEDS {
@@ -105,7 +105,7 @@ impl Work {
         };
     }
 
-    /// Counts one more node, and returns true. If more endings or places may pay by now, it counts none and returns false.
+    /// Counts one more node, and returns true. If more endings or slots may pay by now, it counts none and returns false.
     #[inline(always)]
     pub(super) fn count_node(&mut self) -> bool {
         if self.nodes >= self.next_event {
@@ -121,13 +121,13 @@ impl Work {
         self.nodes = self.nodes.saturating_add(1);
     }
 
-    /// Returns how many nodes of all games there were.
+    /// Returns how many nodes of all variants there were.
     #[cfg(test)]
     pub(super) fn all_nodes(&self) -> u64 {
         let mut nodes = self.nodes;
-        for game in 0..16usize {
-            if game != self.game {
-                nodes = nodes.saturating_add(self.nodes_before[game]);
+        for variant in 0..16usize {
+            if variant != self.variant {
+                nodes = nodes.saturating_add(self.nodes_before[variant]);
             }
         }
         nodes

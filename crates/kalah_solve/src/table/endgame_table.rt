@@ -152,7 +152,7 @@ impl<A: Allocator + Clone> EndgameTable<A> {
         self.pairs[PAIR * past + sums as usize]
     }
 
-    // Returns the rank of the houses among those of their game, two cells at a time. The loop has six steps for any number of
+    // Returns the rank of the houses among those of their variant, two cells at a time. The loop has six steps for any number of
     // houses, so that it can be unrolled.
     #[inline(always)]
     fn rank(&self, houses: &Houses) -> u32

@@ -11,5 +11,5 @@ returns-in_default-reading_ahead g c = input_refused _ refl c.requires.sink
 pub returns : goal.returns
 returns g c =
     let is = c.answer_lines.ensures in
-    rw c.in-Ok-reading_ahead.ensures (input_answered _ c.answer_lines.result is.answered is.cut_off is.begins is.failed is.handed_on
+    rw c.in-Ok-reading_ahead.ensures (input_answered _ c.answer_lines.result is.answered is.cut_off is.begins is.failed is.all_flushed
     c.ended.ensures.clean c.ended.ensures.failed)

@@ -7,5 +7,5 @@ pub returns : goal.returns
 returns g c = record {
   given = given_on _ _ _ _ _ _ _ c.write_houses-total.ensures.given
       (λ sound. ap total_line (c.write_houses-total.ensures.total sound)) c.write_sum-2.ensures.given;
-  handed_on = c.write_sum-2.ensures.handed_on;
+  all_flushed = c.write_sum-2.ensures.all_flushed;
 }

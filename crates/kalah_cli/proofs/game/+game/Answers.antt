@@ -30,14 +30,14 @@ margin_of {p} {margin} {h} small told verdict =
 pub returns-then-failed-clause-printed : goal.returns-then-failed-clause-printed
 returns-then-failed-clause-printed g t c = record {
   given = given_cut_off _ _ _ [] _ c.flush_unless_failed.ensures.given (sym c.failed.ensures ∙ c.if-failed.true);
-  handed_on = c.flush_unless_failed.ensures.handed_on;
+  all_flushed = c.flush_unless_failed.ensures.all_flushed;
 }
 
 pub returns-in-Over-clause-printed : goal.returns-in-Over-clause-printed
 returns-in-Over-clause-printed g t c = record {
   given = subst (WasGiven g.O.Sink.state c.args.out.now c.flush_unless_failed.new.out)
       (sym (no_text c.args.form c.args.board.now c.in-Over.ensures.best_play.over)) c.flush_unless_failed.ensures.given;
-  handed_on = c.flush_unless_failed.ensures.handed_on;
+  all_flushed = c.flush_unless_failed.ensures.all_flushed;
 }
 
 pub solve-requires-clause-shown : goal.solve-requires-clause-shown
@@ -79,5 +79,5 @@ returns-clause-printed g t c =
           ∙ sym (text_goes_on form first))
           (given_after _ _ _ _ _ c.flush_unless_failed.ensures.given
           (given_then _ _ _ _ text _ c.write_in_form.ensures c.write_game.ensures.printed.given));
-      handed_on = c.write_game.ensures.printed.handed_on;
+      all_flushed = c.write_game.ensures.printed.all_flushed;
     }

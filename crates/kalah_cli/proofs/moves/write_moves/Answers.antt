@@ -21,4 +21,4 @@ pub returns : goal.returns
 returns g c =
     let one : ℕ → List ℕ = λ h. move_lines c.args.boards None h (step_of c.args.board.now h) in
     printed_flushed _ _ _ _ _ (given_all _ one c.loop-i.invariant.same c.loop-i.i _ _ c.loop-i.invariant.given
-    (omega (arith, c.loop-i-test.false, c.len-i-end.ensures))) c.flush_unless_failed.ensures.given c.flush_unless_failed.ensures.handed_on
+    (omega (arith, c.loop-i-test.false, c.len-i-end.ensures))) c.flush_unless_failed.ensures.given c.flush_unless_failed.ensures.all_flushed

@@ -30,7 +30,7 @@ returns-in_default g c =
     subst (λ first. IsPrinted g.O.Sink.state c.args.out.now c.write_game.new.out
     (play_output first c.args.boards c.args.values c.args.board.now)) (sym c.in_default.is) (record {
       given = given_then _ _ _ _ _ _ c.write_board.ensures c.write_game.ensures.printed.given;
-      handed_on = c.write_game.ensures.printed.handed_on;
+      all_flushed = c.write_game.ensures.printed.all_flushed;
     })
 
 pub returns : goal.returns
@@ -49,5 +49,5 @@ returns g c =
           (board_lines c.args.boards p ++ text)) game (given_then _ _ _ _ _ _ c.write_board.ensures
           (given_after _ _ _ _ _ c.margin_shown-margin.ensures.flushed
           (given_then _ _ _ _ _ _ move c.write_game-in-Again.ensures.printed.given)));
-      handed_on = c.write_game-in-Again.ensures.printed.handed_on;
+      all_flushed = c.write_game-in-Again.ensures.printed.all_flushed;
     })

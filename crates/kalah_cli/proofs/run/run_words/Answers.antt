@@ -20,7 +20,8 @@ request_taken : (g : Over) (c : After-drop-words g) → IsTakenAs (texts_of c.ar
 request_taken g c = taken_at (ap texts_of (sym c.as_slice.ensures.value)) c.in-Ok.ensures.taken
 
 -- and as nothing else
-is_asked : (g : Over) (c : After-drop-words g) (a : Asked) → IsTakenAs (texts_of c.args.words.items) a → request_asks c.in-Ok.request ≡ a
+is_asked : (g : Over) (c : After-drop-words g) (a : Asked) → IsTakenAs (texts_of c.args.words.items) a
+    → request_asks c.in-Ok.request ≡ a
 is_asked g c a taken = taken_once (texts_of c.args.words.items) (request_asks c.in-Ok.request) a (request_taken g c) taken
 
 -- which is done
@@ -67,8 +68,8 @@ returns-in-Ok-clause-stopped g c = λ question table taken failed sound.
     let does = does g c (ask question table) (is_asked g c (ask question table) taken) in
     (does.0, does.1.1.left, does.1.1.stopped failed sound)
 
-pub returns-in-Ok-clause-handed_on : goal.returns-in-Ok-clause-handed_on
-returns-in-Ok-clause-handed_on g c = run_hands_on _ c.requires.sink (g.R.Sources.may_give c.args.rt.now) _ (does g c _ refl)
+pub returns-in-Ok-clause-all_flushed : goal.returns-in-Ok-clause-all_flushed
+returns-in-Ok-clause-all_flushed g c = run_hands_on _ c.requires.sink (g.R.Sources.may_give c.args.rt.now) _ (does g c _ refl)
 
 -- ---- the parse failed
 
@@ -81,7 +82,8 @@ has_kind g c = subst (λ words. HasKind (fault_of kalah_app (texts_of words)) c.
     c.in-Err.ensures.kinds
 
 -- so the error is no request for help or the version, if the arguments aren't
-no_help : (g : Over) (c : After-drop-words-2 g) → AsksNot DisplayHelp (texts_of c.args.words.items) → kind_of c.in-Err.error ≢ DisplayHelp
+no_help : (g : Over) (c : After-drop-words-2 g) → AsksNot DisplayHelp (texts_of c.args.words.items)
+    → kind_of c.in-Err.error ≢ DisplayHelp
 no_help g c = no_request DisplayHelp (texts_of c.args.words.items) c.in-Err.error (λ e. cc) (has_kind g c)
 
 without_output : (g : Over) (c : After-drop-words-2 g) → AsksNot DisplayHelp (texts_of c.args.words.items)

@@ -28,7 +28,7 @@ pub returns-then-failed : goal.returns-then-failed
 returns-then-failed g c = record {
   given = subst (WasGiven g.O.Sink.state c.args.out.now c.write_plain.new.out) (sym (output_parts c.args.lines c.args.board.now))
       (given_cut_off _ _ _ _ _ c.write_plain.ensures.given (sym c.failed.ensures ∙ c.if-failed.true));
-  handed_on = c.write_plain.ensures.handed_on;
+  all_flushed = c.write_plain.ensures.all_flushed;
 }
 
 pub returns : goal.returns
@@ -37,7 +37,7 @@ returns g c =
     (sym (output_parts c.args.lines c.args.board.now))
     (printed_flushed _ _ _ _ _ (given_then _ _ _ _ _ _ c.write_plain.ensures.given
     (given_then _ _ _ _ _ _ c.write_values.ensures c.write_lines.ensures))
-    c.flush_unless_failed.ensures.given c.flush_unless_failed.ensures.handed_on)
+    c.flush_unless_failed.ensures.given c.flush_unless_failed.ensures.all_flushed)
 
 -- the picture is drawn before the search
 pub values-values-requires-clause-shown : goal.values-values-requires-clause-shown

@@ -1,6 +1,6 @@
 //! What the gate observes: each job once, before it is solved and afterwards, and that an outcome is sent only once there is room for it.
 use super::{Counting, file_of, lines_are_answered, same_lines};
-use crate::limits::QUEUE_PLACES;
+use crate::limits::QUEUE_CAPACITY;
 use crate::{Gate, solve_batch};
 use kalah_jobs::Stream;
 use std::io::Write;
@@ -107,7 +107,7 @@ fn a_job_is_solved_between_the_calls_for_it(rt: HostRuntime) {
 }
 
 // The number of outcomes that are got, or wait in the queue, while the first line is written.
-pub(super) const ROOM: u32 = QUEUE_PLACES + 1;
+pub(super) const ROOM: u32 = QUEUE_CAPACITY + 1;
 
 // How often the writer tests what it waits for.
 const TURNS: u32 = 10_000_000;

@@ -3,7 +3,7 @@ ghost use Rattle.std.specs.Prelude.{◌<◌, ◌≤◌};
 
 use super::told::{ROOM, wait_for_begun};
 use super::{ANSWERS, Counting, SEVEN_LINES, four_files, same_lines};
-use crate::limits::QUEUE_PLACES;
+use crate::limits::QUEUE_CAPACITY;
 use crate::{BatchRequest, NoWatch, Rest, RunFault, Tally, answer_batch, solve_batch};
 use kalah_jobs::{FileText, Question, Stream};
 use std::alloc::Global;
@@ -168,7 +168,7 @@ fn all_jobs_are_done_though_the_writer_takes_one_line(rt: HostRuntime) {
 
 // The most jobs that two workers begin if only one outcome is got before they are to stop: its own, those in the queue, and for each
 // worker the one under way and one more.
-const MOST_BEGUN: u32 = 1 + QUEUE_PLACES + 2 * 2;
+const MOST_BEGUN: u32 = 1 + QUEUE_CAPACITY + 2 * 2;
 
 #[test]
 fn no_job_begins_once_the_rest_is_left(rt: HostRuntime) {

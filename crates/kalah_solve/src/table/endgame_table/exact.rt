@@ -1,8 +1,8 @@
 //! The number of seeds that the mover wins of houses with few seeds, by trying each move to the end.
 ghost use Rattle.std.specs.Prelude.{◌≡◌, ◌<◌, ◌^◌, false, Contains};
-ghost use Rattle.kalah_rules.specs.Position.{bare, is_over};
+ghost use Rattle.kalah_rules.specs.Position.{storeless, is_over};
 ghost use Rattle.kalah_rules.specs.Play.{legal_houses};
-ghost use Rattle.kalah_rules.specs.Key.{game_of};
+ghost use Rattle.kalah_rules.specs.Key.{variant_of};
 ghost use Rattle.kalah_rules.specs.HousesStep.{houses_step};
 ghost use Rattle.kalah_solve.specs.Table.EndgameTable.{IsEnding};
 ghost use Rattle.kalah_solve.specs.Table.RowRank.{rank_of_houses};
@@ -17,41 +17,41 @@ impl<A: Allocator + Clone> EndgameTable<A> {
     /// Returns how many of the seeds in the houses the mover wins in best play.
     #[cycle(exact)]
     #[inline(always)]
-    pub(crate) fn won<const GAME: u8>(&self, houses: Houses) -> u8
-        requires going { is_over (bare houses) ≡ false }
-        requires game { game_of houses ≡ GAME }
+    pub(crate) fn won<const VARIANT: u8>(&self, houses: Houses) -> u8
+        requires going { is_over (storeless houses) ≡ false }
+        requires variant { variant_of houses ≡ VARIANT }
         requires few { IsEnding houses }
         ensures { result ≡ won houses }
     {
-        let houses = houses.known_game(GAME);
+        let houses = houses.known_variant(VARIANT);
         let rank = self.rank(&houses);
         if let Some(won) = self.get(&houses, rank) {
             return won;
         }
-        self.learn::<GAME>(houses, rank)
+        self.learn::<VARIANT>(houses, rank)
     }
 
     // Returns how many the mover wins, found by trying the moves, and keeps it.
     #[cycle(exact)]
     #[inline(never)]
-    fn learn<const GAME: u8>(&self, houses: Houses, rank: u32) -> u8
-        requires going { is_over (bare houses) ≡ false }
-        requires game { game_of houses ≡ GAME }
+    fn learn<const VARIANT: u8>(&self, houses: Houses, rank: u32) -> u8
+        requires going { is_over (storeless houses) ≡ false }
+        requires variant { variant_of houses ≡ VARIANT }
         requires few { IsEnding houses }
         requires rank { rank ≡ rank_of_houses houses }
         ensures { result ≡ won houses }
     {
-        let houses = houses.known_game(GAME);
-        let won = self.most_won::<GAME>(&houses);
+        let houses = houses.known_variant(VARIANT);
+        let won = self.most_won::<VARIANT>(&houses);
         self.keep(&houses, rank, won);
         won
     }
 
     // Returns how many the mover wins. Tries the moves from the one nearest the store on, until one wins all.
     #[cycle(exact)]
-    fn most_won<const GAME: u8>(&self, houses: &Houses) -> u8
-        requires going { is_over (bare houses.now) ≡ false }
-        requires game { game_of houses.now ≡ GAME }
+    fn most_won<const VARIANT: u8>(&self, houses: &Houses) -> u8
+        requires going { is_over (storeless houses.now) ≡ false }
+        requires variant { variant_of houses.now ≡ VARIANT }
         requires few { IsEnding houses.now }
         ensures { result ≡ won houses.now }
     {
@@ -61,7 +61,7 @@ impl<A: Allocator + Clone> EndgameTable<A> {
         while left > 0 {
             let (house, rest) = split_last(left);
             left = rest;
-            most = most.max(self.move_wins::<GAME>(houses, house));
+            most = most.max(self.move_wins::<VARIANT>(houses, house));
             if most >= seeds {
                 return most;
             }
@@ -71,17 +71,17 @@ impl<A: Allocator + Clone> EndgameTable<A> {
 
     // Returns how many seeds the move of this house wins.
     #[cycle(exact)]
-    fn move_wins<const GAME: u8>(&self, houses: &Houses, house: House) -> u8
-        requires legal { Contains (legal_houses (bare houses.now)) house }
-        requires game { game_of houses.now ≡ GAME }
+    fn move_wins<const VARIANT: u8>(&self, houses: &Houses, house: House) -> u8
+        requires legal { Contains (legal_houses (storeless houses.now)) house }
+        requires variant { variant_of houses.now ≡ VARIANT }
         requires few { IsEnding houses.now }
         ensures { result ≡ won_by_step (houses_step houses.now house) }
     {
         let _seeds = houses.seeds(); // For its clause: the houses are within the limits.
         match houses.play_by(&self.sowings, house) {
             HousesStep::Over { own, .. } => own,
-            HousesStep::Again(gained, next) => gained + self.won::<GAME>(next),
-            HousesStep::Turn(gained, next) => gained + (next.seeds() - self.won::<GAME>(next)),
+            HousesStep::Again(gained, next) => gained + self.won::<VARIANT>(next),
+            HousesStep::Turn(gained, next) => gained + (next.seeds() - self.won::<VARIANT>(next)),
         }
     }
 }

@@ -9,11 +9,11 @@ use atomic_table::{Play, Table, TableRule};
 use kalah_rules::{Houses, Rule};
 use std::alloc::{AllocError, Allocator};
 
-// The index of the first word of those games of a rule that have m houses a side. A game has an ending of up to 9 seeds for each way to
+// The index of the first word of those variants of a rule that have m houses a side. A variant has an ending of up to 9 seeds for each way to
 // choose 2m of 2m + 9 things, and a word for each sixteen of them, rounded up. The last one is past all.
 const FIRST_WORDS: [u32; 8] = [0, 0, 4, 49, 362, 1_882, 7_656, RULE_WORDS];
 
-// The number of words for all games of a rule.
+// The number of words for all variants of a rule.
 const RULE_WORDS: u32 = 26_027;
 
 /// The number of words for all endings, by both rules.
@@ -49,7 +49,7 @@ impl Play<(), ()> for Writes {
     ghost then = { λ _ _ _ _. Unit {0} };
 }
 
-// Returns the index of the word for houses of this rank in their game.
+// Returns the index of the word for houses of this rank in their variant.
 pub(super) fn word_of(houses: &Houses, rank: u32) -> usize
     requires rank { rank ≡ rank_of_houses houses.now }
     requires few { IsEnding houses.now }

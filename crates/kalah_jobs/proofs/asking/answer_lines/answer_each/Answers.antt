@@ -48,7 +48,7 @@ returns-then-failed g c =
       cut_off = written_is_not_read;
       begins = begun_line c.loop-byte.invariant.0 _ taken c.in_ok-byte.ensures.keeps c.tell-all_read.ensures.given.start;
       failed = (λ _. refl, λ _. has_failed);
-      handed_on = λ sound. absurd (both_ways _ sound has_failed);
+      all_flushed = λ sound. absurd (both_ways _ sound has_failed);
       none_left = written_is_not_read;
     }
 
@@ -62,7 +62,7 @@ returns-then-failed-2 g c =
       begins = begun_last c.loop-byte.invariant.0 _ (rw c.in_default.is at c.in_ok-byte.ensures.taken)
           c.in_ok-byte.ensures.keeps c.tell_last-all_read.ensures.given.start;
       failed = (λ _. refl, λ _. has_failed);
-      handed_on = λ sound. absurd (both_ways _ sound has_failed);
+      all_flushed = λ sound. absurd (both_ways _ sound has_failed);
       none_left = written_is_not_read;
     }
 

@@ -14,5 +14,5 @@ returns g c = record {
   cut_off = λ cut. of_reader (IsCutOff c.args.question) (search rules) (search rules) (c.answer_each.ensures.cut_off cut);
   begins = of_reader (IsBegun c.args.question) (search rules) (search rules) c.answer_each.ensures.begins;
   failed = c.answer_each.ensures.failed;
-  handed_on = c.answer_each.ensures.handed_on;
+  all_flushed = c.answer_each.ensures.all_flushed;
 }

@@ -1,5 +1,5 @@
 use Rattle.std.proofs.Common.{arith, inl, inr, sym, ◌≡◌, ◌+◌, ◌-◌, ◌∙◌, ◌==◌}
-use Rattle.kalah_rules.specs.Position.{bare}
+use Rattle.kalah_rules.specs.Position.{storeless}
 use Rattle.kalah_rules.specs.Lap.{HoldsSeeds}
 use Rattle.kalah_rules.proofs.PlayLemmas.{holds_legal, legal_holds, one_if, ways_none, ways_one, ways_over, ways_by_step, before_none, before_more, before_same, before_all, before_small, power_fits}
 use Rattle.kalah_rules.proofs.houses.Houses.+ways.Goals as goal
@@ -8,12 +8,12 @@ use Rattle.kalah_rules.proofs.houses.Houses.+ways.Goals.{ways-then-own-gt0, ways
 pub ways-returns-then-depth-eq0-clause-ways : goal.ways-returns-then-depth-eq0-clause-ways
 ways-returns-then-depth-eq0-clause-ways t c =
     let none : c.args.depth ≡ 0 = omega arith in
-    rw none (sym (ways_none (bare c.args.self.now)))
+    rw none (sym (ways_none (storeless c.args.self.now)))
 
 pub ways-returns-then-depth-eq1-clause-ways : goal.ways-returns-then-depth-eq1-clause-ways
 ways-returns-then-depth-eq1-clause-ways t c =
     let one : c.args.depth ≡ 1 = omega arith in
-    rw one (c.legal_count.ensures.count ∙ sym (ways_one (bare c.args.self.now)))
+    rw one (c.legal_count.ensures.count ∙ sym (ways_one (storeless c.args.self.now)))
 
 pub ways-returns-then-depth-eq1-clause-small : goal.ways-returns-then-depth-eq1-clause-small
 ways-returns-then-depth-eq1-clause-small t c =
@@ -23,14 +23,14 @@ ways-returns-then-depth-eq1-clause-small t c =
 pub ways-returns-then-is_over-clause-ways : goal.ways-returns-then-is_over-clause-ways
 ways-returns-then-is_over-clause-ways t c =
     let more : c.args.depth - 1 + 1 ≡ c.args.depth = omega arith in
-    sym (rw more at (ways_over (c.args.depth - 1) (bare c.args.self.now) (sym c.is_over.ensures ∙ c.if-is_over.true)))
+    sym (rw more at (ways_over (c.args.depth - 1) (storeless c.args.self.now) (sym c.is_over.ensures ∙ c.if-is_over.true)))
 
 pub ways-loop-h-init : goal.ways-loop-h-init
-ways-loop-h-init t c = before_none (c.args.depth - 1) (bare c.args.self.now)
+ways-loop-h-init t c = before_none (c.args.depth - 1) (storeless c.args.self.now)
 
 pub ways-ways_by-sum-requires : goal.ways-ways_by-sum-requires
 ways-ways_by-sum-requires t c =
-    let holds : HoldsSeeds (bare c.args.self.now) c.loop-h.h = record {
+    let holds : HoldsSeeds (storeless c.args.self.now) c.loop-h.h = record {
       first = omega arith;
       last = omega arith;
       some = omega arith;
@@ -41,7 +41,7 @@ ways-ways_by-sum-requires t c =
 pub ways-overflow_add-sum : goal.ways-overflow_add-sum
 ways-overflow_add-sum t c =
     let n = c.args.depth - 1 in
-    let p = bare c.args.self.now in
+    let p = storeless c.args.self.now in
     let after = before_more _ c.loop-h.invariant (omega arith)
     (omega arith) c.ways_by-sum.ensures.ways c.ways_by-sum.ensures.small in
     let small = before_small after
@@ -51,7 +51,7 @@ ways-overflow_add-sum t c =
 pub ways-loop-h-preserved : goal.ways-loop-h-preserved
 ways-loop-h-preserved t c =
     let n = c.args.depth - 1 in
-    let p = bare c.args.self.now in
+    let p = storeless c.args.self.now in
     elim c.if-own-gt0.branch [
       | ways-then-own-gt0 w ↦
           rw w.sum-is (before_more _ c.loop-h.invariant (omega arith)
@@ -74,11 +74,11 @@ ways-returns-clause-small t c =
     (omega arith))
 
 pub ways_by-new-requires-clause-first : goal.ways_by-new-requires-clause-first
-ways_by-new-requires-clause-first t c = (legal_holds (bare c.args.self.now) c.args.h c.requires.legal).first
+ways_by-new-requires-clause-first t c = (legal_holds (storeless c.args.self.now) c.args.h c.requires.legal).first
 
 pub ways_by-new-requires-clause-last : goal.ways_by-new-requires-clause-last
 ways_by-new-requires-clause-last t c =
-    omega (arith, (legal_holds (bare c.args.self.now) c.args.h c.requires.legal).last)
+    omega (arith, (legal_holds (storeless c.args.self.now) c.args.h c.requires.legal).last)
 
 pub ways_by-returns-in-Over-clause-ways : goal.ways_by-returns-in-Over-clause-ways
 ways_by-returns-in-Over-clause-ways t c =

@@ -1,5 +1,5 @@
 use Rattle.std.proofs.Common.{◌+◌, ◌-◌, ◌*◌}
-use Rattle.kalah_rules.specs.Position.{bare}
+use Rattle.kalah_rules.specs.Position.{storeless}
 use Rattle.kalah_rules.proofs.PlayLemmas.{AreWaysBefore}
 use Rattle.kalah_rules.proofs.houses.Houses.+ways.Given as goal
 
@@ -11,4 +11,4 @@ decreases-ways_by l = 2 * l.depth + 1
 
 -- the ways after the moves of the houses so far
 abbrev pub invariant-ways-loop-h : goal.invariant-ways-loop-h
-invariant-ways-loop-h l = AreWaysBefore (l.depth - 1) (bare l.self) l.h l.sum
+invariant-ways-loop-h l = AreWaysBefore (l.depth - 1) (storeless l.self) l.h l.sum

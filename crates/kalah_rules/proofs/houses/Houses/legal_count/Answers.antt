@@ -1,5 +1,5 @@
 use Rattle.std.proofs.Common.{arith, ap, ◌∙◌, ◌∷◌, [], length, sym, length-append}
-use Rattle.kalah_rules.specs.Position.{bare}
+use Rattle.kalah_rules.specs.Position.{storeless}
 use Rattle.kalah_rules.proofs.PlayLemmas.{seeded_before, seeded_few, seeded_legal, seeded_more, seeded_same}
 use Rattle.kalah_rules.proofs.houses.Houses.legal_count.Goals as goal
 use Rattle.kalah_rules.proofs.houses.Houses.legal_count.Goals.{then-own-gt0, else-own-gt0}
@@ -23,7 +23,7 @@ loop-h-preserved c =
 pub returns-clause-count : goal.returns-clause-count
 returns-clause-count c =
     c.loop-h.invariant
-    ∙ ap length (seeded_legal (bare c.args.self.now) c.loop-h.h (sym c.is_over.ensures ∙ c.if-is_over.false)
+    ∙ ap length (seeded_legal (storeless c.args.self.now) c.loop-h.h (sym c.is_over.ensures ∙ c.if-is_over.false)
     (omega arith))
 
 pub returns-clause-few : goal.returns-clause-few

@@ -2,15 +2,15 @@ use Rattle.std.proofs.Common.{◌≡◌, ◌+◌, ◌*◌, ◌^◌, ℕ, arith, 
 use Rattle.kalah_rules.specs.Cells.{rows_from}
 use Rattle.kalah_rules.specs.Packed.{IsPacked, unpacked}
 use Rattle.kalah_rules.proofs.KeyLemmas.{packed_new}
-use Rattle.kalah_rules.proofs.houses.Houses.new.Goals.{After-game_number}
+use Rattle.kalah_rules.proofs.houses.Houses.new.Goals.{After-variant_number}
 use Rattle.kalah_rules.proofs.houses.Houses.new.Goals as goal
 
 -- both rows, as they are put together
-abbrev rows_made : After-game_number → ℕ
+abbrev rows_made : After-variant_number → ℕ
 rows_made c = c.number_of.result + 2 ^ 30 * c.number_of-2.result
 
-packed : (c : After-game_number) → IsPacked (rows_made c) c.saturating_add-seeds.result c.game_number.result
-    × (unpacked (rows_made c) c.game_number.result ≡ rows_from c.args.m c.args.own c.args.other c.args.rule)
+packed : (c : After-variant_number) → IsPacked (rows_made c) c.saturating_add-seeds.result c.variant_number.result
+    × (unpacked (rows_made c) c.variant_number.result ≡ rows_from c.args.m c.args.own c.args.other c.args.rule)
 packed c = packed_new _ (search rules) (search rules)
     (record {
       some_house = omega arith;
@@ -19,7 +19,7 @@ packed c = packed_new _ (search rules) (search rules)
       other_past = search rules;
       few_seeds = grind arith;
     })
-    c.number_of.ensures.value c.number_of-2.ensures.value c.game_number.ensures (grind arith)
+    c.number_of.ensures.value c.number_of-2.ensures.value c.variant_number.ensures (grind arith)
 
 pub invariant_of-result : goal.invariant_of-result
 invariant_of-result c = (packed c).0

@@ -1,22 +1,22 @@
 use Rattle.std.proofs.Common.{arith}
-use Rattle.kalah_rules.specs.Position.{bare}
+use Rattle.kalah_rules.specs.Position.{storeless}
 use Rattle.kalah_rules.proofs.PlayLemmas.{legal_holds}
 use Rattle.kalah_rules.proofs.houses.Houses.play.Goals as goal
 
 pub own-requires-clause-low : goal.own-requires-clause-low
-own-requires-clause-low c = (legal_holds (bare c.args.self.now) c.args.h c.requires).first
+own-requires-clause-low c = (legal_holds (storeless c.args.self.now) c.args.h c.requires).first
 
 pub own-requires-clause-high : goal.own-requires-clause-high
-own-requires-clause-high c = (legal_holds (bare c.args.self.now) c.args.h c.requires).last
+own-requires-clause-high c = (legal_holds (storeless c.args.self.now) c.args.h c.requires).last
 
 pub new-sowing-requires-clause-first : goal.new-sowing-requires-clause-first
-new-sowing-requires-clause-first c = (legal_holds (bare c.args.self.now) c.args.h c.requires).first
+new-sowing-requires-clause-first c = (legal_holds (storeless c.args.self.now) c.args.h c.requires).first
 
 pub new-sowing-requires-clause-last : goal.new-sowing-requires-clause-last
-new-sowing-requires-clause-last c = omega (arith, (legal_holds (bare c.args.self.now) c.args.h c.requires).last)
+new-sowing-requires-clause-last c = omega (arith, (legal_holds (storeless c.args.self.now) c.args.h c.requires).last)
 
 pub new-requires-clause-first : goal.new-requires-clause-first
-new-requires-clause-first c = (legal_holds (bare c.args.self.now) c.args.h c.requires).first
+new-requires-clause-first c = (legal_holds (storeless c.args.self.now) c.args.h c.requires).first
 
 pub new-requires-clause-last : goal.new-requires-clause-last
-new-requires-clause-last c = omega (arith, (legal_holds (bare c.args.self.now) c.args.h c.requires).last)
+new-requires-clause-last c = omega (arith, (legal_holds (storeless c.args.self.now) c.args.h c.requires).last)

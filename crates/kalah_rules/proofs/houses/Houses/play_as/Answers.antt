@@ -1,5 +1,5 @@
 use Rattle.std.proofs.Common.{◌∙◌, sym}
-use Rattle.kalah_rules.specs.Position.{bare}
+use Rattle.kalah_rules.specs.Position.{storeless}
 use Rattle.kalah_rules.proofs.PlayLemmas.{legal_holds}
 use Rattle.kalah_rules.proofs.PackedLemmas.{again_at}
 use Rattle.kalah_rules.proofs.houses.Houses.play_as.Goals as goal
@@ -9,5 +9,5 @@ after-requires-clause-holds c = legal_holds _ _ c.requires.legal
 
 pub step-requires-clause-again : goal.step-requires-clause-again
 step-requires-clause-again c =
-    let p = bare c.args.self.now in
+    let p = storeless c.args.self.now in
     c.requires.sowing.again ∙ sym (again_at p c.args.house (legal_holds _ _ c.requires.legal))

@@ -1,5 +1,5 @@
 use Rattle.std.proofs.Common.{arith, ap, ◌∙◌, ◌-◌, ◌*◌, ◌^◌, ◌≤◌, length}
-use Rattle.kalah_rules.specs.Position.{bare}
+use Rattle.kalah_rules.specs.Position.{storeless}
 use Rattle.kalah_rules.proofs.PlayLemmas.{legal_holds}
 use Rattle.kalah_rules.proofs.KeyLemmas.{ones_le}
 use Rattle.kalah_rules.proofs.PackedLemmas.{house_read, MovesIntoStore, moves_into_store}
@@ -11,10 +11,10 @@ module _ (c : After-one_each_to) where
   less : c.one_each_to.result ≤ c.one_each.result
   less =
       let a = c.args.self.now in
-      let last = (legal_holds (bare a) c.args.house c.requires.legal).last in
+      let last = (legal_holds (storeless a) c.args.house c.requires.legal).last in
       omega (arith, ones_le c.args.house (length a.own) last, rw c.m.ensures.side at c.one_each.ensures.value)
 
-  moved : MovesIntoStore c.args.self.now c.args.house c.self.inside.rows c.self.inside.seeds c.self.inside.game c.alone.result
+  moved : MovesIntoStore c.args.self.now c.args.house c.self.inside.rows c.self.inside.seeds c.self.inside.variant c.alone.result
       (c.one_each.result - c.one_each_to.result)
   moved =
       let a = c.args.self.now in

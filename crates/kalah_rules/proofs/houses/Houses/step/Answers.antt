@@ -22,7 +22,7 @@ returns-then-other-eq0 c =
 
 -- the step on which the mover moves again
 again : (c : Then-again) → IsStepTo c.args.self.now c.args.house c.args.rows.rows (c.self.inside.seeds - c.args.rows.store)
-    c.self.inside.game (Again c.args.rows.store)
+    c.self.inside.variant (Again c.args.rows.store)
 again c = again_packed c.self.invariant c.self.view_is c.requires.legal c.requires.rows c.if-own-eq0.false c.if-other-eq0.false
     (sym c.requires.again ∙ c.if-again.true)
 
@@ -34,7 +34,7 @@ returns-then-again c = (again c).is
 
 -- and the turn
 turn : (c : Else-again) → IsStepTo c.args.self.now c.args.house
-    (c.args.rows.rows / 2 ^ 30 + 2 ^ 30 * (c.args.rows.rows % 2 ^ 30)) (c.self.inside.seeds - c.args.rows.store) c.self.inside.game
+    (c.args.rows.rows / 2 ^ 30 + 2 ^ 30 * (c.args.rows.rows % 2 ^ 30)) (c.self.inside.seeds - c.args.rows.store) c.self.inside.variant
     (Turn c.args.rows.store)
 turn c = turn_packed c.self.invariant c.self.view_is c.requires.legal c.requires.rows c.if-own-eq0.false c.if-other-eq0.false
     (sym c.requires.again ∙ c.if-again.false)

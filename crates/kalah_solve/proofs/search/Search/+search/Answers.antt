@@ -16,7 +16,7 @@ look-bound_step-requires g t c κs within =
         within,
         (
           search rules,
-          goes_on _ _ _ _ c.requires.game limits c.requires.legal
+          goes_on _ _ _ _ c.requires.variant limits c.requires.legal
               c.play_by-step.ensures,
         ),
       ),
@@ -31,7 +31,7 @@ look-bound_turn-requires g t c κs within =
         within,
         (
           search rules,
-          goes_on _ _ _ _ c.requires.game limits
+          goes_on _ _ _ _ c.requires.variant limits
               c.requires.legal is,
         ),
       ),
@@ -47,10 +47,10 @@ bound_turn-overflow_sub-result g t c =
     let few = (won_of_houses c.requires.on.limits).few in
     omega (arith, bound_up_to c.bound.ensures)
 
-pub bound_turn-returns-else-all-bar : goal.bound_turn-returns-else-all-bar
-bound_turn-returns-else-all-bar g t c =
+pub bound_turn-returns-else-all-beta : goal.bound_turn-returns-else-all-beta
+bound_turn-returns-else-all-beta g t c =
     let few = (won_of_houses c.requires.on.limits).few in
-    bound_left (c.args.gained + c.seeds.result) _ c.args.gained (omega arith) few c.if-bar-gained.false c.if-all-bar.false
+    bound_left (c.args.gained + c.seeds.result) _ c.args.gained (omega arith) few c.if-beta-gained.false c.if-all-beta.false
     c.bound.ensures
 
 pub explore-bounds-priorities-at : goal.explore-bounds-priorities-at
@@ -82,13 +82,13 @@ explore-bound_turn-bound-requires g t c κs within =
         (
           search rules,
           rw (c.seeds-seeds.ensures.seeds, c.seeds.ensures.seeds)
-              (goes_on _ _ _ _ c.requires.game limits turn.legal (sym turn.step)),
+              (goes_on _ _ _ _ c.requires.variant limits turn.legal (sym turn.step)),
         ),
       ),
     )
 
-pub explore-returns-then-bar-bound : goal.explore-returns-then-bar-bound
-explore-returns-then-bar-bound g t c =
+pub explore-returns-then-beta-bound : goal.explore-returns-then-beta-bound
+explore-returns-then-beta-bound g t c =
     let a = c.args.houses.now in
     let here = c.loop-priority.invariant.next c.loop-priority-test.true in
     record {
@@ -102,7 +102,7 @@ explore-loop-priority-preserved g t c =
     let before = c.loop-priority.invariant in
     let here = before.next c.loop-priority-test.true in
     let takes = turn_at_most _ _ (here.turn c.index-turns-at.result)
-    (rw (c.seeds-seeds.ensures.seeds, c.seeds.ensures.seeds) at c.bound_turn-bound.ensures) c.if-bar-bound.false in
+    (rw (c.seeds-seeds.ensures.seeds, c.seeds.ensures.seeds) at c.bound_turn-bound.ensures) c.if-beta-bound.false in
     let untried = untried_fewer (c.loop-priority.priority % 8) c.bound_turn-bound.result before.untried here.place takes
     c.max-most-in-loop-priority.ensures in
     record {
@@ -173,13 +173,13 @@ bound_again-bound_step-bound-requires g t c κs within =
     let limits = c.seeds-seeds.ensures.limits in
     let has = last_legal c.loop-left.invariant.may c.split_last-house.ensures.last in (
       omega (arith, step_falls a h c.play_into_store.result limits has c.play_into_store.ensures),
-      (within, (search rules, goes_on _ _ _ _ c.requires.game limits has c.play_into_store.ensures)),
+      (within, (search rules, goes_on _ _ _ _ c.requires.variant limits has c.play_into_store.ensures)),
     )
 
-pub bound_again-returns-then-bar-bound-clause-lower : goal.bound_again-returns-then-bar-bound-clause-lower
-bound_again-returns-then-bar-bound-clause-lower g t c =
+pub bound_again-returns-then-beta-bound-clause-lower : goal.bound_again-returns-then-beta-bound-clause-lower
+bound_again-returns-then-beta-bound-clause-lower g t c =
     let has = last_legal c.loop-left.invariant.may c.split_last-house.ensures.last in
-    move_enough c.args.houses.now c.args.bar c.split_last-house.result.0 _ c.again_houses-left.ensures.limits has
+    move_enough c.args.houses.now c.args.beta c.split_last-house.result.0 _ c.again_houses-left.ensures.limits has
     (rw c.play_into_store.ensures at c.bound_step-bound.ensures)
 
 pub bound_again-loop-left-preserved : goal.bound_again-loop-left-preserved
@@ -191,9 +191,9 @@ bound_again-loop-left-preserved g t c =
     let before = c.loop-left.invariant in
     let new_is : c.max-most.result ≡ max c.loop-left.most c.bound_step-bound.result = search (rules, c.max-most.ensures) in
     let takes : WinsAtMost a c.bound_step-bound.result h = rw c.play_into_store.ensures at
-    (c.bound_step-bound.ensures.upper c.if-bar-bound.false) in
+    (c.bound_step-bound.ensures.upper c.if-beta-bound.false) in
     rw c.split_last-house.ensures.rest (record {
-      low = low_more _ _ _ _ before.low c.if-bar-bound.false new_is;
+      low = low_more _ _ _ _ before.low c.if-beta-bound.false new_is;
       may = moves_fewer before.may last;
       ends = each_fewer (EndsInStore a) marks h last before.ends;
       tried = again_fewer _ _ c.bound_step-bound.result before.tried last takes new_is;
@@ -221,10 +221,10 @@ others_waiting-loop-left-init g t c =
 
 pub others_waiting-look-requires : goal.others_waiting-look-requires
 others_waiting-look-requires g t c κs within =
-    (omega arith, (within, (search rules, (last_legal c.loop-left.invariant.may c.split_last-house.ensures.last, c.requires.game))))
+    (omega arith, (within, (search rules, (last_legal c.loop-left.invariant.may c.split_last-house.ensures.last, c.requires.variant))))
 
-pub others_waiting-returns-then-bar-bound : goal.others_waiting-returns-then-bar-bound
-others_waiting-returns-then-bar-bound g t c =
+pub others_waiting-returns-then-beta-bound : goal.others_waiting-returns-then-beta-bound
+others_waiting-returns-then-beta-bound g t c =
     let has = last_legal c.loop-left.invariant.may c.split_last-house.ensures.last in
     record {
       lower = move_enough _ _ _ _ c.other_houses-left.ensures.limits has
@@ -242,11 +242,11 @@ others_waiting-loop-left-preserved g t c =
     let before = c.loop-left.invariant in
     let new_is : c.max-most.result ≡ max c.loop-left.most c.in-Bounded.bound = search (rules, c.max-most.ensures) in
     rw c.split_last-house.ensures.rest (record {
-      low = low_more _ _ _ _ before.low c.if-bar-bound.false new_is;
+      low = low_more _ _ _ _ before.low c.if-beta-bound.false new_is;
       may = moves_fewer before.may last;
       played = played_bound a c.loop-left.most marks h c.loop-left.priorities c.loop-left.turns before.played last c.in-Bounded.bound
           c.max-most.result
-          (c.in-Bounded.ensures.upper c.if-bar-bound.false) new_is;
+          (c.in-Bounded.ensures.upper c.if-beta-bound.false) new_is;
     })
 
 pub others_waiting-loop-left-smaller : goal.others_waiting-loop-left-smaller
@@ -285,7 +285,7 @@ explore-loop-priority-init g t c =
     let most_is : c.max-most.result ≡ max c.bound_again-again.result c.others_waiting-others.result =
     search (rules, c.max-most.ensures) in
     let untried = untried_first _ (search rules) others
-    (c.bound_again-again.ensures.upper c.if-bar-again.false) c.if-bar-others.false most_is in
+    (c.bound_again-again.ensures.upper c.if-beta-again.false) c.if-beta-others.false most_is in
     record {
       low = omega arith;
       highest = c.highest-priority.ensures.highest;

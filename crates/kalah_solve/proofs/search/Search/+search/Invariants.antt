@@ -1,4 +1,4 @@
-use Rattle.kalah_rules.specs.Position.{bare}
+use Rattle.kalah_rules.specs.Position.{storeless}
 use Rattle.std.proofs.Common.{◌+◌, ◌*◌, ◌<◌, ◌≤◌, ◌≡◌, ℕ, get_or, sum}
 use Rattle.kalah_rules.specs.Measure.{moves_left}
 use Rattle.kalah_solve.proofs.WorthLemmas.{moves_after}
@@ -8,32 +8,32 @@ use Rattle.kalah_solve.proofs.SearchLemmas.{AreAgain, ArePlayed, AreUntried, May
 use Rattle.kalah_solve.proofs.search.Search.+search.Given as goal
 
 abbrev pub decreases-bound : goal.decreases-bound
-decreases-bound g l = 9 * moves_left (bare l.houses) + 6
+decreases-bound g l = 9 * moves_left (storeless l.houses) + 6
 
 abbrev pub decreases-bound_by_search : goal.decreases-bound_by_search
-decreases-bound_by_search g l = 9 * moves_left (bare l.houses) + 5
+decreases-bound_by_search g l = 9 * moves_left (storeless l.houses) + 5
 
 abbrev pub decreases-explore : goal.decreases-explore
-decreases-explore g l = 9 * moves_left (bare l.houses.now) + 4
+decreases-explore g l = 9 * moves_left (storeless l.houses.now) + 4
 
 abbrev pub decreases-bound_again : goal.decreases-bound_again
-decreases-bound_again g l = 9 * moves_left (bare l.houses.now) + 3
+decreases-bound_again g l = 9 * moves_left (storeless l.houses.now) + 3
 
 abbrev pub decreases-others_waiting : goal.decreases-others_waiting
-decreases-others_waiting g l = 9 * moves_left (bare l.houses.now) + 3
+decreases-others_waiting g l = 9 * moves_left (storeless l.houses.now) + 3
 
 abbrev pub decreases-look : goal.decreases-look
-decreases-look g l = 9 * moves_left (bare l.houses.now) + 2
+decreases-look g l = 9 * moves_left (storeless l.houses.now) + 2
 
 abbrev pub decreases-bound_step : goal.decreases-bound_step
 decreases-bound_step g l = 9 * moves_after l.step + 8
 
 abbrev pub decreases-bound_turn : goal.decreases-bound_turn
-decreases-bound_turn g l = 9 * moves_left (bare l.next) + 7
+decreases-bound_turn g l = 9 * moves_left (storeless l.next) + 7
 
 abbrev pub invariant-bound_again-loop-left : goal.invariant-bound_again-loop-left
 invariant-bound_again-loop-left g l = record {
-  low : l.bar ≤ l.most → l.most ≡ 0;
+  low : l.beta ≤ l.most → l.most ≡ 0;
   may : MayMove l.houses l.left;
   ends : (i : ℕ) → 0 < cell l.left i → EndsInStore l.houses (i + 1);
   tried : AreAgain l.houses l.most l.left;
@@ -44,7 +44,7 @@ decreases-bound_again-loop-left g l = l.left
 
 abbrev pub invariant-others_waiting-loop-left : goal.invariant-others_waiting-loop-left
 invariant-others_waiting-loop-left g l = record {
-  low : l.bar ≤ l.most → l.most ≡ 0;
+  low : l.beta ≤ l.most → l.most ≡ 0;
   may : MayMove l.houses l.left;
   played : ArePlayed l.houses l.most l.left l.priorities l.turns;
 }
@@ -54,7 +54,7 @@ decreases-others_waiting-loop-left g l = l.left
 
 abbrev pub invariant-explore-loop-priority : goal.invariant-explore-loop-priority
 invariant-explore-loop-priority g l = record {
-  low : l.most < l.bar;
+  low : l.most < l.beta;
   highest : (k : ℕ) → get_or l.priorities k 0 ≤ l.priority;
   untried : AreUntried l.houses l.most l.priorities l.turns;
   next : 0 < l.priority → WaitsWith l.houses l.priorities l.turns l.priority;

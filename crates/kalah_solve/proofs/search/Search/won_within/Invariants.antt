@@ -7,7 +7,7 @@ invariant-loop-low g l = record {
   least : l.fn.asked.least ≤ l.low;
   ordered : l.low ≤ l.high;
   most : l.high ≤ l.fn.asked.most;
-  bar : l.bar ≤ 32;
+  beta : l.beta ≤ 32;
   is : max l.fn.asked.least (min l.fn.asked.most (won l.houses)) ≡ max l.low (min l.high (won l.houses));
 }
 

@@ -1,5 +1,5 @@
 use Rattle.std.proofs.Common.{rules, sym, ap, ◌∙◌, ◌≡◌, w32, SFits, to_z-of_z}
-use Rattle.kalah_rules.specs.Position.{rows_of}
+use Rattle.kalah_rules.specs.Position.{houses_in}
 use Rattle.kalah_solve.specs.Solver.Worth.{houses_worth}
 use Rattle.kalah_solve.proofs.SolverLemmas.{told_fits, told_small, told_worth}
 use Rattle.kalah_solve.proofs.WorthLemmas.{worth_of_over}
@@ -12,7 +12,7 @@ returns-then-is_over-clause-worth g c =
     simp to_z-of_z (c.returns.ensures.margin ∙ sym (worth_of_over _ (sym c.if-is_over.ensures.over)))
 
 -- what the search finds is the worth of the houses
-found : (g : Over) (c : goal.After-other_store g) → c.worth-best.result ≡ houses_worth (rows_of c.args.board.now)
+found : (g : Over) (c : goal.After-other_store g) → c.worth-best.result ≡ houses_worth (houses_in c.args.board.now)
 found g c = c.worth-best.ensures ∙ ap houses_worth c.houses.ensures
 
 pub overflow_add-result : goal.overflow_add-result

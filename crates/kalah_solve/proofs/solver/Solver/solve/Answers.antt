@@ -1,7 +1,7 @@
 use Rattle.std.proofs.Common.{arith, rules, sym, ap, ◌∙◌, ◌≡◌, w32, SFits}
 use Rattle.std.proofs.lemmas.Int.{ints, to_z-of_z}
 use Rattle.kalah_rules.specs.Play.{legal_houses}
-use Rattle.kalah_rules.specs.Position.{Rows, rows_of, bare}
+use Rattle.kalah_rules.specs.Position.{HousesState, houses_in, storeless}
 use Rattle.kalah_solve.specs.Solver.Worth.{houses_worth, best_house}
 use Rattle.kalah_solve.specs.declared.solver.Verdict.TheVariants.{Best, Over}
 use Rattle.kalah_solve.proofs.SolverLemmas.{verdict_by, verdict_of_over, small_best, stored, told_fits, told_small, told_worth, verdict_tells}
@@ -18,10 +18,10 @@ returns-then-is_over-clause-best_play g c =
 
 -- ---- the game goes on
 pub first_house-house-requires-clause-moves : goal.first_house-house-requires-clause-moves
-first_house-house-requires-clause-moves g c = c.legal.ensures ∙ sym (ap (λ (a : Rows). legal_houses (bare a)) c.houses-houses.ensures)
+first_house-house-requires-clause-moves g c = c.legal.ensures ∙ sym (ap (λ (a : HousesState). legal_houses (storeless a)) c.houses-houses.ensures)
 
-pub won_of-bar-requires : goal.won_of-bar-requires
-won_of-bar-requires g c =
+pub won_of-beta-requires : goal.won_of-beta-requires
+won_of-beta-requires g c =
     let a = c.houses-houses.result in
     let limits = c.seeds.ensures.limits in
     omega (arith, ints, worth_low a limits, worth_high a limits)
@@ -30,10 +30,10 @@ pub first_house-house-requires-clause-best : goal.first_house-house-requires-cla
 first_house-house-requires-clause-best g c =
     let fits : SFits w32 c.worth-best.result = search rules in
     half_is c.houses-houses.result _ _ c.seeds.ensures.limits c.worth-best.ensures
-    (rw c.seeds.ensures.seeds at (simp to_z-of_z at c.won_of-bar.ensures))
+    (rw c.seeds.ensures.seeds at (simp to_z-of_z at c.won_of-beta.ensures))
 
 -- what the search finds is the worth of the houses
-found : (g : given.Over) (c : goal.After-other_store g) → c.worth-best.result ≡ houses_worth (rows_of c.args.board.now)
+found : (g : given.Over) (c : goal.After-other_store g) → c.worth-best.result ≡ houses_worth (houses_in c.args.board.now)
 found g c = c.worth-best.ensures ∙ ap houses_worth c.houses-houses.ensures
 
 pub overflow_add-margin : goal.overflow_add-margin
@@ -43,7 +43,7 @@ overflow_add-margin g c =
 
 -- the reported house
 house_is : (g : given.Over) (c : goal.After-other_store g) → c.first_house-house.result ≡ best_house c.args.board.now
-house_is g c = c.first_house-house.ensures ∙ ap (λ (a : Rows). best_house (bare a)) c.houses-houses.ensures
+house_is g c = c.first_house-house.ensures ∙ ap (λ (a : HousesState). best_house (storeless a)) c.houses-houses.ensures
     ∙ sym (best_of_rows c.args.board.now)
 
 pub returns-clause-verdict : goal.returns-clause-verdict

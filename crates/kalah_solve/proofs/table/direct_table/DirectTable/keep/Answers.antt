@@ -1,5 +1,5 @@
 use Rattle.std.proofs.Common.{arith, ◌∙◌, ◌≡◌, length, length-set}
-use Rattle.kalah_solve.specs.Table.DirectTable.{IsWithinPlace}
+use Rattle.kalah_solve.specs.Table.DirectTable.{IsWithinSlot}
 use Rattle.kalah_solve.specs.Bounds.Won.{won}
 use Rattle.kalah_solve.proofs.TableLemmas.{bounds_more}
 use Rattle.kalah_solve.proofs.BoundsLemmas.{won_of_houses}
@@ -12,17 +12,17 @@ of-stored-requires-clause-least g c =
 
 pub invariant_of-self : goal.invariant_of-self
 invariant_of-self g c =
-    let places = c.self.inside.places.items in
-    let at = c.place_of-at in
+    let slots = c.self.inside.slots.items in
+    let at = c.slot_of-at in
     let mixed = c.mixed_key-mixed in
-    let length_is : c.len.result ≡ length places = omega arith in
-    let count = length-set places at.result c.of-stored.result in
-    let known : IsWithinPlace c.of-stored.result (won c.args.houses.now) = record {
+    let length_is : c.len.result ≡ length slots = omega arith in
+    let count = length-set slots at.result c.of-stored.result in
+    let known : IsWithinSlot c.of-stored.result (won c.args.houses.now) = record {
       least = rw c.of-stored.ensures.least c.requires.least;
       most = rw c.of-stored.ensures.most c.requires.most;
     } in (
       rw count c.self.invariant.0,
       bounds_more _ c.self.invariant.0 c.self.invariant.1
-          mixed.ensures.limits mixed.ensures.mixed (rw length_is at at.ensures.place) (omega arith)
+          mixed.ensures.limits mixed.ensures.mixed (rw length_is at at.ensures.slot) (omega arith)
           (c.of-stored.ensures.rest ∙ c.rest_of.ensures.rest) known,
     )

@@ -7,8 +7,8 @@ pub invariant_of-result : goal.invariant_of-result
 invariant_of-result g c =
     let unknown = c.of.result in
     let count = c.max-count.result in
-    let places = c.in_ok-places.places.items in
-    let all = c.in_ok-places.ensures.items_if_clones_equal (λ y same. same) in
+    let slots = c.in_ok-slots.slots.items in
+    let all = c.in_ok-slots.ensures.items_if_clones_equal (λ y same. same) in
     rw all (
       record {
         least = omega (arith, length-replicate count unknown);

@@ -17,7 +17,7 @@ most_won-loop-left-init g t c =
 pub most_won-move_wins-requires : goal.most_won-move_wins-requires
 most_won-move_wins-requires g t c κs within =
     let has = last_legal c.loop-left.invariant.may c.split_last-house.ensures.last in
-    (omega arith, (within, (search rules, (has, (c.requires.game, c.requires.few)))))
+    (omega arith, (within, (search rules, (has, (c.requires.variant, c.requires.few)))))
 
 pub most_won-returns-then-most-seeds : goal.most_won-returns-then-most-seeds
 most_won-returns-then-most-seeds g t c =
@@ -62,7 +62,7 @@ move_wins-won-requires g t c κs within =
     let next = leads_by _ _ c.seeds-seeds.ensures.limits
     c.requires.legal
     (sym c.in-Again.is ∙ c.play_by.ensures) in
-    (omega arith, (within, (search rules, (next.going, (next.same ∙ c.requires.game, omega arith)))))
+    (omega arith, (within, (search rules, (next.going, (next.same ∙ c.requires.variant, omega arith)))))
 
 pub move_wins-overflow_add-result : goal.move_wins-overflow_add-result
 move_wins-overflow_add-result g t c =
@@ -75,7 +75,7 @@ pub move_wins-won-requires-in-Turn : goal.move_wins-won-requires-in-Turn
 move_wins-won-requires-in-Turn g t c κs within =
     let next = leads_by _ _ c.seeds-seeds.ensures.limits c.requires.legal
     (sym c.in-Turn.is ∙ c.play_by.ensures) in
-    (omega arith, (within, (search rules, (next.going, (next.same ∙ c.requires.game, omega arith)))))
+    (omega arith, (within, (search rules, (next.going, (next.same ∙ c.requires.variant, omega arith)))))
 
 pub move_wins-overflow_sub-result : goal.move_wins-overflow_sub-result
 move_wins-overflow_sub-result g t c =

@@ -1,21 +1,21 @@
 use Rattle.std.proofs.Common.{◌+◌, ◌*◌}
-use Rattle.kalah_rules.specs.Position.{bare}
+use Rattle.kalah_rules.specs.Position.{storeless}
 use Rattle.kalah_rules.specs.Measure.{moves_left}
 use Rattle.kalah_solve.proofs.TableLemmas.{IsMost}
 use Rattle.kalah_solve.proofs.SearchLemmas.{MayMove}
 use Rattle.kalah_solve.proofs.table.endgame_table.EndgameTable.+exact.Given as goal
 
 abbrev pub decreases-won : goal.decreases-won
-decreases-won g l = 4 * moves_left (bare l.houses) + 3
+decreases-won g l = 4 * moves_left (storeless l.houses) + 3
 
 abbrev pub decreases-learn : goal.decreases-learn
-decreases-learn g l = 4 * moves_left (bare l.houses) + 2
+decreases-learn g l = 4 * moves_left (storeless l.houses) + 2
 
 abbrev pub decreases-most_won : goal.decreases-most_won
-decreases-most_won g l = 4 * moves_left (bare l.houses.now) + 1
+decreases-most_won g l = 4 * moves_left (storeless l.houses.now) + 1
 
 abbrev pub decreases-move_wins : goal.decreases-move_wins
-decreases-move_wins g l = 4 * moves_left (bare l.houses.now)
+decreases-move_wins g l = 4 * moves_left (storeless l.houses.now)
 
 abbrev pub invariant-most_won-loop-left : goal.invariant-most_won-loop-left
 invariant-most_won-loop-left g l = record {

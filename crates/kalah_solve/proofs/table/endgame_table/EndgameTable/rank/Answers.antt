@@ -1,19 +1,19 @@
 use Rattle.std.proofs.Common.{arith, ◌++◌, ◌+◌, ◌-◌, ◌<◌, ◌≤◌, ◌*◌, ◌%◌, ◌/◌, ◌≡◌, ℕ, length, length-append, sum}
 use Rattle.std.proofs.lemmas.List.Sums.{sum_by-append}
-use Rattle.kalah_rules.specs.Position.{Rows, IsWithinHouses, bare, seeds_in_houses}
+use Rattle.kalah_rules.specs.Position.{HousesState, IsWithinHouses, storeless, seeds_in_houses}
 use Rattle.kalah_solve.specs.Table.RowRank.{choose}
 use Rattle.kalah_solve.proofs.TableLemmas.{IsRanked, two_few, rank_next, ranked_small, ranked_all}
 use Rattle.kalah_solve.proofs.table.endgame_table.EndgameTable.rank.Goals.{then-step-m-ge6, else-step-m-ge6}
 use Rattle.kalah_solve.proofs.table.endgame_table.EndgameTable.rank.Goals as goal
 
-few : (a : Rows) → seeds_in_houses (bare a) ≤ 9 → sum (a.own ++ a.other) ≤ 9
+few : (a : HousesState) → seeds_in_houses (storeless a) ≤ 9 → sum (a.own ++ a.other) ≤ 9
 few a less = omega (arith, sum_by-append (λ x. x) a.own a.other)
 
-long : (a : Rows) → IsWithinHouses a → length (a.own ++ a.other) ≡ 2 * length a.own
+long : (a : HousesState) → IsWithinHouses a → length (a.own ++ a.other) ≡ 2 * length a.own
 long a within = omega (arith, length-append a.own a.other)
 
 -- a step from the first on that passes two cells
-module _ (a : Rows) (within : IsWithinHouses a) (less : seeds_in_houses (bare a) ≤ 9) (step sums rank : ℕ) (low : step < 6)
+module _ (a : HousesState) (within : IsWithinHouses a) (less : seeds_in_houses (storeless a) ≤ 9) (step sums rank : ℕ) (low : step < 6)
     (passes : 6 ≤ step + length a.own) (is : IsRanked (a.own ++ a.other) (step + length a.own - 6) sums rank) where
   few_here : (sums % 1024 % 32 < 10) × (sums % 1024 / 32 < 10)
   few_here =

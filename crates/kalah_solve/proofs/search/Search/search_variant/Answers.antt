@@ -1,9 +1,9 @@
 use Rattle.std.proofs.Common.{ap, refl, rules, ◌≡◌, ◌∙◌, w8, w32, to_z, of_z, SFits, to_z-of_z}
-use Rattle.kalah_solve.specs.Bounds.Intervals.{within}
+use Rattle.kalah_solve.specs.Bounds.Intervals.{clamped}
 use Rattle.kalah_solve.specs.Solver.Worth.{houses_worth}
 use Rattle.kalah_solve.proofs.BoundsLemmas.{within_both, won_by_bounds, told_by_won}
-use Rattle.kalah_solve.proofs.search.Search.search_game.Given.{Over}
-use Rattle.kalah_solve.proofs.search.Search.search_game.Goals as goal
+use Rattle.kalah_solve.proofs.search.Search.search_variant.Given.{Over}
+use Rattle.kalah_solve.proofs.search.Search.search_variant.Goals as goal
 
 pub interval_of-requires-clause-least : goal.interval_of-requires-clause-least
 interval_of-requires-clause-least g c =
@@ -17,7 +17,7 @@ interval_of-requires-clause-most g c =
 
 -- the answer is the worth in the window
 found : (g : Over) (c : goal.After-intersection g) →
-    to_z w32 (of_z w32 c.clamp-answer.result) ≡ within c.in-Some.narrow.lo c.in-Some.narrow.hi (houses_worth c.args.houses.now)
+    to_z w32 (of_z w32 c.clamp-answer.result) ≡ clamped c.in-Some.narrow.lo c.in-Some.narrow.hi (houses_worth c.args.houses.now)
 found g c =
     let seeds = c.seeds-seeds.ensures in
     let fits : SFits w32 c.clamp-answer.result = search rules in
@@ -41,7 +41,7 @@ returns-then-seeds-self g c =
     let fits : SFits w32 c.clamp.result = search rules in
     let margin_fits : SFits w32 c.margin_of.result = search rules in
     simp to_z-of_z (simp to_z-of_z at c.clamp.ensures
-    ∙ ap (within _ _) (told_by_won seeds.limits seeds.seeds c.won-won.ensures c.margin_of.ensures))
+    ∙ ap (clamped _ _) (told_by_won seeds.limits seeds.seeds c.won-won.ensures c.margin_of.ensures))
 
 pub returns-in_default : goal.returns-in_default
 returns-in_default g c =

@@ -1,17 +1,17 @@
 use Rattle.std.proofs.Common.{◌++◌, ◌∙◌, ap, arith, codes}
 use Rattle.std.specs.Fmt.{decimal}
 use Rattle.std.proofs.lemmas.Int.{ints}
-use Rattle.kalah_jobs.specs.Writing.Answer.{answer_words}
+use Rattle.kalah_jobs.specs.Writing.Answer.{joined_text}
 use Rattle.kalah_jobs.proofs.WritingLemmas.{from_margin}
-use Rattle.kalah_jobs.proofs.writing.answer_line.prepend_words.Goals as goal
+use Rattle.kalah_jobs.proofs.writing.answer_line.prepend_text.Goals as goal
 
 pub returns-in-Best-clause-words : goal.returns-in-Best-clause-words
 returns-in-Best-clause-words c =
     from_margin c.args.answer.now c.in-Best.margin (codes " house " ++ decimal c.in-Best.house) _ (omega (arith, ints))
-    (ap answer_words c.in-Best.is) (c.prepend.ensures.piece ∙ ap (λ l. codes " house " ++ l) c.prepend_byte.ensures.number)
+    (ap joined_text c.in-Best.is) (c.prepend.ensures.piece ∙ ap (λ l. codes " house " ++ l) c.prepend_byte.ensures.number)
     c.prepend_margin.ensures.margin
 
 pub returns-in-Over-clause-words : goal.returns-in-Over-clause-words
 returns-in-Over-clause-words c =
-    from_margin c.args.answer.now c.in-Over.margin (codes " over") _ (omega (arith, ints)) (ap answer_words c.in-Over.is)
+    from_margin c.args.answer.now c.in-Over.margin (codes " over") _ (omega (arith, ints)) (ap joined_text c.in-Over.is)
     c.prepend-in-Over.ensures.piece c.prepend_margin-in-Over.ensures.margin
