@@ -7,7 +7,7 @@ JOBS ?= $(shell awk -v all="$$(nproc)" '/^MemTotal/ { some = int($$2 / 2000000);
 .PHONY: all try check test exhaust test-page test-peer install uninstall dist deb wheel bench clean
 
 # Ends a recipe that needs the toolchain, if it is missing.
-NEEDS_RT = $(if $(shell command -v rt 2> /dev/null),,$(error `make $@` needs `rt`, the command of the Rattle toolchain (README.md, "Two commands")))
+NEEDS_RT = $(if $(shell command -v rt 2> /dev/null),,$(error `make $@` needs `rt`, the command of the Rattle toolchain (README.md, "Build and test")))
 
 # Proves the program and all that it depends on, and builds ./kalah.
 all: kalah

@@ -1,6 +1,6 @@
 """Checks a certificate: lines that prove the margin of best play of a position, each by lines above it.
 
-    python3 python3 -m kalah check FILE [LINE MARGIN]
+    python3 check.py FILE [LINE MARGIN]
 
 It needs no other program or file. It prints what the lines prove of the last one's position, or which line doesn't follow, and why. With
 LINE and MARGIN it fails unless they prove that this position has this margin. So it refuses a certificate that is cut, or another one.
@@ -138,7 +138,9 @@ def lines_in(file: TextIO) -> Iterator[str]:
 
 
 def main() -> None:
-    parser = argparse.ArgumentParser(description=__doc__, formatter_class=argparse.RawDescriptionHelpFormatter)
+    parser = argparse.ArgumentParser(
+        usage="%(prog)s [-h] FILE [LINE MARGIN]", description=__doc__, formatter_class=argparse.RawDescriptionHelpFormatter
+    )
     parser.add_argument("file", metavar="FILE", help="a certificate")
     parser.add_argument("line", nargs="?", metavar="LINE", help="the position that it must be of")
     parser.add_argument("margin", nargs="?", metavar="MARGIN", help="the margin that it must prove")

@@ -9,9 +9,9 @@ use Rattle.kalah_rules.specs.Measure.{moves_left}
 
 -- the margin that the mover gets by house h, where `worth` is the margin of best play of what follows
 abbrev pub value_by : (Position → ℤ) → Position → ℕ → ℤ
-value_by worth p h =
+value_by worth_of p h =
     let q = after p h in
-    if is_over q then final_margin q else (if is_again p h then worth q else neg_ℤ (worth (swapped q)))
+    if is_over q then final_margin q else (if is_again p h then worth_of q else neg_ℤ (worth_of (swapped q)))
 
 -- the greatest of some numbers
 abbrev pub greatest : List ℤ → ℤ
