@@ -32,7 +32,7 @@ complete -c kalah -n '__kalah_may solve values show play ask -- table steps' -l 
 complete -c kalah -n '__kalah_may play -- first' -l first -x -a '1 2 3 4 5 6' -d 'Begin with this house'
 complete -c kalah -n '__kalah_may show -- plain' -l plain -d 'Draw the position alone'
 complete -c kalah -n '__kalah_may show -- lines' -l lines -d 'Print the best play after each move'
-complete -c kalah -n '__kalah_may play -- values' -l values -d 'Print after each move the margin of best play before it'
+complete -c kalah -n '__kalah_may play -- values' -l values -d 'Print with each move the value of the position it was made in'
 complete -c kalah -n '__kalah_may solve values steps -- workers' -l workers -x -d 'Answer up to N lines in parallel, 1 to 64'
 complete -c kalah -n '__kalah_may solve values steps -- progress' -l progress -d 'Show on standard error how many lines are answered'
 complete -c kalah -n '__fish_seen_subcommand_from solve values steps' -F

@@ -28,7 +28,7 @@ _kalah() {
                 solve | values) _arguments $help $workers $table $progress '*:file of positions:_files' ;;
                 show) _arguments $help '--plain[draw the position alone]' '--lines[print the best play after each move]' $table '1:position in quotes: ' ;;
                 play)
-                    local margins='--values[print after each move the margin of best play before it]'
+                    local margins='--values[print with each move the value of the position it was made in]'
                     local first='--first=[begin with this house, 1 to 6]:house:(1 2 3 4 5 6)'
                     _arguments $help $table $boards $margins $first '1:position in quotes: '
                     ;;

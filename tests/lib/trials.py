@@ -103,6 +103,7 @@ MISSING = "the following required arguments were not provided:\n"
 EXCESS = "unexpected argument '{0}' found"
 AS_VALUE = EXCESS + "\n\n  tip: to pass '{0}' as a value, use '-- {0}'"
 OF_FILES = "{0} [OPTIONS] <FILE>..."
+VERSIONED = [("solve", OF_FILES.format("solve")), ("play", "play [OPTIONS] <LINE>"), ("count", "count <DEPTH> <LINE>")]
 
 
 def as_value(words, usage, tip):
@@ -150,6 +151,8 @@ TIPS = [
     (["help"], mistake("unrecognized subcommand 'help'", "<COMMAND>"), "use `kalah --help`"),
     (["version"], mistake("unrecognized subcommand 'version'", "<COMMAND>"), "use `kalah --version`"),
     (["-v"], mistake(EXCESS.format("-v"), "<COMMAND>"), "use `kalah --version`"),
+    *(as_value([name, option], usage, "use `kalah --version`") for name, usage in VERSIONED for option in ("-V", "--version")),
+    (["ask", "-V"], mistake(EXCESS.format("-V"), "ask [OPTIONS]"), "use `kalah --version`"),
     (["perft", "3", POSITION], mistake("unrecognized subcommand 'perft'", "<COMMAND>"), "use `kalah count DEPTH LINE`"),
     (["best", POSITION], mistake("unrecognized subcommand 'best'", "<COMMAND>"), "use `kalah show LINE`, or `kalah solve FILE`"),
     (["go"], mistake("unrecognized subcommand 'go'", "<COMMAND>"), None),
@@ -177,6 +180,11 @@ TIPS = [
         ["solve", "--values", "a"],
         mistake(f"{EXCESS.format('--values')}\n\n  tip: a similar argument exists: '--table'", "solve --table <N> <FILE>..."),
         "use `kalah values FILE`",
+    ),
+    (
+        ["show", "--values", POSITION],
+        mistake(f"{EXCESS.format('--values')}\n\n  tip: a similar argument exists: '--table'", "show --table <N> <LINE>"),
+        "use `kalah show --lines LINE`, or `kalah values FILE`",
     ),
     as_value(["steps", "--values", "a"], OF_FILES.format("steps"), "use `kalah values FILE`"),
     *(as_value([name, "--steps", "a"], OF_FILES.format(name), "use `kalah steps FILE`") for name in SEARCHING),
@@ -272,6 +280,10 @@ FIRST_MOVES = list(product(["pipe", "terminal", "file"], FIRST_MOVES))
 
 # Runs whose first rows take a small part of their time.
 ROW_BY_ROW = [["count", "12", LONG_GAME], ["play", "--table", "1", "--first=2", b"1,2,0,2,4,5/0 3,2,1,4,4,3/0"]]
+
+# The subcommands that search a position at once, and one that takes a hundred times as long if no ending is kept.
+ENDINGS_KEPT = ["play", "show"]
+MANY_ENDINGS = b"1,2,1,1,4,0/0 3,1,3,4,3,2/0"
 
 # The numbers of workers that are observed at work.
 BUSY_WORKERS = [2, 3, 5, 16, 64]
@@ -769,8 +781,17 @@ class Trials(AskTrials, WaitTrials):
         _, of_all = self.timed(lambda: self.run(words))
         got, spent = self.timed(lambda: self.run_into("/dev/full", words, 0))
         self.compare(reference.failed(b"write failed"), got)
-        if spent > of_all / 2:
+        if spent > of_all / 3:
             raise Differs(f"the run took {of_all:.2f} s of processor, and {spent:.2f} s where its first row can't be written")
+
+    def endings_are_kept(self):
+        """A search that reaches the same few endings again and again takes a small part of the time of a count, as it keeps each."""
+        self.put({})
+        _, of_count = self.timed(lambda: self.run(["count", "12", LONG_GAME]))
+        subcommand = self.drawn.card("endings kept", ENDINGS_KEPT)
+        _, spent = self.timed(lambda: self.run([subcommand, "--table", "1", MANY_ENDINGS]))
+        if spent > of_count / 2:
+            raise Differs(f"{subcommand} took {spent:.2f} s of processor, and a count {of_count:.2f} s")
 
     def busy_workers(self):
         """The number of threads that work in parallel is the requested number of workers. They share one table of endings: with a
@@ -1086,6 +1107,7 @@ KINDS = {
     "first_picture": len(FIRST_PICTURES),
     "first_move": len(FIRST_MOVES),
     "ends_at_a_failed_write": len(ROW_BY_ROW),
+    "endings_are_kept": len(ENDINGS_KEPT),
     "busy_workers": len(BUSY_WORKERS),
     "few_lines": len(FEW_LINES),
     "progress": len(PROGRESS),

@@ -43,7 +43,7 @@ found_passes t [] = tt
 found_passes t (x ∷ xs) =
     cond_both (t x) (Some x) (find t xs) (λ o. IfSome o (λ y. t y ≡ true)) (λ is. is) (λ _. found_passes t xs)
 
--- and one is found if any passes
+-- an item is found if any passes
 pub any_is_found : {X : Type 0} (t : X → Bool) (xs : List X) → list_any t xs ≡ is_some (find t xs)
 any_is_found t [] = refl
 any_is_found t (x ∷ xs) = go (t x) (any_is_found t xs)
@@ -128,7 +128,7 @@ module _ (s : Shape) (usable : AllOf (IsUsable s.rules) s.rules) where
   abbrev Keeps : Kinds → List Row → List Row → Type 0
   Keeps kinds before after = kinds ≡ [] → Fit before → Fit after
 
-  -- and so do two, one after the other
+  -- two steps, one after the other, keep it, too
   in_turn : (k l : Kinds) (x y z : List Row) → Keeps k x y → Keeps l y z → Keeps (or_else k l) x z
   in_turn k l x y z one other e fit = let none = both_none k l e in other none.1 (one none.0 fit)
 
@@ -374,7 +374,7 @@ default_stays id rows a e =
     go gone [] = e
     go gone (d ∷ ds) = rw (added_last a.id _ _ rows gone, list_any-append, e) refl
 
--- and makes the row of its argument
+-- a default makes the row of its argument
 default_made : (rows : List Row) (a : Rule) → not (is_empty a.defaults) ≡ true → has_row a.id (with_default rows a) ≡ true
 default_made rows a some =
     cond_both (has_row a.id rows) rows (default_rows a.id (reading_by a) a.defaults rows) (λ l. has_row a.id l ≡ true)
@@ -385,7 +385,7 @@ default_made rows a some =
     go gone [] bad = cc
     go gone (d ∷ ds) some = rw (added_last a.id _ _ rows gone, list_any-append, gone, (bytes_eq-Decides a.id a.id).1 refl) refl
 
--- and so do all defaults
+-- all defaults keep the rows that there are
 defaults_stay : (id : Text) (rules : List Rule) (rows : List Row) → has_row id rows ≡ true
     → has_row id (fold with_default rows rules) ≡ true
 defaults_stay id [] rows e = e
@@ -408,7 +408,7 @@ pub record Has (rows : List Row) (id : Text) (a : Rule) : Type 0 where
   pub fits : IfSome (find (λ r. bytes_eq r.id id) rows) (λ r. Fits a r)
   pub there : is_wanted a ≡ true → is_some (find (λ r. bytes_eq r.id id) rows) ≡ true
 
--- so it is after arguments that fail by no kind, of a command without subcommands
+-- the rows fit after arguments that fail by no kind, of a command without subcommands
 level_has : (s : Shape) (words : List Text) → AllOf (IsUsable s.rules) s.rules → level_fault s [] nothing_held words false [] ≡ []
     → (id : Text) (a : Rule) → arg_by_id s.rules id ≡ Some a → Has (rows_after s.rules [] words) id a
 level_has s words usable e id a found =

@@ -47,7 +47,7 @@ all_added (command ∷ commands) old new plain adds =
     let one = adds.1.shape (plain_fields command parts.0).globals in
     all_added commands adds.0 new parts.1 adds.2 ∙ ap (λ app. with_all app (map app_of commands)) one
 
--- and commands that are those of the table
+-- the commands that are added are those of the table
 pub made_of : (start : App) (subs : List App) (commands : List Command) (old new : Command) → map app_of commands ≡ subs
     → are_plain subs ≡ true → app_of old ≡ start → AddsInTurn AddsSubcommand old commands new
     → app_of new ≡ with_all start subs

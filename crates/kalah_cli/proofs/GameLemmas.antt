@@ -165,7 +165,7 @@ game_goes_on p even going =
     let next = same_moves n _ _ (even_next p even going _ refl) (omega (arith, fewer_next p even going)) (omega arith) in
     ap (λ k. best_moves k p) more ∙ one_left n p going ∙ ap (λ moves. best_house p ∷ moves) next
 
--- and so is their text
+-- the text of a game is that of its first move, and the text from the position after it
 pub text_goes_on : (form : Form) {p : Position} {h : ℕ} {s : Step} → IsFirst p h s → game_text form p (best_game p)
     ≡ move_text form (worth p) h s ++ game_text form (position_after s) (best_game (position_after s))
 text_goes_on form {p} {h} {s} first =

@@ -10,7 +10,8 @@ use Rattle.clap.proofs.OnLiterals.{clap_on_literals}
 use Rattle.kalah_jobs.specs.declared.files.question.Question.{Question}
 use Rattle.kalah_jobs.specs.declared.files.question.Question.TheVariants.{BestMove, Steps, Values}
 use Rattle.kalah_cli.specs.Command.{file_rule, kalah_app, table_rule, workers_rule}
-use Rattle.kalah_cli.specs.Request.{AreMatches, HasNumber, MayHaveNumber, command_of, number_written, is_set, number_given, Asked, IsPlainWord, IsTakenAs, moves, words_ask, matches_ask}
+use Rattle.kalah_cli.specs.Request.{AreMatches, HasNumber, MayHaveNumber, command_of, number_written, is_set, number_given, Asked, IsPlainWord, IsTakenAs, about_line, words_ask, matches_ask}
+use Rattle.kalah_cli.specs.declared.request.LineCommand.TheVariants.{Moves}
 use Rattle.kalah_cli.proofs.ClapLemmas.{Given, HasOf, IsUsableIn, accepted_in, arg_in, given_in, is_wanted, taken_has, cases_Option}
 use Rattle.std.specs.Str.{bytes_eq}
 use Rattle.std.proofs.lemmas.Bool.{false_from_ne_true, ne_eqb}
@@ -35,7 +36,7 @@ pub usable : AllOf (IsUsableIn subs) subs
 unfolding clap_on_literals
 usable = assumption
 
--- so the matches of a subcommand have what its arguments promise
+-- the matches of a subcommand have what its arguments promise
 has_of : (name : Text) (rows : List Row) → AreMatches name rows → HasOf subs name rows
 has_of name rows m =
     let met = taken_has kalah_app m.0 usable refl m.1 in
@@ -61,7 +62,7 @@ pub given : {name : Text} {rows : List Row} (id : Text) {a : Rule} → AreMatche
     → Given rows id a
 given {name} {rows} id {a} m takes wanted = given_in rows id a (has_of name rows m id a takes) wanted
 
--- so a number is there, in its range
+-- the number of such an argument is there, in its range
 pub has_number : {name : Text} {rows : List Row} (id : Text) {a : Rule} {low high : ℕ} (least most : ℕ) → AreMatches name rows
     → Takes name id a
     → a.parser ≡ Some (Unsigned low high) → least ≤ low → high ≤ most → is_wanted a ≡ true → HasNumber id least most rows
@@ -80,7 +81,7 @@ pub takes_files : (question : Question) → Takes (command_of question) (codes "
 takes_files BestMove = (refl, refl)
 takes_files question = (refl, refl)
 
--- and of those that search
+-- the arguments of the subcommands with files that search
 pub takes_table : (question : Question) → (question ≡ BestMove) ⊎ (question ≡ Values)
     → Takes (command_of question) (codes "table") (built_rule table_rule)
 takes_table BestMove searches = refl
@@ -93,6 +94,16 @@ takes_table Steps searches = elim searches [ inl best ↦ cc | inr values ↦ cc
 pub is_there : {A B : Type 0} (f : A → B) (o : Option A) → is_some (option_map f o) ≡ true → is_some o ≡ true
 is_there f None e = cc
 is_there f (Some x) e = refl
+
+-- an option of pairs, by what a getter returns of the first and of the second parts
+pub pair_got : {S A B R : Type 0} (n : S → A) (r : S → B) (s : Option S) (f : R → A) (g : R → B) (o : Option R) (p : R)
+    → option_map f o ≡ option_map n s → option_map g o ≡ option_map (λ (p : A × B). p.1) (option_map {U = A × B} (λ b. (n b, r b)) s)
+    → o ≡ Some p → option_map {U = A × B} (λ b. (n b, r b)) s ≡ Some (f p, g p)
+pair_got n r None f g o p first second is = let bad : Some (f p) ≡ None = rw is at first in cc
+pair_got n r (Some b) f g o p first second is =
+    let one : Some (f p) ≡ Some (n b) = rw is at first in
+    let other : Some (g p) ≡ Some (r b) = rw is at second in
+    cc
 
 -- what was copied from the getter of values are all values under the name
 pub values_are : (f : Found) (id : Text) (o : Option (Bor (List (Bor Text)))) (s : Bor (List (Bor Text))) (copied : List (Bor Text))
@@ -158,10 +169,10 @@ taken_once words a b p q =
     cc
 
 -- `moves` and a plain argument are accepted as the moves of that line, with no boards
-pub moves_taken : (name line : Text) → IsPlainWord line → IsTakenAs (name ∷ codes "moves" ∷ line ∷ []) (moves false line)
+pub moves_taken : (name line : Text) → IsPlainWord line → IsTakenAs (name ∷ codes "moves" ∷ line ∷ []) (about_line (Moves false) line)
 unfolding clap_on_literals
 moves_taken name [] plain = absurd plain
-moves_taken name (x ∷ xs) plain = let no_flag = ne_eqb _ _ plain in (simp no_flag (refl {a = []}), simp no_flag (refl {a = Some (moves false (x ∷ xs))}))
+moves_taken name (x ∷ xs) plain = let no_flag = ne_eqb _ _ plain in (simp no_flag (refl {a = []}), simp no_flag (refl {a = Some (about_line (Moves false) (x ∷ xs))}))
 
 -- ---- what a parse of the program's arguments makes of them
 
@@ -189,12 +200,6 @@ parsed a words o is none rows =
     let same : o ≡ subcommand_of kalah_app words = rows (ap is_simple is ∙ kalah_is_simple) ∙ ap (λ b. subcommand_of b words) is in
     let met = taken_has kalah_app words usable refl none in
     record { none = none; same = same; taken = (met.0, met.1, same ∙ met.2, (words, none, met.2)) }
-
--- and what its matches ask for is what the arguments ask for
-pub words_ask_as_matches : (words : List Text) (o : Option (Text × List Row)) (a : Asked) → o ≡ subcommand_of kalah_app words
-    → option_and_then matches_ask o ≡ Some a
-    → words_ask words ≡ Some a
-words_ask_as_matches words o a same is = ap (option_and_then matches_ask) (sym same) ∙ is
 
 -- if it fails, the error has a kind of the arguments' fault
 pub faulty : (a : App) (words : List Text) (e : Error) → a ≡ kalah_app →

@@ -12,7 +12,7 @@ use Rattle.kalah_cli.specs.Ends.{AnswersLine, Ends, FailsWithoutOutput, IsPrinte
 use Rattle.kalah_cli.specs.declared.failure.Failure.{Failure}
 use Rattle.kalah_cli.specs.Line.{MayPrint, command_output}
 use Rattle.kalah_cli.specs.declared.request.LineCommand.{LineCommand}
-use Rattle.kalah_cli.specs.declared.request.LineCommand.TheVariants.{Moves, Play, Show, Count}
+use Rattle.kalah_cli.specs.declared.request.LineCommand.TheVariants.{Moves}
 use Rattle.kalah_jobs.specs.declared.asking.ask_fault.AskFault.{AskFault}
 use Rattle.kalah_jobs.specs.declared.asking.ask_fault.AskFault.TheVariants.{Read, Write}
 use Rattle.kalah_cli.specs.declared.status.ExitStatus.{ExitStatus}
@@ -42,7 +42,7 @@ use Rattle.clap.specs.declared.error.Error.{Error}
 use Rattle.clap.specs.declared.error.kind.ErrorKind.{ErrorKind}
 use Rattle.clap.specs.declared.error.kind.ErrorKind.TheVariants.{OutOfMemory}
 use Rattle.kalah_cli.specs.Command.{kalah_app}
-use Rattle.kalah_cli.specs.Request.{Asked, command_asks, answers, ask, conflict, count, moves, play, show}
+use Rattle.kalah_cli.specs.Request.{Asked, about_line, answers, ask, conflict}
 use Rattle.kalah_cli.specs.Runs.{Does, DoesWhatIsAsked, IsOfNoInput, MovesByItsWords}
 use Rattle.kalah_cli.proofs.RequestLemmas.{moves_taken, taken_at, read_is_plain}
 
@@ -76,69 +76,57 @@ module _ {O : Type 0} (state : O → SinkState) {status : ExitStatus} where
   pub prints_nothing : {out : O} {text : List ℕ} → status ≡ Failed → Prints state out out status text
   prints_nothing {out} {text} failed = record { start = start_none (state out).written text; whole = λ went. absurd (went failed) }
 
-  -- it prints its text of the position of its line, and fails without output if it may not be printed
-  line_done : {line : List ℕ} (command : LineCommand) {old new : O} → AnswersLine state old new status line (command_output command)
-      → ((p : Position) → Reads line p → (MayPrint command p → ⊥) → FailsWithoutOutput old new status)
-      → Does state old new status any_bytes (command_asks command line)
-  line_done (Moves boards) is fails = is
-  line_done (Play table boards values first) is fails = (is, fails)
-  line_done (Show table plain lines) is fails = is
-  line_done (Count depth) is fails = is
-
   module _ (command : LineCommand) {line bytes : List ℕ} (same : bytes ≡ line) where
     module _ (p : Position) (reads : Reads bytes p) where
       -- the text of the position was printed
       pub line_answered : {old new : O} → IsPrinted state old new (command_output command p) → MayPrint command p
           → ((state new).has_failed ≡ true) ↔ (status ≡ Failed) → status ≢ LineFaults
-          → Does state old new status any_bytes (command_asks command line)
+          → Does state old new status any_bytes (about_line command line)
       line_answered {old} {new} printed may fails no_fault =
           let sound : status ≢ Failed → (state new).has_failed ≡ false =
           λ went. false_from_ne_true (state new).has_failed (λ failed. went (fails.0 failed)) in
           let prints : Prints state old new status (command_output command p) =
           record { start = printed.given.start; whole = λ went. (printed.given.whole (sound went)).1 } in
-          let is : (q : Position) → Reads line q → p ≡ q = λ q other. reads_once line p q (read_at same p reads) other in
-          line_done command (record {
-            read = λ q other. (
-              no_fault,
-              subst (λ r. Prints state old new status (command_output command r)) (is q other) prints,
-            );
-            unread = λ none. absurd (none p (read_at same p reads));
-            ends = record {
-              failed = fails.0;
-              unchanged = λ failed still. absurd (let both : true ≡ false = sym (fails.1 failed) ∙ still in cc);
-              all_flushed = λ went _. printed.all_flushed (sound went);
-            };
-          }) (λ q other never. absurd (never (subst (MayPrint command) (is q other) may)))
+          let is : (q : Position) → Reads line q → p ≡ q = λ q other. reads_once line p q (read_at same p reads) other in (
+            record {
+              read = λ q other. (
+                no_fault,
+                subst (λ r. Prints state old new status (command_output command r)) (is q other) prints,
+              );
+              unread = λ none. absurd (none p (read_at same p reads));
+              ends = record {
+                failed = fails.0;
+                unchanged = λ failed still. absurd (let both : true ≡ false = sym (fails.1 failed) ∙ still in cc);
+                all_flushed = λ went _. printed.all_flushed (sound went);
+              };
+            },
+            λ q other never. absurd (never (subst (MayPrint command) (is q other) may)),
+          )
 
       -- the command failed before anything was written
       pub line_refused : {old new : O} → status ≡ Failed → (state old).has_failed ≡ false → new ≡ old
-          → Does state old new status any_bytes (command_asks command line)
+          → Does state old new status any_bytes (about_line command line)
       line_refused {old} failed sound still =
-          subst (λ new. Does state old new status any_bytes (command_asks command line)) (sym still)
-          (line_done command (record {
-            read = λ q other. (λ fault. let both : Failed ≡ LineFaults = sym failed ∙ fault in cc, prints_nothing failed);
-            unread = λ none. absurd (none p (read_at same p reads));
-            ends = ends_unchanged sound;
-          }) (λ _ _ _. (failed, refl)))
+          subst (λ new. Does state old new status any_bytes (about_line command line)) (sym still) (
+            record {
+              read = λ q other. (λ fault. let both : Failed ≡ LineFaults = sym failed ∙ fault in cc, prints_nothing failed);
+              unread = λ none. absurd (none p (read_at same p reads));
+              ends = ends_unchanged sound;
+            },
+            λ _ _ _. (failed, refl),
+          )
 
     -- the line writes no position
     pub line_unread : {out : O} → IsUnread bytes → status ≡ LineFaults → (state out).has_failed ≡ false
-        → Does state out out status any_bytes (command_asks command line)
-    line_unread none fault sound = line_done command (record {
-      read = λ p reads. absurd (none p (read_at (sym same) p reads));
-      unread = λ _. (fault, refl);
-      ends = ends_unchanged sound;
-    }) (λ p reads. absurd (none p (read_at (sym same) p reads)))
-
--- nothing is read for it, so it does the same whatever there is to read
-pub reads_nothing : {O : Type 0} (state : O → SinkState) (old new : O) (status : ExitStatus)
-    (may_give : Source → List ℕ → Type 0) (command : LineCommand) (line : List ℕ)
-    → Does state old new status any_bytes (command_asks command line)
-    → Does state old new status may_give (command_asks command line)
-reads_nothing state old new status may_give (Moves boards) line does = does
-reads_nothing state old new status may_give (Play table boards values first) line does = does
-reads_nothing state old new status may_give (Show table plain lines) line does = does
-reads_nothing state old new status may_give (Count depth) line does = does
+        → Does state out out status any_bytes (about_line command line)
+    line_unread none fault sound = (
+      record {
+        read = λ p reads. absurd (none p (read_at (sym same) p reads));
+        unread = λ _. (fault, refl);
+        ends = ends_unchanged sound;
+      },
+      λ p reads. absurd (none p (read_at (sym same) p reads)),
+    )
 
 -- ---- what is answered of files
 
@@ -253,7 +241,7 @@ lines_are (suc n) p low =
     let same : n ≡ suc n - 1 = omega arith in
     ap (λ k. flat_map (λ h. ways_line h (ways_by k p h)) (legal_houses p)) same
 
--- and all ways begin with one of them
+-- all ways begin with a legal move
 pub sum_is : (depth : ℕ) (p : Position) → 1 ≤ depth → ways depth p ≡ sum_by (ways_by (depth - 1) p) (legal_houses p)
 unfolding ways
 sum_is zero p low = absurd (omega arith)
@@ -276,12 +264,9 @@ module _ {O : Type 0} (state : O → SinkState) {old new : O} {status : ExitStat
   -- how a run ends that does what is asked, unless lines of the standard input are to be answered
   pub run_ends : (may_give : Source → List ℕ → Type 0) (a : Asked) → IsOfNoInput a
       → Does state old new status may_give a → Ends state old new status
-  run_ends may_give (moves boards line) _ does = does.ends
-  run_ends may_give (play first table boards values line) _ does = does.0.ends
+  run_ends may_give (about_line command line) _ does = does.0.ends
   run_ends may_give (answers question workers table progress names) _ does = does.ends
   run_ends may_give (ask question table) none does = absurd none
-  run_ends may_give (show plain lines table line) _ does = does.ends
-  run_ends may_give (count depth line) _ does = does.ends
   run_ends may_give conflict _ does = ends_without_output does
 
   pub run_fails : (may_give : Source → List ℕ → Type 0) (a : Asked) → Does state old new status may_give a
@@ -296,24 +281,24 @@ module _ {O : Type 0} (state : O → SinkState) {old new : O} {status : ExitStat
       does.1.1.all_flushed (false_from_ne_true (state new).has_failed (λ failed. went (does.1.1.failed failed)))
   run_hands_on may_give a does = (run_ends may_give a tt does).all_flushed
 
--- so what is promised of arguments that are accepted covers those of `moves`
+-- what is promised of arguments that are accepted covers those of `moves`
 pub by_words : {O : Type 0} (state : O → SinkState) (words : List Text) (old new : O)
     (status : ExitStatus) (may_give : Source → List ℕ → Type 0)
     → DoesWhatIsAsked state old new status may_give words
     → MovesByItsWords state words old new status
 by_words state words old new status may_give accepted = record {
   moves = λ name line is p reads.
-      elim (accepted (moves false line) (taken_at is (moves_taken name line (read_is_plain line p reads)))) [
+      elim (accepted (about_line (Moves false) line) (taken_at is (moves_taken name line (read_is_plain line p reads)))) [
         | inl does ↦
-            let printed = does.read p reads in
+            let printed = does.0.read p reads in
             (printed.0, λ clean. printed.1.whole (λ failed. let both : Failed ≡ Clean = sym failed ∙ clean in cc))
         | inr fails ↦ (
           λ fault. let both : Failed ≡ LineFaults = sym fails.0 ∙ fault in cc,
           λ clean. absurd (let both : Failed ≡ Clean = sym fails.0 ∙ clean in cc),
         )
       ];
-  unread = λ name line is plain none. elim (accepted (moves false line) (taken_at is (moves_taken name line plain))) [
-    | inl does ↦ (λ clean. let both : LineFaults ≡ Clean = sym (does.unread none).0 ∙ clean in cc, (does.unread none).1)
+  unread = λ name line is plain none. elim (accepted (about_line (Moves false) line) (taken_at is (moves_taken name line plain))) [
+    | inl does ↦ (λ clean. let both : LineFaults ≡ Clean = sym (does.0.unread none).0 ∙ clean in cc, (does.0.unread none).1)
     | inr fails ↦ (λ clean. let both : Failed ≡ Clean = sym fails.0 ∙ clean in cc, fails.1)
   ];
 }

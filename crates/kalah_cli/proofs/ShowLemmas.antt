@@ -31,7 +31,7 @@ found_among p t (h ∷ hs) v is = elim (cases_Bool (t (move_value p h))) [
       (found_among p t hs v (sym (ap (λ b. cond b (Some (move_value p h)) (find t (map (move_value p) hs))) fails) ∙ is))
 ]
 
--- so the move of a rank is legal
+-- the move of a rank is legal
 pub ranked_is_legal : (p : Position) (values : List MoveValue) (rank : ℕ) (v : MoveValue) → values ≡ values_of p
     → Some v ≡ of_rank values rank → Contains (legal_houses p) v.house
 ranked_is_legal p values rank v same is =

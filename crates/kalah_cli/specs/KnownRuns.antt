@@ -20,7 +20,7 @@ module _ (status : ExitStatus) (output : List ℕ) where
   abbrev pub IsAnswerTo : Question → List NamedBytes → Type 0
   IsAnswerTo question files = (output ≡ output_to question files) × (status ≡ Clean ↔ (tally_of files).faults ≡ 0)
 
-  -- and these the lines that were typed
+  -- this output and this status answer the lines that were typed
   abbrev pub IsAnswerToLines : Question → List ℕ → Type 0
   IsAnswerToLines question typed = (output ≡ answers_to question typed) × (status ≡ Clean ↔ are_all_read typed ≡ true)
 

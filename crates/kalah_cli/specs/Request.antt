@@ -26,21 +26,14 @@ module _ {A : Type 0} where
   texts_of words = map string_bytes words
 
 -- What can be asked, where a table has the given size:
--- - the moves of a line, with boards drawn or not
--- - the game of best play from a line, or after its move of a house, found with a table, with boards drawn or not, and with the values of
---   its positions or not
+-- - what a command prints of the position that a line writes
 -- - something of each position in files, by a number of workers with tables, with progress shown or not
 -- - something of each line of the standard input, with a table
--- - a picture of a line, plain or with what its moves are worth, with the variations of these or not, found with a table
--- - the number of ways of that many moves to play on from a line
 -- - nothing, by options that exclude each other
 pub data Asked : Type 0 where
-  moves : Bool → Text → Asked
-  play : Option ℕ → ℕ → Bool → Bool → Text → Asked
+  about_line : LineCommand → Text → Asked
   answers : Question → ℕ → ℕ → Bool → List Text → Asked
   ask : Question → ℕ → Asked
-  show : Bool → Bool → ℕ → Text → Asked
-  count : ℕ → Text → Asked
   conflict : Asked
 
 -- the subcommand that asks this of files
@@ -69,15 +62,25 @@ number_given id rows = option_map number_written (one_of id rows)
 abbrev pub is_set : Text → List Row → Bool
 is_set id rows = option_map_or (λ t. bytes_eq t (codes "true")) (one_of id rows) false
 
--- what the matches of `moves` ask for
-abbrev pub moves_asks : List Row → Option Asked
-moves_asks rows = option_map (moves (is_set (codes "boards") rows)) (first_of (codes "line") rows)
+-- what the matches ask for of their line
+abbrev pub line_asks : Option LineCommand → List Row → Option Asked
+line_asks command rows = option_and_then (λ c. option_map (about_line c) (first_of (codes "line") rows)) command
 
--- what the matches of `play` ask for
+-- what the matches of `moves`, `play`, `show` and `count` ask for
+abbrev pub moves_asks : List Row → Option Asked
+moves_asks rows = line_asks (Some (Moves (is_set (codes "boards") rows))) rows
+
 abbrev pub play_asks : List Row → Option Asked
-play_asks rows = option_and_then (λ table.
-    option_map (play (number_given (codes "first") rows) table (is_set (codes "boards") rows) (is_set (codes "values") rows))
-    (first_of (codes "line") rows)) (number_given (codes "table") rows)
+play_asks rows = line_asks (option_map (λ table.
+    Play table (is_set (codes "boards") rows) (is_set (codes "values") rows) (number_given (codes "first") rows))
+    (number_given (codes "table") rows)) rows
+
+abbrev pub show_asks : List Row → Option Asked
+show_asks rows = line_asks (option_map (λ table. Show table (is_set (codes "plain") rows) (is_set (codes "lines") rows))
+    (number_given (codes "table") rows)) rows
+
+abbrev pub count_asks : List Row → Option Asked
+count_asks rows = line_asks (option_map Count (number_given (codes "depth") rows)) rows
 
 -- the size of the tables that the matches of a subcommand with files ask for
 abbrev pub table_asked : Question → List Row → Option ℕ
@@ -103,16 +106,6 @@ flags_ask true true table = conflict
 -- what the matches of `ask` ask for
 abbrev pub ask_asks : List Row → Asked
 ask_asks rows = flags_ask (is_set (codes "values") rows) (is_set (codes "steps") rows) (number_given (codes "table") rows)
-
--- what the matches of `show` ask for
-abbrev pub show_asks : List Row → Option Asked
-show_asks rows = option_and_then (λ table.
-    option_map (show (is_set (codes "plain") rows) (is_set (codes "lines") rows) table) (first_of (codes "line") rows))
-    (number_given (codes "table") rows)
-
--- what the matches of `count` ask for
-abbrev pub count_asks : List Row → Option Asked
-count_asks rows = option_and_then (λ depth. option_map (count depth) (first_of (codes "line") rows)) (number_given (codes "depth") rows)
 
 -- what the matches of the subcommand of this name ask for. There is no other name, so the last is `count`
 abbrev pub matches_ask : Text × List Row → Option Asked
@@ -142,18 +135,9 @@ IsRefused words = fault_of kalah_app words ≢ []
 abbrev pub AsksNot : ErrorKind → List Text → Type 0
 AsksNot kind words = IsAmong kind (fault_of kalah_app words) → ⊥
 
--- ---- what a value of the code asks for: it is parsed from arguments that ask for the same
-
--- what a command asks for, of this line
-abbrev pub command_asks : LineCommand → Text → Asked
-command_asks (Moves boards) = moves boards
-command_asks (Play table boards values first) = play first table boards values
-command_asks (Show table plain lines) = show plain lines table
-command_asks (Count depth) = count depth
-
--- what a request asks for
+-- what a request asks for: it is parsed from arguments that ask for the same
 abbrev pub request_asks : Request → Asked
-request_asks (Line line command) = command_asks command line.now
+request_asks (Line line command) = about_line command line.now
 request_asks (Files b) = answers b.question b.workers b.table b.progress (map (λ f. f.now) b.files.items)
 request_asks (Ask question table) = ask question table
 request_asks Conflict = conflict

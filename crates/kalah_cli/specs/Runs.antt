@@ -7,11 +7,9 @@ use Rattle.kalah_rules.specs.Position.{Position}
 use Rattle.kalah_jobs.specs.Files.Lines.{line_feed}
 use Rattle.kalah_jobs.specs.Line.Line.{Reads}
 use Rattle.kalah_jobs.specs.Writing.Given.{SinkState}
+use Rattle.kalah_cli.specs.Line.{MayPrint, command_output}
 use Rattle.kalah_cli.specs.Moves.{moves_output}
-use Rattle.kalah_cli.specs.Play.{MayBegin, play_output}
-use Rattle.kalah_cli.specs.Count.{count_output}
-use Rattle.kalah_cli.specs.Request.{Asked, AsksNot, IsPlainWord, IsRefused, IsTakenAs, moves, play, answers, ask, show, count, conflict}
-use Rattle.kalah_cli.specs.Show.{show_output}
+use Rattle.kalah_cli.specs.Request.{Asked, AsksNot, IsPlainWord, IsRefused, IsTakenAs, about_line, answers, ask, conflict}
 use Rattle.kalah_cli.specs.Ask.{AnswersInput}
 use Rattle.kalah_cli.specs.SolveFiles.{AnswersFiles}
 use Rattle.kalah_cli.specs.Sources.{MayBeLeft, Source, standard_input}
@@ -33,15 +31,11 @@ module _ {O : Type 0} (state : O → SinkState) (old new : O) (status : ExitStat
   -- what the program does for each request. A game that is asked to begin with a house that may not be moved fails without output, and
   -- so do options that exclude each other
   abbrev pub Does : Asked → Type 0
-  Does (moves boards line) = AnswersLine state old new status line (moves_output boards)
-  Does (play first table boards values line) =
-      AnswersLine state old new status line (play_output first boards values)
-      × ((p : Position) → Reads line p → (MayBegin first p → ⊥) → FailsWithoutOutput old new status)
+  Does (about_line command line) = AnswersLine state old new status line (command_output command)
+      × ((p : Position) → Reads line p → (MayPrint command p → ⊥) → FailsWithoutOutput old new status)
   Does (answers question workers table progress names) = AnswersFiles state old new status may_give question names
   Does (ask question table) = (unread : Option (List ℕ))
       × (MayBeLeft (may_give standard_input) unread × AnswersInput state old new status question unread)
-  Does (show plain lines table line) = AnswersLine state old new status line (show_output plain lines)
-  Does (count depth line) = AnswersLine state old new status line (count_output depth)
   Does conflict = FailsWithoutOutput old new status
 
   -- accepted arguments: the program does what they ask for, or it fails without output

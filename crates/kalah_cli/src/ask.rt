@@ -42,6 +42,7 @@ fn ended(answered: Result<bool, AskFault>) -> Result<ExitStatus, Failure<'static
 /// it first says on `err` what it waits for.
 ///
 /// Returns `Clean` if each line was read, and `LineFaults` if one was not. Fails if memory was refused, or a read or a write failed.
+#[inline(never)] // Only this command's stack holds its solver.
 pub(crate) fn run_ask<I: Read + Drop, O: Sink, E: Write>(
     alloc: Global,
     input: I,

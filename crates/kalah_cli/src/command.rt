@@ -25,16 +25,12 @@ fn arg_of<'a>(alloc: Global, argument: &Argument) -> Arg<'a>
             defaults,
             long_help,
         } => {
-            let arg = arg
-                .long(argument.name)
+            arg.long(argument.name)
                 .value_name(value_name)
                 .action(ArgAction::Set)
                 .value_parser(ValueParser::unsigned(1, most as u64))
-                .default_values(defaults);
-            match long_help {
-                Some(text) => arg.long_help(text),
-                None => arg,
-            }
+                .default_values(defaults)
+                .long_help(long_help.unwrap_or(argument.help))
         }
         Kind::PositionalNumber { value_name, most } => arg
             .value_name(value_name)

@@ -28,7 +28,6 @@ fn write_houses<O: Sink>(board: &Board, depth: u8, out: &mut O) -> u64
     ensures total { (O.state out.new).has_failed ≡ false → result ≡ ways depth board.now }
     ensures given { WasGiven O.state out.old out.new (ways_lines depth board.now) }
 {
-    let _side = board.m(); // For its clause: the board is within the limits.
     let moves = board.legal();
     let mut total = 0;
     for i in 0..moves.len() {

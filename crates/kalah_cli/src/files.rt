@@ -1,5 +1,5 @@
 //! Whole files.
-ghost use Rattle.std.specs.Prelude.{◌≡◌, ◌≢◌, ◌<◌, ◌≤◌, All, IfErr, IfOk, IfSome, IsErrOf, OnOk, length, map};
+ghost use Rattle.std.specs.Prelude.{◌≡◌, ◌≢◌, ◌<◌, ◌≤◌, All, IfErr, IfOk, IfSome, IsErrOf, OnOk, length, map, vec_len};
 ghost use Rattle.std.specs.Io.KnownBytes.{Consumes, IsAtEnd};
 ghost use Rattle.kalah_jobs.specs.Limits.{most_file_bytes};
 ghost use Rattle.kalah_cli.specs.Failure.{FailsToRead, FailsToReadOneOf};
@@ -8,7 +8,7 @@ ghost use Rattle.kalah_cli.specs.Sources.{file_named};
 use crate::failure::Failure;
 use crate::sources::Sources;
 use kalah_jobs::{FileText, MOST_FILE_BYTES};
-use std::alloc::Global;
+use std::alloc::{AllocError, Global};
 use std::io;
 use std::io::{ErrorKind, Read};
 
@@ -45,6 +45,13 @@ fn fault_of(error: &io::Error) -> ReadFault
     }
 }
 
+// Returns the memory that each read fills. It is on the heap, so that the stack stays small.
+fn new_chunk(alloc: Global) -> Result<Vec<u8>, AllocError>
+    ensures { IfOk result (λ chunk. 0 < vec_len chunk) }
+{
+    vec![in alloc; 0; CHUNK]
+}
+
 /// Returns all that the reader has left, if that is at most `limit` bytes. The reader is read until
 /// it reports the end, an error, or more bytes than the limit. Any error counts as the file's, also one
 /// of an interrupted call.
@@ -60,10 +67,13 @@ pub(crate) fn read_limited<F: Read>(
     ensures long { IsErrOf result ReadFault.TooLong
         → IfSome (F.remaining reader.old) (λ bytes. limit < length bytes) }
 {
+    let Ok(mut memory) = new_chunk(alloc) else {
+        return Err(ReadFault::OutOfMemory);
+    };
+    let chunk = memory.as_mut_slice();
     let mut bytes = Vec::new(alloc);
-    let mut chunk = [0u8; CHUNK];
     while bytes.len() <= limit {
-        match reader.read(&mut chunk) {
+        match reader.read(chunk) {
             Ok(0) => return Ok(bytes),
             Ok(n) => {
                 if bytes.extend_from_slice(&chunk[..n]).is_err() {

@@ -101,7 +101,8 @@ The WORD of a line that is not a position is the first of these that holds:
 Exit status: 0 if every line was read or help was printed; 1 if some line was
 not read; 2 if the arguments, a file, standard input, memory, a worker or the
 output failed, and standard error says which.
-More: `man kalah`, and README.md, which lists the pages (in share/doc/kalah).";
+More: `man kalah`, and README.md, which lists the pages (in share/doc/kalah).
+`python3 -m kalah` lists the tools in Python, for engines, games and puzzles.";
 
 /// What follows the long help of `moves`.
 pub(crate) const LONG_OF_MOVES: &str = of_a_move!("");
@@ -110,8 +111,8 @@ pub(crate) const LONG_OF_MOVES: &str = of_a_move!("");
 pub(crate) const LONG_OF_PLAY: &str = of_a_move!(
     "\
 With --first H the first line is the move of house H. It fails if that house
-can't be moved. With --values each line ends in the margin of best play of the
-position that the move is made in, seen by the player who moves:
+can't be moved. With --values each line ends in the value of the position that
+its move was made in: the margin of best play, seen by the player who moves:
     1 1,1/0 0,2/0 turn 2
 "
 );
@@ -180,7 +181,8 @@ pub(crate) const LONG_OF_ASK: &str = "\
 Each line of standard input is a position, such as 1,1/0 1,1/0, and gets an
 answer line before the next line is read. So a program can ask for positions one
 by one:
-    2 house 2      the margin of best play, and the lowest-numbered best house
+    2 house 2      by default: the margin of best play, and the lowest-numbered
+                   best house
     1:-2 2:2       with --values: each house that may be moved, and its margin
     1 1,1/0 0,2/0 turn; 2 1,0/1 1,1/0 again
                    with --steps: the moves as `steps` prints them; no --values

@@ -2,7 +2,7 @@
 ghost use Rattle.std.specs.Prelude.{◌≡◌, IsErr, MatchResult, OnOk, false};
 ghost use Rattle.kalah_cli.specs.Ends.{IsPrinted, ended_by};
 ghost use Rattle.kalah_cli.specs.Line.{MayPrint, SearchesNothing, command_output};
-ghost use Rattle.kalah_cli.specs.Request.{IsCommandInRange, command_asks};
+ghost use Rattle.kalah_cli.specs.Request.{IsCommandInRange, about_line};
 ghost use Rattle.kalah_cli.specs.Runs.{Does};
 ghost use Rattle.kalah_cli.specs.Sources.{any_bytes};
 
@@ -59,13 +59,13 @@ pub(crate) fn run_line<O: Sink, E: Write>(
     alloc: Global,
     line: &str,
     command: &LineCommand,
-    with_tips: bool,
+    on_terminal: bool,
     out: &mut O,
     err: &mut E,
 ) -> Result<ExitStatus, Failure<'static>>
     requires range { IsCommandInRange command.now }
     requires sink { (O.state out.old).has_failed ≡ false }
-    ensures { Does O.state out.old out.new (ended_by result) any_bytes (command_asks command.now line.now) }
+    ensures { Does O.state out.old out.new (ended_by result) any_bytes (about_line command.now line.now) }
 {
     match read_line(line.as_bytes()) {
         Ok(board) => match print(alloc, command, &board, out) {
@@ -73,7 +73,7 @@ pub(crate) fn run_line<O: Sink, E: Write>(
             Err(failure) => Err(failure),
         },
         Err(fault) => {
-            report_fault(fault, line, with_tips, err);
+            report_fault(fault, line, on_terminal, err);
             Ok(ExitStatus::LineFaults)
         }
     }

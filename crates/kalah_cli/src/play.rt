@@ -88,6 +88,7 @@ fn unmoved_house(board: &Board, first: Option<u8>) -> Option<u8>
 ///
 /// Fails, and writes nothing, with `Unmoved` if that house may not be moved, or with `OutOfMemory` if memory was refused. Memory is
 /// requested before anything is written, except for what the table takes as it grows.
+#[inline(never)] // Only this command's stack holds its solver.
 pub(crate) fn run_play<O: Sink>(
     alloc: Global,
     board: &Board,

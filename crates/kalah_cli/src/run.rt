@@ -43,7 +43,7 @@ fn refuse<O: Sink, E: Write>(
     alloc: Global,
     words: &[String],
     error: &Error,
-    with_tips: bool,
+    on_terminal: bool,
     out: &mut O,
     err: &mut E,
 ) -> Result<ExitStatus, Failure<'static>>
@@ -65,7 +65,7 @@ fn refuse<O: Sink, E: Write>(
         ErrorKind::DisplayVersion => print_text(VERSION_LINE, out),
         ErrorKind::OutOfMemory => return Err(Failure::OutOfMemory),
         _ => {
-            report_refused(words, text.as_str(), with_tips, err);
+            report_refused(words, text.as_str(), on_terminal, err);
             return Ok(ExitStatus::Failed);
         }
     }
@@ -77,7 +77,7 @@ fn run_request<'a, R: Sources + Clock + Terminal + Threads + Wait + Sync, O: Sin
     rt: &R,
     alloc: Global,
     request: &Request<'a>,
-    with_tips: bool,
+    on_terminal: bool,
     out: &mut O,
     err: &mut E,
 ) -> Result<ExitStatus, Failure<'a>>
@@ -86,7 +86,7 @@ fn run_request<'a, R: Sources + Clock + Terminal + Threads + Wait + Sync, O: Sin
     ensures { Does O.state out.old out.new (ended_by result) (R.may_give rt.now) (request_asks request.now) }
 {
     match request {
-        Request::Line { line, command } => run_line(alloc, line, command, with_tips, out, err),
+        Request::Line { line, command } => run_line(alloc, line, command, on_terminal, out, err),
         Request::Files(files) => run_files(rt, alloc, files, out, err),
         Request::Ask { question, table } => {
             run_ask(
@@ -141,15 +141,15 @@ pub fn run_words<R: Sources + Clock + Terminal + Threads + Wait + Sync, O: Sink,
     // If it did not, all that was written is flushed.
     ensures all_flushed { result ≢ ExitStatus.Failed → (O.state out.old).is_flushed ≡ true → (O.state out.new).is_flushed ≡ true }
 {
-    let with_tips = rt.shows_errors(); // Tips go only to a terminal.
+    let on_terminal = rt.shows_errors(); // Tips go only to a terminal.
     match parse(alloc, words.as_slice()) {
         Ok(request) => {
-            let ended = run_request(rt, alloc, &request, with_tips, out, err);
-            report_end(ended, with_tips, err)
+            let ended = run_request(rt, alloc, &request, on_terminal, out, err);
+            report_end(ended, on_terminal, err)
         }
         Err(error) => {
-            let ended = refuse(alloc, words.as_slice(), &error, with_tips, out, err);
-            report_end(ended, with_tips, err)
+            let ended = refuse(alloc, words.as_slice(), &error, on_terminal, out, err);
+            report_end(ended, on_terminal, err)
         }
     }
 }

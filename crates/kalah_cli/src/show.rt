@@ -138,6 +138,7 @@ fn write_shown<O: Sink>(solver: &mut GameSolver<O>, board: &Board, lines: bool, 
 /// Draws a board and, unless `plain`, writes below it what each move is worth and, if `lines`, the best play after each move. Fails with
 /// `OutOfMemory`, and writes nothing, if memory was refused. A plain picture allocates nothing. Otherwise memory is requested before
 /// anything is written, except for what the table takes as it grows.
+#[inline(never)] // Only this command's stack holds its solver.
 pub(crate) fn run_show<O: Sink>(
     alloc: Global,
     board: &Board,

@@ -47,7 +47,7 @@ pub(crate) enum Kind {
 }
 
 const LONG_HELP_OF_TABLE: &str =
-    "Use tables of N entries, 1 to 1048576.\nLeave it at 65536 unless memory is short";
+    "Use tables of N entries, 1 to 1048576.\nLeave it at the default, 65536, unless memory is short";
 
 const WORKERS: Argument = Argument {
     name: "workers",
@@ -144,7 +144,7 @@ pub(crate) const PLAY: &Subcommand = &Subcommand {
         BOARDS,
         Argument {
             name: "values",
-            help: "Print after each move the margin of best play before it",
+            help: "Print with each move the value of the position it was made in",
             kind: Kind::Flag,
         },
         Argument {

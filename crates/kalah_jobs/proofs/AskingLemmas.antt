@@ -14,7 +14,7 @@ use Rattle.kalah_jobs.specs.declared.files.question.Question.TheVariants.{BestMo
 use Rattle.kalah_jobs.specs.declared.asking.ask_fault.AskFault.TheVariants.{Read, Write}
 use Rattle.kalah_jobs.specs.declared.writing.answer.Answer.{Answer}
 use Rattle.kalah_jobs.specs.declared.line.line_fault.LineFault.{LineFault}
-use Rattle.kalah_jobs.specs.Asking.Asked.{kept_bytes, told, told_last, is_last_read, answers_to, are_all_read, AnswersAreThoseOfAFile, AreAnswered, Asking, IsAnswered, IsBegun, IsCutOff}
+use Rattle.kalah_jobs.specs.Asking.Asked.{kept_bytes, reply, last_reply, is_last_read, answers_to, are_all_read, AnswersAreThoseOfAFile, AreAnswered, Asking, IsAnswered, IsBegun, IsCutOff}
 use Rattle.kalah_jobs.specs.Files.Entry.{entry_of, entry_of_reading}
 use Rattle.kalah_jobs.specs.declared.files.entry.Entry.TheVariants.{Bad}
 use Rattle.kalah_jobs.specs.Files.Lines.{line_feed, lines_of, HasNoLineFeed}
@@ -50,7 +50,7 @@ no_lines : lines_of [] ≡ []
 unfolding lines_of
 no_lines = refl
 
--- so a piece is one line at most
+-- a piece is one line at most
 pub one_line : (piece : List ℕ) → HasNoLineFeed piece → length (lines_of piece) ≤ 1
 one_line [] none = rw no_lines (omega arith)
 one_line (byte ∷ piece) none = rw (lines_of_open byte piece none) (omega arith)
@@ -65,17 +65,17 @@ answers_split question lines more ends =
 
 pub no_answers : (question : Question) → answers_to question [] ≡ []
 unfolding answers_to
-no_answers question = ap (flat_map (told question)) no_lines
+no_answers question = ap (flat_map (reply question)) no_lines
 
 -- the answer to one line
 pub answers_to_one : (question : Question) (bytes line : List ℕ) → lines_of bytes ≡ line ∷ []
-    → answers_to question bytes ≡ told question line
+    → answers_to question bytes ≡ reply question line
 unfolding answers_to
-answers_to_one question bytes line one = ap (flat_map (told question)) one ∙ append-nil (told question line)
+answers_to_one question bytes line one = ap (flat_map (reply question)) one ∙ append-nil (reply question line)
 
--- and to whole lines and one more
+-- the answers to whole lines and one more
 pub answers_to_more : (question : Question) (lines more line : List ℕ) → EndsWithItsLine lines → lines_of more ≡ line ∷ []
-    → answers_to question (lines ++ more) ≡ answers_to question lines ++ told question line
+    → answers_to question (lines ++ more) ≡ answers_to question lines ++ reply question line
 answers_to_more question lines more line ends one =
     answers_split question lines more ends ∙ ap (λ l. answers_to question lines ++ l) (answers_to_one question more line one)
 
@@ -107,7 +107,7 @@ too_long : (line : List ℕ) → kept_bytes ≤ length line → entry_of line �
 unfolding entry_of
 too_long line long = ap entry_of_reading (long_is_read line (omega (arith, cr_is_one line, long)))
 
--- so the bytes that are kept determine the entry of the line
+-- the bytes that are kept determine the entry of the line
 pub kept_says : (line : List ℕ) → entry_of (take kept_bytes line) ≡ entry_of line
 kept_says line = elim (cases_lt kept_bytes (length line)) [
   | inl long ↦
@@ -116,9 +116,9 @@ kept_says line = elim (cases_lt kept_bytes (length line)) [
   | inr short ↦ ap entry_of (take_all kept_bytes line short)
 ]
 
--- and are answered as it is
-pub kept_told : (question : Question) (line : List ℕ) → told question (take kept_bytes line) ≡ told question line
-kept_told question line = ap (λ entry. joined_text (answer_of (entry_asked question entry)) ++ line_feed ∷ []) (kept_says line)
+-- the bytes that are kept are answered as the line is
+pub kept_reply : (question : Question) (line : List ℕ) → reply question (take kept_bytes line) ≡ reply question line
+kept_reply question line = ap (λ entry. joined_text (answer_of (entry_asked question entry)) ++ line_feed ∷ []) (kept_says line)
 
 pub kept_faulty : (line : List ℕ) → is_faulty (take kept_bytes line) ≡ is_faulty line
 kept_faulty line = ap (λ entry. is_fault (answer_of entry)) (kept_says line)
@@ -134,11 +134,11 @@ kept_more line byte = go kept_bytes line
     go (suc n) (first ∷ line) = ap (λ l. first ∷ l) (go n line)
 
 -- what stands after the last line feed is answered as its lines are
-pub last_told : (question : Question) (piece : List ℕ) → HasNoLineFeed piece
-    → answers_to question piece ≡ told_last question (take kept_bytes piece)
-last_told question [] none = no_answers question
-last_told question (byte ∷ piece) none =
-    answers_to_one question (byte ∷ piece) (byte ∷ piece) (lines_of_open byte piece none) ∙ sym (kept_told question (byte ∷ piece))
+pub last_reply_is : (question : Question) (piece : List ℕ) → HasNoLineFeed piece
+    → answers_to question piece ≡ last_reply question (take kept_bytes piece)
+last_reply_is question [] none = no_answers question
+last_reply_is question (byte ∷ piece) none =
+    answers_to_one question (byte ∷ piece) (byte ∷ piece) (lines_of_open byte piece none) ∙ sym (kept_reply question (byte ∷ piece))
 
 pub last_read : (lines piece : List ℕ) → EndsWithItsLine lines → HasNoLineFeed piece
     → are_all_read (lines ++ piece) ≡ (are_all_read lines && is_last_read (take kept_bytes piece))
@@ -167,9 +167,9 @@ one_line_asked : (question : Question) → question ≢ Steps → (line : List �
 unfolding entry_of
 one_line_asked question other line = one_line_read question other (reading_of line)
 
--- so its answer line is the place, and then the answer
+-- where no steps are asked an answer line is the place, and then the answer
 line_parts : (question : Question) → question ≢ Steps → (name : List ℕ) (number : ℕ) (line : List ℕ) →
-    line_output question name (number, line) ≡ place_text name number ++ told question line
+    line_output question name (number, line) ≡ place_text name number ++ reply question line
 line_parts question other name number line =
     let answer = answer_of (entry_to question line) in
     ap (λ l. l ++ line_feed ∷ []) (one_line_parts name number answer (λ p e. subst IsOfOneLine e (one_line_asked question other line)))
@@ -177,7 +177,7 @@ line_parts question other name number line =
 
 lines_parts : (question : Question) → question ≢ Steps → (name : List ℕ) (number : ℕ) (lines : List (List ℕ)) →
     flat_map (line_output question name) (enumerate_from number lines)
-    ≡ flat_map (λ p. place_text name p.0 ++ told question p.1) (enumerate_from number lines)
+    ≡ flat_map (λ p. place_text name p.0 ++ reply question p.1) (enumerate_from number lines)
 lines_parts question other name number [] = refl
 lines_parts question other name number (line ∷ lines) =
     ap₂ (λ (l m : List ℕ). l ++ m) (line_parts question other name number line) (lines_parts question other name (number + 1) lines)
@@ -226,7 +226,7 @@ module _ {question : Question} {before now old new : Option (List ℕ)} {line : 
   still_written : (kept : Option (List ℕ)) → Keeps new kept → Appends old kept (answers_to question u.lines)
   still_written kept keeps = Appends-kept old new kept (answers_to question u.lines) u.written keeps
 
-  -- and more is written
+  -- what was written is kept, and more is written
   more_written : (kept more : Option (List ℕ)) (bytes : List ℕ) → Keeps new kept → Appends kept more bytes →
       Appends old more (answers_to question u.lines ++ bytes)
   more_written kept more bytes keeps appends =
@@ -239,17 +239,17 @@ module _ {question : Question} {before now old new : Option (List ℕ)} {line : 
       subst (Consumes before next) (append_assoc u.lines u.part bytes)
       (Consumes-trans before now next (u.lines ++ u.part) bytes u.taken taken)
 
-  -- and nothing is left
+  -- all is taken
   all_taken : (next : Option (List ℕ)) → Consumes now next [] → Consumes before next (u.lines ++ u.part)
   all_taken next end = subst (λ l. Consumes before next (u.lines ++ l)) (append-nil u.part) (more_taken next [] end)
 
   -- what was kept of the line is answered as the whole of it
-  told_whole : told question line ≡ told question u.part
-  told_whole = ap (told question) u.kept ∙ kept_told question u.part
+  reply_whole : reply question line ≡ reply question u.part
+  reply_whole = ap (reply question) u.kept ∙ kept_reply question u.part
 
-  -- and what stands after the last line feed as its lines
-  told_part : told_last question line ≡ answers_to question u.part
-  told_part = ap (told_last question) u.kept ∙ sym (last_told question u.part u.unended)
+  -- what was kept of what stands after the last line feed is answered as its lines
+  reply_part : last_reply question line ≡ answers_to question u.part
+  reply_part = ap (last_reply question) u.kept ∙ sym (last_reply_is question u.part u.unended)
 
   -- a byte more was read, which ends no line
   pub byte_read : {next kept : Option (List ℕ)} (byte : ℕ) → byte ≢ line_feed → Consumes now next (byte ∷ []) → Keeps new kept
@@ -267,7 +267,7 @@ module _ {question : Question} {before now old new : Option (List ℕ)} {line : 
 
   -- a line feed was read, and the line that it ends was answered
   pub line_read : {next more : Option (List ℕ)} {is_read : Bool} (kept : Option (List ℕ)) → Consumes now next (line_feed ∷ [])
-      → Keeps new kept → Appends kept more (told question line) → is_read ≡ not (is_faulty line)
+      → Keeps new kept → Appends kept more (reply question line) → is_read ≡ not (is_faulty line)
       → Underway question before next old more [] (all_read && is_read)
   line_read {next} {more} {is_read} kept end keeps tells read =
       let whole : List ℕ = u.part ++ line_feed ∷ [] in
@@ -280,9 +280,9 @@ module _ {question : Question} {before now old new : Option (List ℕ)} {line : 
         kept = refl;
         taken = subst (Consumes before next) (sym (append-nil (u.lines ++ whole))) (more_taken next (line_feed ∷ []) end);
         written = subst (Appends old more)
-            (ap (λ answer. answers_to question u.lines ++ answer) told_whole
+            (ap (λ answer. answers_to question u.lines ++ answer) reply_whole
             ∙ sym (answers_to_more question u.lines whole u.part u.ended one))
-            (more_written kept more (told question line) keeps tells);
+            (more_written kept more (reply question line) keeps tells);
         status = ap₂ (λ a b. a && b) u.status (read ∙ ap (λ l. not (is_faulty l)) u.kept ∙ ap not (kept_faulty u.part))
             ∙ sym (all_read_more u.lines whole u.part u.ended one);
       }
@@ -327,28 +327,28 @@ module _ {question : Question} {before now old new : Option (List ℕ)} {line : 
 
   -- of a line that ended
   pub begun_line : {next more : Option (List ℕ)} (kept : Option (List ℕ)) → Consumes now next (line_feed ∷ []) → Keeps new kept
-      → AppendsPrefix kept more (told question line) → IsBegun question before next old more
+      → AppendsPrefix kept more (reply question line) → IsBegun question before next old more
   begun_line {next} kept end =
       let one = lines_of_ended u.part u.unended in
-      begun kept (u.part ++ line_feed ∷ []) (told question line) (rw one (omega arith)) (more_taken next (line_feed ∷ []) end)
-      (told_whole ∙ sym (answers_to_one question (u.part ++ line_feed ∷ []) u.part one))
+      begun kept (u.part ++ line_feed ∷ []) (reply question line) (rw one (omega arith)) (more_taken next (line_feed ∷ []) end)
+      (reply_whole ∙ sym (answers_to_one question (u.part ++ line_feed ∷ []) u.part one))
 
   -- of what stands after the last line feed, where nothing is left
   pub begun_last : {next more : Option (List ℕ)} (kept : Option (List ℕ)) → Consumes now next [] → Keeps new kept
-      → AppendsPrefix kept more (told_last question line) → IsBegun question before next old more
+      → AppendsPrefix kept more (last_reply question line) → IsBegun question before next old more
   begun_last {next} kept end =
-      begun kept u.part (told_last question line) (one_line u.part u.unended) (all_taken next end) told_part
+      begun kept u.part (last_reply question line) (one_line u.part u.unended) (all_taken next end) reply_part
 
-  -- and the whole was written
+  -- of all that was read, where the whole was written
   pub all_answered : {next more : Option (List ℕ)} {is_read : Bool} (kept : Option (List ℕ)) → Consumes now next [] → IsAtEnd now
-      → Keeps new kept → Appends kept more (told_last question line) → is_read ≡ is_last_read line
+      → Keeps new kept → Appends kept more (last_reply question line) → is_read ≡ is_last_read line
       → IsAnswered question before next old more (all_read && is_read)
   all_answered {next} {more} {is_read} kept end at_end keeps tells read = record {
     read = u.lines ++ u.part;
     taken = all_taken next end;
     all = Consumes-whole before now (u.lines ++ u.part) (λ bytes. u.lines ++ u.part ≡ bytes) u.taken at_end refl;
     written = subst (Appends old more) (sym (answers_split question u.lines u.part u.ended))
-        (more_written kept more (answers_to question u.part) keeps (subst (Appends kept more) told_part tells));
+        (more_written kept more (answers_to question u.part) keeps (subst (Appends kept more) reply_part tells));
     status = ap₂ (λ a b. a && b) u.status (read ∙ ap is_last_read u.kept) ∙ sym (last_read u.lines u.part u.ended u.unended);
   }
 

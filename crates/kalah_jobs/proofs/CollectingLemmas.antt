@@ -104,12 +104,12 @@ same_itself : (e : Entry) → same_entry e e ≡ true
 unfolding same_entry
 same_itself e = grind arith
 
--- and no other does
+-- no other entry passes the test of an entry
 same_means : (a b : Entry) → same_entry a b ≡ true → a ≡ b
 unfolding same_entry
 same_means a b h = coded_entry.inj a b (grind arith)
 
--- so a job passes the test of no other
+-- a job passes the test of no other
 same_job_means : (a b : Job) → same_job a b ≡ true → b ≡ a
 same_job_means a b h =
     let file : b.file ≡ a.file = grind (arith, nat_tests) in
@@ -222,11 +222,11 @@ as_many_as_numbers {X} n f rows got s =
 pub state_same : (files : List FileState) (f : ℕ) (s : FileState) → f < length files → state_of (set files f s) f ≡ s
 state_same files f s low = get_or-set_same files f s no_file low
 
--- and any other file is as it was
+-- after a change of one file any other is as it was
 pub state_other : (files : List FileState) (f g : ℕ) (s : FileState) → g ≢ f → state_of (set files f s) g ≡ state_of files g
 state_other files f g s ne = get_or-set_other files f g s no_file ne
 
--- so what holds of the changed file, and of each other as it was, holds of each
+-- what holds of the changed file, and of each other as it was, holds of each
 pub each_file : (files : List FileState) (f : ℕ) (s : FileState) → f < length files → (P : ℕ → FileState → Type 0) → P f s →
     ((g : ℕ) → g ≢ f → P g (state_of files g)) → (g : ℕ) → P g (state_of (set files f s) g)
 each_file files f s low P here others g = elim (cases_eq g f) [
@@ -342,7 +342,7 @@ holds_refused jobs past files o r holds refused = record {
   only = λ f k a is. still_answered o (holds.only f k a is);
 }
 
--- so does a take, which changes nothing of what came
+-- a take changes nothing of what came, so what holds stays true
 pub holds_take : (jobs : List (List Entry)) (past : List Job) (files : List FileState) (f : ℕ) → f < length files →
     HoldsOffered jobs past files → HoldsOffered jobs past (after_take files f)
 holds_take jobs past files f low holds =
@@ -367,7 +367,7 @@ wanted_or_refused : (jobs : List (List Entry)) (files : List FileState) (o : Job
     IsRefusedFor jobs files o r → ⊥
 wanted_or_refused jobs files o r wanted refused = grind arith
 
--- and no offer meets two
+-- no offer meets two refusals
 refused_for_one : (jobs : List (List Entry)) (files : List FileState) (o : Job) (q r : Refusal) → IsRefusedFor jobs files o q →
     IsRefusedFor jobs files o r → q ≡ r
 refused_for_one jobs files o q r a b = grind arith
@@ -446,7 +446,7 @@ module _ {jobs : List (List Entry)} {past : List Job} {files after : List FileSt
             (λ f other. kept.within f);
       })
 
-  -- which is the next of its file
+  -- the line that is taken is the next of its file
   taken_next : (g : ℕ) (t : Taken) → Gives files g t after → WereTaken jobs files (λ f. with_taken f g (Some t) []) after
   taken_next g t step =
       rw step.kept (each_file files g (with_one_taken (state_of files g)) step.file_there
@@ -550,7 +550,7 @@ contains_from_times o (x ∷ xs) some = elim (cases_Bool (same_job o x)) [
       Contains-append_right (x ∷ []) xs o (contains_from_times o xs later)
 ]
 
--- and the other way round
+-- what is found in a list stands in it
 times_from_contains : (o : Job) (xs : List Job) → Contains xs o → 0 < times o xs
 times_from_contains o xs has =
     let least = get_or-le-sum_by (λ x. cond (same_job o x) 1 0) xs has.0 o has.1 in
@@ -616,7 +616,7 @@ module _ {jobs : List (List Entry)} {past : List Job} {files : List FileState} (
       let same : w.entry ≡ o.entry = cc (w.at, is.0) in
       omega (arith, once, is.1, times_from_contains o past (rw same at w.offered))
 
-  -- so it is accepted
+  -- an offer that is refused for nothing is accepted
   each_accepted : (after : List FileState) (gave : Result ℕ Refusal) → Offers jobs files o gave after → IsOk gave
   each_accepted after (Ok ready) step = refl
   each_accepted after (Err r) step = absurd (not_refused r step.cause)

@@ -53,7 +53,7 @@ lines_of-ended (byte ∷ line) rest whole =
     lines_of-byte byte (line ++ line_feed ∷ rest) (All-head IsNoFeed byte line whole)
     ∙ ap (λ lines. onto_first byte lines) (lines_of-ended line rest (All-tail IsNoFeed byte line whole))
 
--- and so does the end
+-- the end ends the bytes before it that have no line feed
 pub lines_of-open : (line : List ℕ) → HasNoLineFeed line → line ≢ [] → lines_of line ≡ line ∷ []
 unfolding lines_of
 lines_of-open [] whole some = absurd (some refl)
@@ -412,7 +412,7 @@ same_board_means p q p_limits q_limits h =
     let other_store : p.other_store ≡ q.other_store = grind (arith, nat_tests) in
     λ i. record { own = (rows i).own; own_store = own_store i; other = (rows i).other; other_store = other_store i; rule = (rows i).rule }
 
--- and boards that show the same position are equal
+-- boards that show the same position are equal
 pub same_board_itself : (p : position.Position) → same_board p p ≡ true
 same_board_itself p = laws-law.refl p
 

@@ -16,7 +16,7 @@ use Rattle.kalah_rules.specs.declared.rule.Rule.{Rule}
 use Rattle.kalah_rules.specs.declared.rule.Rule.TheVariants.{Classic, EmptyCapture}
 use Rattle.kalah_rules.specs.Limits.{most_houses, most_seeds, most_in_store}
 use Rattle.kalah_jobs.specs.Line.LineFault.{order_of}
-use Rattle.kalah_jobs.specs.Limits.{most_bytes}
+use Rattle.kalah_jobs.specs.Limits.{most_line_bytes}
 use Rattle.kalah_jobs.specs.declared.line.line_fault.LineFault.{LineFault}
 use Rattle.kalah_jobs.specs.declared.line.line_fault.LineFault.TheVariants.{Long, Empty, Shape, Houses, Seeds}
 use Rattle.std.specs.List.{join_with_byte}
@@ -344,7 +344,7 @@ pub sides_are_written : (text rest : List ℕ) {own other : Found} {mark : ℕ} 
 unfolding written_of
 sides_are_written text rest own_read mark is other_read rule_read = rw (own_read, mark, is, other_read, rule_read) refl
 
--- and without an ending they don't
+-- a side, a space and a side without an ending write no line
 pub sides_are_no_line : (text rest : List ℕ) {own other : Found} {mark : ℕ} → side_at text ≡ Some own
     → own.2 ≡ mark ∷ rest →
     mark ≡ space → side_at rest ≡ Some other → rule_of other.2 ≡ None → written_of text ≡ None
@@ -422,7 +422,7 @@ nor_this {text} fault before not earlier low holds = elim (cases_lt (order_of ea
 ]
 
 -- a line of few bytes that writes the position
-position_is_read : (line : List ℕ) (p : Position) → length (without_cr line) ≤ most_bytes → NoneBefore (without_cr line) 4 →
+position_is_read : (line : List ℕ) (p : Position) → length (without_cr line) ≤ most_line_bytes → NoneBefore (without_cr line) 4 →
     IsLineOf (without_cr line) p → IsReading line (admitted p)
 position_is_read line p few none form = elim (eqb_tells (length p.other) (side_length p)) [
   | inl same ↦ elim (cases_lt most_houses (side_length p)) [
@@ -458,7 +458,7 @@ nothing_is_read line (byte ∷ text) is none e =
     }
 
 -- a line of few bytes
-few_are_read : (line : List ℕ) → length (without_cr line) ≤ most_bytes → (r : Option Position) →
+few_are_read : (line : List ℕ) → length (without_cr line) ≤ most_line_bytes → (r : Option Position) →
     written_of (without_cr line) ≡ r → IsReading line (admitted_if_written r (without_cr line))
 few_are_read line few r e =
     let text : List ℕ = without_cr line in
@@ -471,13 +471,13 @@ few_are_read line few r e =
           position_is_read line p few (nor_this Shape (nor_this Empty none some) (λ shape. shape p form)) form
     ]) e
 
-pub long_is_read : (line : List ℕ) → most_bytes < length (without_cr line) → reading_of line ≡ Err Long
+pub long_is_read : (line : List ℕ) → most_line_bytes < length (without_cr line) → reading_of line ≡ Err Long
 unfolding reading_of
 long_is_read line long = rw (lt-ltb _ _ long) refl
 
 pub is_reading : (line : List ℕ) → IsReading line (reading_of line)
 unfolding reading_of
-is_reading line = elim (cases_lt most_bytes (length (without_cr line))) [
+is_reading line = elim (cases_lt most_line_bytes (length (without_cr line))) [
   | inl long ↦ rw (lt-ltb _ _ long) (record { holds = long; first = none_at_first (without_cr line) })
   | inr few ↦ rw (le-ltb _ _ few) (few_are_read line few (written_of (without_cr line)) refl)
 ]
@@ -642,7 +642,7 @@ ending_length rule = grind arith
 -- ---- the text of a position is read back
 
 text_has_few_bytes : (p : Position) → IsWithinLimits p → p.own_store ≤ 99 → p.other_store ≤ 99 →
-    length (line_text_of p) ≤ most_bytes
+    length (line_text_of p) ≤ most_line_bytes
 unfolding line_text_of
 text_has_few_bytes p limits own_low other_low =
     let own = side_text p.own p.own_store in
@@ -697,7 +697,7 @@ last_or-append byte (other ∷ front) first rest = last_or-append other front fi
 number_ends_in_digit : (byte : ℕ) (text : List ℕ) (n : ℕ) → IsNumber text n → last_or byte text ≤ 57
 number_ends_in_digit byte text n h = grind arith
 
--- so does a side
+-- a side ends in a digit
 side_ends_in_digit : (byte : ℕ) (text houses : List ℕ) (store : ℕ) → IsSide text houses store → last_or byte text ≤ 57
 side_ends_in_digit byte text houses store side =
     let last : last_or byte text ≡ last_or slash side.store_text =

@@ -273,19 +273,19 @@ module _ {O : Type 0} (state : O → SinkState) where
   -- the texts of the first elements were given
   module _ (one : ℕ → List ℕ) {elements all : List ℕ} (same : elements ≡ all) (i : ℕ) (old between : O)
       (so_far : WasGiven state old between (flat_map one (take i elements))) where
-    -- and that of one more
+    -- the text of one more element was given
     pub given_more : (new : O) (element : ℕ) → i < length elements → element ≡ get_or elements i 0
         → WasGiven state between new (one element) → WasGiven state old new (flat_map one (take (i + 1) elements))
     given_more new element within is more = subst (WasGiven state old new) (sym (one_more one elements i element within is))
         (given_then old between new (flat_map one (take i elements)) (one element) so_far more)
 
-    -- and a call had failed, so it was given all
+    -- a call had failed, so the sink was given all
     pub given_cut : (state between).has_failed ≡ true → WasGiven state old between (flat_map one all)
     given_cut failed = subst (WasGiven state old between) (first_moves one elements all i same)
         (given_then old between between (flat_map one (take i elements)) (flat_map one (drop i elements)) so_far
         (given_off between (flat_map one (drop i elements)) failed))
 
-    -- and there are no more
+    -- there are no more elements
     pub given_all : length elements ≤ i → WasGiven state old between (flat_map one all)
     given_all end = subst (λ l. WasGiven state old between (flat_map one l)) (take_all i elements end ∙ same) so_far
 

@@ -3,8 +3,8 @@ use Rattle.std.specs.Prelude.{ℕ}
 use Rattle.kalah_jobs.specs.declared.limits.TheConstants.{MOST_FILES, MOST_FILE_BYTES, MOST_LINES, MOST_LINE_BYTES}
 
 -- bytes of a line, after its CR is dropped
-abbrev pub most_bytes : ℕ
-most_bytes = MOST_LINE_BYTES
+abbrev pub most_line_bytes : ℕ
+most_line_bytes = MOST_LINE_BYTES
 
 -- bytes of a file that is read whole
 abbrev pub most_file_bytes : ℕ

@@ -5,4 +5,4 @@ pub(crate) mod laws;
 pub(crate) mod line_head;
 pub(crate) mod prompt_reader;
 pub(crate) mod prompt_solver;
-pub(crate) mod told;
+pub(crate) mod reply;

@@ -33,7 +33,7 @@ pub use line::laws::{
 pub use line::line_fault::LineFault;
 pub use line::reading::read_line;
 pub use writing::answer::{Answer, Taken};
-pub use writing::answer_line::{answer_text, write_answer};
+pub use writing::answer_line::{answer_text, write_answer, write_answer_unless_failed};
 pub use writing::counts::{write_total, write_ways};
 pub use writing::laws::{files_split_between_lines, output_splits_by_files};
 pub use writing::picture::write_picture;

@@ -1,2 +1,2 @@
-//! What the tests of several rooms share.
+//! What the tests of several modules share.
 pub(crate) mod out_of_memory;

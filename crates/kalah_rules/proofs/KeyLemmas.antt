@@ -28,7 +28,7 @@ pow_five (suc k) =
     let e : 5 * suc k ≡ 5 + 5 * k = omega arith in
     rw (e, pow-add, pow_five k) (omega arith)
 
--- and past the own row
+-- past the own row, too, five bits are a power of 32
 pub pow_other : (k : ℕ) → 2 ^ (30 + 5 * k) ≡ 2 ^ 30 * 32 ^ k
 pow_other k = simp (pow-add, pow_five)
 
@@ -204,7 +204,7 @@ pub moved_small : (k x : ℕ) → k ≤ 5 → x < 2 ^ 30 → x * 32 ^ k % 2 ^ 64
 moved_small k x h few = up_to_five (λ k. x * 32 ^ k % 2 ^ 64 ≡ 32 ^ k * x) k h
     (omega arith) (omega arith) (omega arith) (omega arith) (omega arith) (omega arith)
 
--- so do a few seeds moved past the own row
+-- a few seeds moved past the own row fit sixty-four bits
 pub moved_far : (k x : ℕ) → k ≤ 5 → x < 32 → x * (2 ^ 30 * 32 ^ k) % 2 ^ 64 ≡ 2 ^ 30 * (32 ^ k * x)
 moved_far k x h few = up_to_five (λ k. x * (2 ^ 30 * 32 ^ k) % 2 ^ 64 ≡ 2 ^ 30 * (32 ^ k * x)) k h
     (omega arith) (omega arith) (omega arith) (omega arith) (omega arith) (omega arith)
@@ -214,7 +214,7 @@ pub placed_small : (k x : ℕ) → k ≤ 5 → x < 32 → 32 ^ k * x < 2 ^ 30
 placed_small k x h few = up_to_five (λ k. 32 ^ k * x < 2 ^ 30) k h
     (omega arith) (omega arith) (omega arith) (omega arith) (omega arith) (omega arith)
 
--- so do a few times as many seeds
+-- a few times as many seeds as a row has are few bits
 pub product_small : (x y : ℕ) → x ≤ 10 → y ≤ 34636833 → x * y ≤ 346368330
 product_small x y h k = grind arith
 
@@ -274,7 +274,7 @@ cells-number_of (suc n) (x ∷ xs) rest long few =
 pub length-padded : (xs : List ℕ) → length xs ≤ 6 → length (padded xs) ≡ 6
 length-padded xs h = rw (length-append, length-replicate) (omega arith)
 
--- and no more seeds
+-- a padded row has the seeds of the row
 pub sum-padded : (xs : List ℕ) → sum (padded xs) ≡ sum xs
 sum-padded xs = rw (sum_by-append, sum_by-replicate) (omega arith)
 
@@ -282,7 +282,7 @@ sum-padded xs = rw (sum_by-append, sum_by-replicate) (omega arith)
 pub take-padded : (xs : List ℕ) → take (length xs) (padded xs) ≡ xs
 take-padded xs = take-append_seam xs _
 
--- and the others are empty
+-- past the row its cells are empty
 pub drop-padded : (xs : List ℕ) → All (λ x. x ≡ 0) (drop (length xs) (padded xs))
 drop-padded xs = rw (drop-append_seam xs _) (All-replicate (λ x. x ≡ 0) _ 0 refl)
 
@@ -472,7 +472,7 @@ module _ (k : ℕ) (rule : Rule) (bit : rule_bit rule ≡ k / 2 ^ 63) where
   unpacks_same None valid value = tt
   unpacks_same (Some a) valid value = ap key_of value ∙ key_of_rows _ (valid.0 (search rules)) bit
 
-  -- and the houses of a key are found
+  -- the houses of a key are found
   pub unpacks_found : (o : Option HousesState) → (IsSome o ↔ IsKey k) → IfSome o (λ a. a ≡ parts) → (a : HousesState)
       → IsWithinHouses a →
       key_of a ≡ k → o ≡ Some a

@@ -122,7 +122,7 @@ module _ (a : HousesState) (h : ℕ) (w : IsWithinHouses a) (holds : HoldsSeeds 
   unfolding sow
   other_is = rw w.same_side at (other_sown a.other h (seeds a.own h))
 
-  -- and what comes to the store
+  -- what comes to the store
   pub store_is : q.own_store ≡ store_gained (length a.own) h (seeds a.own h)
   unfolding sow
   store_is = omega arith
@@ -139,11 +139,11 @@ module _ (a : HousesState) (h : ℕ) (w : IsWithinHouses a) (holds : HoldsSeeds 
   few : sum q.own + sum q.other ≤ 31
   few = omega (arith, sown_keeps.play)
 
-  -- so the own row has a small number
+  -- the own row has a small number
   own_small : number_of q.own < 2 ^ 30
   own_small = number_of-small 6 q.own (omega (arith, sown_keeps.side)) (omega (arith, few))
 
-  -- and the other row
+  -- the other row has a small number
   other_small : number_of q.other < 2 ^ 30
   other_small = number_of-small 6 q.other (omega (arith, sown_keeps.other_side, w.same_side)) (omega (arith, few))
 
@@ -154,7 +154,7 @@ module _ (a : HousesState) (h : ℕ) (w : IsWithinHouses a) (holds : HoldsSeeds 
       rows - house + gains ≡ number_of q.own + 2 ^ 30 * number_of q.other
   sown_rows rows house gains rows_are house_is gains_are = omega (arith, own_is, other_is, lifted_is)
 
-  -- so they are both rows, less what they lose
+  -- after a sowing the rows are both rows, less what they lose
   pub sown_less : (rows loses : ℕ) → rows ≡ number_of a.own + 2 ^ 30 * number_of a.other → loses < 2 ^ 64 →
       (loses + (own_gained (length a.own) h (seeds a.own h) + 2 ^ 30 * other_gained (length a.own) h (seeds a.own h))) % 2 ^ 64
       ≡ 32 ^ (h - 1) * seeds a.own h →
@@ -175,7 +175,7 @@ module _ (a : HousesState) (h : ℕ) (w : IsWithinHouses a) (holds : HoldsSeeds 
       let gains = store_gains _ _ _ holds.first holds.last ends in
       rows_show _ 1 (sown_rows _ house _ rows_are house_is (omega arith)) (omega arith)
 
-  -- and few in the store
+  -- a sowing brings few seeds to the store
   pub store_few : q.own_store ≤ 31
   store_few = omega (arith, sown_keeps.play)
 
@@ -256,7 +256,7 @@ module _ (p : Position) (h : ℕ) (holds : HoldsSeeds p h) where
   last_low : 1 ≤ last_distance p h
   last_low = omega arith
 
-  -- and goes no farther than a lap
+  -- the last seed goes no farther than a lap
   last_high : last_distance p h ≤ lap_length (side_length p)
   last_high = omega arith
 
@@ -268,7 +268,7 @@ module _ (p : Position) (h : ℕ) (holds : HoldsSeeds p h) where
   laps_and_distance : (seeds p.own h - 1) / lap_length (side_length p) * lap_length (side_length p) + last_distance p h ≡ seeds p.own h
   laps_and_distance = omega arith
 
-  -- so much past whole laps is the place
+  -- the place is what remains of its seeds past whole laps
   place_after : (laps at : ℕ) → h + seeds p.own h ≡ laps * lap_length (side_length p) + at → 1 ≤ at
       → at ≤ lap_length (side_length p) →
       last_place (side_length p) h (seeds p.own h) ≡ at
@@ -279,7 +279,7 @@ module _ (p : Position) (h : ℕ) (holds : HoldsSeeds p h) where
       → last_place (side_length p) h (seeds p.own h) ≡ h + last_distance p h
   place_near near = grind arith
 
-  -- and of one that does
+  -- the place of a last seed that comes round
   place_round : lap_length (side_length p) < h + last_distance p h →
       last_place (side_length p) h (seeds p.own h) ≡ h + last_distance p h - lap_length (side_length p)
   place_round round = grind arith
@@ -378,7 +378,7 @@ pub step_again : (q : Position) (again : Bool) → is_over q ≡ false → again
     → houses_step_to q again ≡ Again q.own_store (houses_in q)
 step_again q again going more = cc
 
--- and with the other player
+-- a game that goes on with the other player
 pub step_turn : (q : Position) (again : Bool) → is_over q ≡ false → again ≡ false
     → houses_step_to q again ≡ Turn q.own_store (houses_in (swapped q))
 step_turn q again going more = cc
@@ -428,11 +428,11 @@ module _ {a : HousesState} {h rows seeds variant : ℕ} {r : RowNumbers} (packed
   abbrev moved : Position
   moved = after (storeless a) h
 
-  -- which lost no seed
+  -- the move loses no seed
   keeps : KeepsSeeds (storeless a) moved
   keeps = after_keeps _ _ is.limits (legal_holds _ _ has)
 
-  -- and keeps the limits
+  -- the position after the move keeps the limits
   within : IsWithinHouses (houses_in moved)
   within = after_within _ _ is.limits (legal_holds _ _ has)
 
@@ -489,7 +489,7 @@ step_with p (Over own other) = step.Over (with_stores (without_seeds (houses_in 
 step_with p (Again gained b) = step.Again (with_stores b (p.own_store + gained) p.other_store)
 step_with p (Turn gained b) = step.Turn (with_stores b p.other_store (p.own_store + gained))
 
--- which keeps the limits
+-- the same step, within the limits
 abbrev pub IsStepWithin : Position → HousesStep → Type 0
 IsStepWithin p (Over own other) = IsWithinLimits (with_stores (without_seeds (houses_in p)) (p.own_store + own) (p.other_store + other))
 IsStepWithin p (Again gained b) = IsWithinLimits (with_stores b (p.own_store + gained) p.other_store)
@@ -511,7 +511,7 @@ step_is p h w holds =
     step_with_to p q (is_over q) _ keeps.side keeps.rule keeps.other_store refl
     ∙ ap (λ x. step_to x (is_again p h)) (sym (after_of_rows p h))
 
--- and within the limits
+-- the step of a board is within the limits
 pub step_within : {p : Position} (h : ℕ) → IsWithinLimits p → HoldsSeeds (storeless (houses_in p)) h
     → IsStepWithin p (houses_step (houses_in p) h)
 step_within {p} h l holds =
@@ -584,11 +584,11 @@ module _ {a : HousesState} {h rows seeds variant : ℕ} {r : RowNumbers} (packed
   pub store_shows : IsPackedPosition r (after (storeless a) h)
   store_shows = after_past _ h holds r (omega (arith, place)) shows
 
-  -- and the other player has seeds as before
+  -- the other player has seeds as before
   other_some : r.rows / 2 ^ 30 ≢ 0
   other_some none = grind (arith, legal_going, sum-zero, other_is, w, holds)
 
-  -- so the game goes on with the mover, if the mover has seeds left
+  -- the game goes on with the mover, if the mover has seeds left
   pub store_packed : 0 < r.rows % 2 ^ 30 → IsStepTo a h r.rows (seeds - r.store) variant (Again r.store)
   store_packed some = again_packed packed view has store_shows (omega arith) other_some again
 

@@ -706,6 +706,6 @@ before_small {n} {p} {h} before few =
     let power : most_houses ^ (n + 1) ≡ 6 * most_houses ^ n = rw (add-one n) (pow-succ' 6 n) in
     omega arith
 
--- which fits into 64 bits, for less than 20 moves
+-- for less than 20 moves that power fits into 64 bits
 pub power_fits : (n : ℕ) → n < most_depth → most_houses ^ (n + 1) ≤ 6 ^ 20
 power_fits n below = grind (arith, pow-le-pow_right)

@@ -134,7 +134,8 @@ impl Board {
 
     /// Returns the rule of capture.
     pub fn rule(&self) -> Rule
-        ensures { result ≡ self.now.rule }
+        ensures rule { result ≡ self.now.rule }
+        ensures limits { IsWithinLimits self.now }
     {
         self.houses.rule()
     }
@@ -161,7 +162,7 @@ impl Board {
         ensures margin { result ≡ final_margin self.now }
         ensures small { IsSmallMargin result }
     {
-        let (own, other) = self.houses.left();
+        let (own, other) = self.houses.final_seeds();
         (own + self.own_store) as i32 - (other + self.other_store) as i32
     }
 }

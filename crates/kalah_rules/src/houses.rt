@@ -228,7 +228,7 @@ impl Houses {
     }
 
     // Returns the number of seeds that each player has in houses at the end of a game: the mover's, and the other player's.
-    pub(crate) fn left(&self) -> (u8, u8)
+    pub(crate) fn final_seeds(&self) -> (u8, u8)
         requires { IsTrue (is_over (storeless self.now)) }
         ensures own { result.0 ≡ sum self.now.own }
         ensures other { result.1 ≡ sum self.now.other }

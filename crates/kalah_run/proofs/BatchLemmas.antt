@@ -1,9 +1,9 @@
 -- A batch: what its workers send, what is written of it, and what is known when it has ended.
-use Rattle.std.proofs.Common.{add-one, IfErr, ◌≡◌, ◌≤◌, ◌<◌, ◌+◌, ◌-◌, ℕ, suc, List, [], ◌∷◌, ◌++◌, arith, sym, ap, ◌∙◌, Bool, true, false, refl, ⊎_elim, length, get_or, take, drop, append_assoc, subst, zero, map, reverse, ◌≢◌, ◌==◌, if◌then◌else◌, ne_eqb, ◌⊎◌, inl, inr}
+use Rattle.std.proofs.Common.{add-one, IfErr, ◌≡◌, ◌≤◌, ◌<◌, ◌+◌, ◌-◌, ℕ, suc, List, [], ◌∷◌, ◌++◌, arith, sym, ap, ◌∙◌, Bool, true, false, refl, ⊎_elim, length, get_or, take, drop, append_assoc, subst, zero, map, reverse, ◌==◌, if◌then◌else◌, ne_eqb, ◌⊎◌, inl, inr}
 use Rattle.std.proofs.lemmas.List.{nil_from_length, map-append, reverse-append, append-nil, take-append-drop, take_all, take_more, flat_map_more, get_or-map, length-append, length-map}
 use Rattle.kalah_jobs.specs.declared.files.entry.Entry.{Entry}
 use Rattle.kalah_jobs.specs.declared.files.job.Job.{Job}
-use Rattle.std.specs.Prelude.{◌⊎◌, All, Some, IfSome, fold, slice_get, Option, None, Result, Ok, Err, sum_by, IsErr, OnOk, count_by, IfOk}
+use Rattle.std.specs.Prelude.{◌⊎◌, All, Some, IfSome, fold, slice_get, Option, None, Result, Ok, Err, sum_by, OnOk, count_by, IfOk}
 use Rattle.std.proofs.lemmas.List.Sums.{fold-append, sum_by-cons}
 use Rattle.std.proofs.lemmas.Option.{get_or_from_slice_get, slice_get_within}
 use Rattle.kalah_jobs.specs.Files.JobList.{job_list, jobs_from, file_jobs, line_job, entries_of, entry_at}
@@ -15,9 +15,9 @@ use Rattle.kalah_run.specs.Batch.AtWork.{drawn_jobs, passes_of, puts_of, AreAtWo
 use Rattle.std.specs.Io.KnownBytes.{Appends, Keeps}
 use Rattle.std.proofs.Math.Seq.{take-nil}
 use Rattle.std.proofs.KnownBytes.{Appends-kept, Appends-nil, Appends-trans, Keeps-refl}
-use Rattle.kalah_jobs.specs.Writing.Given.{AppendsPrefix, SinkState}
+use Rattle.kalah_jobs.specs.Writing.Given.{AppendsPrefix, SinkState, WasGiven}
 use Rattle.kalah_jobs.proofs.WritingLemmas.{start_none, start_then, start_longer, start_kept, files_are_their_jobs}
-use Rattle.kalah_run.specs.Batch.UnderWay.{WasGivenSince, text_of_job, written_upto, IsUnderWay}
+use Rattle.kalah_run.specs.Batch.OrderedOutput.{WasGivenSince, text_of_job, written_upto, IsUnderWay, text_of, IsNew, HasWritten, whole_output, Waits}
 use Rattle.kalah_run.specs.Batch.Leaving.{rest_of, pass_in, HasDrawnNothing, IsLeft, DrawsOnlyTheRest}
 use Rattle.std.specs.List.{flat_map, enumerate_from}
 use Rattle.std.proofs.lemmas.Bool.{cases_eq, cases_lt, lt-ltb}
@@ -33,19 +33,18 @@ use Rattle.kalah_jobs.specs.Collecting.Held.{Kept}
 use Rattle.kalah_jobs.specs.Files.Lines.{line_feed}
 use Rattle.kalah_jobs.specs.Files.NamedBytes.{NamedBytes}
 use Rattle.kalah_run.specs.declared.batch.ordered_output.OrderedOutput.{OrderedOutput}
-use Rattle.kalah_run.specs.Batch.OrderedOutput.{text_of, IsNew, HasWritten, whole_output, Waits}
-use Rattle.std.proofs.lemmas.List.Elements.{All-cons, All-map, All-nil}
-use Rattle.kalah_run.specs.Queue.States.{PutState, ArePassesFrom, sent_by, Accounts, outcomes_in}
+use Rattle.std.proofs.lemmas.List.Elements.{All-cons, All-map, All-nil, All-tail}
+use Rattle.kalah_run.specs.Queue.States.{GetState, PutState, ArePassesFrom, sent_by, Accounts, outcomes_in}
 use Rattle.kalah_run.specs.Desk.States.{DeskState, PassState, IsPassAt, AreNewPasses, new_pass, drawn_rows}
 use Rattle.kalah_run.specs.declared.batch.worker.Worker.{Worker}
-use Rattle.kalah_run.specs.Batch.Running.{HasOwnTable, HaveOwnTables}
-use Rattle.atomic_table.specs.Seated.{TableId}
+use Rattle.kalah_run.specs.Batch.Running.{HasOwnTable, HaveOwnTables, HasCollected}
 use Rattle.kalah_jobs.specs.Files.Jobs.{MakesJobs, job_count, jobs_to, lines_in_all}
 use Rattle.kalah_jobs.proofs.FilesLemmas.{length-job_list, job_count-jobs_to, lines_between, slice_get-job_list}
 use Rattle.kalah_jobs.specs.Collecting.Shares.{AreShared, times_in}
 use Rattle.kalah_run.specs.Desk.Rows.{drawn_numbers, DealsEachOnce, spent_in}
 use Rattle.kalah_run.specs.declared.batch.shared_work.SharedWork.{SharedWork}
 use Rattle.kalah_run.proofs.DeskLemmas.{length-drawn_numbers}
+use Rattle.kalah_run.proofs.QueueLemmas.{all_are_of}
 use Rattle.kalah_run.specs.declared.batch.request.Rest.{Rest}
 use Rattle.kalah_run.specs.declared.batch.request.Rest.TheVariants.{Solve, Leave}
 use Rattle.kalah_jobs.specs.declared.files.question.Question.{Question}
@@ -92,7 +91,7 @@ pub given_none : (begun : SinkState) → WasGivenSince begun begun []
 given_none begun = record { start = start_none begun.written []; whole = λ sound. Appends-nil begun.written }
 
 -- it is given more, and takes a prefix of it, or all if it has not failed then
-pub given_on : {begun out more : SinkState} (bs cs : List ℕ) → WasGivenSince begun out bs → out.has_failed ≡ false
+given_on : {begun out more : SinkState} (bs cs : List ℕ) → WasGivenSince begun out bs → out.has_failed ≡ false
     → AppendsPrefix out.written more.written cs → (more.has_failed ≡ false → Appends out.written more.written cs)
     → WasGivenSince begun more (bs ++ cs)
 given_on {begun} {out} {more} bs cs given sound start all = record {
@@ -101,12 +100,20 @@ given_on {begun} {out} {more} bs cs given sound start all = record {
 }
 
 -- it has failed, and what more there is is not written
-pub given_off : {begun out : SinkState} (bs cs : List ℕ) → WasGivenSince begun out bs → out.has_failed ≡ true
+given_off : {begun out : SinkState} (bs cs : List ℕ) → WasGivenSince begun out bs → out.has_failed ≡ true
     → WasGivenSince begun out (bs ++ cs)
 given_off {begun} {out} bs cs given broken = record {
   start = start_longer begun.written out.written bs cs given.start;
   whole = λ sound. absurd (let both : true ≡ false = sym broken ∙ sound in cc);
 }
+
+-- either
+pub given_more : {W : Type 0} {state : W → SinkState} {begun : SinkState} {old new : W} (bs cs : List ℕ)
+    → WasGivenSince begun (state old) bs → WasGiven state old new cs → WasGivenSince begun (state new) (bs ++ cs)
+given_more {state = state} {begun} {old} {new} bs cs given more = by (state old).has_failed refl where
+  by : (b : Bool) → (state old).has_failed ≡ b → WasGivenSince begun (state new) (bs ++ cs)
+  by true failed = subst (λ o. WasGivenSince begun (state o) (bs ++ cs)) (sym (more.quiet failed)) (given_off bs cs given failed)
+  by false sound = given_on bs cs given sound more.start (λ still. (more.whole still).1)
 
 -- what it holds is flushed
 pub given_kept : {begun out more : SinkState} {bs : List ℕ} → WasGivenSince begun out bs → Keeps out.written more.written
@@ -267,13 +274,12 @@ module _ {text : ℕ → Taken → List ℕ} {jobs : List (List Entry)} {past : 
 
   -- Each job was offered once, and the current file, if there is one, has not ended.
   module _ (each : AreJobsInSomeOrder jobs past) (waits : f < length files → HasEnded (state_of files f) → ⊥) where
-    -- so it is past the last
+    -- the current file is past the last
     past_all : length files ≤ f
-    past_all =
-        ⊎_elim
-        (λ (low : f < length files). absurd (waits low (fronts_full jobs past files each progress.kept.offered f)))
-        (λ (high : length files ≤ f). high)
-        (cases_lt f (length files))
+    past_all = elim (cases_lt f (length files)) [
+      | inl low ↦ absurd (waits low (fronts_full jobs past files each progress.kept.offered f))
+      | inr high ↦ high
+    ]
 
     -- the sink was given all
     pub progress_end : WasGivenSince begun out (text_of_jobs text jobs)
@@ -331,12 +337,6 @@ new_written begun r new = record {
   progress = rw new.0 (rw new.1 (progress_start (text_of r.files.now) r.jobs.now begun));
 }
 
--- what a call that wrote all, or failed, did if it has not failed
-pub whole_where_sound : {A E : Type 0} (all : Type 0) (r : Result A E) (failed : Bool) → (IsErr r → failed ≡ true) → OnOk r all
-    → failed ≡ false → all
-whole_where_sound all (Ok x) failed fails wrote sound = wrote
-whole_where_sound all (Err e) failed fails wrote sound = absurd (let both : true ≡ false = sym (fails refl) ∙ sound in cc)
-
 -- how many lines are ready and were not taken, of all files
 abbrev pub ready_lines : List FileState → ℕ
 ready_lines files = sum_by (λ (s : FileState). front s - s.taken) files
@@ -368,13 +368,6 @@ tables_more workers workers' w entries is has so_far =
 
 -- ==== The workers of a batch, from their passes to what was got of them
 
--- each pass to put is of the queue
-put_queue : (id : TableId) (n : ℕ) (puts : List PutState) (k : ℕ) (d : PutState) → ArePassesFrom id n puts → k < length puts
-    → (get_or puts k d).queue ≡ id
-put_queue id n [] k d from within = absurd (omega arith)
-put_queue id n (p ∷ ps) zero d from within = from.0
-put_queue id n (p ∷ ps) (suc k) d from within = put_queue id (suc n) ps k d from.2 (omega arith)
-
 -- there are as many workers as passes
 pub as_many_workers : (workers : List Worker) (passes : List PassState) (count : ℕ) → passes_of workers ≡ passes
     → length passes ≡ count
@@ -397,7 +390,7 @@ new_at_work {knows = knows} shared workers count new from unsent = λ k d within
     record {
       draws = (ap (λ (p : PassState). p.desk) pass, ap (λ (p : PassState). p.total) pass);
       known = rw pass (λ j e low. absurd (omega arith));
-      sends = ap (λ (p : PutState). p.queue) (sym put) ∙ put_queue shared.queue.id 0 (puts_of workers) k w.put from put_low;
+      sends = ap (λ (p : PutState). p.queue) (sym put) ∙ all_are_of shared.queue.id 0 (puts_of workers) from k w.put put_low;
       sent = ap (λ (p : PutState). p.sent) (sym put) ∙ unsent k w.put put_low
           ∙ sym (ap (λ (p : PassState). drawn_jobs shared.jobs.now p.row.numbers) pass);
     }
@@ -470,25 +463,24 @@ each_job_got shared workers {count} {drawn} got rest at_work as_many deals accou
 has_of_list : (P : ℕ → Type 0) (x : ℕ) (xs : List ℕ) → 0 < count_by (λ y. y == x) xs → All P xs → P x
 has_of_list P x [] some all = absurd (omega arith)
 has_of_list P x (y ∷ ys) some all =
-    ⊎_elim
-    (λ (same : y ≡ x). subst P same (all 0 y (omega arith)))
-    (λ (other : y ≢ x). has_of_list P x ys
-    (let none = ap {B = ℕ} (λ (b : Bool). if b then 1 else 0) (ne_eqb y x other) in
-    omega (arith, some, none, sum_by-cons (λ z. if z == x then 1 else 0) y ys))
-    (λ k d low. all (suc k) d (omega arith)))
-    (cases_eq y x)
+    elim (cases_eq y x) [
+      | inl same ↦ subst P same (all 0 y (omega arith))
+      | inr other ↦ has_of_list P x ys
+          (let none = ap {B = ℕ} (λ (b : Bool). if b then 1 else 0) (ne_eqb y x other) in
+          omega (arith, some, none, sum_by-cons (λ z. if z == x then 1 else 0) y ys)) (All-tail P y ys all)
+    ]
 
--- so has one that stands in some row
+-- a number that stands in some row has what all numbers there have
 has_of_rows : (P : ℕ → Type 0) (x : ℕ) (rows : List DrawnRow) → 0 < times_in x (drawn_numbers rows)
     → All (λ r. All P r.numbers) rows → P x
 has_of_rows P x [] some all = absurd (omega arith)
 has_of_rows P x (r ∷ rs) some all =
-    ⊎_elim
-    (λ (here : 0 < count_by (λ y. y == x) r.numbers). has_of_list P x r.numbers here (all 0 r (omega arith)))
-    (λ (none : count_by (λ y. y == x) r.numbers ≤ 0). has_of_rows P x rs
-    (omega (arith, some, none, sum_by-cons (λ (l : List ℕ). count_by (λ y. y == x) l) r.numbers (drawn_numbers rs)))
-    (λ k d low. all (suc k) d (omega arith)))
-    (cases_lt 0 (count_by (λ y. y == x) r.numbers))
+    elim (cases_lt 0 (count_by (λ y. y == x) r.numbers)) [
+      | inl here ↦ has_of_list P x r.numbers here (all 0 r (omega arith))
+      | inr none ↦ has_of_rows P x rs
+          (omega (arith, some, none, sum_by-cons (λ (l : List ℕ). count_by (λ y. y == x) l) r.numbers (drawn_numbers rs)))
+          (All-tail (λ r. All P r.numbers) r rs all)
+    ]
 
 -- some pass is spent, if each is
 some_spent : (workers : List Worker) → 0 < length workers → All (λ (w : Worker). w.pass.row.spent ≡ true) workers
@@ -519,18 +511,12 @@ each_job_known {knows = knows} {shared} {before} {after} {drawn} run some deals 
 
 -- what holds unless the rest is left holds if it is to be solved, and if the output has not failed
 pub unless_left : {rest : Rest} {failed : Bool} {A : Type 0} → A ⊎ IsLeft rest failed → (rest ≡ Solve) ⊎ (failed ≡ false) → A
-unless_left {rest} {failed} {A} known sound =
-    ⊎_elim
-    (λ (a : A). a)
-    (λ (left : IsLeft rest failed). absurd
-    (⊎_elim
-    (λ (solve : rest ≡ Solve). let both : Leave ≡ Solve = sym left.0 ∙ solve in cc)
-    (λ (still : failed ≡ false). let both : true ≡ false = sym left.1 ∙ still in cc)
-    sound))
-    known
+unless_left (inl a) sound = a
+unless_left (inr left) (inl solve) = absurd (let both : Leave ≡ Solve = sym left.0 ∙ solve in cc)
+unless_left (inr left) (inr still) = absurd (let both : true ≡ false = sym left.1 ∙ still in cc)
 
 -- what had failed has failed
-failed_still : {was : Bool} (now : Bool) → (now ≡ false → was ≡ false) → was ≡ true → now ≡ true
+pub failed_still : {was : Bool} (now : Bool) → (now ≡ false → was ≡ false) → was ≡ true → now ≡ true
 failed_still true sound failed = refl
 failed_still false sound failed = absurd (let both : true ≡ false = sym failed ∙ sound refl in cc)
 
@@ -543,17 +529,16 @@ draws_still {was = was} {before} now sound draws = record {
   same = ⊎_elim inl (λ (left : IsLeft (rest_of before) was). inr (left.0, failed_still now sound left.1)) draws.same;
 }
 
--- and after two steps
+-- the calling thread's pass after two steps
 pub draws_on : {desk : DeskState} {failed : Bool} {first second third : Option PassState} → DrawsOnlyTheRest desk failed first second
     → DrawsOnlyTheRest desk failed second third → DrawsOnlyTheRest desk failed first third
 draws_on {failed = failed} {first} {second} {third} one two = record {
   own = two.own;
   rest = two.rest ∙ one.rest;
-  same =
-      ⊎_elim
-      (λ (is : third ≡ second). ⊎_elim (λ (was : second ≡ first). inl (is ∙ was)) inr one.same)
-      (λ (left : IsLeft (rest_of second) failed). inr (sym one.rest ∙ left.0, left.1))
-      two.same;
+  same = elim (two.same) [
+    | inl is ↦ ⊎_elim (λ (was : second ≡ first). inl (is ∙ was)) inr one.same
+    | inr left ↦ inr (sym one.rest ∙ left.0, left.1)
+  ];
 }
 
 -- if it is new, it is a pass of the desk, and has drawn nothing
@@ -594,7 +579,7 @@ unfolding text_of
 texts_are_output files jobs = refl
 
 -- What an output has written in the end, once it is flushed: all that is to be written, if each job was accepted once or the rest is left.
-pub given_whole : {rest : Rest} (output : OrderedOutput) {r : OrderedOutput} {past : List Job} {begun out later : SinkState}
+given_whole : {rest : Rest} (output : OrderedOutput) {r : OrderedOutput} {past : List Job} {begun out later : SinkState}
     → Keeps out.written later.written → (later.has_failed ≡ false → out.has_failed ≡ false)
     → HasWritten output.files.now output.jobs.now past begun out r × Waits r
     → AreJobsInSomeOrder output.jobs.now past ⊎ IsLeft rest later.has_failed → WasGivenSince begun later (whole_output output)
@@ -609,6 +594,20 @@ given_whole {rest} output {r} {past} {begun} {later = later} keeps sound written
     (subst (λ l. AreJobsInSomeOrder l past) (sym so_far.of_jobs) each) written.1)
     (λ (left : IsLeft rest later.has_failed). progress_failed so_far.progress left.1)
     known)
+
+-- what is known of a collection that has ended with `got`, and was flushed then
+pub has_collected : {rest : Rest} (output : OrderedOutput) {r : OrderedOutput} {begun out later : SinkState} {before got after : GetState}
+    → after ≡ got → got.queue ≡ before.queue → got.workers ≡ before.workers
+    → (length got.got ≡ job_count output.jobs.now) ⊎ IsLeft rest later.has_failed
+    → Keeps out.written later.written → (later.has_failed ≡ false → out.has_failed ≡ false)
+    → HasWritten output.files.now output.jobs.now (outcomes_in got.got) begun out r × Waits r
+    → HasCollected rest output begun later before after
+has_collected output is queue workers all_got keeps sound written = rw is (record {
+  queue = queue;
+  workers = workers;
+  all_got = all_got;
+  given = given_whole output keeps sound written;
+})
 
 -- the output of the jobs of the files is that of the files
 pub given_output : (question : Question) (files : List NamedBytes) (r : OrderedOutput) (begun out : SinkState)
@@ -673,7 +672,7 @@ module _ (question : Question) (files : List NamedBytes) (none : lines_in_all fi
       ∙ sym (texts_from (answer_text_of (names_of files)) (jobs_to question files) 0 (jobs_to question files))
       ∙ ap (flat_map (text_of_job (answer_text_of (names_of files)))) no_jobs
 
-  -- and nothing was written
+  -- if there is no line, nothing was written
   pub given_no_output : (begun : SinkState) → WasGivenSince begun begun (output_to question files)
   given_no_output begun = subst (λ l. WasGivenSince begun begun l) (sym no_output) (given_none begun)
 

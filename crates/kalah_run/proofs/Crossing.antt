@@ -1,19 +1,12 @@
 -- What of a batch may cross threads. The search for it goes by parts: for a whole worker it is too long.
 use denote.RattleType.{RattleType}
-use denote.Param.Send.{IsSend, IsSync, part_keyless, sendable}
+use denote.Param.Send.{IsSend, IsSync, sendable}
 use denote.Ref.{NamedLft}
-use denote.Struct.Owning as owning
-use denote.Struct.Struct.{Struct}
-use Rattle.std.specs.contracts.alloc.Global as Heap
 use Rattle.std.specs.declared.sync.atomic.Rule as rule
-use Rattle.std.proofs.Crossing.{crosses, frees}
+use Rattle.std.proofs.Crossing.{crosses}
 use Rattle.atomic_table.specs.contracts.shared.Seat as Seat
-use Rattle.atomic_table.specs.contracts.shared.Shared as Shared
-use Rattle.atomic_table.specs.declared.shared.TableRule.{Ghosts}
-use Rattle.atomic_table.specs.contracts.send_lease.SendLease as Lease
-use Rattle.atomic_table.proofs.Rights.{right_send}
-use Rattle.atomic_table.proofs.Sent.{seat_keyless, shares_keyless}
-use Rattle.kalah_solve.proofs.Crossing.{owned, Solver-send}
+use Rattle.atomic_table.proofs.Sent.{seat_keyless}
+use Rattle.kalah_solve.proofs.Crossing.{Solver-send, shared_sync, lease_sync}
 use Rattle.kalah_jobs.specs.contracts.files.jobs.Jobs as Jobs
 use Rattle.kalah_run.specs.contracts.desk.Desk as Desk
 use Rattle.kalah_run.specs.contracts.queue.ResultsQueue as ResultsQueue
@@ -29,26 +22,6 @@ seat_send S V s = record {
   leaving = λ k f vs. tt;
 }
 
--- the steps at a table may be shared
-shared_sync : (S V K P : RattleType) (g : Ghosts P.Denot S.Denot V.Denot K.Denot) → IsSend S → IsSync (Shared.the_row S V K P g)
-shared_sync S V K P g s =
-    let fields : IsSync (Struct (owning.shape (Shared.the_type S V K P g))) = search sendable depth 20 in
-    record {
-      shared =
-          λ d b o ν. (
-            fields.shared (d.words, (d.slots, (tt, tt))) b o ν,
-            shares_keyless S s V.coded.code d.table_id (g.holds d.key) d.words d.slots ν,
-          );
-    }
-
--- and so may the right to its memory
-lease_sync : (T : RattleType) → IsSync (Lease.the_row T Heap.the_row (owned frees))
-lease_sync T =
-    record {
-      shared = λ d b o ν q. part_keyless (Lease.the_row T Heap.the_row (owned frees))
-          (right_send T Heap.the_row (owned frees) frees) q d b o;
-    }
-
 -- outcomes may be handed over
 outcome_send : IsSend Outcome.the_row
 outcome_send = search (sendable, crosses) depth 60
@@ -63,14 +36,14 @@ desk_sync = search (sendable, crosses, shared_sync, lease_sync) depth 60
 queue_sync : IsSync ResultsQueue.the_row
 queue_sync = search (sendable, crosses, shared_sync, lease_sync, outcome_send) depth 60
 
--- so what workers share may be
+-- what workers share may be shared
 shared_work_sync : (κ : NamedLft) (G : RattleType) → IsSync G → IsSync (SharedWork.the_row κ G)
 shared_work_sync κ G s = search (sendable, crosses, jobs_sync, desk_sync, queue_sync) depth 60
 
--- and workers may be handed over
+-- workers may be handed over
 pub worker_send : IsSend Worker.the_row
 worker_send = search (sendable, crosses, seat_send, outcome_send, Solver-send) depth 60
 
--- and all of them with what they share
+-- all workers with what they share may be handed over
 pub crew_send : (κ κ' : NamedLft) (G E : RattleType) (g : rule.Ghosts E.Denot) → IsSync G → IsSend (Crew.the_row κ κ' G E g)
 crew_send κ κ' G E g s = search (sendable, crosses, shared_work_sync, worker_send) depth 60

@@ -1,5 +1,5 @@
 -- The desk: what is kept of its word and its seats, and what the rows are at the end.
-use Rattle.std.proofs.Common.{◌≡◌, ⊎_elim, ℕ, zero, suc, ◌+◌, ◌≤◌, List, [], ◌∷◌, ◌++◌, length, set, refl, sym, ap, ◌∙◌, subst, arith, length-append, append-nil, append_assoc, ◌%◌, ◌^◌, ◌<◌, get_or, true, false, cond, ◌-◌}
+use Rattle.std.proofs.Common.{◌≡◌, ◌⊎◌, ⊎_elim, inl, inr, ℕ, zero, suc, ◌+◌, ◌≤◌, List, [], ◌∷◌, ◌++◌, length, set, refl, sym, ap, ◌∙◌, subst, arith, length-append, append-nil, append_assoc, ◌%◌, ◌^◌, ◌<◌, get_or, true, false, cond, ◌-◌}
 use Rattle.std.specs.Prelude.{◌==◌, Option, Some, None, sum_by, count_by, All, nat_lt, AllPairs, if◌then◌else◌, slice_index, max, min, IsTrue, ⊤}
 use Rattle.std.proofs.lemmas.List.Sums.{sum_by-cons, sum_by-append, sum_by_push, count_by-le-length, get_or-le-sum_by}
 use Rattle.std.proofs.lemmas.List.Elements.{All-append, All-nil, All-cons, All-head, All-tail}
@@ -13,7 +13,7 @@ use Rattle.kalah_run.specs.declared.desk.rule.DeskView.{DeskView}
 use Rattle.kalah_run.specs.declared.desk.rule.DeskView.TheVariants.{Opening, Drawing, Closing, Ended}
 use Rattle.kalah_jobs.specs.Collecting.Shares.{times_in}
 use Rattle.kalah_run.specs.Desk.Rows.{drawn_numbers, drawn_row, drawn_in, spent_in, AreLawful, DealsEachOnce}
-use Rattle.kalah_run.specs.Desk.Kept.{rows_in, all_rows, passes_in, HasTotal, IsKept, opening_view, ended_view, CountsWhatItDeals}
+use Rattle.kalah_run.specs.Desk.Rule.{rows_in, all_rows, passes_in, HasTotal, IsLawful, opening_view, ended_view, CountsWhatItDeals, DrawsFrom, Draws, DrawsRest, numbers_from, StartsClosing, after_handing_out, pass_handed_out, after_reclaiming_row}
 use Rattle.std.proofs.lemmas.List.Quantifiers.{all_pairs_push}
 use Rattle.std.proofs.lemmas.Bool.{lt-ltb, le-ltb, cases_lt}
 use Rattle.std.proofs.Math.Nat.{mod-eq_of_lt}
@@ -21,7 +21,6 @@ use Rattle.std.proofs.lemmas.Bool.Decides.{nat_tests}
 use Rattle.atomic_table.specs.Table.{State, Me, step, keeps, Allows, opening, Splits, Joins, Enters, Seen, Final}
 use Rattle.kalah_jobs.specs.Limits.{most_lines}
 use Rattle.kalah_run.specs.Limits.{most_passes}
-use Rattle.kalah_run.specs.Desk.Steps.{DrawsFrom, Draws, DrawsRest, numbers_from, StartsClosing, after_handing_out, pass_handed_out, after_reclaiming_row}
 use Rattle.kalah_run.specs.Desk.States.{as_pass_view, row_in, total_in, number_in, PassState, DeskState, new_pass, AreNewPasses, drawn_rows}
 use Rattle.std.proofs.lemmas.List.{get_or_push, get_or_append_left, length-map, map-append, nil_from_length, set-set}
 use Rattle.kalah_run.specs.Batch.Leaving.{HasDrawnNothing, pass_in}
@@ -89,7 +88,7 @@ all_back : (P : DrawnRow → Type 0) (xs ys : List DrawnRow) → All P (xs ++ ys
 all_back P [] ys h = h
 all_back P (x ∷ xs) ys h = all_back P xs ys (All-tail P x (xs ++ ys) h)
 
--- and of each row in the first
+-- a fact of each row in two lists is one of each row in the first
 all_front : (P : DrawnRow → Type 0) (xs ys : List DrawnRow) → All P (xs ++ ys) → All P xs
 all_front P [] ys h = All-nil P
 all_front P (x ∷ xs) ys h = All-cons P x xs (All-head P x (xs ++ ys) h) (all_front P xs ys (All-tail P x (xs ++ ys) h))
@@ -101,7 +100,7 @@ all_at P [] seat v at all = absurd (some-ne-none v (sym at))
 all_at P (x ∷ xs) zero v at all = subst (λ u. All P (rows_in u)) (some-injective x v at) (all_front P (rows_in x) (all_rows xs) all)
 all_at P (x ∷ xs) (suc seat) v at all = all_at P xs seat v at (all_back P (rows_in x) (all_rows xs) all)
 
--- and back: a fact of the rows of each seat is one of all rows
+-- a fact of the rows of each seat is one of all rows
 all_from : (P : DrawnRow → Type 0) (views : List DeskView) → Each (λ seat v. All P (rows_in v)) views → All P (all_rows views)
 all_from P [] each = All-nil P
 all_from P (x ∷ xs) each =
@@ -152,7 +151,7 @@ Ascends r = AllPairs (λ x y. x < y) r.numbers
 abbrev Fits : DeskPlan → ℕ → DeskView → Type 0
 Fits plan seat v = HasTotal plan.total v × All Ascends (rows_in v)
 
-fitting : {S : Type 0} (plan : DeskPlan) (s : State S DeskView) → IsKept plan s → Each (Fits plan) s.views
+fitting : {S : Type 0} (plan : DeskPlan) (s : State S DeskView) → IsLawful plan s → Each (Fits plan) s.views
 fitting plan s kept seat v at = (kept.totals seat v at, all_at Ascends s.views seat v at kept.lawful.ascending)
 
 -- ==== A draw keeps the rule, and returns what it must
@@ -188,9 +187,16 @@ stands_below views seat total number r plan_total at lawful k d within =
 one_more : (x c n : ℕ) → n ≡ c → (if nat_lt x c then 1 else 0) + cond (n == x) 1 0 ≡ (if nat_lt x (c + 1) then 1 else 0)
 one_more x c n same = grind (arith, nat_tests)
 
+-- no pass is spent, or all numbers are drawn
+none_or_all : {total : ℕ} {rows : List DrawnRow} → AreLawful total rows → (spent_in rows ≡ 0) ⊎ (drawn_in rows ≡ total)
+none_or_all {rows = rows} lawful = elim (cases_lt 0 (spent_in rows)) [
+  | inl some_spent ↦ inr (lawful.spent some_spent)
+  | inr few ↦ inl (omega arith)
+]
+
 -- a draw that finds n, of a pass that is not spent
 module _ {S : Type 0} (plan : DeskPlan) (s : State S DeskView) (seat total number : ℕ) (numbers : List ℕ) (n : ℕ)
-    (kept : IsKept plan s)
+    (kept : IsLawful plan s)
     (at : get_elem? s.views seat ≡ some (unspent_view total number numbers))
     (is : n ≡ drawn_in (all_rows s.views) + spent_in (all_rows s.views)) where
   -- the pass's row ascends, and all rows do after a change of it to one that does
@@ -213,12 +219,8 @@ module _ {S : Type 0} (plan : DeskPlan) (s : State S DeskView) (seat total numbe
       let w : DeskView = drawn_view total number numbers n in
       let same : total ≡ plan.total = kept.totals seat v at in
       let within : drawn_in (all_rows s.views) ≤ plan.total = kept.lawful.within in
-      let spent_only = kept.lawful.spent in
       let none_spent : spent_in (all_rows s.views) ≡ 0 =
-      ⊎_elim
-      (λ (some_spent : 0 < spent_in (all_rows s.views)). absurd (let full = spent_only some_spent in omega arith))
-      (λ (few : spent_in (all_rows s.views) ≤ 0). omega arith)
-      (cases_lt 0 (spent_in (all_rows s.views))) in
+      elim (none_or_all kept.lawful) [ | inl unspent ↦ unspent | inr full ↦ omega arith ] in
       let found : n ≡ drawn_in (all_rows s.views) = omega arith in
       let drawn : drawn_in (all_rows (set s.views seat w)) ≡ drawn_in (all_rows s.views) + 1 =
       omega (arith, rows_set (λ r. length r.numbers) s.views seat v w at, length-append numbers (n ∷ [])) in
@@ -256,10 +258,7 @@ module _ {S : Type 0} (plan : DeskPlan) (s : State S DeskView) (seat total numbe
       let same : total ≡ plan.total = kept.totals seat v at in
       let within : drawn_in (all_rows s.views) ≤ plan.total = kept.lawful.within in
       let full : drawn_in (all_rows s.views) ≡ plan.total =
-      ⊎_elim
-      (λ (some_spent : 0 < spent_in (all_rows s.views)). kept.lawful.spent some_spent)
-      (λ (few : spent_in (all_rows s.views) ≤ 0). omega arith)
-      (cases_lt 0 (spent_in (all_rows s.views))) in
+      elim (none_or_all kept.lawful) [ | inl unspent ↦ omega arith | inr full ↦ full ] in
       let drawn : drawn_in (all_rows (set s.views seat w)) ≡ drawn_in (all_rows s.views) =
       omega (arith, rows_set (λ r. length r.numbers) s.views seat v w at) in
       let spent : spent_in (all_rows (set s.views seat w)) ≡ spent_in (all_rows s.views) + 1 =
@@ -282,7 +281,7 @@ module _ {S : Type 0} (plan : DeskPlan) (s : State S DeskView) (seat total numbe
       )
 
 -- no more passes are spent than there are
-few_spent : {S : Type 0} (plan : DeskPlan) (s : State S DeskView) → IsKept plan s → spent_in (all_rows s.views) ≤ plan.passes
+few_spent : {S : Type 0} (plan : DeskPlan) (s : State S DeskView) → IsLawful plan s → spent_in (all_rows s.views) ≤ plan.passes
 few_spent plan s kept = omega (
   arith,
   kept.passes,
@@ -292,11 +291,11 @@ few_spent plan s kept = omega (
 
 -- The rule stays if the row of a pass changes, the rows are lawful with that, and the word becomes their count.
 kept_after : {S : Type 0} (plan : DeskPlan) (s : State S DeskView) (seat total number : ℕ) (before after : DrawnRow) (word : ℕ)
-    {words : List ℕ} → IsKept plan s → get_elem? s.views seat ≡ some (Drawing total number before)
+    {words : List ℕ} → IsLawful plan s → get_elem? s.views seat ≡ some (Drawing total number before)
     → AreLawful plan.total (all_rows (set s.views seat (Drawing total number after)))
     → drawn_in (all_rows (set s.views seat (Drawing total number after)))
     + spent_in (all_rows (set s.views seat (Drawing total number after))) ≡ word → words ≡ word ∷ []
-    → IsKept {S = S} plan (record { words = words; homes = s.homes; views = set s.views seat (Drawing total number after) })
+    → IsLawful {S = S} plan (record { words = words; homes = s.homes; views = set s.views seat (Drawing total number after) })
 kept_after plan s seat total number before after word kept at lawful count words = record {
   few = kept.few;
   word = words ∙ ap (λ m. m ∷ []) (sym count);
@@ -312,7 +311,7 @@ kept_after plan s seat total number before after word kept at lawful count words
 
 -- a draw of a pass that is not spent
 draws_at : {S : Type 0} (plan : DeskPlan) (slots seat total number : ℕ) (numbers : List ℕ)
-    → Allows {S = S} (IsKept plan) slots seat (unspent_view total number numbers, []) 0 (λ n. (n + 1) % 2 ^ 64)
+    → Allows {S = S} (IsLawful plan) slots seat (unspent_view total number numbers, []) 0 (λ n. (n + 1) % 2 ^ 64)
     (Draws (step slots 0 1 0 none) (unspent_view total number numbers, []))
 draws_at {S} plan slots seat total number numbers s kept homes at fits =
     let n : ℕ = slice_index s.words 0 in
@@ -324,7 +323,7 @@ draws_at {S} plan slots seat total number numbers s kept homes at fits =
     ∙ ap (λ m. m ∷ []) next in
     let after : DeskView → State S DeskView =
     λ w. record { words = set s.words 0 ((n + 1) % 2 ^ 64); homes = s.homes; views = set s.views seat w } in
-    let done : (w : DeskView) × IsKept {S = S} plan (after w) × DrawsFrom (unspent_view total number numbers) n w =
+    let done : (w : DeskView) × IsLawful {S = S} plan (after w) × DrawsFrom (unspent_view total number numbers) n w =
     ⊎_elim
     (λ (low : n < total).
     let some = draws_some plan s seat total number numbers n kept at is low in (
@@ -350,7 +349,7 @@ unspent_me me is unspent =
 
 pub draws : {S : Type 0} (plan : DeskPlan) (slots seat : ℕ) (me : Me S DeskView) → me ≡ (as_pass_view me.0, [])
     → (row_in me.0).spent ≡ false
-    → Allows {S = S} (IsKept plan) slots seat me 0 (λ n. (n + 1) % 2 ^ 64) (Draws (step slots 0 1 0 none) me)
+    → Allows {S = S} (IsLawful plan) slots seat me 0 (λ n. (n + 1) % 2 ^ 64) (Draws (step slots 0 1 0 none) me)
 draws {S} plan slots seat me is unspent =
     let v = me.0 in rw (unspent_me me is unspent) (draws_at plan slots seat (total_in v) (number_in v) (row_in v).numbers)
 
@@ -358,9 +357,9 @@ draws {S} plan slots seat me is unspent =
 
 -- with the numbers from n on, as many as are left
 draws_all : {S : Type 0} (plan : DeskPlan) (left : ℕ) (s : State S DeskView) (seat total number : ℕ) (numbers : List ℕ) (n : ℕ)
-    → IsKept plan s → get_elem? s.views seat ≡ some (unspent_view total number numbers)
+    → IsLawful plan s → get_elem? s.views seat ≡ some (unspent_view total number numbers)
     → n ≡ drawn_in (all_rows s.views) + spent_in (all_rows s.views) → n + left ≡ total
-    → IsKept {S = S} plan (record {
+    → IsLawful {S = S} plan (record {
       words = total ∷ [];
       homes = s.homes;
       views = set s.views seat (unspent_view total number (numbers ++ numbers_from n left));
@@ -369,7 +368,7 @@ draws_all {S} plan zero s seat total number numbers n kept at is all =
     let same : set s.views seat (unspent_view total number (numbers ++ [])) ≡ s.views =
     set_again s.views seat _ (at ∙ ap (λ l. some (unspent_view total number l)) (sym (append-nil numbers))) in
     let words : s.words ≡ total ∷ [] = kept.word ∙ ap (λ m. m ∷ []) (omega arith) in
-    subst (IsKept plan) (λ i. let t : State S DeskView = record { words = words i; homes = s.homes; views = sym same i } in t) kept
+    subst (IsLawful plan) (λ i. let t : State S DeskView = record { words = words i; homes = s.homes; views = sym same i } in t) kept
 draws_all {S} plan (suc left) s seat total number numbers n kept at is all =
     let w : DeskView = drawn_view total number numbers n in
     let one = draws_some plan s seat total number numbers n kept at is (omega arith) in
@@ -377,13 +376,13 @@ draws_all {S} plan (suc left) s seat total number numbers n kept at is all =
     let rest = draws_all plan left next seat total number (numbers ++ n ∷ []) (n + 1)
     (kept_after plan s seat total number _ _ (n + 1) kept at one.0 one.1 refl)
     (set_here s.views seat w (in_views s.views seat (unspent_view total number numbers) at)) (sym one.1) (omega arith) in
-    subst (λ (views : List DeskView). IsKept {S = S} plan (record { words = total ∷ []; homes = s.homes; views = views }))
+    subst (λ (views : List DeskView). IsLawful {S = S} plan (record { words = total ∷ []; homes = s.homes; views = views }))
     (set-set s.views seat w _ ∙ ap (λ l. set s.views seat (unspent_view total number l))
     (append_assoc numbers (n ∷ []) (numbers_from (n + 1) left)))
     rest
 
 draws_rest_at : {S : Type 0} (plan : DeskPlan) (slots seat total number : ℕ) (numbers : List ℕ) (limit : ℕ) → limit ≡ plan.total
-    → Allows {S = S} (IsKept plan) slots seat (unspent_view total number numbers, []) 0 (λ n. max n limit)
+    → Allows {S = S} (IsLawful plan) slots seat (unspent_view total number numbers, []) 0 (λ n. max n limit)
     (DrawsRest (step slots 0 limit 0 none) (unspent_view total number numbers, []))
 draws_rest_at {S} plan slots seat total number numbers limit limit_is s kept homes at fits =
     let n : ℕ = slice_index s.words 0 in
@@ -391,10 +390,10 @@ draws_rest_at {S} plan slots seat total number numbers limit limit_is s kept hom
     let same : total ≡ plan.total = kept.totals seat (unspent_view total number numbers) at in
     let w : DeskView = unspent_view total number (numbers ++ numbers_from n (total - n)) in
     let words : set s.words 0 (max n limit) ≡ max n limit ∷ [] = ap (λ ws. set ws 0 (max n limit)) kept.word in
-    let done : IsKept {S = S} plan (record { words = set s.words 0 (max n limit); homes = s.homes; views = set s.views seat w }) =
+    let done : IsLawful {S = S} plan (record { words = set s.words 0 (max n limit); homes = s.homes; views = set s.views seat w }) =
     ⊎_elim
     (λ (low : n < total).
-    subst (λ (ws : List ℕ). IsKept {S = S} plan (record { words = ws; homes = s.homes; views = set s.views seat w }))
+    subst (λ (ws : List ℕ). IsLawful {S = S} plan (record { words = ws; homes = s.homes; views = set s.views seat w }))
     (sym (words ∙ ap (λ m. m ∷ []) (omega arith)))
     (draws_all plan (total - n) s seat total number numbers n kept at is (omega arith)))
     (λ (high : total ≤ n).
@@ -403,13 +402,13 @@ draws_rest_at {S} plan slots seat total number numbers limit limit_is s kept hom
     let views : set s.views seat w ≡ s.views =
     set_again s.views seat w (at ∙ ap (λ l. some (unspent_view total number l)) (sym row)) in
     let unchanged : set s.words 0 (max n limit) ≡ s.words = words ∙ ap (λ m. m ∷ []) (omega arith) ∙ sym kept.word in
-    subst (IsKept plan) (λ i. let t : State S DeskView = record { words = sym unchanged i; homes = s.homes; views = sym views i } in t) kept)
+    subst (IsLawful plan) (λ i. let t : State S DeskView = record { words = sym unchanged i; homes = s.homes; views = sym views i } in t) kept)
     (cases_lt n total)
     in (w, keeps, tt, done, (refl, refl))
 
 pub draws_rest : {S : Type 0} (plan : DeskPlan) (slots seat : ℕ) (me : Me S DeskView) (limit : ℕ) → limit ≡ plan.total
     → me ≡ (as_pass_view me.0, []) → (row_in me.0).spent ≡ false
-    → Allows {S = S} (IsKept plan) slots seat me 0 (λ n. max n limit) (DrawsRest (step slots 0 limit 0 none) me)
+    → Allows {S = S} (IsLawful plan) slots seat me 0 (λ n. max n limit) (DrawsRest (step slots 0 limit 0 none) me)
 draws_rest {S} plan slots seat me limit limit_is is unspent =
     let v = me.0 in
     rw (unspent_me me is unspent) (draws_rest_at plan slots seat (total_in v) (number_in v) (row_in v).numbers limit limit_is)
@@ -417,9 +416,9 @@ draws_rest {S} plan slots seat me limit limit_is is unspent =
 -- ==== The seats that come and go keep the rule: the first one, that of a pass handed out, the closing one, that of a pass that ends
 
 -- The rule stays if seats change and the sums over all rows don't, and no pass is lost. An empty row that is not spent adds nothing.
-kept_alike : {S : Type 0} (plan : DeskPlan) (s after : State S DeskView) → IsKept plan s → after.words ≡ s.words
+kept_alike : {S : Type 0} (plan : DeskPlan) (s after : State S DeskView) → IsLawful plan s → after.words ≡ s.words
     → ((f : DrawnRow → ℕ) → f (drawn_row [] false) ≡ 0 → sum_by f (all_rows after.views) ≡ sum_by f (all_rows s.views))
-    → sum_by passes_in after.views ≡ sum_by passes_in s.views → Each (Fits plan) after.views → IsKept plan after
+    → sum_by passes_in after.views ≡ sum_by passes_in s.views → Each (Fits plan) after.views → IsLawful plan after
 kept_alike plan s after kept words same passes fits =
     let drawn : drawn_in (all_rows after.views) ≡ drawn_in (all_rows s.views) = same (λ r. length r.numbers) refl in
     let spent : spent_in (all_rows after.views) ≡ spent_in (all_rows s.views) = same (λ r. cond r.spent 1 0) refl in
@@ -440,7 +439,7 @@ kept_alike plan s after kept words same passes fits =
 
 -- the empty desk
 pub begins : {S : Type 0} (plan : DeskPlan) → plan.total ≤ most_lines → plan.passes ≤ most_passes
-    → IsKept {S = S} plan (opening (0 ∷ []) [] (opening_view plan))
+    → IsLawful {S = S} plan (opening (0 ∷ []) [] (opening_view plan))
 begins plan total passes = record {
   few = (total, passes);
   word = refl;
@@ -462,7 +461,7 @@ begins plan total passes = record {
 -- the next pass is handed out
 pub hands_out : {S : Type 0} (plan : DeskPlan) (seat : ℕ) (v : DeskView) (total handed_out left : ℕ)
     → v ≡ Opening total handed_out left
-    → 0 < left → Splits {S = S} (IsKept plan) seat v (after_handing_out v) (pass_handed_out v)
+    → 0 < left → Splits {S = S} (IsLawful plan) seat v (after_handing_out v) (pass_handed_out v)
 hands_out {S} plan seat v total handed_out left is some_left = rw is (λ s kept at.
     let a : DeskView = Opening total (handed_out + 1) (left - 1) in
     let b : DeskView = Drawing total handed_out (drawn_row [] false) in
@@ -514,7 +513,7 @@ deals_but_last total drawn rows r empty deals = record {
   spent = λ some. deals.spent (omega (arith, some, sum_by_push (λ (x : DrawnRow). if x.spent then 1 else 0) rows r));
 }
 
--- and if the calling thread has drawn nothing, the workers have
+-- if the calling thread has drawn nothing, the workers have all numbers
 pub deals_to_others : {total drawn : ℕ} (passes : List PassState) (left : Option PassState) → HasDrawnNothing left
     → DealsEachOnce total drawn (drawn_rows (passes ++ pass_in left)) → DealsEachOnce total drawn (drawn_rows passes)
 deals_to_others {total} {drawn} passes None nothing deals =
@@ -525,7 +524,7 @@ deals_to_others {total} {drawn} passes (Some p) nothing deals =
 
 -- a seat that is to reclaim the passes
 pub starts_closing : {S : Type 0} (plan : DeskPlan) (slots : ℕ)
-    → Enters {S = S} (IsKept plan) slots 0 (λ n w. StartsClosing {S = S} (step slots 0 0 0 none) (opening_view plan, []) n (w, []))
+    → Enters {S = S} (IsLawful plan) slots 0 (λ n w. StartsClosing {S = S} (step slots 0 0 0 none) (opening_view plan, []) n (w, []))
 starts_closing {S} plan slots s kept homes fits = (
   Closing [],
   kept_alike plan s _ kept refl (λ f nothing. omega (arith, rows_push f s.views (Closing [])))
@@ -536,7 +535,7 @@ starts_closing {S} plan slots s kept homes fits = (
 
 -- a pass is reclaimed
 reclaims_at : {S : Type 0} (plan : DeskPlan) (seat : ℕ) (rows : List DrawnRow) (other total number : ℕ) (r : DrawnRow)
-    → Joins {S = S} (IsKept plan) seat (Closing rows) other (Drawing total number r)
+    → Joins {S = S} (IsLawful plan) seat (Closing rows) other (Drawing total number r)
     (after_reclaiming_row (Closing rows) (Drawing total number r)) ended_view
 reclaims_at {S} plan seat rows other total number r s kept at apart there =
     let w : DeskView = Closing (r ∷ rows) in
@@ -558,7 +557,7 @@ reclaims_at {S} plan seat rows other total number r s kept at apart there =
     (λ j y other there. fitting plan s kept j y there) i x here))
 
 pub reclaims : {S : Type 0} (plan : DeskPlan) (seat : ℕ) (v : DeskView) (other : ℕ) (w : DeskView)
-    → v ≡ Closing (rows_in v) → w ≡ as_pass_view w → Joins {S = S} (IsKept plan) seat v other w
+    → v ≡ Closing (rows_in v) → w ≡ as_pass_view w → Joins {S = S} (IsLawful plan) seat v other w
     (after_reclaiming_row v w) ended_view
 reclaims plan seat v other w is pass =
     rw is (rw pass (reclaims_at plan seat (rows_in v) other (total_in w) (number_in w) (row_in w)))
@@ -567,7 +566,7 @@ reclaims plan seat v other w is pass =
 
 -- if the closing seat has a row for each pass, these rows are lawful, and the closed table's word counts them
 pub ends : {S : Type 0} (plan : DeskPlan) (seat : ℕ) {v : DeskView} {rows : List DrawnRow} (ws : List ℕ) (xs : List S) {word : ℕ}
-    → v ≡ Closing rows → Final {S = S} (Seen (IsKept plan) seat v) ws xs → length rows ≡ plan.passes
+    → v ≡ Closing rows → Final {S = S} (Seen (IsLawful plan) seat v) ws xs → length rows ≡ plan.passes
     → get_elem? ws 0 ≡ some word
     → (word ≡ drawn_in rows + spent_in rows) × AreLawful plan.total rows
 ends {S} plan seat {rows = rows} ws xs {word} is last whole found =
@@ -583,19 +582,14 @@ ends {S} plan seat {rows = rows} ws xs {word} is last whole found =
 pub drawn_at_end : (total word : ℕ) (rows : List DrawnRow) → word ≡ drawn_in rows + spent_in rows → AreLawful total rows
     → min word total ≡ drawn_in rows
 drawn_at_end total word rows is lawful =
-    let within = lawful.within in
-    ⊎_elim (λ (some_spent : 0 < spent_in rows). let full = lawful.spent some_spent in omega arith)
-    (λ (few : spent_in rows ≤ 0). omega arith) (cases_lt 0 (spent_in rows))
+    let within = lawful.within in elim (none_or_all lawful) [ | inl unspent ↦ omega arith | inr full ↦ omega arith ]
 
 -- the last word is above the total exactly when some pass is spent
 pub spent_at_end : (total word : ℕ) (rows : List DrawnRow) → word ≡ drawn_in rows + spent_in rows → AreLawful total rows
     → (IsTrue (nat_lt total word) → 0 < spent_in rows) × (0 < spent_in rows → IsTrue (nat_lt total word))
 spent_at_end total word rows is lawful =
     let within = lawful.within in (
-      (λ high. ⊎_elim
-          (λ (some_spent : 0 < spent_in rows). some_spent)
-          (λ (few : spent_in rows ≤ 0). absurd (let low : word ≤ total = omega arith in grind (arith, nat_tests)))
-          (cases_lt 0 (spent_in rows))),
+      (λ high. let above : total < word = grind (arith, nat_tests) in omega arith),
       (λ some_spent. let full = lawful.spent some_spent in let high : total < word = omega arith in grind (arith, nat_tests)),
     )
 
@@ -606,7 +600,7 @@ length-drawn_numbers passes = length-map (drawn_rows passes) (λ (r : DrawnRow).
 
 -- ==== The rule of the desk, in plain words
 
-pub desk_is_lawful : (plan : DeskPlan) (state : State ⊤ DeskView) → IsKept plan state
+pub desk_is_lawful : (plan : DeskPlan) (state : State ⊤ DeskView) → IsLawful plan state
     → CountsWhatItDeals plan.total plan.passes state.words (all_rows state.views)
 desk_is_lawful plan state kept =
     let rows : List DrawnRow = all_rows state.views in

@@ -13,8 +13,7 @@ use Rattle.kalah_run.specs.declared.queue.rule.QueueView.TheVariants.{Getting, P
 use Rattle.atomic_table.specs.Seated.{TableId}
 use Rattle.kalah_run.specs.Queue.States.{PutState, ArePassesFrom, Accounts, outcomes_in}
 use Rattle.crossbeam_queue.specs.Fifo.{Pushes, Pops, Forks, Held, Merges, Learns}
-use Rattle.kalah_run.specs.Queue.Rule.{Fits, FitsPut, FitsGet, IsLawful, IsWholeAndInOrder}
-use Rattle.kalah_run.specs.Queue.Steps.{first_view, after_making_one, one_made, after_put, after_reclaiming_sent, IsGot, Tells}
+use Rattle.kalah_run.specs.Queue.Rule.{Fits, FitsPut, FitsGet, IsLawful, IsWholeAndInOrder, first_view, after_making_one, one_made, after_put, after_reclaiming_sent, IsGot, Tells}
 
 -- ==== What the pairs determine of one worker, and of all
 

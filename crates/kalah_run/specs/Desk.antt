@@ -1,4 +1,3 @@
 pub mod Rows
-pub mod Kept
-pub mod Steps
+pub mod Rule
 pub mod States

@@ -5,7 +5,7 @@ ghost use Rattle.kalah_jobs.specs.declared.files.job.Job.{Job};
 ghost use Rattle.kalah_run.specs.Limits.{IsQueueCapacity, AreWorkers};
 ghost use Rattle.kalah_run.specs.declared.queue.rule.QueueView.TheVariants.{Getting};
 ghost use Rattle.kalah_run.specs.Queue.States.{ArePassesFrom, HasGot, sent_by, Accounts};
-ghost use Rattle.kalah_run.specs.Queue.Steps.{got_in, made_in};
+ghost use Rattle.kalah_run.specs.Queue.Rule.{got_in, made_in};
 
 pub(crate) mod laws;
 pub(crate) mod passes;
@@ -92,20 +92,20 @@ impl ResultsQueue {
         requires { pass.old.queue ≡ self.now.id }
         ensures { pass.new ≡ record pass.old { sent = pass.old.sent ++ outcome ∷ [] } }
     {
-        match self.try_put(pass, outcome) {
+        match self.try_put(pass, &outcome) {
             Some(wake_up) => {
                 wake_up.send();
             }
-            None => self.put_later(rt, pass, outcome),
+            None => self.put_later(rt, pass, &outcome),
         }
     }
 
     // Puts the outcome, for which there was no room.
     #[cold]
     #[inline(never)]
-    fn put_later<R: Wait>(&self, rt: &R, pass: &mut PutPass, outcome: Outcome)
+    fn put_later<R: Wait>(&self, rt: &R, pass: &mut PutPass, outcome: &Outcome)
         requires { pass.old.queue ≡ self.now.id }
-        ensures { pass.new ≡ record pass.old { sent = pass.old.sent ++ outcome ∷ [] } }
+        ensures { pass.new ≡ record pass.old { sent = pass.old.sent ++ outcome.now ∷ [] } }
     {
         let mut waiting = Waiting::new(&self.putters);
         for _ in rt.forever() {
@@ -121,11 +121,11 @@ impl ResultsQueue {
 
     // Puts the outcome if there is room, and returns the wake-up that is owed for it.
     #[inline(always)]
-    fn try_put(&self, pass: &mut PutPass, outcome: Outcome) -> Option<WakeUp<'_>>
+    fn try_put(&self, pass: &mut PutPass, outcome: &Outcome) -> Option<WakeUp<'_>>
         requires { pass.old.queue ≡ self.now.id }
-        ensures { MatchOption result (pass.new ≡ pass.old) (λ _. pass.new ≡ record pass.old { sent = pass.old.sent ++ outcome ∷ [] }) }
+        ensures { MatchOption result (pass.new ≡ pass.old) (λ _. pass.new ≡ record pass.old { sent = pass.old.sent ++ outcome.now ∷ [] }) }
     {
-        match self.outcomes.try_push_as::<Puts>(&mut pass.ruled, outcome) {
+        match self.outcomes.try_push_as::<Puts>(&mut pass.ruled, *outcome) {
             Ok(()) => Some(WakeUp::owed_to(&self.getters)),
             Err(_) => None,
         }

@@ -14,7 +14,7 @@ use Rattle.kalah_rules.specs.declared.step.HousesStep.{HousesStep}
 use Rattle.kalah_rules.specs.declared.step.HousesStep.TheVariants.{Over, Again, Turn}
 use Rattle.kalah_solve.specs.Solver.Worth.{houses_worth, value_of_move}
 use Rattle.kalah_solve.proofs.WorthLemmas.{worth_of_step, LeadsTo, LeadsOn, worth_of_over, value_is, leads_on, worth_reached, value_le_worth}
-use Rattle.kalah_solve.specs.Bounds.Won.{count, won, won_by_step}
+use Rattle.kalah_solve.specs.Bounds.Won.{nat_or_zero, won, won_by_step}
 use Rattle.kalah_solve.specs.declared.bounds.interval.Interval.{Interval}
 use Rattle.kalah_solve.specs.declared.bounds.seed_bounds.SeedBounds.{SeedBounds}
 
@@ -26,7 +26,7 @@ module _ (window : Window) (n low high : ℕ) (is_low : IsHalf (window.lo +ℤ p
   pub bounds_ordered : low ≤ high
   bounds_ordered = omega (arith, ints, clamps)
 
-  -- and no more than all
+  -- the bounds of a window's ends are at most all seeds
   pub bounds_high : n ≤ most_seeds → high ≤ most_seeds
   bounds_high few = omega (arith, ints, clamps)
 
@@ -42,7 +42,7 @@ module _ (interval : Interval) (n least most : ℕ) (few : n ≤ most_seeds) (is
   pub bounds_held : (t : ℕ) → t ≤ n → Encloses interval (pos (t + t) -ℤ pos n) → (least ≤ t) × (t ≤ min most most_seeds)
   bounds_held t all holds = omega (arith, ints, clamps)
 
-  -- and no others
+  -- the bounds of an interval hold no number whose margin isn't in it
   pub bounds_exact : pos 0 ≤ℤ (interval.hi +ℤ pos n) → (t : ℕ) → t ≤ n → least ≤ t → t ≤ min most most_seeds →
       Encloses interval (pos (t + t) -ℤ pos n)
   bounds_exact some t all low high = omega (arith, ints, clamps)
@@ -78,8 +78,8 @@ some_won (suc n) a w few = elim (cases_Bool _) [
       (λ b _ on. some_won n b on.limits (omega arith)))
 ]
 
--- and the number is the one that the definition names
-won_is_one : (n : ℕ) (z : ℤ) (t : ℕ) → IsWonOf n z t → count (z +ℤ pos n) / 2 ≡ t
+-- that number is the one that the definition names
+won_is_one : (n : ℕ) (z : ℤ) (t : ℕ) → IsWonOf n z t → nat_or_zero (z +ℤ pos n) / 2 ≡ t
 won_is_one n z t bounds = rw bounds.is (omega arith)
 
 pub won_of_houses : {a : HousesState} → IsWithinHouses a → IsWonOf (seeds_in_houses (storeless a)) (houses_worth a) (won a)
@@ -88,12 +88,12 @@ won_of_houses {a} w =
     let bounds = some_won (suc (moves_left (storeless a))) a w (omega arith) in
     rw (won_is_one _ _ _ bounds.1) bounds.1
 
--- so houses are worth what the mover wins less the others
+-- houses are worth what the mover wins less the others
 pub worth_of_won : (a : HousesState) → IsWithinHouses a
     → houses_worth a ≡ pos (won a + won a) -ℤ pos (seeds_in_houses (storeless a))
 worth_of_won a w = omega (arith, ints, (won_of_houses w).is)
 
--- and so no more than their seeds
+-- a number from minus n to n: houses are worth at most their seeds
 pub record IsUpTo (n : ℕ) (z : ℤ) : Type 0 where
   pub low : (pos 0 -ℤ pos n) ≤ℤ z
   pub high : z ≤ℤ pos n
@@ -103,14 +103,14 @@ worth_up_to w =
     let bounds = won_of_houses w in
     record { low = omega (arith, ints); high = omega (arith, ints) }
 
--- which lies in the widest window
+-- the worth of houses lies in the widest window
 pub worth_low : (a : HousesState) → IsWithinHouses a → least_margin ≤ℤ houses_worth a
 worth_low a w = omega (arith, ints, (worth_up_to w).low)
 
 pub worth_high : (a : HousesState) → IsWithinHouses a → houses_worth a ≤ℤ most_margin
 worth_high a w = omega (arith, ints, (worth_up_to w).high)
 
--- and the mover wins half of what they are worth and hold together
+-- the mover wins half of what the houses are worth and hold together
 pub half_is : (a : HousesState) (worth : ℤ) (half : ℕ) → IsWithinHouses a → worth ≡ houses_worth a →
     IsHalf (worth +ℤ pos (seeds_in_houses (storeless a))) half → half ≡ won a
 half_is a worth half w e is = grind (arith, won_of_houses)
@@ -136,14 +136,14 @@ module _ (a : HousesState) (w : IsWithinHouses a) where
   pub won_at_most : (h : ℕ) → Contains (legal_houses (storeless a)) h → won_by_step (houses_step a h) ≤ won a
   won_at_most h has = omega (arith, ints, (won_of_move h has).is, (won_of_houses w).is, value_le_worth a h w has)
 
-  -- and some move wins as many
+  -- some move wins as many as best play
   pub won_reached : is_over (storeless a) ≡ false → (h : ℕ) × Contains (legal_houses (storeless a)) h
       × (won_by_step (houses_step a h) ≡ won a)
   won_reached going = grind (arith, worth_reached, won_of_move, won_of_houses)
 
 -- ==== The answer of the search in a window
 
--- which is in it
+-- a margin that is clamped to a window is in it
 pub within_both : (lo hi z : ℤ) → lo <ℤ hi → (lo ≤ℤ clamped lo hi z) × (clamped lo hi z ≤ℤ hi)
 within_both lo hi z ordered = omega (arith, ints, clamps)
 
@@ -163,7 +163,7 @@ won_by_bounds {a} lo hi asked {n = n} w all ordered apart is m_is =
     let worth_is : pos (2 * won a) -ℤ pos n ≡ houses_worth a = omega (arith, ints, worth_of_won a w) in
     rw (m_is, is) (apart _ (omega (arith, (won_of_houses w).few)) ∙ ap (clamped lo hi) worth_is)
 
--- so does what the mover wins of an ending
+-- what the mover wins of an ending makes its worth in the window
 pub told_by_won : {a : HousesState} {m : ℤ} {n t : ℕ} → IsWithinHouses a → n ≡ seeds_in_houses (storeless a) → t ≡ won a →
     m ≡ pos (2 * t) -ℤ pos n → m ≡ houses_worth a
 told_by_won {a} w all is m_is = omega (arith, ints, worth_of_won a w)

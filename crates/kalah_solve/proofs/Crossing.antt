@@ -50,13 +50,13 @@ pub lease_sync : (T : RattleType) → IsSync (Lease.the_row T Heap.the_row (owne
 lease_sync T =
     record { shared = λ d b o ν q. part_keyless (Lease.the_row T Heap.the_row (owned frees)) (lease_send T) q d b o }
 
--- so endings may be
+-- endings may be handed over
 EndgameTable-send : IsSend (EndgameTable.the_row Heap.the_row (owned frees))
 EndgameTable-send = search (sendable, crosses, shared_send, lease_send) depth 40
 
 EndgameTable-sync : IsSync (EndgameTable.the_row Heap.the_row (owned frees))
 EndgameTable-sync = search (sendable, crosses, shared_sync, lease_sync) depth 40
 
--- and solvers that share them may be handed over
+-- solvers that share endings may be handed over
 pub Solver-send : (c : clone.Ghosts (Heap.the_row).Denot) → IsSend (Solver.the_row Heap.the_row (owned frees) c)
 Solver-send c = search (sendable, crosses, maps.crosses, KeyRef-send, List-send, Deed-send, EndgameTable-send, EndgameTable-sync) depth 60

@@ -17,8 +17,8 @@ use Rattle.kalah_rules.specs.HousesStep.{houses_step}
 use Rattle.kalah_rules.specs.declared.step.HousesStep.TheVariants.{Turn}
 use Rattle.kalah_rules.proofs.PlayLemmas.{holds_legal, legal_holds}
 use Rattle.kalah_solve.specs.Bounds.Won.{won, won_by_step}
-use Rattle.kalah_solve.proofs.WorthLemmas.{leads_by}
-use Rattle.kalah_solve.proofs.BoundsLemmas.{won_at_most, won_reached}
+use Rattle.kalah_solve.proofs.WorthLemmas.{LeadsTo, leads_by}
+use Rattle.kalah_solve.proofs.BoundsLemmas.{won_at_most, won_of_houses, won_reached}
 
 -- ==== Cells of a row, all at once
 
@@ -43,7 +43,7 @@ others_stay (suc q) (suc i) n low high other =
     ap (λ k. cell k i) rest ∙ others_stay q i _ (omega arith) (omega arith)
     (omega arith)
 
--- and no more of it
+-- one less there leaves no more in that cell
 top_less : (q n : ℕ) → 32 ^ q ≤ n → n < 32 ^ suc q → cell (n - 32 ^ q) q ≤ cell n q
 top_less zero n low high = omega arith
 top_less (suc q) n low high =
@@ -57,7 +57,7 @@ top_single (suc q) n high single =
     let rest = top_single q _ (omega arith) single in
     omega arith
 
--- so what is left of some marks without the last was there before, and each that is missing was that one or was not marked
+-- what is left of some marks without the last was there before, and each that is missing was that one or was not marked
 module _ (marks h : ℕ) (is : IsLastMark marks h) where
   pub last_marked : 0 < cell marks (h - 1)
   last_marked = top_cell _ _ is.low is.high
@@ -110,7 +110,7 @@ last_begins {marks} zeros some are is =
     ] in
     record { whole = ap (λ n. 5 * n) at ∙ whole; last = omega arith }
 
--- and worth so much
+-- the last mark of a row is worth a power of 32
 pub last_is_worth : {marks bit : ℕ} → marks < 2 ^ 30 → IsLastMark marks (bit / 5 + 1) → BeginsHouse bit →
     1 * 2 ^ bit % 2 ^ 64 ≡ 32 ^ (bit / 5 + 1 - 1)
 last_is_worth {marks} {bit} small is begins = grind (arith, pow_five)
@@ -284,7 +284,7 @@ module _ (a : HousesState) (row : ℕ) (w : IsWithinHouses a) (row_is : row ≡ 
           (λ some. absurd (omega arith), λ both. absurd (let low = both.0 in omega arith))
     ]
 
-    -- and those of the others with seeds
+    -- the marks of the other houses with seeds
     pub other_marked : (f i : ℕ) → f < 2 ^ 30 → ((j : ℕ) → j < 6 → cell f j ≡ min 1 (cell row j)) →
         ((j : ℕ) → j < 6 → cell n j ≤ 1) →
         cell (bit_xor f n) i ≡ bit_xor (cell f i) (cell n i) →
@@ -353,22 +353,42 @@ pub move_enough : (a : HousesState) (beta h bound : ℕ) → IsWithinHouses a �
     IsSoftBound beta (won_by_step (houses_step a h)) bound → beta ≤ bound → bound ≤ won a
 move_enough a beta h bound w has is enough = omega (arith, won_at_most a w h has)
 
--- the same of a turn that was kept
-turn_bound : (a : HousesState) (beta h priority bound : ℕ) (b : HousesState) → IsTurnOf a h priority b →
-    IsSoftBound beta (seeds_in_houses (storeless a) - seeds_in_houses (storeless b) + (seeds_in_houses (storeless b) - won b)) bound →
-    IsSoftBound beta (won_by_step (houses_step a h)) bound
-turn_bound a beta h priority bound b turn is = rw turn.step is
+-- what the other player wins of all seeds bounds what it leaves
+left_of_all : {beta number bound : ℕ} (all seeds : ℕ) → seeds ≤ all → number ≤ seeds → IsSoftBound (all - beta + 1) number bound →
+    IsSoftBound beta (all - seeds + (seeds - number)) (all - bound)
+left_of_all {beta} {number} {bound} all seeds some few is = elim (cases_lt bound (all - beta + 1)) [
+  | inl short ↦ omega (arith, is.upper short)
+  | inr enough ↦ omega (arith, is.lower enough)
+]
 
-pub turn_enough : {a : HousesState} {beta h priority : ℕ} (bound : ℕ) (b : HousesState) → IsWithinHouses a
-    → IsTurnOf a h priority b →
-    IsSoftBound beta (seeds_in_houses (storeless a) - seeds_in_houses (storeless b) + (seeds_in_houses (storeless b) - won b)) bound → beta ≤ bound
-    → bound ≤ won a
-turn_enough bound b w turn is = move_enough _ _ _ _ w turn.legal (turn_bound _ _ _ _ _ _ turn is)
+-- the turn leads to houses of which no more is won than they hold
+turn_leads : {a b : HousesState} {h priority : ℕ} → IsWithinHouses a → IsTurnOf a h priority b →
+    LeadsTo a (seeds_in_houses (storeless a) - seeds_in_houses (storeless b)) b
+turn_leads w turn = leads_by _ _ w turn.legal (sym turn.step)
 
-pub turn_at_most : {a : HousesState} {beta h priority : ℕ} (bound : ℕ) (b : HousesState) → IsTurnOf a h priority b →
-    IsSoftBound beta (seeds_in_houses (storeless a) - seeds_in_houses (storeless b) + (seeds_in_houses (storeless b) - won b)) bound → bound < beta
-    → WinsAtMost a bound h
-turn_at_most bound b turn is short = grind arith
+-- a bound of what the other player wins after a turn that waited
+module _ {a b : HousesState} {h priority bound : ℕ} (beta : ℕ) (w : IsWithinHouses a) (turn : IsTurnOf a h priority b)
+    (is : IsSoftBound (seeds_in_houses (storeless a) - beta + 1) (won b) bound) where
+  reply_few : won b ≤ seeds_in_houses (storeless b)
+  reply_few = (won_of_houses (turn_leads w turn).limits).few
+
+  reply_left : IsSoftBound beta (won_by_step (houses_step a h)) (seeds_in_houses (storeless a) - bound)
+  reply_left = rw turn.step (left_of_all _ _ (omega (arith, (turn_leads w turn).kept)) reply_few is)
+
+  -- is at most all seeds
+  pub reply_fits : bound ≤ seeds_in_houses (storeless a)
+  reply_fits = elim (cases_lt bound (seeds_in_houses (storeless a) - beta + 1)) [
+    | inl short ↦ omega arith
+    | inr enough ↦ omega (arith, is.lower enough, reply_few, (turn_leads w turn).kept)
+  ]
+
+  -- so what is left of them is no more than best play wins, if it is enough
+  pub turn_enough : beta ≤ seeds_in_houses (storeless a) - bound → seeds_in_houses (storeless a) - bound ≤ won a
+  turn_enough = move_enough _ _ _ _ w turn.legal reply_left
+
+  -- and otherwise no less than the turn wins
+  pub turn_at_most : seeds_in_houses (storeless a) - bound < beta → WinsAtMost a (seeds_in_houses (storeless a) - bound) h
+  turn_at_most = reply_left.upper
 
 -- a turn that was played waits
 pub turn_of : {a : HousesState} {h priority gained : ℕ} {b : HousesState} → IsWithinHouses a
@@ -378,13 +398,6 @@ turn_of {a} {h} {priority} {gained} {b} w has is house =
     let on = leads_by _ _ w has is in
     let brought : gained ≡ seeds_in_houses (storeless a) - seeds_in_houses (storeless b) = omega arith in
     record { legal = has; step = sym is ∙ ap (λ g. Turn g b) brought; house = house }
-
--- the other player has no more seeds than there were
-pub turn_keeps : (a : HousesState) (h priority : ℕ) (b : HousesState) → IsWithinHouses a → IsTurnOf a h priority b →
-    seeds_in_houses (storeless b) ≤ seeds_in_houses (storeless a)
-turn_keeps a h priority b w turn =
-    let on = leads_by _ _ w turn.legal (sym turn.step) in
-    omega arith
 
 -- best play wins no more than each legal move does
 pub all_at_most : (a : HousesState) (most : ℕ) → IsWithinHouses a → is_over (storeless a) ≡ false →
@@ -423,6 +436,11 @@ pub record WaitsWith (a : HousesState) (priorities : List ℕ) (turns : List Hou
   pub priority : get_or priorities (r % 8) 0 ≡ r
   pub turn : (d : HousesState) → IsTurnOf a (r % 8 + 1) r (get_or turns (r % 8) d)
 
+-- with the houses that were read there
+pub waits_there : {a : HousesState} {priorities : List ℕ} {turns : List HousesState} {r : ℕ} {b : HousesState}
+    → WaitsWith a priorities turns r → b ≡ get_or turns (r % 8) b → IsTurnOf a (r % 8 + 1) r b
+waits_there {a} {r = r} {b = b} waits is = subst (IsTurnOf a (r % 8 + 1) r) (sym is) (waits.turn b)
+
 -- each house with a priority waits, and each other one that may be moved wins at most `most` seeds, or ends in the store, or is
 -- still marked
 pub record ArePlayed (a : HousesState) (most marks : ℕ) (priorities : List ℕ) (turns : List HousesState) : Type 0 where
@@ -434,7 +452,7 @@ pub record ArePlayed (a : HousesState) (most marks : ℕ) (priorities : List ℕ
 -- the last marked house was played
 module _ (a : HousesState) (most marks h : ℕ) (priorities : List ℕ) (turns : List HousesState) (is : ArePlayed a most marks priorities turns)
     (last : IsLastMark marks h) where
-  -- and waits with a priority
+  -- the last marked house was played, and waits with a priority
   pub played_more : (v : ℕ) (b : HousesState) → 0 < v → IsTurnOf a h v b →
       ArePlayed a most (marks - 32 ^ (h - 1)) (slice_set priorities (h - 1) v) (slice_set turns (h - 1) b)
   played_more v b some turn = let inside : h - 1 < length _ = omega arith in record {
@@ -493,7 +511,7 @@ marked_legal {a} i w going some = elim (cases_lt i (length a.own)) [
   | inr past ↦ absurd (omega (arith, get_or_past a.own i 0 past))
 ]
 
--- and so may each that ends in the store
+-- each house that ends in the store may be moved
 pub ending_legal : {a : HousesState} (i : ℕ) → IsWithinHouses a → is_over (storeless a) ≡ false → i < length a.own
     → EndsInStore a (i + 1) →
     Contains (legal_houses (storeless a)) (i + 1)
@@ -504,7 +522,7 @@ pub each_fewer : (P : ℕ → Type 0) (marks h : ℕ) → IsLastMark marks h →
     (i : ℕ) → 0 < cell (marks - 32 ^ (h - 1)) i → P (i + 1)
 each_fewer P marks h last each i some = each i (left_before marks h last i some)
 
--- and of the last one
+-- what holds of each marked house holds of the last one
 pub each_last : (P : ℕ → Type 0) (marks h : ℕ) → IsLastMark marks h → ((i : ℕ) → 0 < cell marks i → P (i + 1)) → P h
 each_last P marks h last each = grind (arith, last_marked)
 
@@ -517,7 +535,7 @@ pub record MayMove (a : HousesState) (marks : ℕ) : Type 0 where
 pub last_legal : {a : HousesState} {marks h : ℕ} → MayMove a marks → IsLastMark marks h → Contains (legal_houses (storeless a)) h
 last_legal {a} {marks} {h} may last = each_last (Contains _) marks h last may.legal
 
--- and those before it
+-- the houses before the last may be moved
 pub moves_fewer : {a : HousesState} {marks h : ℕ} → MayMove a marks → IsLastMark marks h → MayMove a (marks - 32 ^ (h - 1))
 moves_fewer {a} {marks} {h} may last = record {
   are = marks_fewer may.are last;

@@ -98,7 +98,7 @@ contains_only x h (suc i) within at = omega arith
 pub followed : (s : Strategy) (p : Position) (h : ℕ) → Contains (follow s p) h → s p ≡ h
 followed s p h has = contains_only _ _ _ has.1 has.2
 
--- so there is no choice
+-- who follows a strategy has no choice
 pub follow_one : (s : Strategy) → HasNoChoice (follow s)
 follow_one s = grind arith
 
@@ -154,7 +154,7 @@ same_policy policy = grind arith
 pub strategy_within : {s : Strategy} → IsStrategy s → IsWithin (follow s) legal_houses
 strategy_within {s} ok = grind arith
 
--- so it keeps to them
+-- who follows a strategy keeps to the rules
 pub strategy_keeps : (s : Strategy) → IsStrategy s → KeepsRules (follow s)
 strategy_keeps s ok = grind arith
 
@@ -204,7 +204,7 @@ best_plays = grind (arith, best_attains)
 pub best_secures : (p : Position) → HasEqualSides p → Secures best_house p (worth p)
 best_secures p even = λ houses final game. (bounds (strategy_keeps _ best_is_strategy) legal_keeps even game).low best_plays
 
--- and holds the mover to it when the other player moves so
+-- the best house holds the mover to the worth when the other player moves it
 pub best_holds : (p : Position) → HasEqualSides p → HoldsTo best_house p (worth p)
 best_holds p even = grind (arith, bounds, legal_keeps, strategy_keeps, best_is_strategy, best_plays)
 
@@ -218,13 +218,13 @@ worth_is_best p even = grind (arith, best_is_strategy, best_secures, best_holds)
 
 -- a game of two strategies is one of either against any play
 module _ (mine theirs : Strategy) (m : IsStrategy mine) (t : IsStrategy theirs) (p : Position) (even : HasEqualSides p) (v : ℤ) where
-  -- so what a strategy secures, the game brings
+  -- what a strategy secures, the game brings
   pub ends_at_least : Secures mine p v → EndsWithAtLeast mine theirs p v
   ends_at_least secures =
       let game = game_ends mine _ m t p even in
       (game.0, game.1, game.2, secures _ game.1 (widened (same_policy _) (strategy_within t) even game.2))
 
-  -- and what a strategy of the opponent allows is the most
+  -- what a strategy of the opponent allows is the most that the game brings
   pub ends_at_most : HoldsTo theirs p v → EndsWithAtMost mine theirs p v
   ends_at_most holds =
       let game = game_ends mine _ m t p even in
@@ -247,7 +247,7 @@ best_against_strategies = record {
   );
 }
 
--- so of two margins of best play neither is above the other
+-- of two margins of best play neither is above the other
 pub secured_at_most : (p : Position) (v w : ℤ) → HasEqualSides p → IsBestPlay p v → IsBestPlay p w → v ≤ℤ w
 secured_at_most p v w even a b =
     let low = ends_at_least _ b.held.0 a.secured.1 b.held.1 p even v a.secured.2 in
@@ -271,7 +271,7 @@ move_worth p h = record {
       subst (IsBestPlay other) same (worth_is_best other (swapped_equal_sides _ (after_equal_sides p h)));
 }
 
--- and no other number is
+-- no other number is the margin of best play after a move
 pub move_worth_is_one : {p : Position} {h : ℕ} {v w : ℤ} → IsWorthOfMove p h v → IsWorthOfMove p h w → v ≡ w
 move_worth_is_one {p} {h} {v} {w} a b = elim (cases_Bool _) [
   | inl more ↦ best_play_is_one _ v w (after_equal_sides p h) (a.again more) (b.again more)
@@ -286,7 +286,7 @@ attaining_is_best : (p : Position) (h : ℕ) → HasEqualSides p → Contains (l
     IsBestMove p h (worth p)
 attaining_is_best p h even has attains = grind (arith, worth_is_best, worth, move_worth)
 
--- and so each best move does
+-- each best move attains the worth
 attains_if_best : (p : Position) (h : ℕ) → IsBestMove p h (worth p) → value_of_move p h ≡ worth p
 attains_if_best p h is = move_worth_is_one (move_worth p h) is.worth
 
@@ -311,7 +311,7 @@ best_is_lowest p even going = record {
   lowest = λ h is_legal attains. best_lowest _ _ going is_legal attains;
 }
 
--- and the lowest best move
+-- the best house is the lowest best move
 pub best_house_lowest : (p : Position) (h : ℕ) → is_over p ≡ false → IsBestMove p h (worth p) → best_house p ≤ h
 best_house_lowest p h going is = best_lowest _ _ going is.legal (attains_if_best _ _ is)
 
@@ -353,7 +353,7 @@ verdict_tells p v even is =
     (λ going. record { going = going; best = best_move p even going; lowest = λ h is. best_house_lowest p h going is }) in
     subst (λ u. TellsBestPlay p u) (sym is) tells
 
--- and each that states it is the verdict
+-- each verdict that states how best play ends is the verdict
 verdict_told : (p : Position) (v : Verdict) → HasEqualSides p → TellsBestPlay p v → v ≡ verdict_of p
 verdict_told p (Best margin house) even tells =
     let margin_is = best_play_is_one p margin _ even tells.best.best_play (worth_is_best p even) in
@@ -445,7 +445,7 @@ module _ (a : HousesState) (w : IsWithinHouses a) where
       → value_of_move (storeless a) h ≡ houses_worth a
   enough_is h has enough = grind (arith, won_at_most, won_of_move, won_of_houses)
 
-  -- and one that wins fewer is worth less
+  -- a house that wins fewer seeds than best play is worth less
   short_is : (h : ℕ) → Contains (legal_houses (storeless a)) h → won_by_step (houses_step a h) < won a
       → value_of_move (storeless a) h <ℤ houses_worth a
   short_is h has less = grind (arith, won_of_move, won_of_houses)
@@ -515,11 +515,11 @@ module _ (p : Position) (best : ℤ) (own other : ℕ) (limits : IsWithinLimits 
       let rows = rows_within p limits in
       omega (arith, ints, worth_low _ rows, worth_high _ rows)
 
-  -- so it is the worth of the position
+  -- the sum of worth and stores is the worth of the position
   pub told_worth : stored best own other ≡ worth p
   told_worth = margin_is p best _ best_is told_is
 
-  -- and small
+  -- that sum is small
   pub told_small : IsSmallMargin (stored best own other)
   told_small = margin_small p best _ limits best_is told_is
 

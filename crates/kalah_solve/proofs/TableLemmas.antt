@@ -1,6 +1,6 @@
 -- What a table keeps, and where endings and houses stand in it.
 use Rattle.std.proofs.Common.{◌≡◌, ◌≢◌, ℕ, zero, suc, ◌+◌, ◌*◌, ◌/◌, ◌%◌, ◌^◌, ◌-◌, ◌<◌, ◌≤◌, inl, inr, arith, sym, refl, ap, List, [], ◌∷◌, ◌++◌, length, get_or, drop, length-append, ◌∙◌, lit<, lit≤, true, eqb-true, Option, Some, None, Result, Ok, Err, nat_eq, IfSome, IsSome, IsOk, OnOk, OnErr, ◌⊎◌, subst, pow_mono, sum, slice_set, slice_index, false, Contains, max, ◌↔◌}
-use Rattle.std.proofs.Math.Nat.{add-mul-div_right, div-div-eq-div-mul, mul_comm, add-mul}
+use Rattle.std.proofs.Math.Nat.{add-mul-div_right, div-div-eq-div-mul, div-lt_iff_lt-mul, mul_comm}
 use Rattle.std.proofs.lemmas.Nat.{pow_pos, pow-add, mul-le}
 use Rattle.std.proofs.lemmas.Bool.{cases_lt, cases_eq}
 use Rattle.std.proofs.lemmas.List.{append_cancel_left, drop_more, length-drop, get_or-set_same, get_or-set_other, get_or-replicate, get_or_past}
@@ -30,7 +30,7 @@ use Rattle.kalah_solve.specs.Solver.Worth.{houses_worth}
 use Rattle.kalah_solve.specs.Bounds.Intervals.{Encloses}
 use Rattle.kalah_solve.specs.Table.Entries.{TableState, IsTrueEntry, AreTrue}
 use Rattle.kalah_rules.specs.Limits.{most_seeds}
-use Rattle.kalah_solve.specs.Table.DirectTable.{mixed, slot_among, left_open, stored_rest, stored_least, stored_most, IsWithinSlot, StoreBounds, AreEnough}
+use Rattle.kalah_solve.specs.Table.DirectTable.{mixed, slot_at, tag_of_key, stored_tag, stored_least, stored_most, IsWithinSlot, StoreBounds}
 use Rattle.kalah_solve.specs.declared.table.direct_table.Slot.{Slot}
 
 -- ==== The digits of a number, of four bits each
@@ -54,7 +54,7 @@ same_past (suc k) (suc e) n d later none small =
     rw (more, higher (n + d * 2 ^ (4 * k) * 16) e, higher n e, sixteenth)
     (same_past k e (n / 16) d (omega arith) (rw (higher n k) at none) small)
 
--- and is found there
+-- a digit put at an empty place is found there
 pub put_there : (k n d : ℕ) → n / 2 ^ (4 * k) % 16 ≡ 0 → d < 16 → (n + d * 2 ^ (4 * k)) / 2 ^ (4 * k) % 16 ≡ d
 put_there k n d none small = omega (arith, add-mul-div_right, pow_pos)
 
@@ -68,7 +68,7 @@ same_before j k n d before =
     rw worth (omega arith) in
     rw (all, add-mul-div_right n (d * (16 * 2 ^ (4 * past))) (pow_pos (4 * j))) (omega arith)
 
--- so a digit put at an empty place leaves each other digit
+-- a digit put at an empty place leaves each other digit
 pub same_elsewhere : (j k n d : ℕ) → j ≢ k → n / 2 ^ (4 * k) % 16 ≡ 0 → d < 16 →
     (n + d * 2 ^ (4 * k)) / 2 ^ (4 * j) % 16 ≡ n / 2 ^ (4 * j) % 16
 same_elsewhere j k n d other none small = grind (arith, cases_lt, same_before, same_past)
@@ -77,7 +77,7 @@ same_elsewhere j k n d other none small = grind (arith, cases_lt, same_before, s
 pub digit_small : (k d : ℕ) → k < 16 → d < 16 → d * 2 ^ (4 * k) < 2 ^ 64
 digit_small k d place small = omega (arith, mul-le d (2 ^ (4 * k)) 15 (2 ^ 60) (omega (arith, small)) (pow_mono {j = 60} (omega arith)))
 
--- and with it a word stays a word
+-- with a digit put at an empty place a word stays a word
 pub put_fits : (k n d : ℕ) → k < 16 → n / 2 ^ (4 * k) % 16 ≡ 0 → d < 16 → n < 2 ^ 64 → n + d * 2 ^ (4 * k) < 2 ^ 64
 put_fits k n d place none small fits = omega (arith, same_past _ _ _ _ place none small)
 
@@ -114,7 +114,7 @@ unfolding choose
 choose_one zero = refl
 choose_one (suc n) = omega (arith, choose_one n)
 
--- and none to choose more than there are
+-- there is no way to choose more than there are
 pub choose_none : (n k : ℕ) → n < k → choose n k ≡ 0
 unfolding choose
 choose_none n zero more = omega arith
@@ -151,11 +151,11 @@ rank_apart xs (y ∷ ys) long less =
           (omega arith),
     )
 
--- so rows with one rank have as many seeds
+-- rows with one rank have as many seeds
 rank_seeds : (xs ys : List ℕ) → length xs ≡ length ys → row_rank xs ≡ row_rank ys → sum xs ≡ sum ys
 rank_seeds xs ys long same = grind (arith, rank_apart)
 
--- and are one row
+-- rows with one rank are one row
 pub rank_same : (xs ys : List ℕ) → length xs ≡ length ys → row_rank xs ≡ row_rank ys → xs ≡ ys
 rank_same [] [] long same = refl
 rank_same [] (y ∷ ys) long same = absurd (omega arith)
@@ -254,7 +254,7 @@ module _ (row : List ℕ) (few : sum row ≤ 9) (m passed sums at : ℕ) (long :
   two_are =
       rw (is.left, two_more) (two_sums _ _ _ two_less)
 
-  -- and their rank
+  -- the rank of two cells more
   pub rank_next : (c : ℕ) → c ≡ choose (sums % 1024 % 32 + 2 * (m - passed - 1) + 1) (2 * (m - passed - 1) + 2) + choose
       (sums % 1024 / 32 + 2 * (m - passed - 1)) (2 * (m - passed - 1) + 1) →
       IsRanked row (passed + 1) (sums / 1024) (at + c)
@@ -291,7 +291,7 @@ rank_none : (xs : List ℕ) → length xs ≡ 0 → row_rank xs ≡ 0
 rank_none [] none = refl
 rank_none (x ∷ xs) none = omega arith
 
--- and is the rank once all cells are passed
+-- what is added is the rank once all cells are passed
 pub ranked_all : (row : List ℕ) (passed sums at : ℕ) → length row ≤ 2 * passed → IsRanked row passed sums at
     → at ≡ row_rank row
 ranked_all row passed sums at all is = grind (arith, rank_none, drop, length-drop)
@@ -409,7 +409,7 @@ first_up (suc (suc (suc (suc (suc (suc (suc m))))))) most = omega arith
 first_rises : (m n : ℕ) → m ≤ n → n ≤ 7 → first m ≤ first n
 first_rises m n below most = grind arith
 
--- so an ending's word is one of its variant's
+-- an ending's word is one of its variant's
 pub its_variant : (a : HousesState) → IsWithinHouses a → IsEnding a
     → first (length a.own) + rank_of_houses a / 16 < first (suc (length a.own))
 its_variant a within few =
@@ -462,7 +462,7 @@ begins n i = grind (arith, cases_lt, get_or-replicate, states_nothing, get_or_pa
 pub reads : (slots i : ℕ) → Enters (λ (s : State (Unit {0}) (Unit {0})). AreTrueWords s.words) slots i (λ n w. StoresWon i n)
 reads slots i s holds homes small = (tt, holds, holds i)
 
--- and write into it what is true
+-- a new seat may write into each word what is true
 pub writes : (slots i word : ℕ) → StoresWon i word →
     Arrives (λ (s : State (Unit {0}) (Unit {0})). AreTrueWords s.words) slots i (λ n. word) (λ n me. Unit {0})
 writes slots i word states s holds homes small =
@@ -511,7 +511,7 @@ pub most_all : (a : HousesState) (marks most : ℕ) → IsWithinHouses a → IsM
     → most ≡ won a
 most_all a marks most w is full = omega (arith, (won_of_houses w).few)
 
--- and so it does once no house is marked
+-- once no house is marked, best play wins the most of those tried
 pub most_won : (a : HousesState) (marks most : ℕ) → IsWithinHouses a → is_over (storeless a) ≡ false → IsMost a marks most
     → marks ≡ 0
     → most ≡ won a
@@ -544,7 +544,7 @@ module _ (c : LruCache ℕ Interval) (a : HousesState) (k : ℕ) (i : Interval) 
   put_entry : (e : ℕ × Interval) → e.1 ≡ i → e.0 ≡ k → IsTrueEntry e
   put_entry e value at = grind arith
 
-  -- and so are all after a put
+  -- all entries after a put are true
   pub true_put : AreTrue (put_entries nat_eq c k i)
   true_put = λ e h. elim (Contains-put_entries nat_eq c k i e h) [
     | inl was ↦ entries e was
@@ -560,6 +560,12 @@ module _ (c : LruCache ℕ Interval) (a : HousesState) (k : ℕ) (i : Interval) 
       OnErr r (new ≡ c) → AreTrue new.entries
   true_after (Ok x) new ok err = grind (arith, true_put)
   true_after (Err x) new ok err = grind arith
+
+-- a put leaves the room for entries
+pub put_leaves : {X E : Type 0} (r : Result X E) (c new : LruCache ℕ Interval) (es : List (ℕ × Interval)) →
+    OnOk r (new ≡ lru_cache es c.cap) → OnErr r (new ≡ c) → new.cap ≡ c.cap
+put_leaves (Ok x) c new es ok err = ap (λ now. now.cap) ok
+put_leaves (Err x) c new es ok err = ap (λ now. now.cap) err
 
 -- a cache as its table is known
 abbrev pub state_of : LruCache ℕ Interval → TableState
@@ -590,29 +596,47 @@ unmixed k small = omega arith
 same_unmixed : (k l : ℕ) → k < 2 ^ 64 → l < 2 ^ 64 → mixed k ≡ mixed l → k ≡ l
 same_unmixed k l hk hl same = sym (unmixed _ hk) ∙ ap (λ x. (x * 17428512612931826493) % 2 ^ 64) same ∙ unmixed _ hl
 
--- of two numbers that leave the same open the greater has a later slot
-slot_later : (n x y : ℕ) → 1024 ≤ n → left_open x ≡ left_open y → x < y → slot_among n x < slot_among n y
-slot_later n x y enough rest less = grind (arith, add-mul)
+-- bits from bit 54 on are among those from an earlier bit on
+bits_among : (s n : ℕ) → s ≤ 54 → n / 2 ^ 54 ≡ slot_at s n / 2 ^ (54 - s)
+bits_among s n few =
+    let all : s + (54 - s) ≡ 54 = omega arith in
+    let worth : 2 ^ s * 2 ^ (54 - s) ≡ 2 ^ 54 = rw (← pow-add 2 s (54 - s)) (ap (λ k. 2 ^ k) all) in
+    rw (div-div-eq-div-mul n (2 ^ s) (2 ^ (54 - s)), worth) refl
 
--- so two with one slot are one
-slot_same : (n x y : ℕ) → 1024 ≤ n → left_open x ≡ left_open y → slot_among n x ≡ slot_among n y → x ≡ y
-slot_same n x y enough rest same = grind (arith, slot_later)
+-- so two numbers with one slot that leave the same open are one
+slot_same : (s x y : ℕ) → s ≤ 54 → tag_of_key x ≡ tag_of_key y → slot_at s x ≡ slot_at s y → x ≡ y
+slot_same s x y few rest same =
+    omega (arith, bits_among s x few, bits_among s y few, ap (λ slot. slot / 2 ^ (54 - s)) same)
 
-same_slotted : (n : ℕ) (a b : HousesState) → 1024 ≤ n → IsWithinHouses a → IsWithinHouses b →
-    left_open (mixed (key_of a)) ≡ left_open (mixed (key_of b)) →
-    slot_among n (mixed (key_of a)) ≡ slot_among n (mixed (key_of b)) → a ≡ b
-same_slotted n a b enough ha hb rest place = grind (arith, same_key, same_unmixed, key_fits, slot_same)
+-- a number has a slot
+pub slot_inside : (s n : ℕ) → s < 64 → n < 2 ^ 64 → slot_at s n < 2 ^ (64 - s)
+slot_inside s n few small =
+    let all : 64 - s + s ≡ 64 = omega arith in
+    let worth : 2 ^ (64 - s) * 2 ^ s ≡ 2 ^ 64 = rw (← pow-add 2 (64 - s) s) (ap (λ k. 2 ^ k) all) in
+    (div-lt_iff_lt-mul (pow_pos s)).1 (rw worth small)
+
+same_slotted : (s : ℕ) (a b : HousesState) → s ≤ 54 → IsWithinHouses a → IsWithinHouses b →
+    tag_of_key (mixed (key_of a)) ≡ tag_of_key (mixed (key_of b)) →
+    slot_at s (mixed (key_of a)) ≡ slot_at s (mixed (key_of b)) → a ≡ b
+same_slotted s a b enough ha hb rest place = grind (arith, same_key, same_unmixed, key_fits, slot_same)
+
+-- the greatest power of two of at least 1,024 has ten digits below its one
+pub ten_bits : (bits n : ℕ) → 1024 ≤ n → n < 2 * 2 ^ bits → 10 ≤ bits
+ten_bits bits n some next = elim (cases_lt bits 10) [
+  | inl few ↦ absurd (omega (arith, pow_mono {i = bits} {j = 9} (omega (arith, few))))
+  | inr many ↦ many
+]
 
 -- after more is kept
-pub bounds_more : (slots : List Slot) {a : HousesState} {number at : ℕ} {p : Slot} → AreEnough (length slots) → StoreBounds slots
+pub bounds_more : (s : ℕ) (slots : List Slot) {a : HousesState} {number at : ℕ} {p : Slot} → s ≤ 54 → StoreBounds s slots
     → IsWithinHouses a →
-    number ≡ mixed (key_of a) → at ≡ slot_among (length slots) number → at < length slots
-    → stored_rest p ≡ left_open number →
-    IsWithinSlot p (won a) → StoreBounds (slice_set slots at p)
-bounds_more slots enough before within is place inside rest known b number_b d within_b is_b inside_b rest_b =
+    number ≡ mixed (key_of a) → at ≡ slot_at s number → at < length slots
+    → stored_tag p ≡ tag_of_key number →
+    IsWithinSlot p (won a) → StoreBounds s (slice_set slots at p)
+bounds_more s slots enough before within is place inside rest known b number_b d within_b is_b inside_b rest_b =
     grind (arith, length-set, cases_eq, get_or-set_same, same_slotted, get_or-set_other)
 
 -- slots that all hold what is known of all houses
-pub bounds_unknown : (count : ℕ) (p : Slot) → stored_least p ≡ 0 → stored_most p ≡ most_seeds → StoreBounds (replicate count p)
-bounds_unknown count p none all a number d within is inside rest =
+pub bounds_unknown : (s count : ℕ) (p : Slot) → stored_least p ≡ 0 → stored_most p ≡ most_seeds → StoreBounds s (replicate count p)
+bounds_unknown s count p none all a number d within is inside rest =
     grind (arith, won_of_houses, get_or-replicate, length-replicate)

@@ -68,7 +68,7 @@ filter_low g a (suc n) h has = elim (cases_Bool (g a)) [
   | inr dropped ↦ let low = filter_low g (a + 1) n h (rw dropped at has) in omega arith
 ]
 
--- so the first that is found is the lowest that passes
+-- the first that is found is the lowest that passes
 pub find_lowest : (t g : ℕ → Bool) (a n h : ℕ) → Contains (filter g (range_with_len a n)) h → t h ≡ true →
     unwrap_or (find t (filter g (range_with_len a n))) 0 ≤ h
 find_lowest t g a zero h has passes = omega arith
@@ -105,7 +105,7 @@ value_le f (x ∷ xs) (suc k) within =
 pub eq_yes : (a b : ℤ) → a ≡ b → int_eq a b ≡ true
 eq_yes a b e = (Decides-int_eq a b).1 e
 
--- and a lower one fails it
+-- a lower number fails the test
 pub eq_no : (a b : ℤ) → a <ℤ b → int_eq a b ≡ false
 eq_no a b less = grind arith
 
@@ -123,7 +123,7 @@ over_at_end p none = grind arith
 pub board_equal_sides : (p : Position) → IsWithinLimits p → HasEqualSides p
 board_equal_sides p limits = omega arith
 
--- and from the other side
+-- seen from the other side, too, both sides have as many houses
 pub swapped_equal_sides : (p : Position) → HasEqualSides p → HasEqualSides (swapped p)
 swapped_equal_sides p even = omega arith
 
@@ -239,7 +239,7 @@ value_of_again p h e is = grind arith
 pub value_of_turn : (p : Position) (h : ℕ) (e : Position) → board.Turn e ≡ step_of p h → neg_ℤ (worth e) ≡ value_of_move p h
 value_of_turn p h e is = grind arith
 
--- and how many moves it leaves
+-- how many moves a move leaves, if the mover moves again
 pub again_fewer : (p : Position) (h : ℕ) (e : Position) → HasEqualSides p → Contains (legal_houses p) h
     → board.Again e ≡ step_of p h →
     moves_left e < moves_left p
@@ -264,7 +264,7 @@ row_empty p going none =
     ]) in
     omega (arith, sum_by-le (λ x. x) 0 _ each)
 
--- so one has a legal house
+-- a game that goes on has a legal house
 pub legal_some : (p : Position) → is_over p ≡ false → 0 < length (legal_houses p)
 legal_some p going = grind (arith, row_empty)
 
@@ -289,7 +289,7 @@ final_swapped q = omega (arith, ints)
 pub value_going_on : (p : Position) (h : ℕ) → is_again p h ≡ true → value_of_move p h ≡ worth (after p h)
 value_going_on p h again = grind (arith, worth_of_over)
 
--- and with the turn passed, its negative
+-- with the turn passed, the value of a move is the negative of what follows
 pub value_passing : (p : Position) (h : ℕ) → is_again p h ≡ false → value_of_move p h ≡ neg_ℤ (worth (swapped (after p h)))
 value_passing p h turn = grind (arith, cases_Bool, worth_of_over, over_for_other, final_swapped)
 
@@ -302,11 +302,11 @@ best_found p even going =
     find_passes _ (legal_houses p) _ best.1
     (eq_yes _ (worth p) attains)
 
--- so its value is the worth
+-- the value of the best house is the worth
 pub best_attains : {p : Position} → HasEqualSides p → is_over p ≡ false → value_of_move p (best_house p) ≡ worth p
 best_attains {p} even going = grind (arith, best_found)
 
--- and no legal house gets more
+-- no legal house gets more than the worth
 pub value_most : (p : Position) (h : ℕ) → HasEqualSides p → is_over p ≡ false → Contains (legal_houses p) h
     → value_of_move p h ≤ℤ worth p
 value_most p h even going has =
@@ -547,7 +547,7 @@ pub value_le_worth : (a : HousesState) (h : ℕ) → IsWithinHouses a → Contai
     → value_of_move (storeless a) h ≤ℤ houses_worth a
 value_le_worth a h w has = value_most _ _ (omega arith) (legal_going (storeless a) h has) has
 
--- and some move is worth as much
+-- some move is worth as much as the houses
 pub worth_reached : (a : HousesState) → IsWithinHouses a → is_over (storeless a) ≡ false →
     (h : ℕ) × Contains (legal_houses (storeless a)) h × (houses_worth a ≡ value_of_move (storeless a) h)
 worth_reached a w going =

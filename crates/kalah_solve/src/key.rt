@@ -21,3 +21,6 @@ pub fn unpack(key: u64) -> Option<Houses>
 {
     Houses::of_key(key)
 }
+
+#[cfg(test)]
+mod tests;

@@ -9,21 +9,21 @@ ghost use Rattle.kalah_solve.specs.Solver.Worth.{houses_worth};
 ghost use Rattle.kalah_solve.specs.Solver.StepWorth.{GoesOn, GoesOnAt};
 ghost use Rattle.kalah_solve.specs.Bounds.Intervals.{clamped};
 ghost use Rattle.kalah_solve.specs.Bounds.Won.{won, won_by_step};
-ghost use Rattle.kalah_solve.specs.Search.Tried.{IsSoftBound, WinsAtMost, EndsInStore, IsLook, AreWaiting};
+ghost use Rattle.kalah_solve.specs.Search.Tried.{IsSoftBound, WinsAtMost, EndsInStore, IsTriedMove, AreWaiting};
 ghost use Rattle.kalah_solve.specs.Table.Entries.{most_entries, empty_table};
 
 mod known;
 pub(crate) mod move_order;
 #[cfg(test)]
 mod tests;
-mod work;
+mod node_counts;
 
 use crate::bounds::interval::Interval;
 use crate::bounds::seed_bounds::{SeedBounds, margin_of};
 use crate::bounds::window::Window;
 use crate::marks::{again_houses, other_houses, split_last};
 use crate::search::move_order::{MoveOrder, Priorities, highest};
-use crate::search::work::{EndingLimit, SEEDS_THAT_ALWAYS_PAY, Work};
+use crate::search::node_counts::{EndingLimit, SEEDS_THAT_ALWAYS_PAY, NodeCounts};
 use crate::table::Table;
 use kalah_rules::{House, Houses, HousesStep};
 use std::alloc::{AllocError, Allocator, Global};
@@ -32,7 +32,7 @@ use std::alloc::{AllocError, Allocator, Global};
 const MOST_SLOTTED: u8 = 20;
 
 /// An answer that took fewer nodes than this is not worth an entry.
-const LEAST_WORK: u64 = 60;
+const LEAST_NODES: u64 = 60;
 
 // Calls a method that has the number of the variant of some houses as its constant parameter. It is compiled for each variant. The number is
 // that of houses a side, and 8 more under the empty-capture rule.
@@ -61,15 +61,15 @@ pub struct Search<A: Allocator + Clone = Global> {
     table: Table<A>,
     order: MoveOrder,
     most_slotted: u8,
-    least_work: u64,
+    least_nodes: u64,
     ending_limit: EndingLimit,
-    work: Work,
+    counts: NodeCounts,
 }
 
 // What is known of a move once it was played: a bound of what it wins, or that its turn waits to be searched. Then it has the priority
 // of the turn, and the houses from which the other player would move.
 #[derive(Clone, Copy)]
-enum Look {
+enum TriedMove {
     Bounded(u8),
     Waits(u16, Houses),
 }
@@ -79,14 +79,14 @@ impl<A: Allocator + Clone> Search<A> {
     pub fn new(table: Table<A>) -> Search<A>
         ensures { result.table ≡ table }
     {
-        let work = Work::new();
+        let counts = NodeCounts::new();
         Search {
             table,
             order: MoveOrder::new(),
             most_slotted: MOST_SLOTTED,
-            least_work: LEAST_WORK,
-            ending_limit: work.ending_limit(),
-            work,
+            least_nodes: LEAST_NODES,
+            ending_limit: counts.ending_limit(),
+            counts,
         }
     }
 
@@ -107,9 +107,9 @@ impl<A: Allocator + Clone> Search<A> {
             table,
             order: MoveOrder::new(),
             most_slotted: 0,
-            least_work: 0,
+            least_nodes: 0,
             ending_limit: EndingLimit::none(),
-            work: Work::new(),
+            counts: NodeCounts::new(),
         }
     }
 
@@ -120,7 +120,7 @@ impl<A: Allocator + Clone> Search<A> {
 
     #[cfg(test)]
     pub fn nodes(&self) -> u64 {
-        self.work.all_nodes()
+        self.counts.all_nodes()
     }
 
     /// Returns the worth of the houses, raised to the window's lower end and lowered to its upper one. That of an ending is looked up,
@@ -129,18 +129,18 @@ impl<A: Allocator + Clone> Search<A> {
         requires going { is_over (storeless houses.now) ≡ false }
         ensures { result ≡ clamped window.lo window.hi (houses_worth houses.now) }
     {
-        in_its_variant!(self.search_variant(houses, window))
+        in_its_variant!(self.search_in_variant(houses, window))
     }
 
     // Returns the worth of houses of this variant, raised to the window's lower end and lowered to its upper one.
-    fn search_variant<const VARIANT: u8>(&mut self, houses: &Houses, window: Window) -> i32
+    fn search_in_variant<const VARIANT: u8>(&mut self, houses: &Houses, window: Window) -> i32
         requires going { is_over (storeless houses.now) ≡ false }
         requires variant { variant_of houses.now ≡ VARIANT }
         ensures { result ≡ clamped window.lo window.hi (houses_worth houses.now) }
     {
         let seeds = houses.seeds();
         if seeds > SEEDS_THAT_ALWAYS_PAY {
-            self.work.turn_to(houses);
+            self.counts.resume(houses);
             self.grow_endings();
         }
         if seeds <= self.ending_limit.seeds {
@@ -151,14 +151,14 @@ impl<A: Allocator + Clone> Search<A> {
         let Some(narrow) = window.narrowed(known) else {
             return window.clamp(known.lo as i32);
         };
-        let before = self.work.nodes();
+        let before = self.counts.nodes();
         let won = self.won_within::<VARIANT>(houses, SeedBounds::of_window(narrow, seeds));
         let answer = narrow.clamp(margin_of(won, seeds));
-        let work = self.work.nodes().saturating_sub(before);
+        let nodes = self.counts.nodes().saturating_sub(before);
         self.learn_margins(
             *houses,
             narrow.interval_of(answer).intersection(known),
-            work,
+            nodes,
         );
         answer
     }
@@ -208,7 +208,6 @@ impl<A: Allocator + Clone> Search<A> {
         requires variant { variant_of houses.now ≡ VARIANT }
         ensures { IsTrue result ↔ beta ≤ won_by_step (houses_step houses.now h) }
     {
-        let _seeds = houses.seeds(); // For its clause: the houses are within the limits.
         beta <= self.bound_step::<VARIANT>(houses.play(h), beta)
     }
 
@@ -223,16 +222,16 @@ impl<A: Allocator + Clone> Search<A> {
         if houses.seeds() <= self.ending_limit.seeds {
             return self.table.won::<VARIANT>(houses);
         }
-        self.bound_by_search::<VARIANT>(houses, beta)
+        self.bound_by_search::<VARIANT>(&houses, beta)
     }
 
     // Returns a fail-soft bound of how many seeds the mover wins. The houses are no ending that is looked up.
     #[cycle(search)]
     #[inline(never)]
-    fn bound_by_search<const VARIANT: u8>(&mut self, houses: Houses, beta: u8) -> u8
-        requires going { is_over (storeless houses) ≡ false }
-        requires variant { variant_of houses ≡ VARIANT }
-        ensures { IsSoftBound beta (won houses) result }
+    fn bound_by_search<const VARIANT: u8>(&mut self, houses: &Houses, beta: u8) -> u8
+        requires going { is_over (storeless houses.now) ≡ false }
+        requires variant { variant_of houses.now ≡ VARIANT }
+        ensures { IsSoftBound beta (won houses.now) result }
     {
         let houses = houses.known_variant(VARIANT);
         let known = self.known(&houses);
@@ -244,7 +243,7 @@ impl<A: Allocator + Clone> Search<A> {
         }
         let before = self.count_node();
         let bound = self.explore::<VARIANT>(&houses, beta);
-        let work = self.work.nodes().saturating_sub(before);
+        let nodes = self.counts.nodes().saturating_sub(before);
         let learned = if beta <= bound {
             SeedBounds {
                 least: bound,
@@ -256,7 +255,7 @@ impl<A: Allocator + Clone> Search<A> {
                 most: bound,
             }
         };
-        self.learn(&houses, learned, work);
+        self.learn(&houses, learned, nodes);
         bound
     }
 
@@ -281,12 +280,13 @@ impl<A: Allocator + Clone> Search<A> {
             return others;
         }
         let mut most = again.max(others);
+        let waiting = &turns[..];
+        let reply_beta = seeds.saturating_sub(beta) + 1; // If the other player wins less of the seeds, the turn is enough.
         let mut priority = highest(&priorities);
         while priority > 0 {
             let at = (priority % 8) as usize;
             priorities[at] = 0;
-            let next = turns[at];
-            let bound = self.bound_turn::<VARIANT>(seeds - next.seeds(), next, beta);
+            let bound = seeds - self.bound_by_search::<VARIANT>(&waiting[at], reply_beta);
             if beta <= bound {
                 return bound;
             }
@@ -306,12 +306,11 @@ impl<A: Allocator + Clone> Search<A> {
         ensures upper { result < beta → (h : ℕ) → Contains (legal_houses (storeless houses.now)) h → EndsInStore houses.now h →
             WinsAtMost houses.now result h }
     {
-        let _seeds = houses.seeds(); // For its clause: the houses are within the limits.
-        let mut left = again_houses(houses);
+        let mut untried = again_houses(houses);
         let mut most = 0;
-        while left > 0 {
-            let (house, rest) = split_last(left);
-            left = rest;
+        while untried > 0 {
+            let (house, rest) = split_last(untried);
+            untried = rest;
             let bound = self.bound_step::<VARIANT>(houses.play_into_store(house), beta);
             if beta <= bound {
                 return bound;
@@ -338,17 +337,17 @@ impl<A: Allocator + Clone> Search<A> {
         ensures { AreWaiting houses.now beta result priorities.new turns.new }
     {
         let mut most = 0;
-        let mut left = other_houses(houses);
-        while left > 0 {
-            let (house, rest) = split_last(left);
-            left = rest;
-            match self.look::<VARIANT>(houses, house, beta) {
-                Look::Waits(priority, next) => {
+        let mut untried = other_houses(houses);
+        while untried > 0 {
+            let (house, rest) = split_last(untried);
+            untried = rest;
+            match self.try_move::<VARIANT>(houses, house, beta) {
+                TriedMove::Waits(priority, next) => {
                     let at = (priority % 8) as usize;
                     priorities[at] = priority;
                     turns[at] = next;
                 }
-                Look::Bounded(bound) => {
+                TriedMove::Bounded(bound) => {
                     if beta <= bound {
                         return bound;
                     }
@@ -362,22 +361,21 @@ impl<A: Allocator + Clone> Search<A> {
     // Plays this house. It waits if it is a turn that must be searched.
     #[inline(always)]
     #[cycle(search)]
-    fn look<const VARIANT: u8>(&mut self, houses: &Houses, house: House, beta: u8) -> Look
+    fn try_move<const VARIANT: u8>(&mut self, houses: &Houses, house: House, beta: u8) -> TriedMove
         requires legal { Contains (legal_houses (storeless houses.now)) house }
         requires variant { variant_of houses.now ≡ VARIANT }
-        ensures { IsLook houses.now beta house result }
+        ensures { IsTriedMove houses.now beta house result }
     {
-        let _seeds = houses.seeds(); // For its clause: the houses are within the limits.
         let step = houses.play_by(&self.table.endings.sowings, house);
         match step {
             HousesStep::Turn(gained, next) => {
                 if gained < beta && next.seeds() > self.ending_limit.seeds {
                     let priority = self.order.priority(houses.m(), house, gained, &next);
-                    return Look::Waits(priority, next);
+                    return TriedMove::Waits(priority, next);
                 }
-                Look::Bounded(self.bound_turn::<VARIANT>(gained, next, beta))
+                TriedMove::Bounded(self.bound_turn::<VARIANT>(gained, next, beta))
             }
-            _ => Look::Bounded(self.bound_step::<VARIANT>(step, beta)),
+            _ => TriedMove::Bounded(self.bound_step::<VARIANT>(step, beta)),
         }
     }
 

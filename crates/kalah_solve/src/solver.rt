@@ -72,7 +72,7 @@ impl<A: Allocator + Clone> Solver<A> {
             };
         }
         let houses = board.houses();
-        let best = self.worth(&houses);
+        let best = self.houses_worth(&houses);
         let beta = won_of(best, houses.seeds());
         let house = self.first_house(&houses, &board.legal(), beta);
         let margin = best + (board.own_store() as i32 - board.other_store() as i32);
@@ -80,7 +80,7 @@ impl<A: Allocator + Clone> Solver<A> {
     }
 
     // Returns what houses are worth to the player to move, by a search in the whole window.
-    fn worth(&mut self, houses: &Houses) -> i32
+    fn houses_worth(&mut self, houses: &Houses) -> i32
         requires { is_over (storeless houses.now) ≡ false }
         ensures { result ≡ houses_worth houses.now }
     {

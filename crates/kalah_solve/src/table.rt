@@ -4,7 +4,7 @@ ghost use Rattle.std.specs.Map.{lookup};
 ghost use Rattle.kalah_rules.specs.Key.{key_of, variant_of};
 ghost use Rattle.kalah_rules.specs.Position.{storeless, is_over};
 ghost use Rattle.kalah_solve.specs.Table.Entries.{most_entries, empty_table};
-ghost use Rattle.kalah_solve.specs.Table.DirectTable.{slots_for};
+ghost use Rattle.kalah_solve.specs.Table.DirectTable.{AreSlotsFor};
 ghost use Rattle.kalah_solve.specs.Table.EndgameTable.{IsEnding};
 ghost use Rattle.kalah_solve.specs.Solver.Worth.{houses_worth};
 
@@ -103,9 +103,9 @@ impl<A: Allocator + Clone> Table<A> {
         })
     }
 
-    // Makes as many slots as there is room for entries, with nothing known. It fails if there is no memory for them.
+    // Makes the slots that go with all entries, with nothing known. It fails if there is no memory for them.
     fn all_slots(&self) -> Result<DirectTable<A>, AllocError>
-        ensures { IfOk result (λ p. length p ≡ slots_for (min self.now.capacity most_entries)) }
+        ensures { IfOk result (λ p. AreSlotsFor (min self.now.capacity most_entries) (length p)) }
     {
         let count = self.entries.cap().get().min(MOST_ENTRIES as usize);
         DirectTable::new(self.entries.allocator().clone()?, count as u32)
@@ -117,7 +117,8 @@ impl<A: Allocator + Clone> Table<A> {
     pub(crate) fn grow(&mut self)
         ensures { self.new ≡ self.old }
     {
-        if self.slots.len() >= self.entries.cap().get() {
+        // Twice as many would be more than the entries.
+        if self.slots.len() > self.entries.cap().get() / 2 {
             return;
         }
         if let Ok(slots) = self.all_slots() {

@@ -8,58 +8,41 @@ const QUOTES: &str = "a position is one argument, so put it in quotes: '1,1/0 1,
 
 const COUNT: &str = "DEPTH comes first, as in `kalah count 3 '1,1/0 1,1/0'`";
 
+const WORKERS: &str = "use `--workers N`";
+
+const VERSION: &str = "use `kalah --version`";
+
+macro_rules! tips {
+    ($($one:literal, $other:literal => $tip:expr;)*) => { &[$(($one, $other, $tip)),*] };
+}
+
 // Two parts of what the command line says to refuse arguments, and the tip if it has both.
-const TIPS: &[(&str, &str, &str)] = &[
-    (
-        "not provided",
-        "<FILE>",
-        "for standard input, use /dev/stdin, as in `kalah solve /dev/stdin`",
-    ),
-    ("not provided", " count <DEPTH>", COUNT),
-    ("'--values' found", "<FILE>", "use `kalah values FILE`"),
-    ("'--steps' found", "<FILE>", "use `kalah steps FILE`"),
-    ("'-w' found", "<FILE>", "use `--workers N`"),
-    ("'-j' found", "<FILE>", "use `--workers N`"),
-    ("'--jobs' found", "<FILE>", "use `--workers N`"),
-    ("'--threads' found", "<FILE>", "use `--workers N`"),
-    (
-        "'--json' found",
-        "<FILE>",
-        "`python3 -m kalah table --json FILE` prints JSON",
-    ),
-    (
-        "'--boards' found",
-        " show [OPTIONS]",
-        "`kalah show` draws the board without it",
-    ),
-    (
-        "'e' found",
-        "<LINE>",
-        "` e` stands inside the quotes, as in '1,1/0 1,1/0 e'",
-    ),
-    ("'--depth' found", " count <DEPTH>", COUNT),
-    ("'<DEPTH>'", "invalid digit", COUNT),
-    (
-        "'--workers <N>'",
-        "invalid digit",
-        "N is a number from 1 to 64",
-    ),
-    (
-        "'--table <N>'",
-        "invalid digit",
-        "N is a number from 1 to 1048576",
-    ),
-    ("'--first <H>'", "invalid digit", "H is a house from 1 to 6"),
-    ("'-v' found", "<COMMAND>", "use `kalah --version`"),
-    ("'version'", "<COMMAND>", "use `kalah --version`"),
-    ("'help'", "<COMMAND>", "use `kalah --help`"),
-    ("'perft'", "<COMMAND>", "use `kalah count DEPTH LINE`"),
-    (
-        "'best'",
-        "<COMMAND>",
-        "use `kalah show LINE`, or `kalah solve FILE`",
-    ),
-];
+const TIPS: &[(&str, &str, &str)] = tips! {
+    "not provided", "<FILE>" => "for standard input, use /dev/stdin, as in `kalah solve /dev/stdin`";
+    "not provided", " count <DEPTH>" => COUNT;
+    "'--values' found", "<FILE>" => "use `kalah values FILE`";
+    "'--steps' found", "<FILE>" => "use `kalah steps FILE`";
+    "'-w' found", "<FILE>" => WORKERS;
+    "'-j' found", "<FILE>" => WORKERS;
+    "'--jobs' found", "<FILE>" => WORKERS;
+    "'--threads' found", "<FILE>" => WORKERS;
+    "'--json' found", "<FILE>" => "`python3 -m kalah table --json FILE` prints JSON";
+    "'--boards' found", " show [OPTIONS]" => "`kalah show` draws the board without it";
+    "'--values' found", "kalah show " => "use `kalah show --lines LINE`, or `kalah values FILE`";
+    "'e' found", "<LINE>" => "` e` stands inside the quotes, as in '1,1/0 1,1/0 e'";
+    "'--depth' found", " count <DEPTH>" => COUNT;
+    "'<DEPTH>'", "invalid digit" => COUNT;
+    "'--workers <N>'", "invalid digit" => "N is a number from 1 to 64";
+    "'--table <N>'", "invalid digit" => "N is a number from 1 to 1048576";
+    "'--first <H>'", "invalid digit" => "H is a house from 1 to 6";
+    "'-v' found", "<COMMAND>" => VERSION;
+    "'-V' found", "Usage: kalah" => VERSION;
+    "'--version' found", "Usage: kalah" => VERSION;
+    "'version'", "<COMMAND>" => VERSION;
+    "'help'", "<COMMAND>" => "use `kalah --help`";
+    "'perft'", "<COMMAND>" => "use `kalah count DEPTH LINE`";
+    "'best'", "<COMMAND>" => "use `kalah show LINE`, or `kalah solve FILE`";
+};
 
 // A tip that may name an argument.
 #[derive(Clone, Copy)]

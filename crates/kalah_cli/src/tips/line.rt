@@ -5,9 +5,9 @@ use std::io::Write;
 const FORM: &str = "the form is `1,1/0 1,1/0`; numbers are 0 to 99, without a zero before them";
 
 /// Writes why a line can't be read, with a tip if tips are shown. What can't be written is dropped.
-pub(crate) fn report_fault<E: Write>(fault: LineFault, line: &str, with_tips: bool, err: &mut E) {
+pub(crate) fn report_fault<E: Write>(fault: LineFault, line: &str, on_terminal: bool, err: &mut E) {
     let _ = writeln!(err, "fault {}", fault.word());
-    if !with_tips {
+    if !on_terminal {
         return;
     }
     let tip = match fault {

@@ -10,7 +10,7 @@ use Rattle.kalah_jobs.specs.declared.files.entry.Entry.{Entry}
 use Rattle.kalah_jobs.specs.declared.files.entry.Entry.TheVariants.{Position, ValuesOf}
 use Rattle.kalah_jobs.specs.declared.files.question.Question.{Question}
 use Rattle.kalah_jobs.specs.declared.files.question.Question.TheVariants.{Steps}
-use Rattle.kalah_jobs.specs.Limits.{most_bytes}
+use Rattle.kalah_jobs.specs.Limits.{most_line_bytes}
 use Rattle.kalah_jobs.specs.Files.Lines.{line_feed, lines_of, HasNoLineFeed}
 use Rattle.kalah_jobs.specs.Files.NamedBytes.{NamedBytes}
 use Rattle.kalah_jobs.specs.Files.Question.{entry_to}
@@ -21,7 +21,7 @@ use Rattle.kalah_jobs.specs.Writing.Splitting.{EndsWithItsLine}
 
 -- the bytes of a line that are kept, enough to determine its entry: a line with that many, with its CR or not, is too long
 abbrev pub kept_bytes : ℕ
-kept_bytes = most_bytes + 2
+kept_bytes = most_line_bytes + 2
 
 -- a byte, or none, as a list
 abbrev pub bytes_of : Option ℕ → List ℕ
@@ -29,13 +29,13 @@ bytes_of None = []
 bytes_of (Some byte) = byte ∷ []
 
 -- the answer to a line, and a line feed
-abbrev pub told : Question → List ℕ → List ℕ
-told question line = joined_text (answer_of (entry_to question line)) ++ line_feed ∷ []
+abbrev pub reply : Question → List ℕ → List ℕ
+reply question line = joined_text (answer_of (entry_to question line)) ++ line_feed ∷ []
 
 -- the answer to what stands after the last line feed, if anything does, and whether it is read
-abbrev pub told_last : Question → List ℕ → List ℕ
-told_last question [] = []
-told_last question (byte ∷ line) = told question (byte ∷ line)
+abbrev pub last_reply : Question → List ℕ → List ℕ
+last_reply question [] = []
+last_reply question (byte ∷ line) = reply question (byte ∷ line)
 
 abbrev pub is_last_read : List ℕ → Bool
 is_last_read [] = true
@@ -43,7 +43,7 @@ is_last_read (byte ∷ line) = not (is_faulty (byte ∷ line))
 
 -- for each of the lines of the bytes, in order, its answer
 unfoldable pub answers_to : Question → List ℕ → List ℕ
-answers_to question bytes = flat_map (told question) (lines_of bytes)
+answers_to question bytes = flat_map (reply question) (lines_of bytes)
 
 -- no line of the bytes is answered by a fault
 abbrev pub are_all_read : List ℕ → Bool
@@ -106,20 +106,20 @@ pub record IsBegun (question : Question) (before after old new : Option (List �
   pub written : Appends old new (answers_to question lines ++ take count (answers_to question last))
 
 -- the texts of the answer to a line
-abbrev pub texts_told : Question → List ℕ → List (List ℕ)
-texts_told question line = answer_texts (answer_of (entry_to question line))
+abbrev pub reply_texts : Question → List ℕ → List (List ℕ)
+reply_texts question line = answer_texts (answer_of (entry_to question line))
 
 -- What is written for lines that are asked of is what is written for a file with these bytes, but for what stands before each
 -- answer; if steps are asked, the texts that have a line each for a file stand in one line, with `; ` between any two. And what
 -- begins with whole lines is answered as they are, and then as the rest is.
 pub record AnswersAreThoseOfAFile : Type 0 where
   pub lines : (question : Question) → question ≢ Steps → (name : List ℕ) (number : ℕ) (line : List ℕ) →
-      line_output question name (number, line) ≡ place_text name number ++ told question line
+      line_output question name (number, line) ≡ place_text name number ++ reply question line
   pub file : (question : Question) → question ≢ Steps → (file : NamedBytes) →
-      output_to question (file ∷ []) ≡ flat_map (λ p. place_text file.name p.0 ++ told question p.1)
+      output_to question (file ∷ []) ≡ flat_map (λ p. place_text file.name p.0 ++ reply question p.1)
       (enumerate_from 0 (lines_of file.bytes))
-  pub texts : (question : Question) (line : List ℕ) → told question line ≡ in_one_line (texts_told question line) ++ line_feed ∷ []
+  pub texts : (question : Question) (line : List ℕ) → reply question line ≡ in_one_line (reply_texts question line) ++ line_feed ∷ []
   pub placed : (question : Question) (name : List ℕ) (number : ℕ) (line : List ℕ) → line_output question name (number, line)
-      ≡ join_with_byte line_feed (map (λ text. place_text name number ++ text) (texts_told question line)) ++ line_feed ∷ []
+      ≡ join_with_byte line_feed (map (λ text. place_text name number ++ text) (reply_texts question line)) ++ line_feed ∷ []
   pub parts : (question : Question) (lines more : List ℕ) → EndsWithItsLine lines →
       answers_to question (lines ++ more) ≡ answers_to question lines ++ answers_to question more

@@ -9,7 +9,6 @@ use Rattle.kalah_jobs.specs.Limits.{most_files, most_lines}
 use Rattle.kalah_jobs.specs.declared.files.jobs.JobsFault.{JobsFault}
 use Rattle.kalah_jobs.specs.declared.files.jobs.JobsFault.TheVariants.{TooManyFiles, TooManyLines, OutOfMemory}
 use Rattle.kalah_jobs.specs.declared.files.question.Question.{Question}
-use Rattle.kalah_jobs.specs.declared.files.question.Question.TheVariants.{BestMove}
 
 -- the number of lines of a file
 abbrev pub lines_in : NamedBytes → ℕ
@@ -26,10 +25,6 @@ entries_to question bytes = map (entry_to question) (lines_of bytes)
 -- the entries of the lines of each file, in order, with this asked of their positions
 abbrev pub jobs_to : Question → List NamedBytes → List (List Entry)
 jobs_to question files = map (λ file. entries_to question file.bytes) files
-
--- the same, if the best move is asked
-abbrev pub jobs_of : List NamedBytes → List (List Entry)
-jobs_of files = jobs_to BestMove files
 
 -- the number of jobs
 abbrev pub job_count : List (List Entry) → ℕ

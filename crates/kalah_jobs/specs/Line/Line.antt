@@ -9,7 +9,7 @@ use Rattle.kalah_rules.specs.declared.rule.Rule.{Rule}
 use Rattle.kalah_rules.specs.declared.rule.Rule.TheVariants.{Classic, EmptyCapture}
 use Rattle.kalah_rules.specs.declared.step.Step.{Step}
 use Rattle.kalah_rules.specs.declared.step.Step.TheVariants.{Again, Turn, Over}
-use Rattle.kalah_jobs.specs.Limits.{most_bytes}
+use Rattle.kalah_jobs.specs.Limits.{most_line_bytes}
 use Rattle.kalah_jobs.specs.Line.LineFault.{order_of}
 use Rattle.kalah_jobs.specs.declared.line.line_fault.LineFault.{LineFault}
 use Rattle.kalah_jobs.specs.declared.line.line_fault.LineFault.TheVariants.{Long, Empty, Shape, Houses, Seeds}
@@ -87,14 +87,14 @@ pub record HasSidesInLimits (p : Position) : Type 0 where
 
 -- the line is read as the position
 pub record Reads (line : List ℕ) (p : Position) : Type 0 where
-  pub few_bytes : length (without_cr line) ≤ most_bytes
+  pub few_bytes : length (without_cr line) ≤ most_line_bytes
   pub form : IsLineOf (without_cr line) p
   pub sides : HasSidesInLimits p
   pub few_seeds : seeds_in_houses p ≤ most_seeds
 
 -- each fault, of a line without its CR
 abbrev pub Holds : LineFault → List ℕ → Type 0
-Holds Long text = most_bytes < length text
+Holds Long text = most_line_bytes < length text
 Holds Empty text = text ≡ []
 Holds Shape text = (p : Position) → ¬ IsLineOf text p
 Holds Houses text = (p : Position) × (IsLineOf text p × (¬ HasSidesInLimits p))

@@ -3,7 +3,7 @@ use Rattle.std.specs.Prelude.{◌≡◌, ℕ, ◌≤◌, ◌↔◌, List, ◌∷
 use Rattle.kalah_rules.specs.Limits.{most_in_store, most_seeds}
 use Rattle.kalah_rules.specs.Position.{Position, IsWithinLimits, seeds_in_houses}
 use Rattle.kalah_rules.specs.declared.rule.Rule.TheVariants.{Classic, EmptyCapture}
-use Rattle.kalah_jobs.specs.Limits.{most_bytes}
+use Rattle.kalah_jobs.specs.Limits.{most_line_bytes}
 use Rattle.kalah_jobs.specs.Line.Line.{space, without_cr, IsSide, HasSidesInLimits, Reads, line_text_of}
 
 -- no line is read as two positions
@@ -21,7 +21,7 @@ EveryTextIsReadBack = (p : Position) → IsWithinLimits p → p.own_store ≤ mo
 
 -- the line is read as the position by a program that knows no ending and accepts at most `seeds` seeds
 pub record ReadsPlainly (seeds : ℕ) (line : List ℕ) (p : Position) : Type 0 where
-  pub few_bytes : length (without_cr line) ≤ most_bytes
+  pub few_bytes : length (without_cr line) ≤ most_line_bytes
   pub own_text : List ℕ
   pub other_text : List ℕ
   pub parts : without_cr line ≡ own_text ++ space ∷ other_text

@@ -5,7 +5,7 @@ use Rattle.kalah_rules.specs.Limits.{most_houses, most_seeds}
 use Rattle.kalah_rules.specs.Position.{Position, side_length, seeds_in_houses}
 use Rattle.kalah_rules.specs.declared.rule.Rule.{Rule}
 use Rattle.kalah_rules.specs.declared.rule.Rule.TheVariants.{Classic, EmptyCapture}
-use Rattle.kalah_jobs.specs.Limits.{most_bytes}
+use Rattle.kalah_jobs.specs.Limits.{most_line_bytes}
 use Rattle.kalah_jobs.specs.Line.Line.{zero_digit, comma, slash, space, without_cr}
 use Rattle.kalah_jobs.specs.declared.line.line_fault.LineFault.{LineFault}
 use Rattle.kalah_jobs.specs.declared.line.line_fault.LineFault.TheVariants.{Long, Empty, Shape, Houses, Seeds}
@@ -88,7 +88,7 @@ admitted_if_written None (_ ∷ _) = Err Shape
 
 -- the position that the line is read as, or its first fault
 abbrev pub reading_of_text : List ℕ → Result Position LineFault
-reading_of_text text = if nat_lt most_bytes (length text) then Err Long else admitted_if_written (written_of text) text
+reading_of_text text = if nat_lt most_line_bytes (length text) then Err Long else admitted_if_written (written_of text) text
 
 unfoldable pub reading_of : List ℕ → Result Position LineFault
 reading_of line = reading_of_text (without_cr line)

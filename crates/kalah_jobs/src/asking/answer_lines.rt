@@ -7,7 +7,7 @@ use crate::asking::ask_fault::AskFault;
 use crate::asking::line_head::LineHead;
 use crate::asking::prompt_reader::PromptReader;
 use crate::asking::prompt_solver::PromptSolver;
-use crate::asking::told::{tell, tell_last};
+use crate::asking::reply::{write_reply, write_last_reply};
 use crate::files::file_lines::LINE_FEED;
 use crate::files::question::Question;
 use crate::writing::sink::Sink;
@@ -35,7 +35,7 @@ fn answer_each<I: Read + Drop, O: Sink>(
     ensures failed { (O.state out.new).has_failed ≡ true ↔ IsErrOf result AskFault.Write }
     ensures all_flushed { (O.state out.new).has_failed ≡ false → (O.state out.new).is_flushed ≡ true }
     // After a read fault no byte is left to give, of the most that a `u64` counts.
-    ensures none_left { IsErrOf result AskFault.Read → input.new.left ≡ 0 }
+    ensures none_left { IsErrOf result AskFault.Read → input.new.budget ≡ 0 }
 {
     let mut line = LineHead::new();
     let mut all_read = true;
@@ -44,13 +44,13 @@ fn answer_each<I: Read + Drop, O: Sink>(
             line.push(byte);
             continue;
         }
-        all_read &= tell(&line, question, solver, out);
+        all_read &= write_reply(&line, question, solver, out);
         if out.failed() {
             return Err(AskFault::Write);
         }
         line = LineHead::new();
     }
-    all_read &= tell_last(&line, question, solver, out);
+    all_read &= write_last_reply(&line, question, solver, out);
     if out.failed() {
         return Err(AskFault::Write);
     }

@@ -18,7 +18,7 @@ pub(crate) struct PromptReader<'a, I, O> {
     first: Snapshot<BufReader<I>>,
     sink: Snapshot<O>,
     // How many more bytes it gives: none after a failed read.
-    left: u64,
+    budget: u64,
 }
 
 impl<'a, I, O> Drop for PromptReader<'a, I, O> {
@@ -30,7 +30,7 @@ impl<'a, I, O> Drop for PromptReader<'a, I, O> {
             question: _,
             first: _,
             sink: _,
-            left: _,
+            budget: _,
         } = self;
     }
 }
@@ -39,7 +39,7 @@ impl<'a, I, O> Drop for PromptReader<'a, I, O> {
 // no more bytes are left to give.
 fn read_ahead<I: Read + Drop, O: Sink>(
     input: &mut BufReader<I>,
-    left: &mut u64,
+    budget: &mut u64,
     _out: &O,
 ) -> Result<(), AskFault>
     requires all_flushed { (O.state _out.now).is_flushed ≡ true }
@@ -47,17 +47,17 @@ fn read_ahead<I: Read + Drop, O: Sink>(
     ensures end { OnOk result (reader_buffer input.new ≡ []
         → IsAtEnd (reader_remaining I.remaining input.old)) }
     ensures fault { IfErr result (λ fault. fault ≡ AskFault.Read) }
-    ensures some_left { OnOk result ((left.new ≡ left.old) × (0 < left.new)) }
-    ensures none_left { OnErr result (left.new ≡ 0) }
+    ensures some_left { OnOk result ((budget.new ≡ budget.old) × (0 < budget.new)) }
+    ensures none_left { OnErr result (budget.new ≡ 0) }
 {
-    for _ in 0..*left {
+    for _ in 0..*budget {
         match input.fill_buf() {
             Ok(_) => return Ok(()),
             Err(error) if error.kind() == ErrorKind::Interrupted => {}
             Err(_) => break,
         }
     }
-    *left = 0;
+    *budget = 0;
     Err(AskFault::Read)
 }
 
@@ -72,14 +72,14 @@ impl<'a, I: Read + Drop, O: Sink> PromptReader<'a, I, O> {
         ensures unread { result.input.now ≡ input.old }
         ensures asking { asking_of I.remaining O.state result
             ≡ record { question = question; before = reader_remaining I.remaining input.old; old = (O.state out.now).written } }
-        ensures left { result.left ≡ 2 ^ 64 - 1 }
+        ensures budget { result.budget ≡ 2 ^ 64 - 1 }
     {
         PromptReader {
             first: Snapshot::of(input),
             input,
             question,
             sink: Snapshot::of(out),
-            left: u64::MAX,
+            budget: u64::MAX,
         }
     }
 
@@ -95,20 +95,20 @@ impl<'a, I: Read + Drop, O: Sink> PromptReader<'a, I, O> {
         ensures keeps { Keeps (O.state out.old).written (O.state out.new).written }
         ensures failed { (O.state out.new).has_failed ≡ true ↔ IsErrOf result AskFault.Write }
         ensures all_flushed { IsErrOf result AskFault.Read → (O.state out.new).is_flushed ≡ true }
-        ensures counted { IfOk result (λ byte. self.new.left + length (bytes_of byte) ≡ self.old.left) }
-        ensures none_left { IsErrOf result AskFault.Read → self.new.left ≡ 0 }
+        ensures counted { IfOk result (λ byte. self.new.budget + length (bytes_of byte) ≡ self.old.budget) }
+        ensures none_left { IsErrOf result AskFault.Read → self.new.budget ≡ 0 }
     {
-        if self.left == 0 || self.input.buffer().is_empty() {
+        if self.budget == 0 || self.input.buffer().is_empty() {
             if out.flush().is_err() {
                 return Err(AskFault::Write);
             }
-            read_ahead(self.input, &mut self.left, out)?;
+            read_ahead(self.input, &mut self.budget, out)?;
         }
         let Some(byte) = self.input.buffer().first().copied() else {
             return Ok(None);
         };
         self.input.consume(1);
-        self.left -= 1;
+        self.budget -= 1;
         Ok(Some(byte))
     }
 }

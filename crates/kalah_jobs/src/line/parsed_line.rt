@@ -31,7 +31,7 @@ fn read_rule(ending: &[u8]) -> Option<Rule>
 
 impl ParsedLine {
     ghost use Rattle.kalah_rules.specs.Position.{Position};
-    ghost use Rattle.kalah_jobs.specs.Limits.{most_bytes};
+    ghost use Rattle.kalah_jobs.specs.Limits.{most_line_bytes};
     ghost use Rattle.kalah_jobs.specs.Line.ParsedLine.{Shows};
     ghost use Rattle.kalah_jobs.specs.Line.Reading.{written_of, admitted};
 
@@ -39,7 +39,7 @@ impl ParsedLine {
     #[tactic(auto, unfolding(crate::specs::Line::Reading::written_of))]
     #[inline(always)]
     pub(crate) fn read(text: &[u8]) -> Option<ParsedLine>
-        requires { length text.now ≤ most_bytes }
+        requires { length text.now ≤ most_line_bytes }
         ensures is { IfSome result (λ line. (p : Position) × (Shows line p × (written_of text.now ≡ Some p))) }
         ensures none { IfNone result (written_of text.now ≡ None) }
     {

@@ -1,6 +1,6 @@
 //! One side of a position line: its houses and its store.
 ghost use Rattle.std.specs.Prelude.{◌≤◌};
-ghost use Rattle.kalah_jobs.specs.Limits.{most_bytes};
+ghost use Rattle.kalah_jobs.specs.Limits.{most_line_bytes};
 
 use crate::line::number::take_number;
 use kalah_rules::HouseRow;
@@ -13,7 +13,7 @@ pub(crate) struct Side {
     // The number of the others.
     pub(crate) left_out: u8,
     pub(crate) store: u8,
-    ghost few: { left_out ≤ most_bytes },
+    ghost few: { left_out ≤ most_line_bytes },
 }
 
 impl Side {
@@ -36,7 +36,7 @@ impl Side {
     // Appends a house.
     #[inline(always)]
     fn push(&mut self, seeds: u8)
-        requires { self.old.left_out < most_bytes }
+        requires { self.old.left_out < most_line_bytes }
         ensures houses { (houses : List ℕ) → AreKept houses self.old.row self.old.left_out
             → AreKept (houses ++ seeds ∷ []) self.new.row self.new.left_out }
         ensures one { self.new.left_out ≤ self.old.left_out + 1 }
@@ -49,7 +49,7 @@ impl Side {
     // Returns the side at the front of some bytes, and the bytes after it.
     #[inline(always)]
     pub(crate) fn take(bytes: &[u8]) -> Option<(Side, &[u8])>
-        requires { length bytes.now ≤ most_bytes }
+        requires { length bytes.now ≤ most_line_bytes }
         ensures is { IfSome result (λ found. (houses : List ℕ)
             × (AreKept houses found.0.row found.0.left_out
             × (side_at bytes.now ≡ Some (houses, found.0.store, found.1.now)))) }

@@ -112,9 +112,9 @@ pub fn answer_text(alloc: Global, name: &str, taken: &Taken) -> Result<String, A
     Ok(text)
 }
 
-// Writes the answer line of a line of the file `name`, and a line feed; of steps the line of each.
+/// Writes what `write_answer` does, unless the sink has failed, and allocates nothing.
 #[inline(always)]
-fn write_texts<W: Sink>(out: &mut W, name: &str, taken: &Taken)
+pub fn write_answer_unless_failed<W: Sink>(out: &mut W, name: &str, taken: &Taken)
     ensures { WasGiven W.state out.old out.new (answer_line name.now taken.now ++ line_feed ∷ []) }
 {
     let mut text = StackText::new();
@@ -144,7 +144,7 @@ pub fn write_answer<W: Sink>(out: &mut W, name: &str, taken: &Taken) -> Result<(
         (Appends (W.state out.old).written (W.state out.new).written (answer_line name.now taken.now ++ line_feed ∷ [])) }
     ensures start { AppendsPrefix (W.state out.old).written (W.state out.new).written (answer_line name.now taken.now ++ line_feed ∷ []) }
 {
-    write_texts(out, name, taken);
+    write_answer_unless_failed(out, name, taken);
     if out.failed() {
         return Err(io::Error::from(io::ErrorKind::Other));
     }

@@ -53,7 +53,6 @@ fn prepend_board(text: &mut StackText, board: &Board)
     ensures line { text.new ≡ line_text_of board.now ++ text.old }
     ensures short { length text.new ≤ length text.old + 57 }
 {
-    let _side = board.m(); // For its clause: the board is within the limits.
     text.prepend(ending(board.rule()));
     prepend_side(text, board, Player::Other, 0);
     text.prepend(" ");

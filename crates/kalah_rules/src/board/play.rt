@@ -23,7 +23,8 @@ impl Board {
 
     /// Returns the mover's houses that may be moved, in ascending order: those that hold seeds, or none if the game is over.
     pub fn legal(&self) -> Moves
-        ensures { result ≡ legal_houses self.now }
+        ensures moves { result ≡ legal_houses self.now }
+        ensures limits { IsWithinLimits self.now }
     {
         let mut moves = Moves::none();
         if self.is_over() {

@@ -12,8 +12,8 @@ use std::marker::Model;
 /// a board, with their number and the number of their seeds.
 #[derive(Clone, Debug, Drop)]
 pub struct HouseRow {
-    pub(super) number: u64,
-    pub(super) seeds: u64,
+    number: u64,
+    seeds: u64,
     count: u8,
 }
 

@@ -104,7 +104,7 @@ pub(super) fn one_each(n: u8) -> u64
 
 // Returns a row with one seed in each house up to this one.
 #[inline(always)]
-pub(super) fn one_each_to(house: House) -> u64
+pub(super) fn one_each_through(house: House) -> u64
     ensures value { result ≡ ones house }
     ensures small { result ≤ 34636833 }
 {
@@ -112,7 +112,7 @@ pub(super) fn one_each_to(house: House) -> u64
 }
 
 // Returns a row of `m` houses with one seed in each house up to `x`.
-pub(super) fn one_each_up_to(m: u8, x: u8) -> u64
+pub(super) fn one_each_within(m: u8, x: u8) -> u64
     requires { m ≤ 6 }
     ensures value { result ≡ ones_up_to m x }
     ensures small { result ≤ 34636833 }
@@ -141,8 +141,8 @@ pub(super) fn own_gains(m: u8, h: u8, laps: u8, reach: u8) -> u64
     ensures value { result + ones h ≡ laps * ones m + ones_up_to m reach + ones_up_to m (reach - (2 * m + 1)) }
     ensures small { result < 2 ^ 30 }
 {
-    let past = one_each_up_to(m, reach) - one_each(h);
-    the_same_each(m, laps) + past + one_each_up_to(m, reach.saturating_sub(2 * m + 1))
+    let past = one_each_within(m, reach) - one_each(h);
+    the_same_each(m, laps) + past + one_each_within(m, reach.saturating_sub(2 * m + 1))
 }
 
 // Returns what the other player's houses gain by the same sowing.
@@ -152,5 +152,5 @@ pub(super) fn other_gains(m: u8, laps: u8, reach: u8) -> u64
     ensures value { result ≡ laps * ones m + ones_up_to m (reach - (m + 1)) }
     ensures small { result < 2 ^ 30 }
 {
-    the_same_each(m, laps) + one_each_up_to(m, reach.saturating_sub(m + 1))
+    the_same_each(m, laps) + one_each_within(m, reach.saturating_sub(m + 1))
 }

@@ -8,7 +8,7 @@ ghost use Rattle.kalah_rules.specs.Sowings.{IsSowing};
 
 use crate::houses::Houses;
 use crate::houses::house::House;
-use crate::houses::numbers::{OTHER_ROW, alone, one_each, one_each_to, seeds_at};
+use crate::houses::numbers::{OTHER_ROW, alone, one_each, one_each_through, seeds_at};
 use crate::houses::sowings::{Sowing, Sowings};
 use crate::rule::Rule;
 use crate::step::HousesStep;
@@ -82,7 +82,7 @@ impl Houses {
         ensures { result ≡ houses_step self.now house }
     {
         let lifted = self.rows - alone(house, seeds_at(self.own_row(), house));
-        let rows = lifted + (one_each(self.m()) - one_each_to(house));
+        let rows = lifted + (one_each(self.m()) - one_each_through(house));
         let seeds = self.seeds - 1;
         if rows % OTHER_ROW > 0 {
             let variant = self.variant;
@@ -168,7 +168,8 @@ impl Houses {
     /// player's store.
     pub fn play(&self, h: u8) -> HousesStep
         requires { Contains (legal_houses (storeless self.now)) h }
-        ensures { result ≡ houses_step self.now h }
+        ensures step { result ≡ houses_step self.now h }
+        ensures limits { IsWithinHouses self.now }
     {
         let sowing = Sowing::new(self.m(), h, self.own(h));
         self.play_as(House::new(h), sowing)
@@ -178,7 +179,8 @@ impl Houses {
     #[inline(always)]
     pub fn play_by(&self, sowings: &Sowings, house: House) -> HousesStep
         requires { Contains (legal_houses (storeless self.now)) house }
-        ensures { result ≡ houses_step self.now house }
+        ensures step { result ≡ houses_step self.now house }
+        ensures limits { IsWithinHouses self.now }
     {
         self.play_as(house, sowings.get(self.m(), house, self.own_in(house)))
     }

@@ -8,9 +8,17 @@ use Rattle.kalah_jobs.specs.declared.files.entry.Entry.{Entry}
 use Rattle.kalah_jobs.specs.Files.JobList.{job_list}
 use Rattle.kalah_jobs.specs.Files.NamedBytes.{NamedBytes}
 use Rattle.kalah_jobs.specs.Writing.Output.{TallyState, tally_of, is_faulty_job, output_to}
+use Rattle.kalah_jobs.specs.declared.files.jobs.JobsFault.{JobsFault}
+use Rattle.kalah_jobs.specs.declared.files.jobs.JobsFault.TheVariants as jobs
 use Rattle.kalah_run.specs.declared.batch.run_fault.RunFault.{RunFault}
 use Rattle.kalah_run.specs.declared.batch.run_fault.RunFault.TheVariants.{TooManyFiles, TooManyLines, OutOfMemory, NoWorker, Write}
 use Rattle.kalah_jobs.specs.declared.files.question.Question.{Question}
+
+-- the result of a batch if its files have no jobs
+abbrev pub run_fault_of : JobsFault → RunFault
+run_fault_of jobs.TooManyFiles = TooManyFiles
+run_fault_of jobs.TooManyLines = TooManyLines
+run_fault_of jobs.OutOfMemory = OutOfMemory
 
 -- the lines of these jobs, and those of them that are answered by a fault
 abbrev pub counts_of : List (List Entry) → TallyState

@@ -1,14 +1,43 @@
--- What is known of the output of a batch.
-use Rattle.std.specs.Prelude.{◌≡◌, ℕ, ◌<◌, List, length}
+-- What is known of the output of a batch: what has come, and what was written of it.
+use Rattle.std.specs.Prelude.{◌≡◌, ℕ, ◌+◌, ◌<◌, List, length, take, false}
+use Rattle.std.specs.List.{flat_map}
+use Rattle.std.specs.Io.KnownBytes.{Appends}
 use Rattle.kalah_jobs.specs.declared.files.entry.Entry.{Entry}
-use Rattle.kalah_jobs.specs.declared.files.job.Job.{Job}
-use Rattle.kalah_jobs.specs.Files.NamedBytes.{NamedBytes}
-use Rattle.kalah_jobs.specs.Collecting.CollectorState.{state_of, new_files, HasEnded}
-use Rattle.kalah_jobs.specs.Writing.Given.{SinkState}
-use Rattle.kalah_jobs.specs.Writing.Output.{names_of, output_of_jobs, answer_text_of}
-use Rattle.kalah_run.specs.Batch.UnderWay.{IsUnderWay}
-use Rattle.kalah_run.specs.declared.batch.ordered_output.OrderedOutput.{OrderedOutput}
 use Rattle.kalah_jobs.specs.declared.writing.answer.Taken.{Taken}
+use Rattle.kalah_jobs.specs.declared.files.job.Job.{Job}
+use Rattle.kalah_jobs.specs.Files.JobList.{entries_of, job_list}
+use Rattle.kalah_jobs.specs.Files.Jobs.{job_count}
+use Rattle.kalah_jobs.specs.Collecting.CollectorState.{FileState, state_of, new_files, HasEnded}
+use Rattle.kalah_jobs.specs.Collecting.Held.{Kept}
+use Rattle.kalah_jobs.specs.Writing.Output.{text_of_line, names_of, output_of_jobs, answer_text_of}
+use Rattle.kalah_jobs.specs.Writing.Given.{AppendsPrefix, SinkState}
+use Rattle.kalah_jobs.specs.Files.NamedBytes.{NamedBytes}
+use Rattle.kalah_run.specs.declared.batch.ordered_output.OrderedOutput.{OrderedOutput}
+
+-- A sink that had `begun` was given bs, in order. It has all of them after that, unless a call of it has failed; and then it
+-- has a prefix of them, and nothing else.
+pub record WasGivenSince (begun out : SinkState) (bs : List ℕ) : Type 0 where
+  pub start : AppendsPrefix begun.written out.written bs
+  pub whole : out.has_failed ≡ false → Appends begun.written out.written bs
+
+-- the text of a job, if `text` gives the text of what is taken of a file
+abbrev pub text_of_job : (ℕ → Taken → List ℕ) → Job → List ℕ
+text_of_job text job = text_of_line text job.file (job.line, job.entry)
+
+-- the texts of the jobs of the files before f, and of the first n lines of f
+unfoldable pub written_upto : (ℕ → Taken → List ℕ) → List (List Entry) → ℕ → ℕ → List ℕ
+written_upto text jobs f n = flat_map (text_of_job text) (take (job_count (take f jobs) + n) (job_list jobs))
+
+-- With these offers made, the files before f are completely taken and those after it not at all. The sink was given the text of each
+-- line that was taken, in order.
+pub record IsUnderWay (text : ℕ → Taken → List ℕ) (jobs : List (List Entry)) (past : List Job) (files : List FileState) (f : ℕ)
+    (begun out : SinkState) : Type 0 where
+  pub kept : Kept jobs past files
+  pub before : (g : ℕ) → g < f → (state_of files g).taken ≡ length (entries_of jobs g)
+  pub later : (g : ℕ) → f < g → (state_of files g).taken ≡ 0
+  pub written : WasGivenSince begun out (written_upto text jobs f (state_of files f).taken)
+
+-- ==== Of an ordered output
 
 -- the answer line of what is taken of file f, followed by a line feed
 unfoldable pub text_of : List NamedBytes → ℕ → Taken → List ℕ

@@ -13,14 +13,13 @@ use Rattle.kalah_solve.specs.Table.Entries.{empty_table}
 use Rattle.kalah_run.specs.Desk.States.{PassState, IsPassAt}
 use Rattle.kalah_run.specs.Queue.States.{ArePassesFrom, GetState, HasGot, outcomes_in}
 use Rattle.kalah_run.specs.Batch.AtWork.{puts_of, AreAtWork, HaveRun}
-use Rattle.kalah_run.specs.Batch.OrderedOutput.{IsNew, whole_output}
+use Rattle.kalah_run.specs.Batch.OrderedOutput.{IsNew, whole_output, WasGivenSince}
 use Rattle.kalah_run.specs.declared.batch.request.BatchRequest.{BatchRequest}
 use Rattle.kalah_run.specs.declared.limits.TheConstants.{QUEUE_CAPACITY}
 use Rattle.kalah_run.specs.declared.batch.worker.Worker.{Worker}
 use Rattle.kalah_run.specs.declared.batch.open_batch.OpenBatch.{OpenBatch}
 use Rattle.kalah_jobs.specs.Collecting.Batch.{AreJobsInSomeOrder}
 use Rattle.kalah_run.specs.Batch.Leaving.{rest_of, pass_in, HasDrawnNothing, IsLeft, DrawsOnlyTheRest}
-use Rattle.kalah_run.specs.Batch.UnderWay.{WasGivenSince}
 use Rattle.kalah_run.specs.declared.batch.request.Rest.{Rest}
 use Rattle.kalah_run.specs.declared.batch.ordered_output.OrderedOutput.{OrderedOutput}
 use Rattle.kalah_run.specs.declared.batch.shared_work.SharedWork.{SharedWork}

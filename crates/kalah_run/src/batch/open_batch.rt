@@ -7,8 +7,7 @@ ghost use Rattle.kalah_run.specs.Desk.States.{AreNewPasses, new_pass};
 ghost use Rattle.kalah_run.specs.Batch.AtWork.{passes_of, puts_of, OnceRun};
 ghost use Rattle.kalah_run.specs.Batch.Leaving.{rest_of, pass_in};
 ghost use Rattle.kalah_run.specs.Batch.Running.{IsAsAsked, IsReadyToRun, HaveOwnTables};
-ghost use Rattle.kalah_run.specs.Batch.OrderedOutput.{whole_output};
-ghost use Rattle.kalah_run.specs.Batch.UnderWay.{WasGivenSince};
+ghost use Rattle.kalah_run.specs.Batch.OrderedOutput.{whole_output, WasGivenSince};
 ghost use Rattle.kalah_run.specs.declared.batch.request.Rest.TheVariants.{Solve};
 
 use crate::batch::crew::Crew;

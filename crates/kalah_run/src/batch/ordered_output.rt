@@ -2,7 +2,7 @@
 ghost use Rattle.std.specs.Prelude.{◌≡◌, length, false, IfOk};
 ghost use Rattle.kalah_jobs.specs.Collecting.CollectorState.{HasLinesOf};
 
-use kalah_jobs::{Collector, FileText, Jobs, Sink, write_answer};
+use kalah_jobs::{Collector, FileText, Jobs, Sink, write_answer_unless_failed};
 use std::alloc::{AllocError, Global};
 
 /// What has come for a batch, and how much of it is written. `current` is the file whose lines are written next: the
@@ -48,12 +48,9 @@ impl<'a> OrderedOutput<'a> {
         while self.current < self.jobs.files() {
             let f = self.current;
             if let Some(taken) = self.collector.take(f) {
-                if !out.failed() {
-                    let files = self.files;
-                    let file = &files[f as usize];
-                    // If it fails, the output has failed, and gets nothing more.
-                    let _ = write_answer(out, file.name.as_str(), &taken);
-                }
+                let files = self.files;
+                let file = &files[f as usize];
+                write_answer_unless_failed(out, file.name.as_str(), &taken);
             } else if self.collector.ended(f) {
                 self.current += 1;
             } else {

@@ -26,9 +26,9 @@ pub enum RunFault {
 }
 
 impl From<AllocError> for RunFault {
-    ghost use Rattle.kalah_run.specs.Batch.Faults.{no_memory};
+    ghost use Rattle.kalah_run.specs.declared.batch.run_fault.RunFault.TheVariants.{OutOfMemory};
 
-    ghost from_gives = { λ _ fault. fault ≡ no_memory };
+    ghost from_gives = { λ _ fault. fault ≡ OutOfMemory };
 
     fn from(_: AllocError) -> RunFault {
         RunFault::OutOfMemory
@@ -36,7 +36,7 @@ impl From<AllocError> for RunFault {
 }
 
 impl From<JobsFault> for RunFault {
-    ghost use Rattle.kalah_run.specs.Batch.Faults.{run_fault_of};
+    ghost use Rattle.kalah_run.specs.Batch.Answering.{run_fault_of};
 
     ghost from_gives = { λ fault run. run ≡ run_fault_of fault };
 

@@ -1,5 +1,5 @@
 //! The law of the rule under which passes draw in parallel, on a function of its own.
-ghost use Rattle.kalah_run.specs.Desk.Kept.{DeskIsLawful};
+ghost use Rattle.kalah_run.specs.Desk.Rule.{DeskIsLawful};
 
 /// A fact between any two steps of any threads at a desk. Each number below the count of those drawn stands in the row of one pass, and
 /// there once. No other stands in any. The desk's one word is at most the total and the number of passes.

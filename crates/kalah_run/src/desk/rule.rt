@@ -34,9 +34,9 @@ pub struct DeskPlan {
 pub struct DeskRule;
 
 impl TableRule<(), DeskView, DeskPlan> for DeskRule {
-    ghost use Rattle.kalah_run.specs.Desk.Kept.{IsKept, opening_view};
+    ghost use Rattle.kalah_run.specs.Desk.Rule.{IsLawful, opening_view};
 
-    ghost holds = { IsKept };
+    ghost holds = { IsLawful };
 
     ghost first = { opening_view };
 }
@@ -45,7 +45,7 @@ impl TableRule<(), DeskView, DeskPlan> for DeskRule {
 pub struct HandOut;
 
 impl Split<DeskView> for HandOut {
-    ghost use Rattle.kalah_run.specs.Desk.Steps.{after_handing_out, pass_handed_out};
+    ghost use Rattle.kalah_run.specs.Desk.Rule.{after_handing_out, pass_handed_out};
 
     ghost left = { after_handing_out };
 
@@ -56,7 +56,7 @@ impl Split<DeskView> for HandOut {
 pub struct DrawNumber;
 
 impl Play<(), DeskView> for DrawNumber {
-    ghost use Rattle.kalah_run.specs.Desk.Steps.{Draws};
+    ghost use Rattle.kalah_run.specs.Desk.Rule.{Draws};
 
     ghost then = { Draws };
 }
@@ -65,7 +65,7 @@ impl Play<(), DeskView> for DrawNumber {
 pub struct DrawRest;
 
 impl Play<(), DeskView> for DrawRest {
-    ghost use Rattle.kalah_run.specs.Desk.Steps.{DrawsRest};
+    ghost use Rattle.kalah_run.specs.Desk.Rule.{DrawsRest};
 
     ghost then = { DrawsRest };
 }
@@ -74,7 +74,7 @@ impl Play<(), DeskView> for DrawRest {
 pub struct StartClosing;
 
 impl Play<(), DeskView> for StartClosing {
-    ghost use Rattle.kalah_run.specs.Desk.Steps.{StartsClosing};
+    ghost use Rattle.kalah_run.specs.Desk.Rule.{StartsClosing};
 
     ghost then = { StartsClosing };
 }
@@ -83,8 +83,7 @@ impl Play<(), DeskView> for StartClosing {
 pub struct Reclaim;
 
 impl Join<DeskView> for Reclaim {
-    ghost use Rattle.kalah_run.specs.Desk.Kept.{ended_view};
-    ghost use Rattle.kalah_run.specs.Desk.Steps.{after_reclaiming_row};
+    ghost use Rattle.kalah_run.specs.Desk.Rule.{ended_view, after_reclaiming_row};
 
     ghost both = { after_reclaiming_row };
 

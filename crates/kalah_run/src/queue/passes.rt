@@ -14,7 +14,7 @@ impl Model for PutPass {
     ghost use Rattle.crossbeam_queue.specs.Passes.{view as view_of};
     ghost use Rattle.kalah_run.specs.declared.queue.rule.QueueView.TheVariants.{Putting};
     ghost use Rattle.kalah_run.specs.Queue.States.{PutState};
-    ghost use Rattle.kalah_run.specs.Queue.Steps.{sent_in, worker_in};
+    ghost use Rattle.kalah_run.specs.Queue.Rule.{sent_in, worker_in};
 
     ghost Value = { PutState };
 
@@ -35,7 +35,7 @@ impl Model for GetPass {
     ghost use Rattle.crossbeam_queue.specs.Passes.{view as view_of};
     ghost use Rattle.kalah_run.specs.declared.queue.rule.QueueView.TheVariants.{Getting};
     ghost use Rattle.kalah_run.specs.Queue.States.{GetState};
-    ghost use Rattle.kalah_run.specs.Queue.Steps.{got_in, made_in};
+    ghost use Rattle.kalah_run.specs.Queue.Rule.{got_in, made_in};
 
     ghost Value = { GetState };
 

@@ -19,8 +19,7 @@ pub enum QueueView {
 pub struct WholeAndInOrder;
 
 impl protocol::Protocol<Outcome, QueueView> for WholeAndInOrder {
-    ghost use Rattle.kalah_run.specs.Queue.Rule.{IsLawful};
-    ghost use Rattle.kalah_run.specs.Queue.Steps.{first_view};
+    ghost use Rattle.kalah_run.specs.Queue.Rule.{IsLawful, first_view};
 
     ghost holds = { IsLawful };
 
@@ -31,7 +30,7 @@ impl protocol::Protocol<Outcome, QueueView> for WholeAndInOrder {
 pub struct AnotherWorker;
 
 impl protocol::Split<QueueView> for AnotherWorker {
-    ghost use Rattle.kalah_run.specs.Queue.Steps.{after_making_one, one_made};
+    ghost use Rattle.kalah_run.specs.Queue.Rule.{after_making_one, one_made};
 
     ghost left = { after_making_one };
 
@@ -43,7 +42,7 @@ pub struct Puts;
 
 impl protocol::Outcome<Outcome, QueueView> for Puts {
     ghost use Rattle.std.specs.Prelude.{◌≡◌};
-    ghost use Rattle.kalah_run.specs.Queue.Steps.{after_put};
+    ghost use Rattle.kalah_run.specs.Queue.Rule.{after_put};
 
     ghost then = { λ before outcome after. after ≡ after_put before outcome };
 }
@@ -52,7 +51,7 @@ impl protocol::Outcome<Outcome, QueueView> for Puts {
 pub struct Gets;
 
 impl protocol::Outcome<Outcome, QueueView> for Gets {
-    ghost use Rattle.kalah_run.specs.Queue.Steps.{IsGot};
+    ghost use Rattle.kalah_run.specs.Queue.Rule.{IsGot};
 
     ghost then = { IsGot };
 }
@@ -62,7 +61,7 @@ pub struct Reclaims;
 
 impl protocol::Join<QueueView> for Reclaims {
     ghost use Rattle.kalah_run.specs.declared.queue.rule.QueueView.TheVariants.{Ended};
-    ghost use Rattle.kalah_run.specs.Queue.Steps.{after_reclaiming_sent};
+    ghost use Rattle.kalah_run.specs.Queue.Rule.{after_reclaiming_sent};
 
     ghost both = { after_reclaiming_sent };
 
@@ -73,7 +72,7 @@ impl protocol::Join<QueueView> for Reclaims {
 pub struct LeftInside;
 
 impl protocol::Lesson<Outcome, QueueView> for LeftInside {
-    ghost use Rattle.kalah_run.specs.Queue.Steps.{Tells};
+    ghost use Rattle.kalah_run.specs.Queue.Rule.{Tells};
 
     ghost fact = { Tells };
 }

@@ -7,13 +7,13 @@ use Rattle.kalah_solve.specs.Solver.Worth.{houses_worth}
 use Rattle.kalah_solve.specs.declared.bounds.seed_bounds.SeedBounds.{SeedBounds}
 
 -- an integer as a natural number, 0 if below 0
-abbrev pub count : ℤ → ℕ
-count (pos n) = n
-count (negsuc n) = 0
+abbrev pub nat_or_zero : ℤ → ℕ
+nat_or_zero (pos n) = n
+nat_or_zero (negsuc n) = 0
 
 -- the seeds in the houses that the mover wins in best play: the houses are worth these less the others
 unfoldable pub won : HousesState → ℕ
-won a = count (houses_worth a +ℤ pos (seeds_in_houses (storeless a))) / 2
+won a = nat_or_zero (houses_worth a +ℤ pos (seeds_in_houses (storeless a))) / 2
 
 -- what the mover wins by a step, if best play follows; after a turn it is what the other player leaves
 abbrev pub won_by_step : HousesStep → ℕ

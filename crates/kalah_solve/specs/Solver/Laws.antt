@@ -17,7 +17,7 @@ abbrev pub WorthIsGreatestValue : Type 0
 WorthIsGreatestValue = (p : Position) → HasEqualSides p → is_over p ≡ false
     → worth p ≡ greatest (map (value_of_move p) (legal_houses p))
 
--- and has one at least
+-- a position that goes on has a legal move
 abbrev pub GameThatGoesOnHasMove : Type 0
 GameThatGoesOnHasMove = (p : Position) → is_over p ≡ false → 0 < length (legal_houses p)
 
@@ -55,7 +55,7 @@ abbrev pub StrategiesPlayAGame : Type 0
 StrategiesPlayAGame = (mine theirs : Strategy) → IsStrategy mine → IsStrategy theirs → (p : Position) → HasEqualSides p →
     (houses : List ℕ) × (final : Position) × Game (follow mine) (follow theirs) p houses final
 
--- and only one
+-- two strategies play only one game
 abbrev pub StrategiesPlayOneGame : Type 0
 StrategiesPlayOneGame = (mine theirs : Strategy) (p : Position) (houses others : List ℕ) (final other : Position) →
     Game (follow mine) (follow theirs) p houses final → Game (follow mine) (follow theirs) p others other → (houses ≡ others)
@@ -74,7 +74,7 @@ GamesEnd = (p : Position) (houses : List ℕ) (final : Position) → HasEqualSid
 abbrev pub WorthIsBestPlay : Type 0
 WorthIsBestPlay = (p : Position) → HasEqualSides p → IsBestPlay p (worth p)
 
--- and there is no other
+-- there is no other margin of best play
 abbrev pub BestPlayIsOne : Type 0
 BestPlayIsOne = (p : Position) (v w : ℤ) → HasEqualSides p → IsBestPlay p v → IsBestPlay p w → v ≡ w
 

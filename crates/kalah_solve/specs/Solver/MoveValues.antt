@@ -40,7 +40,7 @@ abbrev pub ValueIsWorthOfMove : Type 0
 ValueIsWorthOfMove = (p : Position) (h : ℕ) → HasEqualSides p → is_over p ≡ false → Contains (legal_houses p) h →
     IsWorthOfMove p h (value_of_move p h)
 
--- and no other number is
+-- no other number is the value of a move
 abbrev pub WorthOfMoveIsOne : Type 0
 WorthOfMoveIsOne = (p : Position) (h : ℕ) (v w : ℤ) → HasEqualSides p → is_over p ≡ false → IsWorthOfMove p h v
     → IsWorthOfMove p h w → v ≡ w

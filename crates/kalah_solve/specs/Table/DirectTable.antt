@@ -1,5 +1,5 @@
 -- What the slots of houses state.
-use Rattle.std.specs.Prelude.{◌≡◌, ◌⊎◌, ℕ, ◌*◌, ◌/◌, ◌%◌, ◌^◌, ◌<◌, ◌≤◌, max, min, List, length, slice_index_or}
+use Rattle.std.specs.Prelude.{◌≡◌, ◌⊎◌, ℕ, ◌-◌, ◌*◌, ◌/◌, ◌%◌, ◌^◌, ◌<◌, ◌≤◌, max, min, List, length, slice_index_or}
 use Rattle.kalah_rules.specs.Position.{HousesState, IsWithinHouses}
 use Rattle.kalah_rules.specs.Key.{key_of}
 use Rattle.kalah_solve.specs.Bounds.Won.{won}
@@ -12,23 +12,23 @@ use Rattle.kalah_solve.specs.declared.table.direct_table.Slot.{Slot}
 unfoldable pub mixed : ℕ → ℕ
 mixed key = key * MIX % 2 ^ 64
 
--- the slot of a mixed key among `count` slots, by its first half
-abbrev pub slot_among : ℕ → ℕ → ℕ
-slot_among count number = number / 2 ^ 32 * count / 2 ^ 32
+-- the slot of a mixed key: its bits from `shift` on
+abbrev pub slot_at : ℕ → ℕ → ℕ
+slot_at shift number = number / 2 ^ shift
 
--- what the slot of a mixed key leaves open of it
-abbrev pub left_open : ℕ → ℕ
-left_open number = number % 2 ^ 54
+-- the tag of a mixed key: what its slot leaves open of it
+abbrev pub tag_of_key : ℕ → ℕ
+tag_of_key number = number % 2 ^ 54
 
--- a slot keeps that of the last houses that had it
-abbrev pub stored_rest : Slot → ℕ
-stored_rest p = p.stored / 1024
+-- a slot keeps the tag of the last houses that had it
+abbrev pub stored_tag : Slot → ℕ
+stored_tag p = p.stored / 1024
 
 -- the least that the mover is known to win of them
 abbrev pub stored_least : Slot → ℕ
 stored_least p = p.stored % 32
 
--- and the most
+-- the most that the mover is known to win of them
 abbrev pub stored_most : Slot → ℕ
 stored_most p = p.stored / 32 % 32
 
@@ -37,23 +37,25 @@ pub record IsWithinSlot (p : Slot) (t : ℕ) : Type 0 where
   pub least : stored_least p ≤ t
   pub most : t ≤ stored_most p
 
--- what a slot states is true of all houses that have it and leave that open
-abbrev pub StoreBounds : List Slot → Type 0
-StoreBounds slots = (a : HousesState) (number : ℕ) (d : Slot) → IsWithinHouses a → number ≡ mixed (key_of a) →
-    slot_among (length slots) number < length slots →
-    stored_rest (slice_index_or slots (slot_among (length slots) number) d) ≡ left_open number →
-    IsWithinSlot (slice_index_or slots (slot_among (length slots) number) d) (won a)
+-- what a slot states is true of all houses that have it and its tag
+abbrev pub StoreBounds : ℕ → List Slot → Type 0
+StoreBounds shift slots = (a : HousesState) (number : ℕ) (d : Slot) → IsWithinHouses a → number ≡ mixed (key_of a) →
+    slot_at shift number < length slots →
+    stored_tag (slice_index_or slots (slot_at shift number) d) ≡ tag_of_key number →
+    IsWithinSlot (slice_index_or slots (slot_at shift number) d) (won a)
 
--- how many slots there are beside a number of entries: that many, and never fewer than 1,024
-abbrev pub slots_for : ℕ → ℕ
-slots_for entries = max LEAST_SLOTS entries
+-- how many slots go with a number of entries: the greatest power of two that is no more, and never fewer than 1,024
+pub record AreSlotsFor (entries count : ℕ) : Type 0 where
+  pub power : ℕ
+  pub is : count ≡ 2 ^ power
+  pub most : count ≤ max LEAST_SLOTS entries
+  pub next : max LEAST_SLOTS entries < 2 * count
 
 -- the slots of a table with room for this many entries: its first ones, or all
 abbrev pub AreSlots : ℕ → List Slot → Type 0
-AreSlots entries slots = (length slots ≡ slots_for (min entries FIRST_SLOTS))
-    ⊎ (length slots ≡ slots_for (min entries most_entries))
+AreSlots entries slots = AreSlotsFor (min entries FIRST_SLOTS) (length slots) ⊎ AreSlotsFor (min entries most_entries) (length slots)
 
--- enough slots that no two keys share a slot and what it leaves open
-pub record AreEnough (count : ℕ) : Type 0 where
-  pub least : LEAST_SLOTS ≤ count
-  pub most : count ≤ 2 ^ 32
+-- a slot for each value of a key's bits from `shift` on, and enough that no two keys share a slot and a tag
+pub record AreEnough (shift count : ℕ) : Type 0 where
+  pub all : count ≡ 2 ^ (64 - shift)
+  pub least : shift ≤ 54

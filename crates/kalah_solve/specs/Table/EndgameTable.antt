@@ -46,6 +46,6 @@ unfoldable pub StoresWon : ℕ → ℕ → Type 0
 StoresWon i word = (a : HousesState) → IsWithinHouses a → IsEnding a → word_of a ≡ i → stored_at word (rank_of_houses a % 16) ≢ 0 →
     stored_at word (rank_of_houses a % 16) ≡ suc (won a)
 
--- and so does each
+-- each word states what is true
 abbrev pub AreTrueWords : List ℕ → Type 0
 AreTrueWords words = (i : ℕ) → StoresWon i (slice_index words i)

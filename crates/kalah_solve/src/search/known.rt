@@ -1,4 +1,4 @@
-//! What a search knows of houses, what it learns of them, and how it grows with its work.
+//! What a search knows of houses, what it learns of them, and how it grows with its nodes.
 ghost use Rattle.std.specs.Prelude.{◌≡◌, ◌≤ℤ◌};
 ghost use Rattle.kalah_solve.specs.Solver.Worth.{houses_worth};
 ghost use Rattle.kalah_solve.specs.Bounds.Intervals.{Encloses, least_margin, most_margin};
@@ -46,31 +46,31 @@ impl<A: Allocator + Clone> Search<A> {
         }
     }
 
-    // Stores what was learned of the houses by `work` nodes.
-    pub(super) fn learn(&mut self, houses: &Houses, bounds: SeedBounds, work: u64)
+    // Stores what was learned of the houses by so many `nodes`.
+    pub(super) fn learn(&mut self, houses: &Houses, bounds: SeedBounds, nodes: u64)
         requires { IsWithinBounds bounds (won houses.now) }
     {
         let seeds = houses.seeds();
         if seeds <= self.most_slotted {
             self.table.slots.keep(houses, bounds);
         } else {
-            self.learn_margins(*houses, bounds.margins(seeds), work);
+            self.learn_margins(*houses, bounds.margins(seeds), nodes);
         }
     }
 
-    // Stores what was learned of their worth as an entry, unless it took too little work.
-    pub(super) fn learn_margins(&mut self, houses: Houses, interval: Interval, work: u64)
+    // Stores what was learned of their worth as an entry, unless it took too few nodes.
+    pub(super) fn learn_margins(&mut self, houses: Houses, interval: Interval, nodes: u64)
         requires { Encloses interval (houses_worth houses) }
     {
-        if work >= self.least_work {
+        if nodes >= self.least_nodes {
             self.table.keep(&houses, interval);
         }
     }
 
     // Counts one more node, and returns how many of the variant there were before.
     pub(super) fn count_node(&mut self) -> u64 {
-        let before = self.work.nodes();
-        if !self.work.count_node() {
+        let before = self.counts.nodes();
+        if !self.counts.count_node() {
             self.grow();
         }
         before
@@ -80,7 +80,7 @@ impl<A: Allocator + Clone> Search<A> {
     #[cold]
     #[inline(never)]
     fn grow(&mut self) {
-        self.work.count_event();
+        self.counts.count_at_threshold();
         self.grow_endings();
         self.table.grow();
     }
@@ -88,7 +88,7 @@ impl<A: Allocator + Clone> Search<A> {
     // Uses the endings that pay, if the search uses endings.
     pub(super) fn grow_endings(&mut self) {
         if self.ending_limit.seeds > 0 {
-            self.ending_limit = self.work.ending_limit();
+            self.ending_limit = self.counts.ending_limit();
         }
     }
 }

@@ -59,7 +59,7 @@ impl MoveOrder {
         ensures some { 0 < result }
         ensures house { result % 8 + 1 ≡ house }
     {
-        let estimate = 1 + GAIN * gained as u32 + self.weight(m, next);
+        let estimate = GAIN * gained as u32 + self.weight(m, next);
         (8 * estimate + turn_of(m, house) as u32) as u16
     }
 }
@@ -70,7 +70,8 @@ fn turn_of(m: u8, house: House) -> u16
     requires first { 1 ≤ m }
     requires last { m ≤ 6 }
     ensures house { result % 8 + 1 ≡ house }
-    ensures small { result ≤ 413 }
+    ensures some { 0 < result }
+    ensures small { result ≤ 421 }
 {
     TURNS[(m / 6) as usize][(m + house.bit() - 1) as usize]
 }

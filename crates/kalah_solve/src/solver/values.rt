@@ -1,4 +1,4 @@
-//! The value of each move of a position.
+//! `Solver::values`: the search for each move.
 ghost use Rattle.std.specs.Prelude.{◌≡◌, Contains};
 ghost use Rattle.kalah_rules.specs.Position.{IsSmallMargin};
 ghost use Rattle.kalah_rules.specs.Play.{legal_houses};
@@ -18,7 +18,6 @@ impl<A: Allocator + Clone> Solver<A> {
         ensures values { result ≡ values_of board.now }
         ensures best_play { TellMoves board.now result }
     {
-        let _side = board.m(); // For its clause: the board is within the limits.
         let moves = board.legal();
         let mut values = MoveValues::none();
         for i in 0..moves.len() {
@@ -46,20 +45,20 @@ impl<A: Allocator + Clone> Solver<A> {
     {
         match board.apply(h) {
             Step::Over(end) => end.returns(),
-            Step::Again(next) => self.margin(&next),
-            Step::Turn(next) => -self.margin(&next),
+            Step::Again(next) => self.worth(&next),
+            Step::Turn(next) => -self.worth(&next),
         }
     }
 
     // Returns the margin of best play of the position.
-    fn margin(&mut self, board: &Board) -> i32
+    fn worth(&mut self, board: &Board) -> i32
         ensures worth { result ≡ worth board.now }
         ensures small { IsSmallMargin result }
     {
         if board.is_over() {
             return board.returns();
         }
-        let best = self.worth(&board.houses());
+        let best = self.houses_worth(&board.houses());
         best + (board.own_store() as i32 - board.other_store() as i32)
     }
 }

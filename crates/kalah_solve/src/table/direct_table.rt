@@ -1,69 +1,70 @@
 //! A table of slots for what is known of houses. Each slot keeps the houses stored last; nothing is searched for.
-ghost use Rattle.std.specs.Prelude.{◌≡◌, ◌≤◌, ◌<◌, ◌*◌, ◌/◌, ◌^◌, IfOk, length};
+ghost use Rattle.std.specs.Prelude.{◌≡◌, ◌≤◌, ◌<◌, ◌-◌, ◌*◌, ◌/◌, ◌^◌, ◌↔◌, IfOk, IfSome, IsSome, length};
 ghost use Rattle.kalah_rules.specs.Limits.{most_seeds};
 ghost use Rattle.kalah_rules.specs.Position.{IsWithinHouses};
 ghost use Rattle.kalah_rules.specs.Key.{key_of};
 ghost use Rattle.kalah_solve.specs.Bounds.Won.{won, IsWithinBounds};
-ghost use Rattle.kalah_solve.specs.Table.DirectTable.{mixed, slot_among, left_open, slots_for, stored_rest, stored_least, stored_most, AreEnough};
+ghost use Rattle.kalah_solve.specs.Table.DirectTable.{mixed, slot_at, tag_of_key, stored_tag, stored_least, stored_most, AreSlotsFor};
 
 use crate::bounds::seed_bounds::SeedBounds;
 use kalah_rules::{Houses, MOST_SEEDS};
 use std::alloc::{AllocError, Allocator, Global};
 use std::marker::Model;
 
-// The least number of slots: enough that a slot and what it leaves open of a key determine the key.
-const LEAST_SLOTS: usize = 1024;
+// The least number of slots: enough that a slot and a tag determine the key.
+const LEAST_SLOTS: u32 = 1024;
 
 // The factor by which a key is mixed.
 const MIX: u64 = 0x9E37_79B9_7F4A_7C15;
 
-// The number of values of what a slot leaves open.
-const OPEN: u64 = 0x40_0000_0000_0000;
+// The number of tags.
+const TAGS: u64 = 0x40_0000_0000_0000;
 
-// What is known of some houses that have this slot, as one number. From bit 10 on it has what the slot leaves open of their key, and
-// below that the most and the least that the mover wins. Initially it holds what is known of all houses.
+// What is known of some houses that have this slot, as one number. From bit 10 on it has the tag of their key, and below that the most
+// and the least that the mover wins. Initially it holds what is known of all houses.
 #[derive(Clone, Copy)]
 struct Slot {
     stored: u64,
 }
 
 impl Slot {
-    // Returns the slot that stores these bounds of the houses that leave this open.
-    fn of(rest: u64, bounds: SeedBounds) -> Slot
-        requires rest { rest < 2 ^ 54 }
+    // Returns the slot that stores these bounds of the houses with this tag.
+    fn of(tag: u64, bounds: SeedBounds) -> Slot
+        requires tag { tag < 2 ^ 54 }
         requires least { bounds.least ≤ most_seeds }
-        ensures rest { stored_rest result ≡ rest }
+        ensures tag { stored_tag result ≡ tag }
         ensures least { stored_least result ≡ bounds.least }
         ensures most { stored_most result ≡ bounds.most }
     {
         Slot {
-            stored: 1024 * rest + 32 * bounds.most as u64 + bounds.least as u64,
+            stored: 1024 * tag + 32 * bounds.most as u64 + bounds.least as u64,
         }
     }
 
-    // Returns what the slot leaves open of the key of its houses.
-    fn rest(self) -> u64
-        ensures { result ≡ stored_rest self }
+    // Returns the bounds that it stores of the houses with this tag, or `None` if it is about others.
+    fn bounds_of(self, tag: u64) -> Option<SeedBounds>
+        requires { tag < 2 ^ 54 }
+        ensures found { IsSome result ↔ (stored_tag self ≡ tag) }
+        ensures least { IfSome result (λ s. s.least ≡ stored_least self) }
+        ensures most { IfSome result (λ s. s.most ≡ stored_most self) }
     {
-        self.stored / 1024
-    }
-
-    // Returns the bounds that it stores.
-    fn bounds(self) -> SeedBounds
-        ensures least { result.least ≡ stored_least self }
-        ensures most { result.most ≡ stored_most self }
-    {
-        SeedBounds {
-            least: (self.stored % 32) as u8,
-            most: (self.stored / 32 % 32) as u8,
+        let bounds = self.stored.wrapping_sub(1024 * tag);
+        if bounds >= 1024 {
+            return None;
         }
+        Some(SeedBounds {
+            least: (bounds % 32) as u8,
+            most: (bounds / 32) as u8,
+        })
     }
 }
 
-/// A fixed number of slots, each shared by many houses.
+/// A fixed number of slots, each shared by many houses. The number is a power of two: the upper bits of a mixed key are its slot.
 #[derive(Drop)]
 pub(crate) struct DirectTable<A: Allocator = Global> {
     slots: Vec<Slot, A>,
+    // How many bits of a mixed key are below its slot.
+    shift: u32,
 }
 
 impl<A: Allocator> Model for DirectTable<A> {
@@ -75,7 +76,7 @@ impl<A: Allocator> Model for DirectTable<A> {
 
     ghost view = { λ p. p.slots.items };
 
-    ghost invariant = { λ p. AreEnough (length p.slots.items) × StoreBounds p.slots.items };
+    ghost invariant = { λ p. AreEnough p.shift (length p.slots.items) × StoreBounds p.shift p.slots.items };
 }
 
 // Returns the mixed key of the houses.
@@ -87,38 +88,40 @@ fn mixed_key(houses: &Houses) -> u64
     houses.key().wrapping_mul(MIX)
 }
 
-// Returns the slot of a mixed key among `count` slots.
-fn slot_of(mixed: u64, count: usize) -> usize
-    requires few { count ≤ 2 ^ 32 }
-    requires some { 0 < count }
-    ensures slot { result ≡ slot_among count mixed }
-    ensures inside { result < count }
+// Returns the slot of a mixed key: its bits from `shift` on.
+fn slot_of(mixed: u64, shift: u32) -> usize
+    requires { shift < 64 }
+    ensures slot { result ≡ slot_at shift mixed }
+    ensures inside { result < 2 ^ (64 - shift) }
 {
-    ((mixed >> 32) * count as u64 >> 32) as usize
+    (mixed >> shift) as usize
 }
 
-// Returns what its slot leaves open of a mixed key.
-fn rest_of(mixed: u64) -> u64
-    ensures rest { result ≡ left_open mixed }
+// Returns the tag of a mixed key: what its slot leaves open of it.
+fn tag_of(mixed: u64) -> u64
+    ensures tag { result ≡ tag_of_key mixed }
     ensures small { result < 2 ^ 54 }
 {
-    mixed % OPEN
+    mixed % TAGS
 }
 
 impl<A: Allocator> DirectTable<A> {
-    /// Makes `count` slots, or 1,024 if that is more, with nothing known.
+    /// Makes the slots that go with this many entries, with nothing known: as many, rounded down to a power of two, but at least 1,024.
     ///
     /// Fails with `AllocError` only if memory was refused.
-    pub(crate) fn new(alloc: A, count: u32) -> Result<DirectTable<A>, AllocError>
-        ensures { IfOk result (λ p. length p ≡ slots_for count) }
+    pub(crate) fn new(alloc: A, entries: u32) -> Result<DirectTable<A>, AllocError>
+        ensures { IfOk result (λ p. AreSlotsFor entries (length p)) }
     {
         let unknown = SeedBounds {
             least: 0,
             most: MOST_SEEDS as u8,
         };
-        let count = LEAST_SLOTS.max(count as usize);
-        let slots = Vec::from_elem(alloc, Slot::of(0, unknown), count)?;
-        Ok(DirectTable { slots })
+        let bits = LEAST_SLOTS.max(entries).ilog2();
+        let slots = Vec::from_elem(alloc, Slot::of(0, unknown), 1 << bits)?;
+        Ok(DirectTable {
+            slots,
+            shift: 64 - bits,
+        })
     }
 
     /// Returns the number of slots.
@@ -134,11 +137,10 @@ impl<A: Allocator> DirectTable<A> {
         ensures { IsWithinBounds result (won houses.now) }
     {
         let mixed = mixed_key(houses);
-        let slot = self.slots[slot_of(mixed, self.slots.len())];
-        if slot.rest() == rest_of(mixed) {
-            slot.bounds()
-        } else {
-            SeedBounds::unknown(houses)
+        let slot = self.slots[slot_of(mixed, self.shift)];
+        match slot.bounds_of(tag_of(mixed)) {
+            Some(bounds) => bounds,
+            None => SeedBounds::unknown(houses),
         }
     }
 
@@ -148,8 +150,8 @@ impl<A: Allocator> DirectTable<A> {
         ensures { length self.new ≡ length self.old }
     {
         let mixed = mixed_key(houses);
-        let stored = Slot::of(rest_of(mixed), bounds);
-        let at = slot_of(mixed, self.slots.len());
+        let stored = Slot::of(tag_of(mixed), bounds);
+        let at = slot_of(mixed, self.shift);
         self.slots[at] = stored;
     }
 }

@@ -86,7 +86,7 @@ fn choices() -> [u32; CHOICES]
 }
 
 // Returns cell `i` of the pairs, from the choices.
-fn pair(choices: &[u32; CHOICES], i: usize) -> u32
+fn pair_cell(choices: &[u32; CHOICES], i: usize) -> u32
     requires inside { i < PAIRS }
     requires choices { AreChoices CHOICES choices.now }
     ensures { i % 32 < COUNTS → result ≡ pair_at i }
@@ -107,7 +107,7 @@ fn pairs() -> [u32; PAIRS]
     let choices = choices();
     let mut pairs = [0u32; PAIRS];
     for i in 0..PAIRS {
-        pairs[i] = pair(&choices, i);
+        pairs[i] = pair_cell(&choices, i);
     }
     pairs
 }
@@ -143,7 +143,7 @@ impl<A: Allocator + Clone> EndgameTable<A> {
     }
 
     // Returns what two cells add to the rank of a row, with `past` pairs past them. `sums` has the number of seeds from each of them on.
-    fn pair(&self, past: usize, sums: u64) -> u32
+    fn pair_rank(&self, past: usize, sums: u64) -> u32
         requires past { past < 6 }
         requires first { sums % 32 < COUNTS }
         requires second { sums / 32 < COUNTS }
@@ -165,7 +165,7 @@ impl<A: Allocator + Clone> EndgameTable<A> {
         let mut rank = 0;
         for step in 0..6usize {
             if step + m >= 6 {
-                rank += self.pair(5 - step, sums % 1024);
+                rank += self.pair_rank(5 - step, sums % 1024);
                 sums /= 1024;
             }
         }

@@ -2,11 +2,8 @@ use Rattle.std.proofs.Common.{arith}
 use Rattle.std.proofs.lemmas.Grind.{common_steps}
 use Rattle.kalah_cli.proofs.command.arg_of.Goals as goal
 
-pub returns-in-Some : goal.returns-in-Some
-returns-in-Some c = grind (arith, common_steps)
-
-pub returns-in-None : goal.returns-in-None
-returns-in-None c = grind (arith, common_steps)
+pub returns-in-NumberOption : goal.returns-in-NumberOption
+returns-in-NumberOption c = grind (arith, common_steps)
 
 pub returns-in-PositionalNumber : goal.returns-in-PositionalNumber
 returns-in-PositionalNumber c = grind (arith, common_steps)

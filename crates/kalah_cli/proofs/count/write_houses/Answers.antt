@@ -37,7 +37,7 @@ write_house-requires g c =
     let moves = c.legal-moves.result in
     let has : Contains moves c.get-house.result = subst (Contains moves) (sym c.get-house.ensures)
     (Contains-get_or moves c.loop-i.i 0 (omega (arith, c.loop-i-test.true, c.len-i-end.ensures))) in
-    house_small c.args.board.now c.get-house.result c.m-side.ensures.limits
+    house_small c.args.board.now c.get-house.result c.legal-moves.ensures.limits
     (subst (λ xs. Contains xs c.get-house.result) c.loop-i.invariant.same has)
 
 pub overflow_add-total : goal.overflow_add-total
@@ -45,7 +45,7 @@ overflow_add-total g c =
     let few = few_ways c.ways_by-ways.result c.args.depth c.ways_by-ways.ensures.small c.requires.high in
     let within = legal_few c.args.board.now in
     let same = ap length c.loop-i.invariant.same in
-    omega (arith, c.loop-i.invariant.few, few, c.loop-i-test.true, c.len-i-end.ensures, same, within, c.m-side.ensures.limits.at_most_six)
+    omega (arith, c.loop-i.invariant.few, few, c.loop-i-test.true, c.len-i-end.ensures, same, within, c.legal-moves.ensures.limits.at_most_six)
 
 pub returns-then-failed-clause-given : goal.returns-then-failed-clause-given
 returns-then-failed-clause-given g c =

@@ -2,9 +2,6 @@ use Rattle.std.proofs.lemmas.Grind.{common_steps}
 use Rattle.std.proofs.Common.{arith}
 use Rattle.kalah_cli.proofs.files.read_limited.Goals as goal
 
-pub returns-in-Ok-eq0-clause-end : goal.returns-in-Ok-eq0-clause-end
-returns-in-Ok-eq0-clause-end g c = c.in-Ok-eq0.ensures.bytes.1 c.in-Ok-eq0.field-0-test (omega (arith, c.read.auto.buf))
-
 pub loop-chunk-preserved : goal.loop-chunk-preserved
 loop-chunk-preserved g c = grind (arith, common_steps)
 

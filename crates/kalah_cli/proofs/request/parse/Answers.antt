@@ -1,11 +1,12 @@
 use Rattle.std.proofs.lemmas.Grind.{common_steps}
-use Rattle.std.proofs.Common.{◌≡◌, map, rules, subst, sym, arith}
+use Rattle.std.proofs.Common.{◌≡◌, ◌∙◌, ap, arith, is_some, map, subst, sym}
+use Rattle.std.specs.Prelude.{option_and_then}
 use Rattle.std.proofs.lemmas.Result.{IfOk-weaker}
 use Rattle.clap.specs.Words.{HasKind, fault_of}
 use Rattle.clap.specs.declared.error.Error.{Error}
 use Rattle.kalah_cli.specs.Command.{kalah_app}
-use Rattle.kalah_cli.specs.Request.{IsTakenAs, request_asks}
-use Rattle.kalah_cli.proofs.RequestLemmas.{words_ask_as_matches, faulty, on_error, parsed, fails_by_memory}
+use Rattle.kalah_cli.specs.Request.{IsTakenAs, matches_ask, request_asks}
+use Rattle.kalah_cli.proofs.RequestLemmas.{faulty, fails_by_memory, is_there, on_error, pair_got, parsed}
 use Rattle.kalah_cli.proofs.request.parse.Given.{Over}
 use Rattle.kalah_cli.proofs.request.parse.Goals as goal
 
@@ -14,22 +15,24 @@ unwrap-requires g c =
     let words = map g.S.AsStr.text c.args.words.now in
     let read = parsed _ words _ c.in_ok-command.ensures c.in_ok-matches.ensures.kinds
     (λ simple. (c.in_ok-matches.ensures.matches simple).1) in
-    grind (arith, common_steps)
+    c.subcommand.ensures.variant ∙ is_there _ _ (ap is_some read.taken.2)
 
 pub requested-requires : goal.requested-requires
 requested-requires g c =
     let words = map g.S.AsStr.text c.args.words.now in
     let read = parsed _ words _ c.in_ok-command.ensures c.in_ok-matches.ensures.kinds
     (λ simple. (c.in_ok-matches.ensures.matches simple).1) in
-    grind (arith, common_steps)
+    let same = pair_got _ _ _ _ _ _ c.unwrap.result c.subcommand.ensures.name c.subcommand.ensures.rows c.unwrap.ensures in
+    (words, read.none, sym read.same ∙ same)
 
 pub returns-clause-taken : goal.returns-clause-taken
 returns-clause-taken g c =
     let words = map g.S.AsStr.text c.args.words.now in
     let read = parsed _ words _ c.in_ok-command.ensures c.in_ok-matches.ensures.kinds
     (λ simple. (c.in_ok-matches.ensures.matches simple).1) in
+    let same = pair_got _ _ _ _ _ _ c.unwrap.result c.subcommand.ensures.name c.subcommand.ensures.rows c.unwrap.ensures in
     IfOk-weaker c.requested.result _ (λ r. IsTakenAs words (request_asks r))
-    (λ r asked. (read.none, words_ask_as_matches words _ _ read.same (search rules))) c.requested.ensures.asked
+    (λ r asked. (read.none, ap (option_and_then matches_ask) (sym read.same ∙ same) ∙ asked)) c.requested.ensures.asked
 
 pub returns-clause-kinds : goal.returns-clause-kinds
 returns-clause-kinds g c =

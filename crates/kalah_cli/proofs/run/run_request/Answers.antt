@@ -1,12 +1,11 @@
 use Rattle.std.proofs.Common.{arith}
 use Rattle.std.proofs.lemmas.Grind.{common_steps}
-use Rattle.kalah_cli.proofs.RunLemmas.{reads_nothing}
 use Rattle.kalah_cli.proofs.run.run_request.Goals as goal
 
 -- Answers are written for what a seeded mistake breaks: a wrong answer fails at once, and a search only at its limits.
 
 pub returns-in-Line : goal.returns-in-Line
-returns-in-Line g c = rw c.in-Line.is (reads_nothing _ _ _ _ _ c.in-Line.command _ c.run_line.ensures)
+returns-in-Line g c = rw c.in-Line.is c.run_line.ensures
 
 pub returns-in-Files : goal.returns-in-Files
 returns-in-Files g c = rw c.in-Files.is c.run_files.ensures

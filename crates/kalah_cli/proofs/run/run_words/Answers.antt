@@ -19,12 +19,12 @@ use Rattle.kalah_cli.proofs.run.run_words.Goals as goal
 request_taken : (g : Over) (c : After-drop-words g) → IsTakenAs (texts_of c.args.words.items) (request_asks c.in-Ok.request)
 request_taken g c = taken_at (ap texts_of (sym c.as_slice.ensures.value)) c.in-Ok.ensures.taken
 
--- and as nothing else
+-- the arguments are taken as nothing else
 is_asked : (g : Over) (c : After-drop-words g) (a : Asked) → IsTakenAs (texts_of c.args.words.items) a
     → request_asks c.in-Ok.request ≡ a
 is_asked g c a taken = taken_once (texts_of c.args.words.items) (request_asks c.in-Ok.request) a (request_taken g c) taken
 
--- which is done
+-- what is asked is done
 does : (g : Over) (c : After-drop-words g) (a : Asked) → request_asks c.in-Ok.request ≡ a
     → Does g.O.Sink.state c.args.out.now c.run_request-ended.new.out c.report_end.result
     (g.R.Sources.may_give c.args.rt.now) a
@@ -81,7 +81,7 @@ has_kind : (g : Over) (c : After-drop-words-2 g) → HasKind (fault_of kalah_app
 has_kind g c = subst (λ words. HasKind (fault_of kalah_app (texts_of words)) c.in-Err.error) c.as_slice.ensures.value
     c.in-Err.ensures.kinds
 
--- so the error is no request for help or the version, if the arguments aren't
+-- the error is no request for help or the version, if the arguments aren't
 no_help : (g : Over) (c : After-drop-words-2 g) → AsksNot DisplayHelp (texts_of c.args.words.items)
     → kind_of c.in-Err.error ≢ DisplayHelp
 no_help g c = no_request DisplayHelp (texts_of c.args.words.items) c.in-Err.error (λ e. cc) (has_kind g c)

@@ -17,7 +17,7 @@ shown_parts : (p : Position) → shown_of p ≡ picture_of p ++ (values_line p +
 unfolding shown_of
 shown_parts p = refl
 
--- and the lines after that
+-- the output is the picture, the line below it, and the lines after that
 output_parts : (lines : Bool) (p : Position)
     → show_output false lines p ≡ picture_of p ++ ((values_line p ++ line_feed ∷ []) ++ lines_asked lines p)
 output_parts lines p =
@@ -45,7 +45,7 @@ values-values-requires-clause-shown g c =
     subst (λ o. WasGiven g.O.Sink.state o c.write_plain.new.out (picture_of c.args.board.now))
     (sym (ap (λ game. game.sink) c.requires)) c.write_plain.ensures.given
 
--- and the lines are written below the line of values
+-- the lines are written below the line of values
 pub write_lines-requires-clause-shown : goal.write_lines-requires-clause-shown
 write_lines-requires-clause-shown g c =
     variations_begin _ c.requires c.values-values.ensures.begun c.write_plain.ensures.given c.write_values.ensures

@@ -3,17 +3,17 @@
 /// What a seed counts that a turn brings to the store.
 pub(super) const GAIN: u32 = 64;
 
-/// What the house of a turn adds to its priority: 8 times what its place counts, and its number less 1. Places count 51, 43, 36, 26, 25 and
-/// 0, from the store on. House `h` of `m` has cell `m + 5 * (h - 1) - 1`, for sides of up to 5 houses in the first row, and for those of 6
-/// in the second. What is no house of its side has only the number.
+/// What the house of a turn adds to its priority: 8 times what its place counts, and its number less 1. Places count 52, 44, 37, 27, 26 and
+/// 1, from the store on. House `h` of `m` has cell `m + 5 * (h - 1) - 1`, for sides of up to 5 houses in the first row, and for those of 6
+/// in the second. What is no house of its side counts 1.
 pub(super) static TURNS: [[u16; 31]; 2] = [
     [
-        408, 344, 288, 208, 200, 1, 409, 345, 289, 209, 2, 2, 410, 346, 290, 3, 3, 3, 411, 347, 4,
-        4, 4, 4, 412, 5, 5, 5, 5, 5, 6,
+        416, 352, 296, 216, 208, 9, 417, 353, 297, 217, 10, 10, 418, 354, 298, 11, 11, 11, 419,
+        355, 12, 12, 12, 12, 420, 13, 13, 13, 13, 13, 14,
     ],
     [
-        0, 0, 0, 0, 0, 0, 0, 0, 0, 0, 201, 1, 1, 1, 1, 210, 2, 2, 2, 2, 291, 3, 3, 3, 3, 348, 4, 4,
-        4, 4, 413,
+        8, 8, 8, 8, 8, 8, 8, 8, 8, 8, 209, 9, 9, 9, 9, 218, 10, 10, 10, 10, 299, 11, 11, 11, 11,
+        356, 12, 12, 12, 12, 421,
     ],
 ];
 

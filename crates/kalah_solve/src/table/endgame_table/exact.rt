@@ -56,11 +56,11 @@ impl<A: Allocator + Clone> EndgameTable<A> {
         ensures { result ≡ won houses.now }
     {
         let seeds = houses.seeds();
-        let mut left = filled_houses(houses);
+        let mut untried = filled_houses(houses);
         let mut most = 0;
-        while left > 0 {
-            let (house, rest) = split_last(left);
-            left = rest;
+        while untried > 0 {
+            let (house, rest) = split_last(untried);
+            untried = rest;
             most = most.max(self.move_wins::<VARIANT>(houses, house));
             if most >= seeds {
                 return most;
@@ -77,7 +77,6 @@ impl<A: Allocator + Clone> EndgameTable<A> {
         requires few { IsEnding houses.now }
         ensures { result ≡ won_by_step (houses_step houses.now house) }
     {
-        let _seeds = houses.seeds(); // For its clause: the houses are within the limits.
         match houses.play_by(&self.sowings, house) {
             HousesStep::Over { own, .. } => own,
             HousesStep::Again(gained, next) => gained + self.won::<VARIANT>(next),

@@ -30,7 +30,7 @@ loop-byte-preserved g c =
     let taken = rw (c.in-Some.is, c.if-byte-ne-LINE_FEED.false) at c.in_ok-byte.ensures.taken in
     let sound = sym c.failed.ensures ∙ c.if-failed.false in
     let read = line_read c.loop-byte.invariant.0 _ taken c.in_ok-byte.ensures.keeps
-    (c.tell-all_read.ensures.given.whole sound).1 c.tell-all_read.ensures.read in
+    (c.write_reply-all_read.ensures.given.whole sound).1 c.write_reply-all_read.ensures.read in
     rw c.new-line-in-Some.ensures (
       read,
       sound,
@@ -46,7 +46,7 @@ returns-then-failed g c =
       same_reference = c.in_ok-byte.ensures.same_reference ∙ c.loop-byte.invariant.3;
       answered = tt;
       cut_off = written_is_not_read;
-      begins = begun_line c.loop-byte.invariant.0 _ taken c.in_ok-byte.ensures.keeps c.tell-all_read.ensures.given.start;
+      begins = begun_line c.loop-byte.invariant.0 _ taken c.in_ok-byte.ensures.keeps c.write_reply-all_read.ensures.given.start;
       failed = (λ _. refl, λ _. has_failed);
       all_flushed = λ sound. absurd (both_ways _ sound has_failed);
       none_left = written_is_not_read;
@@ -60,7 +60,7 @@ returns-then-failed-2 g c =
       answered = tt;
       cut_off = written_is_not_read;
       begins = begun_last c.loop-byte.invariant.0 _ (rw c.in_default.is at c.in_ok-byte.ensures.taken)
-          c.in_ok-byte.ensures.keeps c.tell_last-all_read.ensures.given.start;
+          c.in_ok-byte.ensures.keeps c.write_last_reply-all_read.ensures.given.start;
       failed = (λ _. refl, λ _. has_failed);
       all_flushed = λ sound. absurd (both_ways _ sound has_failed);
       none_left = written_is_not_read;
@@ -70,7 +70,7 @@ pub returns-clause-answered : goal.returns-clause-answered
 returns-clause-answered g c =
     let sound = sym c.failed-2.ensures ∙ c.if-failed-2.false in
     all_answered c.loop-byte.invariant.0 _ (rw c.in_default.is at c.in_ok-byte.ensures.taken) (c.in_ok-byte.ensures.end c.in_default.is)
-    c.in_ok-byte.ensures.keeps (c.tell_last-all_read.ensures.given.whole sound).1 c.tell_last-all_read.ensures.read
+    c.in_ok-byte.ensures.keeps (c.write_last_reply-all_read.ensures.given.whole sound).1 c.write_last_reply-all_read.ensures.read
 
 pub returns-clause-cut_off : goal.returns-clause-cut_off
 returns-clause-cut_off g c = fine_is_no_fault
@@ -78,7 +78,7 @@ returns-clause-cut_off g c = fine_is_no_fault
 pub returns-clause-begins : goal.returns-clause-begins
 returns-clause-begins g c =
     begun_last c.loop-byte.invariant.0 _ (rw c.in_default.is at c.in_ok-byte.ensures.taken) c.in_ok-byte.ensures.keeps
-    c.tell_last-all_read.ensures.given.start
+    c.write_last_reply-all_read.ensures.given.start
 
 pub returns-clause-none_left : goal.returns-clause-none_left
 returns-clause-none_left g c = fine_is_no_fault

@@ -15,4 +15,4 @@ invariant-loop-byte g l =
     × (l.input.input.ghost_name ≡ l.fn.input.input.ghost_name)
 
 abbrev pub decreases-loop-byte : goal.decreases-loop-byte
-decreases-loop-byte g l = l.input.left
+decreases-loop-byte g l = l.input.budget

@@ -13,7 +13,7 @@ loop-i-preserved g c =
     let one : ℕ → List ℕ = λ h. (place ++ step_text_of h (step_of c.args.board.now h)) ++ line_feed ∷ [] in
     let line = subst (λ s. WasGiven g.W.Sink.state c.loop-i.out c.write_step_line.new.out
     ((place ++ step_text_of c.get-h.result s) ++ line_feed ∷ [])) c.apply.ensures.step c.write_step_line.ensures in
-    given_more _ one c.legal-moves.ensures c.loop-i.i _ _ c.loop-i.invariant _ c.get-h.result
+    given_more _ one c.legal-moves.ensures.moves c.loop-i.i _ _ c.loop-i.invariant _ c.get-h.result
     (omega (arith, c.loop-i-test.true, c.len-i-end.ensures)) c.get-h.ensures line
 
 pub returns : goal.returns
@@ -24,6 +24,6 @@ returns g c =
     let some : 0 < length moves = omega (arith, c.if-len-eq0.false, c.len.ensures) in
     subst (WasGiven g.W.Sink.state c.args.out.now c.loop-i.out)
     (sym (lines_end place text moves some)
-    ∙ ap (λ ms. join_with_byte line_feed (map (λ t. place ++ t) (map text ms)) ++ line_feed ∷ []) c.legal-moves.ensures)
+    ∙ ap (λ ms. join_with_byte line_feed (map (λ t. place ++ t) (map text ms)) ++ line_feed ∷ []) c.legal-moves.ensures.moves)
     (given_all _ (λ h. (place ++ text h) ++ line_feed ∷ []) (let same : moves ≡ moves = λ _. moves in same) c.loop-i.i _ _
     c.loop-i.invariant (omega (arith, c.loop-i-test.false, c.len-i-end.ensures)))

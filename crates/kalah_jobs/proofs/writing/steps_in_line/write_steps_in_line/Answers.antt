@@ -21,7 +21,7 @@ pub returns : goal.returns
 returns g c =
     let text : ℕ → List ℕ = λ h. step_text_of h (step_of c.args.board.now h) in
     let moves = c.legal-moves.result in
-    let all = take_all c.loop-i.i moves (omega (arith, c.loop-i-test.false, c.len-i-end.ensures)) ∙ c.legal-moves.ensures in
+    let all = take_all c.loop-i.i moves (omega (arith, c.loop-i-test.false, c.len-i-end.ensures)) ∙ c.legal-moves.ensures.moves in
     subst (WasGiven g.W.Sink.state c.args.out.now c.write_unless_failed.new.out)
     (ap (λ ms. texts_in_line text ms ++ line_feed ∷ []) all)
     (given_then _ _ _ _ _ _ c.loop-i.invariant c.write_unless_failed.ensures)

@@ -82,13 +82,13 @@ ways_by-new-requires-clause-last t c =
 
 pub ways_by-returns-in-Over-clause-ways : goal.ways_by-returns-in-Over-clause-ways
 ways_by-returns-in-Over-clause-ways t c =
-    let step = rw c.new.ensures at c.play_by.ensures in
+    let step = rw c.new.ensures at c.play_by.ensures.step in
     c.from.ensures ∙ one_if (c.args.depth == 0)
     ∙ ways_by_step _ _ _ _ _ step c.in-Over.is
 
 pub ways_by-returns-in-Again-clause-ways : goal.ways_by-returns-in-Again-clause-ways
 ways_by-returns-in-Again-clause-ways t c =
-    let step = rw c.new.ensures at c.play_by.ensures in
+    let step = rw c.new.ensures at c.play_by.ensures.step in
     c.ways.ensures.ways ∙ elim c.in-Again.is [
       | inl again ↦ ways_by_step _ _ _ _ _ step again.1
       | inr turn ↦ ways_by_step _ _ _ _ _ step turn.1

@@ -4,18 +4,18 @@ use Rattle.kalah_rules.proofs.PlayLemmas.{legal_holds}
 use Rattle.kalah_rules.proofs.KeyLemmas.{ones_le}
 use Rattle.kalah_rules.proofs.PackedLemmas.{house_read, MovesIntoStore, moves_into_store}
 use Rattle.kalah_rules.proofs.houses.Houses.play_into_store.Goals as goal
-use Rattle.kalah_rules.proofs.houses.Houses.play_into_store.Goals.{After-one_each_to}
+use Rattle.kalah_rules.proofs.houses.Houses.play_into_store.Goals.{After-one_each_through}
 
 -- what the move does to both rows
-module _ (c : After-one_each_to) where
-  less : c.one_each_to.result ≤ c.one_each.result
+module _ (c : After-one_each_through) where
+  less : c.one_each_through.result ≤ c.one_each.result
   less =
       let a = c.args.self.now in
       let last = (legal_holds (storeless a) c.args.house c.requires.legal).last in
       omega (arith, ones_le c.args.house (length a.own) last, rw c.m.ensures.side at c.one_each.ensures.value)
 
   moved : MovesIntoStore c.args.self.now c.args.house c.self.inside.rows c.self.inside.seeds c.self.inside.variant c.alone.result
-      (c.one_each.result - c.one_each_to.result)
+      (c.one_each.result - c.one_each_through.result)
   moved =
       let a = c.args.self.now in
       let holds = legal_holds _ _ c.requires.legal in

@@ -32,7 +32,7 @@ invariant_of-result c = (again c).packed
 pub returns-then-again : goal.returns-then-again
 returns-then-again c = (again c).is
 
--- and the turn
+-- the step by which the turn passes
 turn : (c : Else-again) → IsStepTo c.args.self.now c.args.house
     (c.args.rows.rows / 2 ^ 30 + 2 ^ 30 * (c.args.rows.rows % 2 ^ 30)) (c.self.inside.seeds - c.args.rows.store) c.self.inside.variant
     (Turn c.args.rows.store)

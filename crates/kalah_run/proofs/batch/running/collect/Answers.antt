@@ -1,5 +1,5 @@
 use Rattle.std.proofs.lemmas.Grind.{common_steps}
-use Rattle.std.proofs.Common.{◌∷◌, [], ℕ, List, inl, inr, length, refl, sym, ap, subst, ◌∙◌, arith, rules}
+use Rattle.std.proofs.Common.{◌≡◌, ◌∷◌, [], false, ℕ, List, inl, inr, length, refl, sym, ap, subst, ◌∙◌, arith, rules}
 use Rattle.std.specs.Prelude.{Some}
 use Rattle.std.proofs.lemmas.List.{map-append, length-append}
 use Rattle.kalah_jobs.specs.declared.files.job.Job.{Job}
@@ -7,7 +7,7 @@ use Rattle.kalah_run.specs.Queue.States.{GetState, outcomes_in}
 use Rattle.kalah_run.specs.Batch.Leaving.{rest_of, DrawsOnlyTheRest}
 use Rattle.kalah_run.specs.Batch.Running.{MayHaveGot}
 use Rattle.kalah_run.specs.Batch.OrderedOutput.{HasWritten, Waits}
-use Rattle.kalah_run.proofs.BatchLemmas.{draws_on, draws_still, given_whole, new_written, progress_offered, still_written}
+use Rattle.kalah_run.proofs.BatchLemmas.{draws_on, draws_still, failed_still, has_collected, new_written, progress_offered, still_written}
 use Rattle.kalah_run.proofs.batch.running.collect.Given as given
 use Rattle.kalah_run.proofs.batch.running.collect.Goals as goal
 use Rattle.kalah_run.proofs.batch.running.collect.Goals.{in-Some, in-None+in-Some-flush_and_get, else-loop-test, then-loop-test+in-None+in-None-flush_and_get}
@@ -83,30 +83,25 @@ loop-preserved g c =
 -- the last outcome was got, or the rest is left
 pub returns-clause-collected : goal.returns-clause-collected
 returns-clause-collected g c =
+    let State = g.W.Sink.state in
     let flushed = c.flush_to_wait.ensures in
-    rw c.into_passes.ensures (elim c.loop-test.branch [
-      | else-loop-test w ↦
-          rw w.receiver-is (record {
-            queue = c.loop.invariant.queue;
-            workers = c.loop.invariant.workers;
-            all_got = inl (omega (arith, c.loop.invariant.all, w.loop-test.false, c.total-total.ensures.lines));
-            given = given_whole c.args.output (rw (← w.out-is) flushed.keeps)
-                (λ still. rw (← w.out-is) (flushed.sound still)) c.loop.invariant.progress;
-          })
+    let so_far = c.loop.invariant in
+    let pass = ap (λ p. p.0) c.into_passes.ensures in
+    elim c.loop-test.branch [
+      | else-loop-test w ↦ has_collected c.args.output (pass ∙ ap (λ r. r.pass) w.receiver-is) so_far.queue so_far.workers
+          (inl (omega (arith, so_far.all, w.loop-test.false, c.total-total.ensures.lines)))
+          (rw (← w.out-is) flushed.keeps) (λ still. ap (λ o. (State o).has_failed) (sym w.out-is) ∙ flushed.sound still) so_far.progress
       | then-loop-test+in-None+in-None-flush_and_get w ↦
           let left = w.in-None-flush_and_get.ensures.got in
-          let before = c.loop.invariant.progress in
-          let so_far = still_written {later = g.W.Sink.state w.flush_and_get.new.out} left.keeps left.sound before.0 in
-          let asked = draws_on c.loop.invariant.left (rw w.failed.ensures at w.leave_after.ensures.draws) in
+          let asked = draws_on so_far.left (rw w.failed.ensures at w.leave_after.ensures.draws) in
           let gone = rw w.in-None.ensures.left at left.left in
-          rw (w.receiver-is, left.got ∙ w.in-None.ensures.got ∙ w.leave_after.ensures.pass) (record {
-            queue = c.loop.invariant.queue;
-            workers = c.loop.invariant.workers;
-            all_got = inr (sym asked.rest ∙ gone.0, grind (arith, flushed.sound, gone.1, w.out-is));
-            given = given_whole c.args.output (rw (← w.out-is) flushed.keeps)
-                (λ still. rw (← w.out-is) (flushed.sound still)) (so_far, before.1);
-          })
-    ])
+          let sound : (State c.flush_to_wait.new.out).has_failed ≡ false → (State w.flush_and_get.new.out).has_failed ≡ false =
+          λ still. ap (λ o. (State o).has_failed) (sym w.out-is) ∙ flushed.sound still in
+          has_collected c.args.output {out = State w.flush_and_get.new.out}
+          (pass ∙ ap (λ r. r.pass) w.receiver-is ∙ left.got ∙ w.in-None.ensures.got ∙ w.leave_after.ensures.pass) so_far.queue
+          so_far.workers (inr (sym asked.rest ∙ gone.0, failed_still _ sound gone.1)) (rw (← w.out-is) flushed.keeps) sound
+          (still_written left.keeps left.sound so_far.progress.0, so_far.progress.1)
+    ]
 
 pub returns-clause-draws : goal.returns-clause-draws
 returns-clause-draws g c = rw c.into_passes.ensures (draws_still _ c.flush_to_wait.ensures.sound

@@ -1,7 +1,7 @@
 use Rattle.std.proofs.Common.{rules, List, [], ◌∷◌, ◌++◌, length, get_or, length-append, arith, ◌≡◌, ◌+◌, ◌<◌, ℕ, sym, ap, ◌∙◌, subst}
 use Rattle.std.proofs.lemmas.List.{length-map, map-append, append_assoc, get_or_append_left}
 use Rattle.kalah_run.specs.Desk.Rows.{drawn_in, spent_in, AreLawful, DealsEachOnce}
-use Rattle.kalah_run.specs.Desk.Kept.{rows_in}
+use Rattle.kalah_run.specs.Desk.Rule.{rows_in}
 use Rattle.kalah_run.specs.Desk.States.{PassState, drawn_rows}
 use Rattle.kalah_run.specs.declared.desk.rule.DeskView.TheVariants.{Closing}
 use Rattle.kalah_run.proofs.DeskLemmas.{reclaims, starts_closing, ends, drawn_at_end, spent_at_end}

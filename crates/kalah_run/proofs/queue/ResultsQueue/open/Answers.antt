@@ -1,7 +1,7 @@
 use Rattle.std.proofs.lemmas.Grind.{common_steps}
 use Rattle.std.proofs.Common.{rules, arith, ◌≡◌, [], ap, ◌∙◌}
 use Rattle.std.proofs.lemmas.List.Elements.{All-push}
-use Rattle.kalah_run.specs.Queue.Steps.{sent_in, after_making_one, one_made}
+use Rattle.kalah_run.specs.Queue.Rule.{sent_in, after_making_one, one_made}
 use Rattle.kalah_run.proofs.QueueLemmas.{begins, forks, one_pass_more}
 use Rattle.kalah_run.proofs.queue.ResultsQueue.open.Goals as goal
 

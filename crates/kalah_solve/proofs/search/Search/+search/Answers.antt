@@ -3,29 +3,29 @@ use Rattle.std.proofs.lemmas.List.Sums.{sum_by-set}
 use Rattle.kalah_rules.specs.declared.step.HousesStep.TheVariants.{Turn}
 use Rattle.kalah_solve.specs.Solver.StepWorth.{GoesOn}
 use Rattle.kalah_solve.specs.Search.Tried.{EndsInStore, WinsAtMost}
-use Rattle.kalah_solve.proofs.SearchLemmas.{cell_none, marks_fall, move_enough, turn_enough, turn_at_most, turn_of, turn_keeps, turn_at, bound_up_to, bound_left, low_more, played_none, played_more, played_bound, ending_legal, marked_legal, moves_fewer, last_legal, each_fewer, each_last, again_none, again_fewer, untried_first, untried_fewer, none_untried}
+use Rattle.kalah_solve.proofs.SearchLemmas.{cell_none, marks_fall, move_enough, turn_enough, turn_at_most, turn_of, turn_at, waits_there, reply_fits, bound_up_to, bound_left, low_more, played_none, played_more, played_bound, ending_legal, marked_legal, moves_fewer, last_legal, each_fewer, each_last, again_none, again_fewer, untried_first, untried_fewer, none_untried}
 use Rattle.kalah_solve.proofs.WorthLemmas.{goes_on, leads_by, step_falls}
 use Rattle.kalah_solve.proofs.BoundsLemmas.{won_of_houses}
 use Rattle.kalah_solve.proofs.search.Search.+search.Goals as goal
 
-pub look-bound_step-requires : goal.look-bound_step-requires
-look-bound_step-requires g t c κs within =
-    let limits = c.seeds-seeds.ensures.limits in (
-      omega (arith, step_falls c.args.houses.now c.args.house c.play_by-step.result limits c.requires.legal c.play_by-step.ensures),
+pub try_move-bound_step-requires : goal.try_move-bound_step-requires
+try_move-bound_step-requires g t c κs within =
+    let limits = c.play_by-step.ensures.limits in (
+      omega (arith, step_falls c.args.houses.now c.args.house c.play_by-step.result limits c.requires.legal c.play_by-step.ensures.step),
       (
         within,
         (
           search rules,
           goes_on _ _ _ _ c.requires.variant limits c.requires.legal
-              c.play_by-step.ensures,
+              c.play_by-step.ensures.step,
         ),
       ),
     )
 
-pub look-bound_turn-requires : goal.look-bound_turn-requires
-look-bound_turn-requires g t c κs within =
-    let limits = c.seeds-seeds.ensures.limits in
-    let is = sym c.in-Turn.is ∙ c.play_by-step.ensures in (
+pub try_move-bound_turn-requires : goal.try_move-bound_turn-requires
+try_move-bound_turn-requires g t c κs within =
+    let limits = c.play_by-step.ensures.limits in
+    let is = sym c.in-Turn.is ∙ c.play_by-step.ensures.step in (
       omega (arith, step_falls c.args.houses.now c.args.house (Turn c.in-Turn.gained c.in-Turn.next) limits c.requires.legal is),
       (
         within,
@@ -56,44 +56,32 @@ bound_turn-returns-else-all-beta g t c =
 pub explore-bounds-priorities-at : goal.explore-bounds-priorities-at
 explore-bounds-priorities-at g t c = omega (arith, (c.loop-priority.invariant.next c.loop-priority-test.true).place)
 
-pub explore-listed : goal.explore-listed
-explore-listed g t c =
+pub explore-bounds-waiting-at : goal.explore-bounds-waiting-at
+explore-bounds-waiting-at g t c =
     let long : length c.others_waiting-others.new.turns ≡ 6 = search rules in
     omega (arith, (c.loop-priority.invariant.next c.loop-priority-test.true).place)
 
-pub explore-bounds-turns-at : goal.explore-bounds-turns-at
-explore-bounds-turns-at g t c = omega (arith, (c.loop-priority.invariant.next c.loop-priority-test.true).place)
-
-pub explore-overflow_sub-seeds : goal.explore-overflow_sub-seeds
-explore-overflow_sub-seeds g t c =
-    let a = c.args.houses.now in
-    let here = c.loop-priority.invariant.next c.loop-priority-test.true in
-    omega (arith, turn_keeps a _ _ _ c.seeds-seeds.ensures.limits (here.turn c.index-turns-at.result))
-
-pub explore-bound_turn-bound-requires : goal.explore-bound_turn-bound-requires
-explore-bound_turn-bound-requires g t c κs within =
-    let a = c.args.houses.now in
+pub explore-bound_by_search-requires : goal.explore-bound_by_search-requires
+explore-bound_by_search-requires g t c κs within =
     let limits = c.seeds-seeds.ensures.limits in
-    let here = c.loop-priority.invariant.next c.loop-priority-test.true in
-    let turn = here.turn c.index-turns-at.result in (
-      omega (arith, step_falls a (c.loop-priority.priority % 8 + 1) _ limits turn.legal (sym turn.step)),
-      (
-        within,
-        (
-          search rules,
-          rw (c.seeds-seeds.ensures.seeds, c.seeds.ensures.seeds)
-              (goes_on _ _ _ _ c.requires.variant limits turn.legal (sym turn.step)),
-        ),
-      ),
+    let turn = waits_there (c.loop-priority.invariant.next c.loop-priority-test.true) c.index-waiting-at.is in
+    let on = goes_on _ _ _ _ c.requires.variant limits turn.legal (sym turn.step) in (
+      omega (arith, step_falls c.args.houses.now (c.loop-priority.priority % 8 + 1) _ limits turn.legal (sym turn.step)),
+      (within, (search rules, (on.going, on.same))),
     )
+
+pub explore-overflow_sub-bound : goal.explore-overflow_sub-bound
+explore-overflow_sub-bound g t c =
+    let turn = waits_there (c.loop-priority.invariant.next c.loop-priority-test.true) c.index-waiting-at.is in
+    let is = rw (c.saturating_sub-reply_beta.ensures, c.seeds-seeds.ensures.seeds) at c.bound_by_search.ensures in
+    omega (arith, reply_fits c.args.beta c.seeds-seeds.ensures.limits turn is)
 
 pub explore-returns-then-beta-bound : goal.explore-returns-then-beta-bound
 explore-returns-then-beta-bound g t c =
-    let a = c.args.houses.now in
-    let here = c.loop-priority.invariant.next c.loop-priority-test.true in
+    let turn = waits_there (c.loop-priority.invariant.next c.loop-priority-test.true) c.index-waiting-at.is in
+    let is = rw (c.saturating_sub-reply_beta.ensures, c.seeds-seeds.ensures.seeds) at c.bound_by_search.ensures in
     record {
-      lower = turn_enough _ _ c.seeds-seeds.ensures.limits (here.turn c.index-turns-at.result)
-          (rw (c.seeds-seeds.ensures.seeds, c.seeds.ensures.seeds) at c.bound_turn-bound.ensures);
+      lower = λ enough. omega (arith, turn_enough c.args.beta c.seeds-seeds.ensures.limits turn is (omega arith));
       upper = λ short. absurd (omega arith);
     }
 
@@ -101,9 +89,10 @@ pub explore-loop-priority-preserved : goal.explore-loop-priority-preserved
 explore-loop-priority-preserved g t c =
     let before = c.loop-priority.invariant in
     let here = before.next c.loop-priority-test.true in
-    let takes = turn_at_most _ _ (here.turn c.index-turns-at.result)
-    (rw (c.seeds-seeds.ensures.seeds, c.seeds.ensures.seeds) at c.bound_turn-bound.ensures) c.if-beta-bound.false in
-    let untried = untried_fewer (c.loop-priority.priority % 8) c.bound_turn-bound.result before.untried here.place takes
+    let turn = waits_there here c.index-waiting-at.is in
+    let is = rw (c.saturating_sub-reply_beta.ensures, c.seeds-seeds.ensures.seeds) at c.bound_by_search.ensures in
+    let takes = rw (← c.seeds-seeds.ensures.seeds) at (turn_at_most c.args.beta c.seeds-seeds.ensures.limits turn is (omega arith)) in
+    let untried = untried_fewer (c.loop-priority.priority % 8) _ before.untried here.place takes
     c.max-most-in-loop-priority.ensures in
     record {
       low = omega arith;
@@ -129,25 +118,25 @@ explore-returns g t c =
           is.untried is.highest (omega arith);
     }
 
-pub look-priority-priority-requires-clause-few : goal.look-priority-priority-requires-clause-few
-look-priority-priority-requires-clause-few g t c =
-    let limits = c.seeds-seeds.ensures.limits in
+pub try_move-priority-priority-requires-clause-few : goal.try_move-priority-priority-requires-clause-few
+try_move-priority-priority-requires-clause-few g t c =
+    let limits = c.play_by-step.ensures.limits in
     let leads = leads_by _ _ limits c.requires.legal
-    (sym c.in-Turn.is ∙ c.play_by-step.ensures) in
+    (sym c.in-Turn.is ∙ c.play_by-step.ensures.step) in
     omega arith
 
-pub look-returns-then-seeds-self : goal.look-returns-then-seeds-self
-look-returns-then-seeds-self g t c =
+pub try_move-returns-then-seeds-self : goal.try_move-returns-then-seeds-self
+try_move-returns-then-seeds-self g t c =
     let priority = c.priority-priority in (
       priority.ensures.some,
-      turn_of c.seeds-seeds.ensures.limits c.requires.legal
-          (sym c.in-Turn.is ∙ c.play_by-step.ensures) priority.ensures.house,
+      turn_of c.play_by-step.ensures.limits c.requires.legal
+          (sym c.in-Turn.is ∙ c.play_by-step.ensures.step) priority.ensures.house,
     )
 
-pub bound_again-loop-left-init : goal.bound_again-loop-left-init
-bound_again-loop-left-init g t c =
+pub bound_again-loop-untried-init : goal.bound_again-loop-untried-init
+bound_again-loop-untried-init g t c =
     let a = c.args.houses.now in
-    let marks = c.again_houses-left.ensures in
+    let marks = c.again_houses-untried.ensures in
     record {
       low = λ enough. refl;
       may = record {
@@ -159,37 +148,37 @@ bound_again-loop-left-init g t c =
     }
 
 pub bound_again-play_into_store-requires-clause-legal : goal.bound_again-play_into_store-requires-clause-legal
-bound_again-play_into_store-requires-clause-legal g t c = last_legal c.loop-left.invariant.may c.split_last-house.ensures.last
+bound_again-play_into_store-requires-clause-legal g t c = last_legal c.loop-untried.invariant.may c.split_last-house.ensures.last
 
 pub bound_again-play_into_store-requires-clause-ends : goal.bound_again-play_into_store-requires-clause-ends
 bound_again-play_into_store-requires-clause-ends g t c =
-    each_last (EndsInStore c.args.houses.now) c.loop-left.left c.split_last-house.result.0 c.split_last-house.ensures.last
-    c.loop-left.invariant.ends
+    each_last (EndsInStore c.args.houses.now) c.loop-untried.untried c.split_last-house.result.0 c.split_last-house.ensures.last
+    c.loop-untried.invariant.ends
 
 pub bound_again-bound_step-bound-requires : goal.bound_again-bound_step-bound-requires
 bound_again-bound_step-bound-requires g t c κs within =
     let a = c.args.houses.now in
     let h = c.split_last-house.result.0 in
-    let limits = c.seeds-seeds.ensures.limits in
-    let has = last_legal c.loop-left.invariant.may c.split_last-house.ensures.last in (
+    let limits = c.again_houses-untried.ensures.limits in
+    let has = last_legal c.loop-untried.invariant.may c.split_last-house.ensures.last in (
       omega (arith, step_falls a h c.play_into_store.result limits has c.play_into_store.ensures),
       (within, (search rules, goes_on _ _ _ _ c.requires.variant limits has c.play_into_store.ensures)),
     )
 
 pub bound_again-returns-then-beta-bound-clause-lower : goal.bound_again-returns-then-beta-bound-clause-lower
 bound_again-returns-then-beta-bound-clause-lower g t c =
-    let has = last_legal c.loop-left.invariant.may c.split_last-house.ensures.last in
-    move_enough c.args.houses.now c.args.beta c.split_last-house.result.0 _ c.again_houses-left.ensures.limits has
+    let has = last_legal c.loop-untried.invariant.may c.split_last-house.ensures.last in
+    move_enough c.args.houses.now c.args.beta c.split_last-house.result.0 _ c.again_houses-untried.ensures.limits has
     (rw c.play_into_store.ensures at c.bound_step-bound.ensures)
 
-pub bound_again-loop-left-preserved : goal.bound_again-loop-left-preserved
-bound_again-loop-left-preserved g t c =
+pub bound_again-loop-untried-preserved : goal.bound_again-loop-untried-preserved
+bound_again-loop-untried-preserved g t c =
     let a = c.args.houses.now in
-    let marks = c.loop-left.left in
+    let marks = c.loop-untried.untried in
     let h = c.split_last-house.result.0 in
     let last = c.split_last-house.ensures.last in
-    let before = c.loop-left.invariant in
-    let new_is : c.max-most.result ≡ max c.loop-left.most c.bound_step-bound.result = search (rules, c.max-most.ensures) in
+    let before = c.loop-untried.invariant in
+    let new_is : c.max-most.result ≡ max c.loop-untried.most c.bound_step-bound.result = search (rules, c.max-most.ensures) in
     let takes : WinsAtMost a c.bound_step-bound.result h = rw c.play_into_store.ensures at
     (c.bound_step-bound.ensures.upper c.if-beta-bound.false) in
     rw c.split_last-house.ensures.rest (record {
@@ -199,82 +188,82 @@ bound_again-loop-left-preserved g t c =
       tried = again_fewer _ _ c.bound_step-bound.result before.tried last takes new_is;
     })
 
-pub bound_again-loop-left-smaller : goal.bound_again-loop-left-smaller
-bound_again-loop-left-smaller g t c =
+pub bound_again-loop-untried-smaller : goal.bound_again-loop-untried-smaller
+bound_again-loop-untried-smaller g t c =
     let split = c.split_last-house in
     rw split.ensures.rest (marks_fall split.ensures.last)
 
 pub bound_again-returns-clause-upper : goal.bound_again-returns-clause-upper
 bound_again-returns-clause-upper g t c = λ short h has ends.
-    let none : c.loop-left.left ≡ 0 = omega arith in
-    c.loop-left.invariant.tried h has ends (rw none (cell_none (h - 1)))
+    let none : c.loop-untried.untried ≡ 0 = omega arith in
+    c.loop-untried.invariant.tried h has ends (rw none (cell_none (h - 1)))
 
-pub others_waiting-loop-left-init : goal.others_waiting-loop-left-init
-others_waiting-loop-left-init g t c =
+pub others_waiting-loop-untried-init : goal.others_waiting-loop-untried-init
+others_waiting-loop-untried-init g t c =
     let a = c.args.houses.now in
-    let marks = c.other_houses-left.ensures in
+    let marks = c.other_houses-untried.ensures in
     record {
       low = λ enough. refl;
       may = record { are = marks.marks; legal = λ i some. marked_legal _ marks.limits c.requires.going ((marks.marked i).0 some).0 };
       played = played_none (search rules) (search rules) c.requires.none marks.marked;
     }
 
-pub others_waiting-look-requires : goal.others_waiting-look-requires
-others_waiting-look-requires g t c κs within =
-    (omega arith, (within, (search rules, (last_legal c.loop-left.invariant.may c.split_last-house.ensures.last, c.requires.variant))))
+pub others_waiting-try_move-requires : goal.others_waiting-try_move-requires
+others_waiting-try_move-requires g t c κs within =
+    (omega arith, (within, (search rules, (last_legal c.loop-untried.invariant.may c.split_last-house.ensures.last, c.requires.variant))))
 
 pub others_waiting-returns-then-beta-bound : goal.others_waiting-returns-then-beta-bound
 others_waiting-returns-then-beta-bound g t c =
-    let has = last_legal c.loop-left.invariant.may c.split_last-house.ensures.last in
+    let has = last_legal c.loop-untried.invariant.may c.split_last-house.ensures.last in
     record {
-      lower = move_enough _ _ _ _ c.other_houses-left.ensures.limits has
+      lower = move_enough _ _ _ _ c.other_houses-untried.ensures.limits has
           c.in-Bounded.ensures;
-      waiting = c.loop-left.invariant.played.waiting.each;
+      waiting = c.loop-untried.invariant.played.waiting.each;
       others = λ short. absurd (omega arith);
     }
 
-pub others_waiting-loop-left-preserved : goal.others_waiting-loop-left-preserved
-others_waiting-loop-left-preserved g t c =
+pub others_waiting-loop-untried-preserved : goal.others_waiting-loop-untried-preserved
+others_waiting-loop-untried-preserved g t c =
     let a = c.args.houses.now in
-    let marks = c.loop-left.left in
+    let marks = c.loop-untried.untried in
     let h = c.split_last-house.result.0 in
     let last = c.split_last-house.ensures.last in
-    let before = c.loop-left.invariant in
-    let new_is : c.max-most.result ≡ max c.loop-left.most c.in-Bounded.bound = search (rules, c.max-most.ensures) in
+    let before = c.loop-untried.invariant in
+    let new_is : c.max-most.result ≡ max c.loop-untried.most c.in-Bounded.bound = search (rules, c.max-most.ensures) in
     rw c.split_last-house.ensures.rest (record {
       low = low_more _ _ _ _ before.low c.if-beta-bound.false new_is;
       may = moves_fewer before.may last;
-      played = played_bound a c.loop-left.most marks h c.loop-left.priorities c.loop-left.turns before.played last c.in-Bounded.bound
+      played = played_bound a c.loop-untried.most marks h c.loop-untried.priorities c.loop-untried.turns before.played last c.in-Bounded.bound
           c.max-most.result
           (c.in-Bounded.ensures.upper c.if-beta-bound.false) new_is;
     })
 
-pub others_waiting-loop-left-smaller : goal.others_waiting-loop-left-smaller
-others_waiting-loop-left-smaller g t c =
+pub others_waiting-loop-untried-smaller : goal.others_waiting-loop-untried-smaller
+others_waiting-loop-untried-smaller g t c =
     let split = c.split_last-house in
     rw split.ensures.rest (marks_fall split.ensures.last)
 
 pub others_waiting-returns : goal.others_waiting-returns
 others_waiting-returns g t c =
-    let none : c.loop-left.left ≡ 0 = omega arith in
+    let none : c.loop-untried.untried ≡ 0 = omega arith in
     record {
-      lower = λ enough. omega (arith, c.loop-left.invariant.low enough);
-      waiting = c.loop-left.invariant.played.waiting.each;
-      others = λ short h has. c.loop-left.invariant.played.others h has (rw none (cell_none (h - 1)));
+      lower = λ enough. omega (arith, c.loop-untried.invariant.low enough);
+      waiting = c.loop-untried.invariant.played.waiting.each;
+      others = λ short h has. c.loop-untried.invariant.played.others h has (rw none (cell_none (h - 1)));
     }
 
-pub others_waiting-loop-left-preserved-in-Waits : goal.others_waiting-loop-left-preserved-in-Waits
-others_waiting-loop-left-preserved-in-Waits g t c =
+pub others_waiting-loop-untried-preserved-in-Waits : goal.others_waiting-loop-untried-preserved-in-Waits
+others_waiting-loop-untried-preserved-in-Waits g t c =
     let a = c.args.houses.now in
-    let marks = c.loop-left.left in
+    let marks = c.loop-untried.untried in
     let h = c.split_last-house.result.0 in
     let last = c.split_last-house.ensures.last in
-    let before = c.loop-left.invariant in
+    let before = c.loop-untried.invariant in
     let place : c.in-Waits.priority % 8 ≡ h - 1 = omega (arith, c.in-Waits.ensures.1.house) in
     rw (c.split_last-house.ensures.rest, place) (record {
       low = before.low;
       may = moves_fewer before.may last;
-      played = played_more a c.loop-left.most marks h c.loop-left.priorities c.loop-left.turns before.played last c.in-Waits.priority
+      played = played_more a c.loop-untried.most marks h c.loop-untried.priorities c.loop-untried.turns before.played last c.in-Waits.priority
           c.in-Waits.next
           c.in-Waits.ensures.0 c.in-Waits.ensures.1;
     })

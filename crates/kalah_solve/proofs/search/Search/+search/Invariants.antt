@@ -11,7 +11,7 @@ abbrev pub decreases-bound : goal.decreases-bound
 decreases-bound g l = 9 * moves_left (storeless l.houses) + 6
 
 abbrev pub decreases-bound_by_search : goal.decreases-bound_by_search
-decreases-bound_by_search g l = 9 * moves_left (storeless l.houses) + 5
+decreases-bound_by_search g l = 9 * moves_left (storeless l.houses.now) + 5
 
 abbrev pub decreases-explore : goal.decreases-explore
 decreases-explore g l = 9 * moves_left (storeless l.houses.now) + 4
@@ -22,8 +22,8 @@ decreases-bound_again g l = 9 * moves_left (storeless l.houses.now) + 3
 abbrev pub decreases-others_waiting : goal.decreases-others_waiting
 decreases-others_waiting g l = 9 * moves_left (storeless l.houses.now) + 3
 
-abbrev pub decreases-look : goal.decreases-look
-decreases-look g l = 9 * moves_left (storeless l.houses.now) + 2
+abbrev pub decreases-try_move : goal.decreases-try_move
+decreases-try_move g l = 9 * moves_left (storeless l.houses.now) + 2
 
 abbrev pub decreases-bound_step : goal.decreases-bound_step
 decreases-bound_step g l = 9 * moves_after l.step + 8
@@ -31,33 +31,33 @@ decreases-bound_step g l = 9 * moves_after l.step + 8
 abbrev pub decreases-bound_turn : goal.decreases-bound_turn
 decreases-bound_turn g l = 9 * moves_left (storeless l.next) + 7
 
-abbrev pub invariant-bound_again-loop-left : goal.invariant-bound_again-loop-left
-invariant-bound_again-loop-left g l = record {
+abbrev pub invariant-bound_again-loop-untried : goal.invariant-bound_again-loop-untried
+invariant-bound_again-loop-untried g l = record {
   low : l.beta ≤ l.most → l.most ≡ 0;
-  may : MayMove l.houses l.left;
-  ends : (i : ℕ) → 0 < cell l.left i → EndsInStore l.houses (i + 1);
-  tried : AreAgain l.houses l.most l.left;
+  may : MayMove l.houses l.untried;
+  ends : (i : ℕ) → 0 < cell l.untried i → EndsInStore l.houses (i + 1);
+  tried : AreAgain l.houses l.most l.untried;
 }
 
-abbrev pub decreases-bound_again-loop-left : goal.decreases-bound_again-loop-left
-decreases-bound_again-loop-left g l = l.left
+abbrev pub decreases-bound_again-loop-untried : goal.decreases-bound_again-loop-untried
+decreases-bound_again-loop-untried g l = l.untried
 
-abbrev pub invariant-others_waiting-loop-left : goal.invariant-others_waiting-loop-left
-invariant-others_waiting-loop-left g l = record {
+abbrev pub invariant-others_waiting-loop-untried : goal.invariant-others_waiting-loop-untried
+invariant-others_waiting-loop-untried g l = record {
   low : l.beta ≤ l.most → l.most ≡ 0;
-  may : MayMove l.houses l.left;
-  played : ArePlayed l.houses l.most l.left l.priorities l.turns;
+  may : MayMove l.houses l.untried;
+  played : ArePlayed l.houses l.most l.untried l.priorities l.turns;
 }
 
-abbrev pub decreases-others_waiting-loop-left : goal.decreases-others_waiting-loop-left
-decreases-others_waiting-loop-left g l = l.left
+abbrev pub decreases-others_waiting-loop-untried : goal.decreases-others_waiting-loop-untried
+decreases-others_waiting-loop-untried g l = l.untried
 
 abbrev pub invariant-explore-loop-priority : goal.invariant-explore-loop-priority
 invariant-explore-loop-priority g l = record {
   low : l.most < l.beta;
   highest : (k : ℕ) → get_or l.priorities k 0 ≤ l.priority;
-  untried : AreUntried l.houses l.most l.priorities l.turns;
-  next : 0 < l.priority → WaitsWith l.houses l.priorities l.turns l.priority;
+  untried : AreUntried l.houses l.most l.priorities l.waiting;
+  next : 0 < l.priority → WaitsWith l.houses l.priorities l.waiting l.priority;
 }
 
 abbrev pub decreases-explore-loop-priority : goal.decreases-explore-loop-priority

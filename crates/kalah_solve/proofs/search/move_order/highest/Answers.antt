@@ -12,7 +12,7 @@ found_more xs most i new found inside is = elim (cases_lt most (get_or xs i 0)) 
   | inr more ↦ let at : new ≡ most = omega arith in rw at found
 ]
 
--- and no priority up to it is higher
+-- no priority up to the next one is higher
 highest_more : (xs : List ℕ) (most i new : ℕ) → ((k : ℕ) → k < i → get_or xs k 0 ≤ most)
     → new ≡ max most (get_or xs i 0) →
     (k : ℕ) → k < i + 1 → get_or xs k 0 ≤ new

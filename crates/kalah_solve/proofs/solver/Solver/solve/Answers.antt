@@ -18,7 +18,7 @@ returns-then-is_over-clause-best_play g c =
 
 -- ---- the game goes on
 pub first_house-house-requires-clause-moves : goal.first_house-house-requires-clause-moves
-first_house-house-requires-clause-moves g c = c.legal.ensures ∙ sym (ap (λ (a : HousesState). legal_houses (storeless a)) c.houses-houses.ensures)
+first_house-house-requires-clause-moves g c = c.legal.ensures.moves ∙ sym (ap (λ (a : HousesState). legal_houses (storeless a)) c.houses-houses.ensures)
 
 pub won_of-beta-requires : goal.won_of-beta-requires
 won_of-beta-requires g c =
@@ -28,17 +28,17 @@ won_of-beta-requires g c =
 
 pub first_house-house-requires-clause-best : goal.first_house-house-requires-clause-best
 first_house-house-requires-clause-best g c =
-    let fits : SFits w32 c.worth-best.result = search rules in
-    half_is c.houses-houses.result _ _ c.seeds.ensures.limits c.worth-best.ensures
+    let fits : SFits w32 c.houses_worth-best.result = search rules in
+    half_is c.houses-houses.result _ _ c.seeds.ensures.limits c.houses_worth-best.ensures
     (rw c.seeds.ensures.seeds at (simp to_z-of_z at c.won_of-beta.ensures))
 
 -- what the search finds is the worth of the houses
-found : (g : given.Over) (c : goal.After-other_store g) → c.worth-best.result ≡ houses_worth (houses_in c.args.board.now)
-found g c = c.worth-best.ensures ∙ ap houses_worth c.houses-houses.ensures
+found : (g : given.Over) (c : goal.After-other_store g) → c.houses_worth-best.result ≡ houses_worth (houses_in c.args.board.now)
+found g c = c.houses_worth-best.ensures ∙ ap houses_worth c.houses-houses.ensures
 
 pub overflow_add-margin : goal.overflow_add-margin
 overflow_add-margin g c =
-    told_fits c.args.board.now c.worth-best.result c.own_store.result c.other_store.result c.is_over.ensures.limits
+    told_fits c.args.board.now c.houses_worth-best.result c.own_store.result c.other_store.result c.is_over.ensures.limits
     (found g c) c.own_store.ensures c.other_store.ensures
 
 -- the reported house
@@ -49,20 +49,20 @@ house_is g c = c.first_house-house.ensures ∙ ap (λ (a : HousesState). best_ho
 pub returns-clause-verdict : goal.returns-clause-verdict
 returns-clause-verdict g c =
     let p = c.args.board.now in
-    verdict_by p (stored c.worth-best.result c.own_store.result c.other_store.result) c.first_house-house.result
+    verdict_by p (stored c.houses_worth-best.result c.own_store.result c.other_store.result) c.first_house-house.result
     (sym c.if-is_over.ensures.over)
-    (told_worth p c.worth-best.result c.own_store.result c.other_store.result c.is_over.ensures.limits
+    (told_worth p c.houses_worth-best.result c.own_store.result c.other_store.result c.is_over.ensures.limits
     (found g c) c.own_store.ensures c.other_store.ensures) (house_is g c)
 
 pub returns-clause-best_play : goal.returns-clause-best_play
 returns-clause-best_play g c =
-    verdict_tells c.args.board.now (Best (stored c.worth-best.result c.own_store.result c.other_store.result) c.first_house-house.result)
+    verdict_tells c.args.board.now (Best (stored c.houses_worth-best.result c.own_store.result c.other_store.result) c.first_house-house.result)
     (board_equal_sides c.args.board.now c.is_over.ensures.limits) (returns-clause-verdict g c)
 
 pub returns-clause-small : goal.returns-clause-small
 returns-clause-small g c =
     let p = c.args.board.now in
     let limits = c.is_over.ensures.limits in
-    small_best p (stored c.worth-best.result c.own_store.result c.other_store.result) c.first_house-house.result limits
+    small_best p (stored c.houses_worth-best.result c.own_store.result c.other_store.result) c.first_house-house.result limits
     (rw (house_is g c) (best_found p (board_equal_sides p limits) (sym c.if-is_over.ensures.over)).0)
-    (told_small p c.worth-best.result c.own_store.result c.other_store.result limits (found g c) c.own_store.ensures c.other_store.ensures)
+    (told_small p c.houses_worth-best.result c.own_store.result c.other_store.result limits (found g c) c.own_store.ensures c.other_store.ensures)

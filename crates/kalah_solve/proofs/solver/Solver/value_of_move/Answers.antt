@@ -13,13 +13,13 @@ returns-in-Over-clause-value g c =
 
 pub returns-in-Turn-clause-value : goal.returns-in-Turn-clause-value
 returns-in-Turn-clause-value g c =
-    let fits : SFits w32 c.margin-in-Turn.result = search rules in
-    let small = c.margin-in-Turn.ensures.small in
-    let turned : to_z w32 (of_z w32 (pos 0 -ℤ to_z w32 (of_z w32 c.margin-in-Turn.result))) ≡ neg_ℤ c.margin-in-Turn.result =
+    let fits : SFits w32 c.worth-in-Turn.result = search rules in
+    let small = c.worth-in-Turn.ensures.small in
+    let turned : to_z w32 (of_z w32 (pos 0 -ℤ to_z w32 (of_z w32 c.worth-in-Turn.result))) ≡ neg_ℤ c.worth-in-Turn.result =
     omega (arith, ints) in
-    turned ∙ ap neg_ℤ c.margin-in-Turn.ensures.worth ∙ value_of_turn _ _ _ c.in-Turn.ensures.step
+    turned ∙ ap neg_ℤ c.worth-in-Turn.ensures.worth ∙ value_of_turn _ _ _ c.in-Turn.ensures.step
 
 pub returns-in-Again-clause-value : goal.returns-in-Again-clause-value
 returns-in-Again-clause-value g c =
-    let fits : SFits w32 c.margin.result = search rules in
-    simp to_z-of_z (c.margin.ensures.worth ∙ value_of_again _ _ _ c.in-Again.ensures.step)
+    let fits : SFits w32 c.worth.result = search rules in
+    simp to_z-of_z (c.worth.ensures.worth ∙ value_of_again _ _ _ c.in-Again.ensures.step)

@@ -8,9 +8,9 @@ use Rattle.kalah_solve.proofs.solver.Solver.values.Goals as goal
 pub returns-clause-best_play : goal.returns-clause-best_play
 returns-clause-best_play g c =
     let p = c.args.board.now in
-    let all = take_all c.loop-i.i c.legal-moves.result (omega arith) ∙ c.legal-moves.ensures in
+    let all = take_all c.loop-i.i c.legal-moves.result (omega arith) ∙ c.legal-moves.ensures.moves in
     let is = c.loop-i.invariant ∙ ap (map (move_value p)) all in
-    subst (TellMoves p) (sym is) (values_tell (board_equal_sides _ c.m-side.ensures.limits))
+    subst (TellMoves p) (sym is) (values_tell (board_equal_sides _ c.legal-moves.ensures.limits))
 
 pub loop-i-preserved : goal.loop-i-preserved
 loop-i-preserved g c = grind (arith, common_steps)

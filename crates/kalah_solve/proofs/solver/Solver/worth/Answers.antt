@@ -1,10 +1,31 @@
-use Rattle.std.proofs.Common.{rules, ◌∙◌, w32, SFits}
-use Rattle.std.proofs.lemmas.Int.{to_z-of_z}
-use Rattle.kalah_solve.proofs.SolverLemmas.{whole_window}
+use Rattle.std.proofs.Common.{rules, sym, ap, ◌∙◌, ◌≡◌, w32, SFits, to_z-of_z}
+use Rattle.kalah_rules.specs.Position.{houses_in}
+use Rattle.kalah_solve.specs.Solver.Worth.{houses_worth}
+use Rattle.kalah_solve.proofs.SolverLemmas.{told_fits, told_small, told_worth}
+use Rattle.kalah_solve.proofs.WorthLemmas.{worth_of_over}
+use Rattle.kalah_solve.proofs.solver.Solver.worth.Given.{Over}
 use Rattle.kalah_solve.proofs.solver.Solver.worth.Goals as goal
 
-pub returns : goal.returns
-returns g c =
-    let fits : SFits w32 c.search.result = search rules in
-    to_z-of_z w32 _ fits ∙ whole_window _ _ _ c.seeds-seeds.ensures.limits
-    c.whole.ensures.lo c.whole.ensures.hi c.search.ensures
+pub returns-then-is_over-clause-worth : goal.returns-then-is_over-clause-worth
+returns-then-is_over-clause-worth g c =
+    let fits : SFits w32 c.returns.result = search rules in
+    simp to_z-of_z (c.returns.ensures.margin ∙ sym (worth_of_over _ (sym c.if-is_over.ensures.over)))
+
+-- what the search finds is the worth of the houses
+found : (g : Over) (c : goal.After-other_store g) → c.houses_worth-best.result ≡ houses_worth (houses_in c.args.board.now)
+found g c = c.houses_worth-best.ensures ∙ ap houses_worth c.houses.ensures
+
+pub overflow_add-result : goal.overflow_add-result
+overflow_add-result g c =
+    told_fits c.args.board.now c.houses_worth-best.result c.own_store.result c.other_store.result c.is_over.ensures.limits
+    (found g c) c.own_store.ensures c.other_store.ensures
+
+pub returns-clause-worth : goal.returns-clause-worth
+returns-clause-worth g c =
+    told_worth c.args.board.now c.houses_worth-best.result c.own_store.result c.other_store.result c.is_over.ensures.limits
+    (found g c) c.own_store.ensures c.other_store.ensures
+
+pub returns-clause-small : goal.returns-clause-small
+returns-clause-small g c =
+    told_small c.args.board.now c.houses_worth-best.result c.own_store.result c.other_store.result c.is_over.ensures.limits
+    (found g c) c.own_store.ensures c.other_store.ensures

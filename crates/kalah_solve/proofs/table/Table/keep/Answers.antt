@@ -1,5 +1,4 @@
-use Rattle.std.proofs.Common.{rules}
-use Rattle.kalah_solve.proofs.TableLemmas.{put_again, put_or_same, true_after}
+use Rattle.kalah_solve.proofs.TableLemmas.{put_again, put_leaves, put_or_same, true_after}
 use Rattle.kalah_solve.proofs.table.Table.keep.Goals as goal
 
 pub invariant_of-self : goal.invariant_of-self
@@ -7,7 +6,7 @@ invariant_of-self g c = (
   true_after c.self.inside.entries c.args.houses.now c.key-key.result c.args.interval c.self.invariant.0 c.key-key.ensures.limits
       c.key-key.ensures.key c.requires
       c.put.result c.put.new.self c.put.ensures.entries c.put.ensures.err,
-  search rules,
+  rw (put_leaves c.put.result _ _ _ c.put.ensures.entries c.put.ensures.err) c.self.invariant.1,
 )
 
 pub returns-clause-kept : goal.returns-clause-kept

@@ -6,7 +6,7 @@ pub loop-i-preserved : goal.loop-i-preserved
 loop-i-preserved c =
     let before = c.loop-i.invariant in
     record {
-      cells = length-set c.loop-i.pairs c.loop-i.i c.pair.result ∙ before.cells;
+      cells = length-set c.loop-i.pairs c.loop-i.i c.pair_cell.result ∙ before.cells;
       right = pairs_more _ _ _ (omega arith) before.right
-          c.pair.ensures;
+          c.pair_cell.ensures;
     }

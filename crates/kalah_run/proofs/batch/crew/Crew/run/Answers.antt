@@ -1,7 +1,6 @@
 use Rattle.std.proofs.lemmas.Grind.{common_steps}
-use Rattle.std.proofs.Common.{arith}
+use Rattle.std.proofs.Common.{arith, rules}
 use denote.Param.Send.{sendable}
-use Rattle.std.proofs.Common.{rules}
 use Rattle.kalah_run.proofs.Crossing.{worker_send}
 use Rattle.kalah_run.proofs.batch.crew.Crew.run.Goals as goal
 

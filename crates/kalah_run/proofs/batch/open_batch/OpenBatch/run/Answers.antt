@@ -66,15 +66,9 @@ pub close-requires-2-clause-puts : goal.close-requires-2-clause-puts
 close-requires-2-clause-puts g c =
     let run = c.in_ok-workers.ensures.ended in
     let puts = c.take_apart.ensures.puts in (
-      omega (
-        arith,
-        c.take_apart.new.puts.ok,
-        ap (λ (l : List PutState). length l) puts,
-        length-map c.in_ok-workers.workers.items (λ (w : Worker). w.put),
-        run.all_ran.as_many,
-        run.collected.workers,
-        ap (λ (p : GetState). p.workers) (c.new-receiver.ensures.0 ∙ c.requires.ready.get),
-      ),
+      c.take_apart.new.puts.ok.0 ∙ ap (λ (l : List PutState). length l) puts
+          ∙ length-map c.in_ok-workers.workers.items (λ (w : Worker). w.put) ∙ run.all_ran.as_many
+          ∙ sym (run.collected.workers ∙ ap (λ (p : GetState). p.workers) (c.new-receiver.ensures.0 ∙ c.requires.ready.get)),
       rw puts (puts_after _ _ _ 0 run.all_ran c.requires.ready.puts),
     )
 

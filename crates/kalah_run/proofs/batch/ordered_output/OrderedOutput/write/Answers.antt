@@ -3,37 +3,25 @@ use Rattle.std.proofs.Common.{arith, refl, rules, List, ℕ, ◌<◌, ◌≤◌,
 use Rattle.kalah_jobs.specs.Collecting.CollectorState.{FileState, front, state_of}
 use Rattle.kalah_jobs.specs.Files.NamedBytes.{NamedBytes}
 use Rattle.kalah_jobs.proofs.CollectingLemmas.{files_many}
-use Rattle.kalah_run.specs.Batch.UnderWay.{WasGivenSince}
-use Rattle.kalah_run.proofs.BatchLemmas.{wrote_file, wrote_line, wrote_nothing, given_off, given_on, written_on, text_of_taken, whole_where_sound}
+use Rattle.kalah_run.specs.Batch.OrderedOutput.{WasGivenSince}
+use Rattle.kalah_run.proofs.BatchLemmas.{wrote_file, wrote_line, wrote_nothing, given_more, written_on, text_of_taken}
 use Rattle.kalah_run.proofs.batch.ordered_output.OrderedOutput.write.Goals as goal
 
 pub bounds-files-f : goal.bounds-files-f
 bounds-files-f g c = omega (arith, c.loop-self-test.true, c.files.ensures.is, c.loop-self.self.as_many)
 
-pub loop-self-preserved-then-not-failed : goal.loop-self-preserved-then-not-failed
-loop-self-preserved-then-not-failed g c = record {
-  sound = λ still. c.loop-self.invariant.sound (sym c.failed.ensures ∙ c.if-not-failed.true);
+pub loop-self-preserved-in-Some : goal.loop-self-preserved-in-Some
+loop-self-preserved-in-Some g c = record {
+  sound = λ still. c.loop-self.invariant.sound (c.write_answer_unless_failed.ensures.whole still).0;
   progress = λ files jobs past begun so_far.
       let r = c.loop-self.self in
-      let wrote = c.write_answer.ensures in
       let low : r.current < length r.files.now = omega (arith, c.loop-self-test.true, c.files.ensures.is, r.as_many) in
       let text = text_of_taken r.files.now r.current c.index-files-f.result c.as_str.result.now c.in-Some.taken low c.index-files-f.is
       (c.as_str.ensures.value ∙ ap (λ (x : NamedBytes). x.name) c.file.view_is) in
       written_on (c.loop-self.invariant.progress files jobs past begun so_far) refl refl
-      (λ progress. wrote_line progress c.take.new.self c.in-Some.taken
-      (g.W.Sink.state c.write_answer.new.out) c.in-Some.ensures.takes
-      (λ given was. subst (λ (l : List ℕ). WasGivenSince begun (g.W.Sink.state c.write_answer.new.out) (given ++ l))
-      (sym text) (given_on given _ was (sym c.failed.ensures ∙ c.if-not-failed.true) wrote.start
-      (whole_where_sound _ c.write_answer.result _ wrote.fails.0 wrote.adds))));
-}
-
-pub loop-self-preserved-else-not-failed : goal.loop-self-preserved-else-not-failed
-loop-self-preserved-else-not-failed g c = record {
-  sound = c.loop-self.invariant.sound;
-  progress = λ files jobs past begun so_far.
-      written_on (c.loop-self.invariant.progress files jobs past begun so_far) refl refl
       (λ progress. wrote_line progress c.take.new.self c.in-Some.taken _ c.in-Some.ensures.takes
-      (λ given was. given_off given _ was (sym c.failed.ensures ∙ c.if-not-failed.false)));
+      (λ given was. subst (λ (l : List ℕ). WasGivenSince begun (g.W.Sink.state c.write_answer_unless_failed.new.out) (given ++ l))
+      (sym text) (given_more given _ was c.write_answer_unless_failed.ensures)));
 }
 
 pub loop-self-preserved : goal.loop-self-preserved
@@ -62,11 +50,8 @@ returns-clause-writes g c = λ files jobs past begun so_far.
       λ low ended. absurd (omega (arith, low, c.loop-self-test.false, c.files.ensures.is, files_many r.jobs.now r.collector r.counts)),
     )
 
-pub loop-self-smaller-then-not-failed : goal.loop-self-smaller-then-not-failed
-loop-self-smaller-then-not-failed g c = grind (arith, common_steps)
-
-pub loop-self-smaller-else-not-failed : goal.loop-self-smaller-else-not-failed
-loop-self-smaller-else-not-failed g c = grind (arith, common_steps)
+pub loop-self-smaller-in-Some : goal.loop-self-smaller-in-Some
+loop-self-smaller-in-Some g c = grind (arith, common_steps)
 
 pub loop-self-smaller : goal.loop-self-smaller
 loop-self-smaller g c = grind (arith, common_steps)

@@ -1,4 +1,4 @@
-use Rattle.std.proofs.Common.{arith, ◌∙◌, ◌≡◌, length, length-set}
+use Rattle.std.proofs.Common.{arith, ◌∙◌, length-set}
 use Rattle.kalah_solve.specs.Table.DirectTable.{IsWithinSlot}
 use Rattle.kalah_solve.specs.Bounds.Won.{won}
 use Rattle.kalah_solve.proofs.TableLemmas.{bounds_more}
@@ -15,14 +15,13 @@ invariant_of-self g c =
     let slots = c.self.inside.slots.items in
     let at = c.slot_of-at in
     let mixed = c.mixed_key-mixed in
-    let length_is : c.len.result ≡ length slots = omega arith in
     let count = length-set slots at.result c.of-stored.result in
     let known : IsWithinSlot c.of-stored.result (won c.args.houses.now) = record {
       least = rw c.of-stored.ensures.least c.requires.least;
       most = rw c.of-stored.ensures.most c.requires.most;
     } in (
       rw count c.self.invariant.0,
-      bounds_more _ c.self.invariant.0 c.self.invariant.1
-          mixed.ensures.limits mixed.ensures.mixed (rw length_is at at.ensures.slot) (omega arith)
-          (c.of-stored.ensures.rest ∙ c.rest_of.ensures.rest) known,
+      bounds_more _ _ c.self.invariant.0.least c.self.invariant.1
+          mixed.ensures.limits mixed.ensures.mixed at.ensures.slot (omega (arith, at.ensures.inside, c.self.invariant.0.all))
+          (c.of-stored.ensures.tag ∙ c.tag_of.ensures.tag) known,
     )

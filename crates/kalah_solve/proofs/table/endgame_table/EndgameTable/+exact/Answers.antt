@@ -5,10 +5,10 @@ use Rattle.kalah_solve.proofs.SearchLemmas.{marks_fall, marked_legal, moves_fewe
 use Rattle.kalah_solve.proofs.TableLemmas.{most_of_none, most_more, most_all, most_won}
 use Rattle.kalah_solve.proofs.table.endgame_table.EndgameTable.+exact.Goals as goal
 
-pub most_won-loop-left-init : goal.most_won-loop-left-init
-most_won-loop-left-init g t c =
+pub most_won-loop-untried-init : goal.most_won-loop-untried-init
+most_won-loop-untried-init g t c =
     let a = c.args.houses.now in
-    let marks = c.filled_houses-left.ensures in
+    let marks = c.filled_houses-untried.ensures in
     record {
       may = record { are = marks.marks; legal = λ i some. marked_legal _ marks.limits c.requires.going ((marks.marked i).0 some) };
       is = most_of_none marks.marked;
@@ -16,15 +16,15 @@ most_won-loop-left-init g t c =
 
 pub most_won-move_wins-requires : goal.most_won-move_wins-requires
 most_won-move_wins-requires g t c κs within =
-    let has = last_legal c.loop-left.invariant.may c.split_last-house.ensures.last in
+    let has = last_legal c.loop-untried.invariant.may c.split_last-house.ensures.last in
     (omega arith, (within, (search rules, (has, (c.requires.variant, c.requires.few)))))
 
 pub most_won-returns-then-most-seeds : goal.most_won-returns-then-most-seeds
 most_won-returns-then-most-seeds g t c =
-    let marks = c.loop-left.left in
+    let marks = c.loop-untried.untried in
     let h = c.split_last-house.result.0 in
     let last = c.split_last-house.ensures.last in
-    let before = c.loop-left.invariant in
+    let before = c.loop-untried.invariant in
     let limits = c.seeds-seeds.ensures.limits in
     let has = last_legal before.may last in
     most_all c.args.houses.now (marks - 32 ^ (h - 1)) c.max-most.result limits
@@ -32,12 +32,12 @@ most_won-returns-then-most-seeds g t c =
     (search (rules, c.max-most.ensures)))
     (omega arith)
 
-pub most_won-loop-left-preserved : goal.most_won-loop-left-preserved
-most_won-loop-left-preserved g t c =
-    let marks = c.loop-left.left in
+pub most_won-loop-untried-preserved : goal.most_won-loop-untried-preserved
+most_won-loop-untried-preserved g t c =
+    let marks = c.loop-untried.untried in
     let h = c.split_last-house.result.0 in
     let last = c.split_last-house.ensures.last in
-    let before = c.loop-left.invariant in
+    let before = c.loop-untried.invariant in
     let has = last_legal before.may last in
     rw c.split_last-house.ensures.rest (record {
       may = moves_fewer before.may last;
@@ -47,44 +47,44 @@ most_won-loop-left-preserved g t c =
           (search (rules, c.max-most.ensures));
     })
 
-pub most_won-loop-left-smaller : goal.most_won-loop-left-smaller
-most_won-loop-left-smaller g t c =
+pub most_won-loop-untried-smaller : goal.most_won-loop-untried-smaller
+most_won-loop-untried-smaller g t c =
     let split = c.split_last-house in
     rw split.ensures.rest (marks_fall split.ensures.last)
 
 pub most_won-returns : goal.most_won-returns
 most_won-returns g t c =
-    most_won c.args.houses.now c.loop-left.left c.loop-left.most c.seeds-seeds.ensures.limits c.requires.going c.loop-left.invariant.is
+    most_won c.args.houses.now c.loop-untried.untried c.loop-untried.most c.seeds-seeds.ensures.limits c.requires.going c.loop-untried.invariant.is
     (omega arith)
 
 pub move_wins-won-requires : goal.move_wins-won-requires
 move_wins-won-requires g t c κs within =
-    let next = leads_by _ _ c.seeds-seeds.ensures.limits
+    let next = leads_by _ _ c.play_by.ensures.limits
     c.requires.legal
-    (sym c.in-Again.is ∙ c.play_by.ensures) in
+    (sym c.in-Again.is ∙ c.play_by.ensures.step) in
     (omega arith, (within, (search rules, (next.going, (next.same ∙ c.requires.variant, omega arith)))))
 
 pub move_wins-overflow_add-result : goal.move_wins-overflow_add-result
 move_wins-overflow_add-result g t c =
-    let next = leads_by _ _ c.seeds-seeds.ensures.limits
+    let next = leads_by _ _ c.play_by.ensures.limits
     c.requires.legal
-    (sym c.in-Again.is ∙ c.play_by.ensures) in
+    (sym c.in-Again.is ∙ c.play_by.ensures.step) in
     omega (arith, (won_of_houses next.limits).few)
 
 pub move_wins-won-requires-in-Turn : goal.move_wins-won-requires-in-Turn
 move_wins-won-requires-in-Turn g t c κs within =
-    let next = leads_by _ _ c.seeds-seeds.ensures.limits c.requires.legal
-    (sym c.in-Turn.is ∙ c.play_by.ensures) in
+    let next = leads_by _ _ c.play_by.ensures.limits c.requires.legal
+    (sym c.in-Turn.is ∙ c.play_by.ensures.step) in
     (omega arith, (within, (search rules, (next.going, (next.same ∙ c.requires.variant, omega arith)))))
 
 pub move_wins-overflow_sub-result : goal.move_wins-overflow_sub-result
 move_wins-overflow_sub-result g t c =
-    let next = leads_by _ _ c.seeds-seeds.ensures.limits c.requires.legal
-    (sym c.in-Turn.is ∙ c.play_by.ensures) in
+    let next = leads_by _ _ c.play_by.ensures.limits c.requires.legal
+    (sym c.in-Turn.is ∙ c.play_by.ensures.step) in
     omega (arith, (won_of_houses next.limits).few)
 
 pub move_wins-overflow_add-result-in-Turn : goal.move_wins-overflow_add-result-in-Turn
 move_wins-overflow_add-result-in-Turn g t c =
-    let next = leads_by _ _ c.seeds-seeds.ensures.limits c.requires.legal
-    (sym c.in-Turn.is ∙ c.play_by.ensures) in
+    let next = leads_by _ _ c.play_by.ensures.limits c.requires.legal
+    (sym c.in-Turn.is ∙ c.play_by.ensures.step) in
     omega arith

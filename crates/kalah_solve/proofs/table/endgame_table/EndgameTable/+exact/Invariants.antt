@@ -17,11 +17,11 @@ decreases-most_won g l = 4 * moves_left (storeless l.houses.now) + 1
 abbrev pub decreases-move_wins : goal.decreases-move_wins
 decreases-move_wins g l = 4 * moves_left (storeless l.houses.now)
 
-abbrev pub invariant-most_won-loop-left : goal.invariant-most_won-loop-left
-invariant-most_won-loop-left g l = record {
-  may : MayMove l.houses l.left;
-  is : IsMost l.houses l.left l.most;
+abbrev pub invariant-most_won-loop-untried : goal.invariant-most_won-loop-untried
+invariant-most_won-loop-untried g l = record {
+  may : MayMove l.houses l.untried;
+  is : IsMost l.houses l.untried l.most;
 }
 
-abbrev pub decreases-most_won-loop-left : goal.decreases-most_won-loop-left
-decreases-most_won-loop-left g l = l.left
+abbrev pub decreases-most_won-loop-untried : goal.decreases-most_won-loop-untried
+decreases-most_won-loop-untried g l = l.untried

@@ -36,13 +36,13 @@ loop-step-init g c =
     let none : 0 + length c.args.houses.now.own - 6 ≡ 0 = omega arith in
     rw none (record { left = c.sums_of-sums.ensures.sums; rank = omega arith })
 
-pub pair-rank-requires-clause-first : goal.pair-rank-requires-clause-first
-pair-rank-requires-clause-first g c =
+pub pair_rank-rank-requires-clause-first : goal.pair_rank-rank-requires-clause-first
+pair_rank-rank-requires-clause-first g c =
     (few_here c.args.houses.now c.m-m.ensures.limits c.requires c.loop-step.step c.loop-step.sums c.loop-step.rank c.loop-step-test.true
     (omega arith) c.loop-step.invariant).0
 
-pub pair-rank-requires-clause-second : goal.pair-rank-requires-clause-second
-pair-rank-requires-clause-second g c =
+pub pair_rank-rank-requires-clause-second : goal.pair_rank-rank-requires-clause-second
+pair_rank-rank-requires-clause-second g c =
     (few_here c.args.houses.now c.m-m.ensures.limits c.requires c.loop-step.step c.loop-step.sums c.loop-step.rank c.loop-step-test.true
     (omega arith) c.loop-step.invariant).1
 
@@ -51,8 +51,8 @@ loop-step-preserved g c = elim c.if-step-m-ge6.branch [
   | then-step-m-ge6 w ↦
       rw (w.sums-is, w.rank-is) (ranked_here c.args.houses.now c.m-m.ensures.limits c.requires c.loop-step.step c.loop-step.sums
       c.loop-step.rank
-      c.loop-step-test.true (omega arith) c.loop-step.invariant w.pair-rank.result
-      w.pair-rank.ensures.value)
+      c.loop-step-test.true (omega arith) c.loop-step.invariant w.pair_rank-rank.result
+      w.pair_rank-rank.ensures.value)
   | else-step-m-ge6 w ↦
       let same : c.loop-step.step + 1 + length c.args.houses.now.own - 6 ≡ c.loop-step.step + length c.args.houses.now.own - 6 =
       omega arith in
@@ -64,7 +64,7 @@ overflow_add-rank g c =
     let a = c.args.houses.now in
     let limits = c.m-m.ensures.limits in
     let next = ranked_here a limits c.requires c.loop-step.step c.loop-step.sums c.loop-step.rank c.loop-step-test.true
-    (omega arith) c.loop-step.invariant c.pair-rank.result c.pair-rank.ensures.value in
+    (omega arith) c.loop-step.invariant c.pair_rank-rank.result c.pair_rank-rank.ensures.value in
     omega (arith, ranked_small _ _ _ _ (few a c.requires) (omega (arith, long a limits)) next)
 
 pub returns-clause-rank : goal.returns-clause-rank

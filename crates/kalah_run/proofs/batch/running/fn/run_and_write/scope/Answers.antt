@@ -1,5 +1,5 @@
 use denote.Param.Send.{sendable}
-use Rattle.std.proofs.Common.{refl, rules}
+use Rattle.std.proofs.Common.{refl}
 use Rattle.std.proofs.Crossing.{crosses}
 use Rattle.kalah_run.proofs.Crossing.{crew_send, worker_send}
 use Rattle.kalah_run.proofs.batch.running.fn.run_and_write.scope.Goals as goal
@@ -14,7 +14,7 @@ pub returns : goal.returns
 returns g c = record {
   names = (refl, refl);
   ended = record {
-    all_ran = search rules;
+    all_ran = rw (c.into_inner-workers.ensures, ← c.of.ensures) (rw c.in-Ok.ensures.ok at c.join.ensures);
     collected = c.collect-get.ensures.collected;
     draws = c.collect-get.ensures.draws;
   };

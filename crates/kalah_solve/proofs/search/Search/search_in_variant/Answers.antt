@@ -2,8 +2,8 @@ use Rattle.std.proofs.Common.{ap, refl, rules, ◌≡◌, ◌∙◌, w8, w32, to
 use Rattle.kalah_solve.specs.Bounds.Intervals.{clamped}
 use Rattle.kalah_solve.specs.Solver.Worth.{houses_worth}
 use Rattle.kalah_solve.proofs.BoundsLemmas.{within_both, won_by_bounds, told_by_won}
-use Rattle.kalah_solve.proofs.search.Search.search_variant.Given.{Over}
-use Rattle.kalah_solve.proofs.search.Search.search_variant.Goals as goal
+use Rattle.kalah_solve.proofs.search.Search.search_in_variant.Given.{Over}
+use Rattle.kalah_solve.proofs.search.Search.search_in_variant.Goals as goal
 
 pub interval_of-requires-clause-least : goal.interval_of-requires-clause-least
 interval_of-requires-clause-least g c =

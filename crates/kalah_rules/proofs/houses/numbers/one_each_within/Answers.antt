@@ -1,8 +1,8 @@
 use Rattle.std.proofs.Common.{arith, ◌∙◌, ap, sym}
 use Rattle.kalah_rules.specs.Packed.{ones}
 use Rattle.kalah_rules.proofs.KeyLemmas.{number_of-all, number_of-up_to}
-use Rattle.kalah_rules.proofs.houses.numbers.one_each_up_to.Goals as goal
-use Rattle.kalah_rules.proofs.houses.numbers.one_each_up_to.Goals.{then-x-m, else-x-m}
+use Rattle.kalah_rules.proofs.houses.numbers.one_each_within.Goals as goal
+use Rattle.kalah_rules.proofs.houses.numbers.one_each_within.Goals.{then-x-m, else-x-m}
 
 pub returns-clause-value : goal.returns-clause-value
 returns-clause-value c = c.one_each.ensures.value ∙ elim c.if-x-m.branch [

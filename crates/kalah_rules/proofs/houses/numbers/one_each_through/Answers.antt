@@ -2,7 +2,7 @@ use Rattle.std.proofs.Common.{arith, ◌≡◌, ◌-◌, ◌*◌, ◌%◌, ◌^�
 use Rattle.std.proofs.lemmas.Nat.{and_le_l}
 use Rattle.kalah_rules.specs.Packed.{ones}
 use Rattle.kalah_rules.proofs.KeyLemmas.{pow_five, moved_small, ones_below}
-use Rattle.kalah_rules.proofs.houses.numbers.one_each_to.Goals as goal
+use Rattle.kalah_rules.proofs.houses.numbers.one_each_through.Goals as goal
 
 pub returns-clause-value : goal.returns-clause-value
 returns-clause-value c =

@@ -1,4 +1,4 @@
-//! The work of a search: how many nodes it had of each variant, and which endings pay after them.
+//! The nodes of a search: how many it had of each variant, and which endings pay after them.
 ghost use Rattle.std.specs.Prelude.{◌≤◌, ◌<◌};
 ghost use Rattle.kalah_solve.specs.Table.EndgameTable.{most_ending_seeds};
 
@@ -39,37 +39,37 @@ impl EndingLimit {
 
 /// The nodes of a search.
 #[derive(Drop)]
-pub(super) struct Work {
+pub(super) struct NodeCounts {
     // The variant that is searched: houses a side and rule, as in the upper bits of a key.
     variant: usize,
     // How many nodes of it there were, and of each variant before it was searched last.
     nodes: u64,
     nodes_before: [u64; 16],
     // The number of its nodes from which on more may pay: up to it, a node is only counted.
-    next_event: u64,
+    next_threshold: u64,
     // Whether houses with many seeds were asked about.
     seen_many_seeds: bool,
     ghost is_variant: { variant < 16 },
 }
 
-impl Work {
+impl NodeCounts {
     /// Makes a count of no nodes.
-    pub(super) fn new() -> Work {
-        Work {
+    pub(super) fn new() -> NodeCounts {
+        NodeCounts {
             variant: 0,
             nodes: 0,
             nodes_before: [0; 16],
-            next_event: NODES_FOR_ALL_SLOTS,
+            next_threshold: NODES_FOR_ALL_SLOTS,
             seen_many_seeds: false,
         }
     }
 
     /// Goes on with the variant of these houses, which are asked about.
-    pub(super) fn turn_to(&mut self, houses: &Houses) {
+    pub(super) fn resume(&mut self, houses: &Houses) {
         self.nodes_before[self.variant] = self.nodes;
         self.variant = houses.variant() as usize;
         self.nodes = self.nodes_before[self.variant];
-        self.set_next_event();
+        self.set_next_threshold();
         self.seen_many_seeds |= houses.seeds() >= MANY_SEEDS;
     }
 
@@ -93,8 +93,8 @@ impl Work {
     }
 
     // Sets the number of nodes from which on more may pay.
-    fn set_next_event(&mut self) {
-        self.next_event = if self.nodes < NODES_FOR_ALL_SLOTS {
+    fn set_next_threshold(&mut self) {
+        self.next_threshold = if self.nodes < NODES_FOR_ALL_SLOTS {
             NODES_FOR_ALL_SLOTS
         } else if self.nodes < NODES_FOR_8_SEEDS {
             NODES_FOR_8_SEEDS
@@ -108,7 +108,7 @@ impl Work {
     /// Counts one more node, and returns true. If more endings or slots may pay by now, it counts none and returns false.
     #[inline(always)]
     pub(super) fn count_node(&mut self) -> bool {
-        if self.nodes >= self.next_event {
+        if self.nodes >= self.next_threshold {
             return false;
         }
         self.nodes += 1;
@@ -116,8 +116,8 @@ impl Work {
     }
 
     /// Counts the node that `count_node` did not count.
-    pub(super) fn count_event(&mut self) {
-        self.set_next_event();
+    pub(super) fn count_at_threshold(&mut self) {
+        self.set_next_threshold();
         self.nodes = self.nodes.saturating_add(1);
     }
 

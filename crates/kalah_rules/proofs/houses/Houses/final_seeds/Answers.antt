@@ -1,7 +1,7 @@
 use Rattle.std.proofs.Common.{◌≡◌, ◌≢◌, ◌∙◌, sym, arith, sum}
 use Rattle.std.proofs.lemmas.Bool.Decides.{nat_tests}
 use Rattle.kalah_rules.proofs.KeyLemmas.{sum-zero, number_of-zero}
-use Rattle.kalah_rules.proofs.houses.Houses.left.Goals as goal
+use Rattle.kalah_rules.proofs.houses.Houses.final_seeds.Goals as goal
 
 pub returns-then-own_row-eq0 : goal.returns-then-own_row-eq0
 returns-then-own_row-eq0 c =

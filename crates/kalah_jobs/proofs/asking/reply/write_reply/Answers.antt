@@ -3,7 +3,7 @@ use Rattle.kalah_jobs.specs.Writing.Answer.{is_faulty_entry}
 use Rattle.kalah_jobs.specs.Writing.Output.{is_faulty}
 use Rattle.kalah_jobs.proofs.FilesLemmas.{asked_fault}
 use Rattle.kalah_jobs.proofs.WritingLemmas.{given_cut_off}
-use Rattle.kalah_jobs.proofs.asking.told.tell.Goals as goal
+use Rattle.kalah_jobs.proofs.asking.reply.write_reply.Goals as goal
 
 pub returns-then-failed-clause-given : goal.returns-then-failed-clause-given
 returns-then-failed-clause-given g c =

@@ -3,7 +3,7 @@ use Rattle.kalah_jobs.specs.Files.Lines.{line_feed}
 use Rattle.kalah_jobs.specs.Writing.Answer.{answer_line}
 use Rattle.kalah_jobs.specs.Writing.Given.{WasGiven}
 use Rattle.kalah_jobs.proofs.WritingLemmas.{line_before}
-use Rattle.kalah_jobs.proofs.writing.answer_line.write_texts.Goals as goal
+use Rattle.kalah_jobs.proofs.writing.answer_line.write_answer_unless_failed.Goals as goal
 
 pub returns-in_default : goal.returns-in_default
 returns-in_default g c =

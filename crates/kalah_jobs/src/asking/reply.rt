@@ -1,6 +1,6 @@
 //! The answer to one line.
 ghost use Rattle.std.specs.Prelude.{◌≡◌, not, true, false};
-ghost use Rattle.kalah_jobs.specs.Asking.Asked.{is_last_read, told, told_last};
+ghost use Rattle.kalah_jobs.specs.Asking.Asked.{is_last_read, reply, last_reply};
 ghost use Rattle.kalah_jobs.specs.Writing.Given.{WasGiven};
 ghost use Rattle.kalah_jobs.specs.Writing.Output.{is_faulty};
 
@@ -12,13 +12,13 @@ use crate::writing::answer_line::write_text;
 use crate::writing::sink::{Sink, flush_unless_failed};
 
 // Writes the answer to a line, and a line feed, and returns whether the line was read.
-pub(crate) fn tell<O: Sink>(
+pub(crate) fn write_reply<O: Sink>(
     line: &LineHead,
     question: Question,
     solver: &mut PromptSolver<'_>,
     out: &mut O,
 ) -> bool
-    ensures given { WasGiven O.state out.old out.new (told question line.now) }
+    ensures given { WasGiven O.state out.old out.new (reply question line.now) }
     ensures read { result ≡ not (is_faulty line.now) }
 {
     let entry = Entry::of_line(question, line.bytes());
@@ -36,17 +36,17 @@ pub(crate) fn tell<O: Sink>(
 
 // Writes the answer to what stands after the last line feed, if anything does, and flushes. Returns whether the line was
 // read, if there is one.
-pub(crate) fn tell_last<O: Sink>(
+pub(crate) fn write_last_reply<O: Sink>(
     line: &LineHead,
     question: Question,
     solver: &mut PromptSolver<'_>,
     out: &mut O,
 ) -> bool
-    ensures given { WasGiven O.state out.old out.new (told_last question line.now) }
+    ensures given { WasGiven O.state out.old out.new (last_reply question line.now) }
     ensures read { result ≡ is_last_read line.now }
     ensures all_flushed { (O.state out.new).has_failed ≡ false → (O.state out.new).is_flushed ≡ true }
 {
-    let is_read = line.bytes().is_empty() || tell(line, question, solver, out);
+    let is_read = line.bytes().is_empty() || write_reply(line, question, solver, out);
     flush_unless_failed(out);
     is_read
 }
