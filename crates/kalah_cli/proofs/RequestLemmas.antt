@@ -1,7 +1,7 @@
 -- What arguments are accepted, and the request that they make.
 use Rattle.std.proofs.Common.{◌≡◌, ◌⊎◌, ◌≤◌, ℕ, true, refl, ap, subst, inl, inr, List, Some, is_some, codes, arith, ◌∙◌, ◌<◌, ◌^◌, Bool, false, Option, None, map, sym, [], ◌∷◌, Result, Ok, Err, ◌≢◌, ◌==◌, ◌++◌, cond}
 use Rattle.std.specs.List.{AllByRecursion as AllOf}
-use Rattle.std.specs.Prelude.{option_map, unwrap_or, IfErr, IsErrAnd, MatchResult, option_and_then}
+use Rattle.std.specs.Prelude.{option_map, unwrap_or, IfErr, IsErrAnd, MatchResult}
 use Rattle.clap.specs.Facts.{parser_of_value}
 use Rattle.clap.specs.Words.{Accepts, Row, Rule, Text, reading_of, IsUnsignedIn, ReadsOne, all_of, matched_of, one_of, one_text, raw_values, rows_of, App, HasKind, fault_of, is_simple, is_simple_and_free, kind_of, subcommand_of, FailsBy, Kinds}
 use Rattle.clap.specs.Simple.{Shape, built, filled, with_index}
@@ -10,7 +10,7 @@ use Rattle.clap.proofs.OnLiterals.{clap_on_literals}
 use Rattle.kalah_jobs.specs.declared.files.question.Question.{Question}
 use Rattle.kalah_jobs.specs.declared.files.question.Question.TheVariants.{BestMove, Steps, Values}
 use Rattle.kalah_cli.specs.Command.{file_rule, kalah_app, table_rule, workers_rule}
-use Rattle.kalah_cli.specs.Request.{AreMatches, HasNumber, MayHaveNumber, command_of, number_written, is_set, number_given, Asked, IsPlainWord, IsTakenAs, about_line, words_ask, matches_ask}
+use Rattle.kalah_cli.specs.Request.{AreMatches, HasNumber, MayHaveNumber, command_of, number_written, is_set, number_given, Asked, IsPlainWord, IsTakenAs, about_line}
 use Rattle.kalah_cli.specs.declared.request.LineCommand.TheVariants.{Moves}
 use Rattle.kalah_cli.proofs.ClapLemmas.{Given, HasOf, IsUsableIn, accepted_in, arg_in, given_in, is_wanted, taken_has, cases_Option}
 use Rattle.std.specs.Str.{bytes_eq}
@@ -97,7 +97,8 @@ is_there f (Some x) e = refl
 
 -- an option of pairs, by what a getter returns of the first and of the second parts
 pub pair_got : {S A B R : Type 0} (n : S → A) (r : S → B) (s : Option S) (f : R → A) (g : R → B) (o : Option R) (p : R)
-    → option_map f o ≡ option_map n s → option_map g o ≡ option_map (λ (p : A × B). p.1) (option_map {U = A × B} (λ b. (n b, r b)) s)
+    → option_map f o ≡ option_map n s
+    → option_map g o ≡ option_map (λ (p : A × B). p.1) (option_map {U = A × B} (λ b. (n b, r b)) s)
     → o ≡ Some p → option_map {U = A × B} (λ b. (n b, r b)) s ≡ Some (f p, g p)
 pair_got n r None f g o p first second is = let bad : Some (f p) ≡ None = rw is at first in cc
 pair_got n r (Some b) f g o p first second is =
@@ -169,10 +170,13 @@ taken_once words a b p q =
     cc
 
 -- `moves` and a plain argument are accepted as the moves of that line, with no boards
-pub moves_taken : (name line : Text) → IsPlainWord line → IsTakenAs (name ∷ codes "moves" ∷ line ∷ []) (about_line (Moves false) line)
+pub moves_taken : (name line : Text) → IsPlainWord line
+    → IsTakenAs (name ∷ codes "moves" ∷ line ∷ []) (about_line (Moves false) line)
 unfolding clap_on_literals
 moves_taken name [] plain = absurd plain
-moves_taken name (x ∷ xs) plain = let no_flag = ne_eqb _ _ plain in (simp no_flag (refl {a = []}), simp no_flag (refl {a = Some (about_line (Moves false) (x ∷ xs))}))
+moves_taken name (x ∷ xs) plain =
+    let no_flag = ne_eqb _ _ plain in
+    (simp no_flag (refl {a = []}), simp no_flag (refl {a = Some (about_line (Moves false) (x ∷ xs))}))
 
 -- ---- what a parse of the program's arguments makes of them
 

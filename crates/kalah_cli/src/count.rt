@@ -52,6 +52,7 @@ fn write_sum<O: Sink>(ways: u64, out: &mut O)
 }
 
 /// Prints the number of ways of `depth` moves to play on from a board, for each first move and in all. It allocates nothing.
+#[inline(never)] // Only this command's stack holds the table of sowings.
 pub(crate) fn write_count<O: Sink>(board: &Board, depth: u8, out: &mut O)
     requires { depth ≤ most_depth }
     ensures { IsPrinted O.state out.old out.new (count_output depth board.now) }

@@ -1,5 +1,5 @@
 -- Rows as numbers, and what a key determines of its houses.
-use Rattle.std.proofs.Common.{zero, suc, ◌≡◌, ℕ, ◌+◌, ◌-◌, ◌*◌, ◌/◌, ◌%◌, ◌^◌, ◌<◌, ◌≤◌, inl, inr, List, [], ◌∷◌, ◌++◌, length, get_or, arith, ap, sym, ◌∙◌, refl, add-one, subst, take, drop, replicate, rules, Option, Some, None, length-take-le, length-append, slice_set, sum, nat_lt, if◌then◌else◌, ◌==◌, bit_and, nat_eq, All, IsSome, IfSome, ◌↔◌, length-set}
+use Rattle.std.proofs.Common.{zero, suc, ◌≡◌, ℕ, ◌+◌, ◌-◌, ◌*◌, ◌/◌, ◌%◌, ◌^◌, ◌<◌, ◌≤◌, inl, inr, List, [], ◌∷◌, ◌++◌, length, get_or, arith, ap, sym, ◌∙◌, refl, add-one, subst, take, drop, replicate, rules, Option, Some, None, length-take-le, length-append, slice_set, sum, nat_lt, if◌then◌else◌, ◌==◌, nat_eq, All, IsSome, IfSome, ◌↔◌, length-set}
 use Rattle.std.proofs.lemmas.Nat.{pow-add}
 use Rattle.std.proofs.Math.Nat.{pow-succ', mul_assoc, div-div-eq-div-mul}
 use Rattle.std.proofs.lemmas.List.{map_push, length-drop, drop_more, length-replicate, get_or-replicate, take-append-drop}
@@ -194,10 +194,6 @@ ones_le a (suc b) h = elim (cases_eq a (suc b)) [
   | inl same ↦ rw same (omega arith)
   | inr less ↦ let on = ones_le a b (omega arith) in omega (arith, number_of-suc)
 ]
-
--- the ones of the first houses are those of six that stand below the next house
-pub ones_below : (k : ℕ) → k ≤ 5 → bit_and 34636833 (32 ^ k * 32 - 1) ≡ ones (suc k)
-ones_below k h = up_to_five (λ k. bit_and 34636833 (32 ^ k * 32 - 1) ≡ ones (suc k)) k h refl refl refl refl refl refl
 
 -- a row moved up by a few houses fits sixty-four bits
 pub moved_small : (k x : ℕ) → k ≤ 5 → x < 2 ^ 30 → x * 32 ^ k % 2 ^ 64 ≡ 32 ^ k * x

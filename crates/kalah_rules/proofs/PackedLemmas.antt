@@ -16,7 +16,7 @@ use Rattle.kalah_rules.specs.declared.houses.play.RowNumbers.{RowNumbers}
 use Rattle.kalah_rules.specs.declared.rule.Rule.{Rule}
 use Rattle.kalah_rules.specs.declared.houses.sowings.Sowing.{Sowing}
 use Rattle.kalah_rules.specs.Sowings.{own_gained, other_gained, store_gained, last_place, IsLastHouse, IsSowing, IsSowingCell, AreSowings}
-use Rattle.kalah_rules.proofs.KeyLemmas.{number_of-small, pow_five, pow_other, low_cell, moved_far, placed_small, number_of-set, number_of-all, number_of-up_to, read_seeds, own_sown, other_sown, own_gain, other_gain, IsPackOf, pack_of, packed_as, sum-zero, number_of-zero}
+use Rattle.kalah_rules.proofs.KeyLemmas.{number_of-small, pow_five, pow_other, low_cell, moved_far, placed_small, number_of-set, number_of-all, number_of-up_to, read_seeds, own_sown, other_sown, own_gain, other_gain, ones_le, IsPackOf, pack_of, rows_of_pack, packed_as, sum-zero, number_of-zero}
 use Rattle.std.proofs.lemmas.List.{length-replicate, get_or-set_same, get_or-set_other}
 use Rattle.kalah_rules.specs.Play.{legal_houses, step_to, step_of}
 use Rattle.kalah_rules.specs.Measure.{IsNearerEnd}
@@ -126,10 +126,6 @@ module _ (a : HousesState) (h : ℕ) (w : IsWithinHouses a) (holds : HoldsSeeds 
   pub store_is : q.own_store ≡ store_gained (length a.own) h (seeds a.own h)
   unfolding sow
   store_is = omega arith
-
-  -- the seeds that are read off the row are those of the house
-  pub house_read : (row n : ℕ) → row ≡ number_of a.own → n ≡ row / 32 ^ (h - 1) % 32 → n ≡ seeds a.own h
-  house_read row n row_is read = grind (arith, read_seeds)
 
   -- the row without the house's seeds
   pub lifted_is : number_of (lifted (storeless a) h).own + 32 ^ (h - 1) * seeds a.own h ≡ number_of a.own
@@ -592,29 +588,39 @@ module _ {a : HousesState} {h rows seeds variant : ℕ} {r : RowNumbers} (packed
   pub store_packed : 0 < r.rows % 2 ^ 30 → IsStepTo a h r.rows (seeds - r.store) variant (Again r.store)
   store_packed some = again_packed packed view has store_shows (omega arith) other_some again
 
--- what a move does to both rows whose last seed falls into the store without a lap: `house` are the seeds of the
--- house where they stand in the row, `own_more` is one seed in each house after it
-pub record MovesIntoStore (a : HousesState) (h rows seeds variant house own_more : ℕ) : Type 0 where
-  pub fits : house ≤ rows
-  pub goes_on : 0 < (rows - house + own_more) % 2 ^ 30 → IsStepTo a h (rows - house + own_more) (seeds - 1) variant (Again 1)
-  pub over : (rows - house + own_more) % 2 ^ 30 ≡ 0 → Over 1 (seeds - 1) ≡ houses_step a h
+-- what comes of a move, by the rows after it, if its last seed falls into the store without a lap
+pub record MovesIntoStore (a : HousesState) (h seeds variant now : ℕ) : Type 0 where
+  pub goes_on : 0 < now % 2 ^ 30 → IsStepTo a h now (seeds - 1) variant (Again 1)
+  pub over : now % 2 ^ 30 ≡ 0 → Over 1 (seeds - 1) ≡ houses_step a h
 
-pub moves_into_store : {a : HousesState} {h rows seeds variant house own_more : ℕ} → IsPacked rows seeds variant
+-- it adds a seed in each later house, less the seeds of the house
+pub moves_into_store : {a : HousesState} {h rows seeds variant : ℕ} (more : ℕ) → IsPacked rows seeds variant
     → unpacked rows variant ≡ a
     → Contains (legal_houses (storeless a)) h →
-    position.seeds a.own h + h ≡ length a.own + 1 → house ≡ 32 ^ (h - 1) * position.seeds a.own h
-    → own_more + ones h ≡ ones (length a.own) →
-    MovesIntoStore a h rows seeds variant house own_more
-moves_into_store {a} {h} {rows} {seeds} {variant} {house} {own_more} packed view has ends house_is own_more_is =
+    position.seeds a.own h + h ≡ length a.own + 1
+    → (more + 32 ^ (h - 1) * (length a.own + 1 - h)) % 2 ^ 64 ≡ ones (length a.own) - ones h →
+    MovesIntoStore a h seeds variant ((rows + more) % 2 ^ 64)
+moves_into_store {a} {h} {rows} {seeds} {variant} more packed view has ends more_is =
     let pack = pack_of packed view in
     let w = pack.limits in
     let holds = legal_holds _ _ has in
-    let shows = into_store a h w holds _ house _ ends pack.rows_are house_is own_more_is in
-    record {
-      fits = omega (arith, pack.rows_are, lifted_is a h w holds);
+    let house = 32 ^ (h - 1) * position.seeds a.own h in
+    let later = ones (length a.own) - ones h in
+    let few : length a.own + 1 - h ≡ position.seeds a.own h = omega arith in
+    let small : ones (length a.own) ≤ 34636833 = ones_le (length a.own) 6 w.at_most_six in
+    let same : (rows + more) % 2 ^ 64 ≡ rows - house + later = omega (
+      arith,
+      rw few at more_is,
+      small,
+      pack.rows_are,
+      (rows_of_pack pack).fit,
+      lifted_is a h w holds,
+    ) in
+    let shows = into_store a h w holds _ house later ends pack.rows_are refl (omega (arith, ones_le h (length a.own) holds.last)) in
+    rw same (record {
       goes_on = store_packed packed view has ends shows;
       over = over_own packed view has (store_shows packed view has ends shows);
-    }
+    })
 
 -- ==== The cells of the table of sowings
 

@@ -90,15 +90,6 @@ less_left numbers more number total is above below =
 pub given_none : (begun : SinkState) → WasGivenSince begun begun []
 given_none begun = record { start = start_none begun.written []; whole = λ sound. Appends-nil begun.written }
 
--- it is given more, and takes a prefix of it, or all if it has not failed then
-given_on : {begun out more : SinkState} (bs cs : List ℕ) → WasGivenSince begun out bs → out.has_failed ≡ false
-    → AppendsPrefix out.written more.written cs → (more.has_failed ≡ false → Appends out.written more.written cs)
-    → WasGivenSince begun more (bs ++ cs)
-given_on {begun} {out} {more} bs cs given sound start all = record {
-  start = start_then begun.written out.written more.written (bs ++ cs) bs cs refl (given.whole sound) start;
-  whole = λ still. Appends-trans begun.written out.written more.written bs cs (given.whole sound) (all still);
-}
-
 -- it has failed, and what more there is is not written
 given_off : {begun out : SinkState} (bs cs : List ℕ) → WasGivenSince begun out bs → out.has_failed ≡ true
     → WasGivenSince begun out (bs ++ cs)
@@ -107,13 +98,16 @@ given_off {begun} {out} bs cs given broken = record {
   whole = λ sound. absurd (let both : true ≡ false = sym broken ∙ sound in cc);
 }
 
--- either
+-- it is given more, unless it has failed
 pub given_more : {W : Type 0} {state : W → SinkState} {begun : SinkState} {old new : W} (bs cs : List ℕ)
     → WasGivenSince begun (state old) bs → WasGiven state old new cs → WasGivenSince begun (state new) (bs ++ cs)
 given_more {state = state} {begun} {old} {new} bs cs given more = by (state old).has_failed refl where
   by : (b : Bool) → (state old).has_failed ≡ b → WasGivenSince begun (state new) (bs ++ cs)
   by true failed = subst (λ o. WasGivenSince begun (state o) (bs ++ cs)) (sym (more.quiet failed)) (given_off bs cs given failed)
-  by false sound = given_on bs cs given sound more.start (λ still. (more.whole still).1)
+  by false sound = record {
+    start = start_then begun.written (state old).written (state new).written (bs ++ cs) bs cs refl (given.whole sound) more.start;
+    whole = λ still. Appends-trans begun.written (state old).written (state new).written bs cs (given.whole sound) (more.whole still).1;
+  }
 
 -- what it holds is flushed
 pub given_kept : {begun out more : SinkState} {bs : List ℕ} → WasGivenSince begun out bs → Keeps out.written more.written
@@ -508,6 +502,8 @@ each_job_known {knows = knows} {shared} {before} {after} {drawn} run some deals 
     (All-map (λ (r : DrawnRow). All Known r.numbers) (λ (p : PassState). p.row) (passes_of after)
     (All-map (λ (p : PassState). All Known p.row.numbers) (λ (w : Worker). w.pass) after
     (λ k w within. (run_at_work shared before after run k w within).known)))
+
+-- ==== The calling thread's pass, by which it draws what is left after a failed write
 
 -- what holds unless the rest is left holds if it is to be solved, and if the output has not failed
 pub unless_left : {rest : Rest} {failed : Bool} {A : Type 0} → A ⊎ IsLeft rest failed → (rest ≡ Solve) ⊎ (failed ≡ false) → A

@@ -35,12 +35,8 @@ times x r = count_by (λ y. y == x) r.numbers
 pub times_rows : (x : ℕ) (rows : List DrawnRow) → times_in x (drawn_numbers rows) ≡ sum_by (times x) rows
 times_rows x [] = refl
 times_rows x (r ∷ rs) =
-    omega (
-      arith,
-      times_rows x rs,
-      sum_by-cons (λ numbers. count_by (λ y. y == x) numbers) r.numbers (drawn_numbers rs),
-      sum_by-cons (times x) r rs,
-    )
+    let mine = sum_by-cons (λ numbers. count_by (λ y. y == x) numbers) r.numbers (drawn_numbers rs) in
+    omega (arith, times_rows x rs, mine, sum_by-cons (times x) r rs)
 
 -- a sum, after a change of one term
 pub sum_set : {X : Type 0} (f : X → ℕ) (xs : List X) (k : ℕ) (v w : X) → get_elem? xs k ≡ some v
@@ -59,12 +55,8 @@ sum_at f (x ∷ xs) (suc k) v at = omega (arith, sum_at f xs k v at, sum_by-cons
 -- the sum over all rows is one over the seats
 rows_sum : (f : DrawnRow → ℕ) (views : List DeskView) → sum_by f (all_rows views) ≡ sum_by (λ v. sum_by f (rows_in v)) views
 rows_sum f [] = refl
-rows_sum f (x ∷ xs) = omega (
-  arith,
-  rows_sum f xs,
-  sum_by-append f (rows_in x) (all_rows xs),
-  sum_by-cons (λ v. sum_by f (rows_in v)) x xs,
-)
+rows_sum f (x ∷ xs) =
+    omega (arith, rows_sum f xs, sum_by-append f (rows_in x) (all_rows xs), sum_by-cons (λ v. sum_by f (rows_in v)) x xs)
 
 -- the sum over all rows, after a change of one view
 pub rows_set : (f : DrawnRow → ℕ) (views : List DeskView) (seat : ℕ) (v w : DeskView) → get_elem? views seat ≡ some v
@@ -116,13 +108,8 @@ rows_within_one Ended = omega arith
 -- there are no more rows than passes
 pub rows_within_passes : (views : List DeskView) → length (all_rows views) ≤ sum_by passes_in views
 rows_within_passes [] = omega arith
-rows_within_passes (x ∷ xs) = omega (
-  arith,
-  rows_within_passes xs,
-  rows_within_one x,
-  sum_by-cons passes_in x xs,
-  length-append (rows_in x) (all_rows xs),
-)
+rows_within_passes (x ∷ xs) =
+    omega (arith, rows_within_passes xs, rows_within_one x, sum_by-cons passes_in x xs, length-append (rows_in x) (all_rows xs))
 
 -- if no seat stands for a pass there is no row
 no_passes_no_rows : (views : List DeskView) → sum_by passes_in views ≡ 0 → all_rows views ≡ []
@@ -220,7 +207,7 @@ module _ {S : Type 0} (plan : DeskPlan) (s : State S DeskView) (seat total numbe
       let same : total ≡ plan.total = kept.totals seat v at in
       let within : drawn_in (all_rows s.views) ≤ plan.total = kept.lawful.within in
       let none_spent : spent_in (all_rows s.views) ≡ 0 =
-      elim (none_or_all kept.lawful) [ | inl unspent ↦ unspent | inr full ↦ omega arith ] in
+      elim (none_or_all kept.lawful) [ inl unspent ↦ unspent | inr full ↦ omega arith ] in
       let found : n ≡ drawn_in (all_rows s.views) = omega arith in
       let drawn : drawn_in (all_rows (set s.views seat w)) ≡ drawn_in (all_rows s.views) + 1 =
       omega (arith, rows_set (λ r. length r.numbers) s.views seat v w at, length-append numbers (n ∷ [])) in
@@ -258,7 +245,7 @@ module _ {S : Type 0} (plan : DeskPlan) (s : State S DeskView) (seat total numbe
       let same : total ≡ plan.total = kept.totals seat v at in
       let within : drawn_in (all_rows s.views) ≤ plan.total = kept.lawful.within in
       let full : drawn_in (all_rows s.views) ≡ plan.total =
-      elim (none_or_all kept.lawful) [ | inl unspent ↦ omega arith | inr full ↦ full ] in
+      elim (none_or_all kept.lawful) [ inl unspent ↦ omega arith | inr full ↦ full ] in
       let drawn : drawn_in (all_rows (set s.views seat w)) ≡ drawn_in (all_rows s.views) =
       omega (arith, rows_set (λ r. length r.numbers) s.views seat v w at) in
       let spent : spent_in (all_rows (set s.views seat w)) ≡ spent_in (all_rows s.views) + 1 =
@@ -282,12 +269,8 @@ module _ {S : Type 0} (plan : DeskPlan) (s : State S DeskView) (seat total numbe
 
 -- no more passes are spent than there are
 few_spent : {S : Type 0} (plan : DeskPlan) (s : State S DeskView) → IsLawful plan s → spent_in (all_rows s.views) ≤ plan.passes
-few_spent plan s kept = omega (
-  arith,
-  kept.passes,
-  count_by-le-length (λ (r : DrawnRow). r.spent) (all_rows s.views),
-  rows_within_passes s.views,
-)
+few_spent plan s kept =
+    omega (arith, kept.passes, count_by-le-length (λ (r : DrawnRow). r.spent) (all_rows s.views), rows_within_passes s.views)
 
 -- The rule stays if the row of a pass changes, the rows are lawful with that, and the word becomes their count.
 kept_after : {S : Type 0} (plan : DeskPlan) (s : State S DeskView) (seat total number : ℕ) (before after : DrawnRow) (word : ℕ)
@@ -582,7 +565,7 @@ ends {S} plan seat {rows = rows} ws xs {word} is last whole found =
 pub drawn_at_end : (total word : ℕ) (rows : List DrawnRow) → word ≡ drawn_in rows + spent_in rows → AreLawful total rows
     → min word total ≡ drawn_in rows
 drawn_at_end total word rows is lawful =
-    let within = lawful.within in elim (none_or_all lawful) [ | inl unspent ↦ omega arith | inr full ↦ omega arith ]
+    let within = lawful.within in elim (none_or_all lawful) [ inl unspent ↦ omega arith | inr full ↦ omega arith ]
 
 -- the last word is above the total exactly when some pass is spent
 pub spent_at_end : (total word : ℕ) (rows : List DrawnRow) → word ≡ drawn_in rows + spent_in rows → AreLawful total rows
@@ -608,11 +591,5 @@ desk_is_lawful plan state kept =
       drawn = drawn_in rows;
       deals = kept.lawful;
       word = kept.word;
-      most = omega (
-        arith,
-        kept.lawful.within,
-        kept.passes,
-        rows_within_passes state.views,
-        count_by-le-length (λ r. r.spent) rows,
-      );
+      most = omega (arith, kept.lawful.within, few_spent plan state kept);
     }

@@ -14,16 +14,16 @@ ghost use Rattle.kalah_solve.specs.Table.Entries.{most_entries, empty_table};
 
 mod known;
 pub(crate) mod move_order;
+mod node_counts;
 #[cfg(test)]
 mod tests;
-mod node_counts;
 
 use crate::bounds::interval::Interval;
 use crate::bounds::seed_bounds::{SeedBounds, margin_of};
 use crate::bounds::window::Window;
 use crate::marks::{again_houses, other_houses, split_last};
 use crate::search::move_order::{MoveOrder, Priorities, highest};
-use crate::search::node_counts::{EndingLimit, SEEDS_THAT_ALWAYS_PAY, NodeCounts};
+use crate::search::node_counts::{EndingLimit, NodeCounts, SEEDS_THAT_ALWAYS_PAY};
 use crate::table::Table;
 use kalah_rules::{House, Houses, HousesStep};
 use std::alloc::{AllocError, Allocator, Global};

@@ -7,7 +7,7 @@ use crate::asking::ask_fault::AskFault;
 use crate::asking::line_head::LineHead;
 use crate::asking::prompt_reader::PromptReader;
 use crate::asking::prompt_solver::PromptSolver;
-use crate::asking::reply::{write_reply, write_last_reply};
+use crate::asking::reply::{write_last_reply, write_reply};
 use crate::files::file_lines::LINE_FEED;
 use crate::files::question::Question;
 use crate::writing::sink::Sink;

@@ -88,9 +88,6 @@ pub(super) fn alone(house: House, seeds: u64) -> u64
     seeds << house.bit()
 }
 
-// One seed in each of six houses.
-const ONE_EACH: u64 = 0x210_8421;
-
 static ONES: [u64; 7] = [0, 1, 33, 1057, 33825, 1082401, 34636833];
 
 // Returns a row with one seed in each of the first `n` houses.
@@ -102,13 +99,41 @@ pub(super) fn one_each(n: u8) -> u64
     ONES[n as usize]
 }
 
-// Returns a row with one seed in each house up to this one.
+// Less one seed in a house, modulo 2^64, by the number of the house.
+const LESS_1: u64 = 0xFFFF_FFFF_FFFF_FFFF;
+
+const LESS_2: u64 = 0xFFFF_FFFF_FFFF_FFE0;
+
+const LESS_3: u64 = 0xFFFF_FFFF_FFFF_FC00;
+
+const LESS_4: u64 = 0xFFFF_FFFF_FFFF_8000;
+
+const LESS_5: u64 = 0xFFFF_FFFF_FFF0_0000;
+
+const LESS_6: u64 = 0xFFFF_FFFF_FE00_0000;
+
+// What the move of a house adds to both rows, modulo 2^64, if its last seed falls into the store without a lap: a seed in each later house
+// of its side, less the seeds of the house. House `h` of `m` has cell `m + 5 * (h - 1) - 1`, for sides of up to 5 houses in the first row,
+// and for those of 6 in the second. Other cells have 0.
+static INTO_STORE: [[u64; 31]; 2] = [
+    [
+        LESS_1, 30, 1053, 33820, 1082395, 0, LESS_2, 960, 33696, 1082240, 0, 0, LESS_3, 30720,
+        1078272, 0, 0, 0, LESS_4, 983040, 0, 0, 0, 0, LESS_5, 0, 0, 0, 0, 0, 0,
+    ],
+    [
+        0, 0, 0, 0, 0, 34636826, 0, 0, 0, 0, 34636640, 0, 0, 0, 0, 34631680, 0, 0, 0, 0, 34504704,
+        0, 0, 0, 0, 31457280, 0, 0, 0, 0, LESS_6,
+    ],
+];
+
+// Returns what the move of this house of `m` adds to both rows, modulo 2^64, if it has `m + 1 - house` seeds.
 #[inline(always)]
-pub(super) fn one_each_through(house: House) -> u64
-    ensures value { result ≡ ones house }
-    ensures small { result ≤ 34636833 }
+pub(super) fn into_store(m: u8, house: House) -> u64
+    requires side { m ≤ 6 }
+    requires last { house ≤ m }
+    ensures { (result + 32 ^ (house - 1) * (m + 1 - house)) % 2 ^ 64 ≡ ones m - ones house }
 {
-    ONE_EACH & ((32 << house.bit()) - 1)
+    INTO_STORE[(m / 6) as usize][(m + house.bit() - 1) as usize]
 }
 
 // Returns a row of `m` houses with one seed in each house up to `x`.

@@ -8,7 +8,7 @@ ghost use Rattle.kalah_rules.specs.Sowings.{IsSowing};
 
 use crate::houses::Houses;
 use crate::houses::house::House;
-use crate::houses::numbers::{OTHER_ROW, alone, one_each, one_each_through, seeds_at};
+use crate::houses::numbers::{OTHER_ROW, into_store};
 use crate::houses::sowings::{Sowing, Sowings};
 use crate::rule::Rule;
 use crate::step::HousesStep;
@@ -81,8 +81,7 @@ impl Houses {
         requires ends { seeds self.now.own house + house ≡ length self.now.own + 1 }
         ensures { result ≡ houses_step self.now house }
     {
-        let lifted = self.rows - alone(house, seeds_at(self.own_row(), house));
-        let rows = lifted + (one_each(self.m()) - one_each_through(house));
+        let rows = self.rows.wrapping_add(into_store(self.m(), house));
         let seeds = self.seeds - 1;
         if rows % OTHER_ROW > 0 {
             let variant = self.variant;

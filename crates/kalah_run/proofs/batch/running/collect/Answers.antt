@@ -1,6 +1,7 @@
 use Rattle.std.proofs.lemmas.Grind.{common_steps}
 use Rattle.std.proofs.Common.{◌≡◌, ◌∷◌, [], false, ℕ, List, inl, inr, length, refl, sym, ap, subst, ◌∙◌, arith, rules}
 use Rattle.std.specs.Prelude.{Some}
+use Rattle.std.proofs.KnownBytes.{Keeps-refl}
 use Rattle.std.proofs.lemmas.List.{map-append, length-append}
 use Rattle.kalah_jobs.specs.declared.files.job.Job.{Job}
 use Rattle.kalah_run.specs.Queue.States.{GetState, outcomes_in}
@@ -28,7 +29,7 @@ next : (g : given.Over) (c : goal.After-accepts g) → MayHaveGot (rest_of c.lea
     (g.W.Sink.state c.match-get_soon.out) (Some c.match-get_soon.outcome)
 next g c = elim c.match-get_soon.branch [
   | in-Some w ↦ rw (w.out-is, w.receiver-is, w.outcome-is, ← c.leave_after.ensures.pass)
-      (record { got = w.in-Some.ensures.got; left = tt; ended = tt; keeps = search rules; sound = λ still. still })
+      (record { got = w.in-Some.ensures.got; left = tt; ended = tt; keeps = Keeps-refl _; sound = λ still. still })
   | in-None+in-Some-flush_and_get w ↦ rw (
     w.out-is,
     w.receiver-is,

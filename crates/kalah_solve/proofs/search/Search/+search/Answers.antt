@@ -74,14 +74,14 @@ pub explore-overflow_sub-bound : goal.explore-overflow_sub-bound
 explore-overflow_sub-bound g t c =
     let turn = waits_there (c.loop-priority.invariant.next c.loop-priority-test.true) c.index-waiting-at.is in
     let is = rw (c.saturating_sub-reply_beta.ensures, c.seeds-seeds.ensures.seeds) at c.bound_by_search.ensures in
-    omega (arith, reply_fits c.args.beta c.seeds-seeds.ensures.limits turn is)
+    rw c.seeds-seeds.ensures.seeds (reply_fits c.args.beta c.seeds-seeds.ensures.limits turn is)
 
 pub explore-returns-then-beta-bound : goal.explore-returns-then-beta-bound
 explore-returns-then-beta-bound g t c =
     let turn = waits_there (c.loop-priority.invariant.next c.loop-priority-test.true) c.index-waiting-at.is in
     let is = rw (c.saturating_sub-reply_beta.ensures, c.seeds-seeds.ensures.seeds) at c.bound_by_search.ensures in
     record {
-      lower = λ enough. omega (arith, turn_enough c.args.beta c.seeds-seeds.ensures.limits turn is (omega arith));
+      lower = rw (← c.seeds-seeds.ensures.seeds) at (turn_enough c.args.beta c.seeds-seeds.ensures.limits turn is);
       upper = λ short. absurd (omega arith);
     }
 
@@ -91,7 +91,7 @@ explore-loop-priority-preserved g t c =
     let here = before.next c.loop-priority-test.true in
     let turn = waits_there here c.index-waiting-at.is in
     let is = rw (c.saturating_sub-reply_beta.ensures, c.seeds-seeds.ensures.seeds) at c.bound_by_search.ensures in
-    let takes = rw (← c.seeds-seeds.ensures.seeds) at (turn_at_most c.args.beta c.seeds-seeds.ensures.limits turn is (omega arith)) in
+    let takes = (rw (← c.seeds-seeds.ensures.seeds) at (turn_at_most c.args.beta c.seeds-seeds.ensures.limits turn is)) c.if-beta-bound.false in
     let untried = untried_fewer (c.loop-priority.priority % 8) _ before.untried here.place takes
     c.max-most-in-loop-priority.ensures in
     record {

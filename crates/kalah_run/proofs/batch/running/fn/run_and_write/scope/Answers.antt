@@ -1,5 +1,6 @@
 use denote.Param.Send.{sendable}
-use Rattle.std.proofs.Common.{refl}
+use Rattle.std.proofs.Common.{arith, refl}
+use Rattle.std.proofs.lemmas.Grind.{common_steps}
 use Rattle.std.proofs.Crossing.{crosses}
 use Rattle.kalah_run.proofs.Crossing.{crew_send, worker_send}
 use Rattle.kalah_run.proofs.batch.running.fn.run_and_write.scope.Goals as goal
@@ -21,3 +22,6 @@ returns g c = record {
   fault = tt;
   untouched = tt;
 }
+
+pub spawn_with-started-requires-clause-keeps : goal.spawn_with-started-requires-clause-keeps
+spawn_with-started-requires-clause-keeps g c κs within = grind (arith, common_steps)
