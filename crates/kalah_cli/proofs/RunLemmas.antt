@@ -1,6 +1,6 @@
 -- What the program has done for a request.
 use Rattle.std.proofs.Common.{◌≡◌, ◌≢◌, ◌∙◌, ℕ, List, Bool, true, false, Option, refl, sym, subst, [], ◌∷◌, ap, map, inl, ◌≤◌, ◌-◌, ◌^◌, arith, flat_map, suc, zero, inr, append-nil}
-use Rattle.std.specs.Prelude.{◌↔◌, All, IfOk, IsErr, IsErrOf, Result, Ok, Err, None, Some, ◌==◌, if◌then◌else◌, sum_by}
+use Rattle.std.specs.Prelude.{◌↔◌, IfOk, IsErr, IsErrOf, Result, Ok, Err, None, Some, ◌==◌, if◌then◌else◌, sum_by}
 use Rattle.std.specs.Io.KnownBytes.{Appends}
 use Rattle.std.proofs.lemmas.Bool.{false_from_ne_true}
 use Rattle.kalah_rules.specs.Position.{Position}
@@ -23,11 +23,7 @@ use Rattle.clap.proofs.WalkLemmas.{list_any-map}
 use Rattle.kalah_jobs.specs.Files.NamedBytes.{NamedBytes}
 use Rattle.kalah_jobs.specs.declared.files.question.Question.{Question}
 use Rattle.kalah_cli.specs.SolveFiles.{AnswersFiles, has_line_feed}
-use Rattle.kalah_jobs.specs.Writing.Output.{TallyState, output_to}
-use Rattle.kalah_run.specs.Batch.Answering.{AnswersBatch}
-use Rattle.kalah_run.specs.declared.batch.run_fault.RunFault.{RunFault}
-use Rattle.kalah_run.specs.declared.batch.run_fault.RunFault.TheVariants as fault
-use Rattle.kalah_cli.specs.Sources.{Source, any_bytes, file_named}
+use Rattle.kalah_cli.specs.Sources.{Source, any_bytes}
 use Rattle.std.specs.Io.Buffered.{reader_buffer, reader_capacity, reader_inner, reader_remaining}
 use Rattle.std.specs.Io.KnownBytes.{prepend_known}
 use Rattle.std.specs.declared.io.buffered.BufReader.{BufReader}
@@ -162,60 +158,9 @@ files_refused state {names = names} failed sound = record {
   ends = ends_unchanged state sound;
 }
 
--- so it did if the output is as it was
-refused : {O : Type 0} {state : O → SinkState} {status : ExitStatus} {old new : O} {may_give : Source → List ℕ → Type 0}
-    {question : Question} {names : List (List ℕ)} → (new ≡ old) × ((state new).has_failed ≡ false) → status ≡ Failed
-    → AnswersFiles state old new status may_give question names
-refused {state = state} {status} {new = new} {may_give} {question} {names} untouched failed =
-    subst (λ o. AnswersFiles state o new status may_give question names) untouched.0 (files_refused state failed untouched.1)
-
 -- what was written whole was written from its start
-start_whole : (old new : Option (List ℕ)) (bs : List ℕ) → Appends old new bs → AppendsPrefix old new bs
+pub start_whole : (old new : Option (List ℕ)) (bs : List ℕ) → Appends old new bs → AppendsPrefix old new bs
 start_whole old new bs whole = start_then old new new bs bs [] (sym (append-nil bs)) whole (start_none new [])
-
--- a batch of these files, which have these names, and may have their bytes
-module _ {O : Type 0} (state : O → SinkState) {old new : O} {status : ExitStatus} {may_give : Source → List ℕ → Type 0}
-    {question : Question} {names found : List (List ℕ)} (asked files : List NamedBytes) (same : asked ≡ files)
-    (named : map (λ file. file.name) files ≡ found) (theirs : found ≡ names)
-    (given : All (λ file. may_give (file_named file.name) file.bytes) files) where
-  -- all lines of the files were answered
-  pub files_answered : (tally : TallyState) → list_any has_line_feed names ≡ false
-      → AnswersBatch state (output_to question asked) asked old new (Ok tally) → status ≢ Failed
-      → (status ≡ Clean) ↔ (tally.faults ≡ 0) → AnswersFiles state old new status may_give question names
-  files_answered tally no_feed is went clean = record {
-    files = asked;
-    named = ap (map (λ file. file.name)) same ∙ named ∙ theirs;
-    given = inr (subst (All (λ file. may_give (file_named file.name) file.bytes)) (sym same) given);
-    printed = record { start = start_whole _ _ _ is.written; whole = λ _. is.written };
-    one_line = λ _. no_feed;
-    clean = λ _. subst (λ t. (status ≡ Clean) ↔ (t.faults ≡ 0)) is.counted clean;
-    ends = record {
-      failed = λ failed. absurd (let both : true ≡ false = sym failed ∙ is.sound in cc);
-      unchanged = λ failed. absurd (went failed);
-      all_flushed = λ _ _. is.flushed;
-    };
-  }
-
-  -- the batch failed
-  pub files_unanswered : (fault : RunFault) → AnswersBatch state (output_to question asked) asked old new (Err fault)
-      → status ≡ Failed → AnswersFiles state old new status may_give question names
-  files_unanswered fault.Write (few, start, has) failed = record {
-    files = asked;
-    named = ap (map (λ file. file.name)) same ∙ named ∙ theirs;
-    given = inr (subst (All (λ file. may_give (file_named file.name) file.bytes)) (sym same) given);
-    printed = record { start = start; whole = λ went. absurd (went failed) };
-    one_line = λ went. absurd (went failed);
-    clean = λ went. absurd (went failed);
-    ends = record {
-      failed = λ _. failed;
-      unchanged = λ _ sound. absurd (let both : true ≡ false = sym has ∙ sound in cc);
-      all_flushed = λ went. absurd (went failed);
-    };
-  }
-  files_unanswered fault.TooManyFiles (many, untouched) failed = refused untouched failed
-  files_unanswered fault.TooManyLines (few, many, untouched) failed = refused untouched failed
-  files_unanswered fault.OutOfMemory (few, untouched) failed = refused untouched failed
-  files_unanswered fault.NoWorker (few, some, untouched) failed = refused untouched failed
 
 -- ---- what `ask` has answered
 

@@ -78,6 +78,7 @@ fn answer_files<R: Clock + Terminal + Threads + Wait + Sync, O: Sink, E: Write>(
 /// Answers what is asked of each line of the named files.
 ///
 /// Returns `Clean` if each line was read, and `LineFaults` if one was not.
+#[tactic(auto, using(crate::proofs::RunLemmas::start_whole))]
 pub(crate) fn run_files<
     'a,
     R: Sources + Clock + Terminal + Threads + Wait + Sync,
