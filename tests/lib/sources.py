@@ -1,12 +1,12 @@
-"""What pages say of the sources: docs/INTERFACE.md lists all that the crates export; tests/data/interface.txt has the signatures
-that are kept; docs/PROOFS.md names the clauses and laws that carry each promise; CONTRIBUTING.md quotes lines of files; and all pages
+"""What pages say of the sources: docs/INTERFACE.md lists all that the crates export, with the signatures that are kept and the parts of
+each type; docs/PROOFS.md names the clauses and laws that carry each promise; CONTRIBUTING.md quotes lines of files; and all pages
 name files, lemmas, types and calls. The functions that compare these return how they differ, or None."""
 
 import re
 
 from lib.crates import TOP, crates
 
-INTERFACE, SIGNATURES = "docs/INTERFACE.md", "tests/data/interface.txt"
+INTERFACE = "docs/INTERFACE.md"
 PROMISES, EXCERPTS = "docs/PROOFS.md", "CONTRIBUTING.md"
 # Pages that also name what is not there: what has gone, and what a caller or a trial has added.
 CHANGES = "CHANGELOG.md"
@@ -17,6 +17,11 @@ FUNCTION = re.compile(r"( *)(pub )?(?:const )?fn (\w+)")
 # What ends a signature, and what is the signature of a law: a function that takes nothing and returns nothing.
 END = re.compile(r" \{|;$|\n *(?:requires|ensures|//|\{)", re.MULTILINE)
 LAW = re.compile(r"\w+(<[^(]*>)?\(\)")
+# A public type, with its variants or fields, and what else stands between these. The page has a type in one line, which ends in `..` if
+# another line has further parts.
+TYPE = re.compile(r"^pub (enum|struct) (\w+)(?:<[^>]*>)?(?:;| \{\n((?s:.*?))^\})", re.MULTILINE)
+NO_PART = re.compile(r"///.*|//.*|#\[.*\]|ghost .*")
+ON_PAGE = re.compile(r"(enum|struct) (\w+)(?:;| \{ (.*) \})")
 
 
 def in_one_form(signature):
@@ -42,15 +47,29 @@ def name_of(signature):
     return re.match(r"[\w:]+", signature)[0]
 
 
+def parts_of(text):
+    """Returns the variants or fields of a type as a list, split at the commas that stand in no bracket."""
+    return [part for part in re.split(r",\s*(?![^({]*[)}])", in_one_form(NO_PART.sub("", text))) if part]
+
+
+def types_of(file):
+    """Yields the kind and name of each public type of a file whose parts are all public, with the set of its parts."""
+    for kind, name, text in TYPE.findall(file.read_text()):
+        parts = parts_of(text)
+        if kind == "enum" or all(part.startswith("pub ") for part in parts):
+            yield (kind, name), {part.removeprefix("pub ") for part in parts}
+
+
 def exported_by(crate):
-    """Returns the signatures that a library exports, but for those of laws, and the names that it exports without a function. A program
-    exports nothing."""
+    """Returns the signatures that a library exports, but for those of laws; the names that it exports without a function; and the types
+    whose parts are public. A program exports nothing."""
     root = TOP / "crates" / crate / "src/lib.rt"
     rows = re.findall(r"^pub use ([^;]+);", root.read_text(), re.MULTILINE) if root.exists() else []
     names = {name for row in rows for name in re.findall(r"\w+", row.partition("{")[2] or row.rpartition("::")[2])}
-    files = (file for file in root.parent.rglob("*.rt") if "tests" not in file.parts)
+    files = [file for file in root.parent.rglob("*.rt") if "tests" not in file.parts]
     found = [text for file in files for text in signatures_of(file) if name_of(text).partition("::")[0] in names]
-    return {text for text in found if not LAW.fullmatch(text)}, names - {name_of(text).partition("::")[0] for text in found}
+    types = {(*named, *sorted(parts)) for file in files for named, parts in types_of(file) if named[1] in names}
+    return {text for text in found if not LAW.fullmatch(text)}, names - {name_of(text).partition("::")[0] for text in found}, types
 
 
 def functions_named(text):
@@ -60,18 +79,27 @@ def functions_named(text):
     return of_types | set(re.findall(r"`([\w:]+)`", text))
 
 
+def types_on(lines):
+    """Returns the types of these lines, in the form of `exported_by`. The parts of one type may stand in two lines."""
+    types = {}
+    for kind, name, parts in ON_PAGE.findall("\n".join(lines)):
+        types.setdefault((kind, name), set()).update(set(parts_of(parts)) - {".."})
+    return {(*named, *sorted(parts)) for named, parts in types.items()}
+
+
 def interface_differs():
-    """The page names each function whose signature is kept, and in its last section each other one, and each other exported name."""
-    kept = set((TOP / SIGNATURES).read_text().splitlines())
-    signatures, others = (set().union(*parts) for parts in zip(*map(exported_by, crates())))
-    if kept - signatures:
-        return f"{SIGNATURES}: no crate exports {sorted(kept - signatures)}"
-    kept_part, _, further_part = (TOP / INTERFACE).read_text().partition("\n## Further")
-    lost = set(map(name_of, kept)) - functions_named(kept_part)
-    lost |= set(map(name_of, signatures - kept)) - functions_named(further_part)
-    lost |= {name for name in others if not name.startswith("MOST_")} - set(re.findall(r"\w+", kept_part + further_part))
+    """The page has the signature of each function that is kept, and each type with its parts; in its last section it names each other
+    function; and it names each other thing that is exported."""
+    signatures, others, types = (set().union(*parts) for parts in zip(*map(exported_by, crates())))
+    page = (TOP / INTERFACE).read_text()
+    kept_part, _, further_part = page.partition("\n## Further")
+    lines = [line for block in re.findall(r"^```rust\n((?s:.*?))^```", page, re.MULTILINE) for line in block.split("\n") if line]
+    kept = {line for line in lines if not ON_PAGE.fullmatch(line)}
+    lost = kept ^ (signatures - {text for text in signatures if name_of(text) in functions_named(further_part)})
+    lost |= types ^ types_on(lines)
+    lost |= {name for name in others if not name.startswith("MOST_")} - set(re.findall(r"\w+", page))
     lost |= {name for name in functions_named(further_part) if "::" in name} - set(map(name_of, signatures - kept))
-    return f"{INTERFACE}: these are not where they belong: {sorted(lost)}" if lost else None
+    return f"{INTERFACE} differs from the sources in {sorted(map(str, lost))}" if lost else None
 
 
 def promises_differ():
