@@ -21,7 +21,7 @@ LAW = re.compile(r"\w+(<[^(]*>)?\(\)")
 # another line has further parts.
 TYPE = re.compile(r"^pub (enum|struct) (\w+)(?:<[^>]*>)?(?:;| \{\n((?s:.*?))^\})", re.MULTILINE)
 NO_PART = re.compile(r"///.*|//.*|#\[.*\]|ghost .*")
-ON_PAGE = re.compile(r"(enum|struct) (\w+)(?:;| \{ (.*) \})")
+ON_PAGE = re.compile(r"(enum|struct) (\w+)(?:<[^>]*>)?(?:;| \{ (.*) \})")
 
 
 def in_one_form(signature):
@@ -53,11 +53,11 @@ def parts_of(text):
 
 
 def types_of(file):
-    """Yields the kind and name of each public type of a file whose parts are all public, with the set of its parts."""
+    """Yields the kind and name of each public type of a file whose parts are all public, and then its parts."""
     for kind, name, text in TYPE.findall(file.read_text()):
         parts = parts_of(text)
         if kind == "enum" or all(part.startswith("pub ") for part in parts):
-            yield (kind, name), {part.removeprefix("pub ") for part in parts}
+            yield kind, name, *(part.removeprefix("pub ") for part in parts)
 
 
 def exported_by(crate):
@@ -68,7 +68,7 @@ def exported_by(crate):
     names = {name for row in rows for name in re.findall(r"\w+", row.partition("{")[2] or row.rpartition("::")[2])}
     files = [file for file in root.parent.rglob("*.rt") if "tests" not in file.parts]
     found = [text for file in files for text in signatures_of(file) if name_of(text).partition("::")[0] in names]
-    types = {(*named, *sorted(parts)) for file in files for named, parts in types_of(file) if named[1] in names}
+    types = {a_type for file in files for a_type in types_of(file) if a_type[1] in names}
     return {text for text in found if not LAW.fullmatch(text)}, names - {name_of(text).partition("::")[0] for text in found}, types
 
 
@@ -79,12 +79,12 @@ def functions_named(text):
     return of_types | set(re.findall(r"`([\w:]+)`", text))
 
 
-def types_on(lines):
-    """Returns the types of these lines, in the form of `exported_by`. The parts of one type may stand in two lines."""
-    types = {}
-    for kind, name, parts in ON_PAGE.findall("\n".join(lines)):
-        types.setdefault((kind, name), set()).update(set(parts_of(parts)) - {".."})
-    return {(*named, *sorted(parts)) for named, parts in types.items()}
+def has_type(lines, kind, name, *parts):
+    """Returns whether these lines have the type, each of its parts once, those of a line in the order of the source."""
+    found = [parts_of(text) for a_kind, a_name, text in ON_PAGE.findall("\n".join(lines)) if (a_kind, a_name) == (kind, name)]
+    listed = [[part for part in line if part != ".."] for line in found]
+    is_whole = bool(listed) and sorted(sum(listed, [])) == sorted(parts)
+    return is_whole and all(line == sorted(line, key=parts.index) for line in listed)
 
 
 def interface_differs():
@@ -92,11 +92,12 @@ def interface_differs():
     function; and it names each other thing that is exported."""
     signatures, others, types = (set().union(*parts) for parts in zip(*map(exported_by, crates())))
     page = (TOP / INTERFACE).read_text()
-    kept_part, _, further_part = page.partition("\n## Further")
+    further_part = page.partition("\n## Further")[2]
     lines = [line for block in re.findall(r"^```rust\n((?s:.*?))^```", page, re.MULTILINE) for line in block.split("\n") if line]
     kept = {line for line in lines if not ON_PAGE.fullmatch(line)}
     lost = kept ^ (signatures - {text for text in signatures if name_of(text) in functions_named(further_part)})
-    lost |= types ^ types_on(lines)
+    lost |= {a_type for a_type in types if not has_type(lines, *a_type)}
+    lost |= {line for line in lines if (found := ON_PAGE.fullmatch(line)) and found[2] not in {a_type[1] for a_type in types}}
     lost |= {name for name in others if not name.startswith("MOST_")} - set(re.findall(r"\w+", page))
     lost |= {name for name in functions_named(further_part) if "::" in name} - set(map(name_of, signatures - kept))
     return f"{INTERFACE} differs from the sources in {sorted(map(str, lost))}" if lost else None
