@@ -4,7 +4,7 @@ PREFIX ?= /usr/local
 # How many processors a check may use: by default all of them, but at most one for each 2 GB of memory.
 JOBS ?= $(shell awk -v all="$$(nproc)" '/^MemTotal/ { some = int($$2 / 2000000); print some < 1 ? 1 : some < all ? some : all }' /proc/meminfo)
 
-.PHONY: all try check test exhaust test-page test-peer install uninstall dist deb wheel bench clean
+.PHONY: all try check test exhaust test-web test-peer install uninstall dist deb wheel bench clean
 
 # Ends a recipe that needs the toolchain, if it is missing.
 NEEDS_RT = $(if $(shell command -v rt 2> /dev/null),,$(error `make $@` needs `rt`, the command of the Rattle toolchain (README.md, "Build and test")))
@@ -39,8 +39,8 @@ exhaust: kalah
 	tests/exhaust --program kalah
 
 # Plays on the page of `python3 -m kalah web` in a browser, and leaves pictures of it in out/. It needs Chromium, and says so if there is none.
-test-page: kalah
-	tests/page --program kalah --screenshots out
+test-web: kalah
+	tests/web --program kalah --screenshots out
 
 # Compares the program with Debian's package mancala, and grades the engine of that. It needs apt and the network.
 test-peer: kalah

@@ -8,8 +8,8 @@ from lib.crates import TOP, crates
 
 INTERFACE = "docs/INTERFACE.md"
 PROMISES, EXCERPTS = "docs/PROOFS.md", "CONTRIBUTING.md"
-# Pages that also name what is not there: what has gone, and what a caller or a trial has added.
-CHANGES = "CHANGELOG.md"
+# Pages that also name what is not there: what has gone, and what a caller has added.
+CHANGELOG = "CHANGELOG.md"
 ADDED = {"docs/CALLING.md": {"may_wait", "tests_may"}, "docs/DECISIONS.md": {"join_mut"}}
 # Where an implementation or a trait begins, and where a function begins.
 ROOT = re.compile(r"(?:impl(?:<[^{]*?>)? (?:\w+(?:<.*?>)? for )?&?|pub trait )(\w+)")
@@ -147,7 +147,7 @@ def files_differ():
 
 def names_differ():
     """Each name that a page has in backticks, and that has the form of a lemma, a type or a call, occurs in the sources. Blocks of code
-    don't count, nor does the page of changes."""
+    don't count, nor does the changelog."""
     kinds = ("*.rt", "*.antt", "*.py", "*.c", "*.js")
     files = [path for top in ("crates", "tests", "examples", "python", "bench") for kind in kinds for path in (TOP / top).rglob(kind)]
     files += [path for path in (TOP / "tests").iterdir() if path.is_file()]
@@ -155,7 +155,7 @@ def names_differ():
     for page in [*TOP.glob("*.md"), *(TOP / "docs").glob("*.md")]:
         name_of_page = f"{page.relative_to(TOP)}"
         prose = re.sub(r"^```(?s:.*?)^```|^    .*$", "", page.read_text(), flags=re.MULTILINE)
-        for name in re.findall(r"`([A-Za-z][\w:]*)(?:\(\))?`", prose) if page.name != CHANGES else ():
+        for name in re.findall(r"`([A-Za-z][\w:]*)(?:\(\))?`", prose) if page.name != CHANGELOG else ():
             if re.search(r"_|::|[a-z][A-Z]", name) and not set(name.split("::")) <= words | ADDED.get(name_of_page, set()):
                 return f"{name_of_page}: there is no {name}"
     return None

@@ -1,4 +1,4 @@
-"""The trials of the page of `web` in a browser, for tests/page: what it shows of positions and games, and what clicks and keys do."""
+"""The trials of the page of `web` in a browser, for tests/web: what it shows of positions and games, and what clicks and keys do."""
 
 import time
 from contextlib import contextmanager
