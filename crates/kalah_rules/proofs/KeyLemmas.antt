@@ -353,7 +353,7 @@ pub rows_of_key : (a : HousesState) (k : ℕ) (rule : Rule) → IsWithinHouses a
     rows_from (side_at k) (cells 6 k) (cells 6 (k / 2 ^ 30)) rule ≡ a
 rows_of_key a k rule h e bit =
     let says = key_says h e in
-    let other_shown : take _ _ ≡ a.other =
+    let other_shown : take (side_at k) (cells 6 (k / 2 ^ 30)) ≡ a.other =
     rw (says.side, says.other_cells, sym h.same_side) (take-padded _) in
     same_houses_in (rw (says.side, says.own_cells) (take-padded _)) other_shown (rule_bit-same _ _ (omega arith))
 
@@ -513,8 +513,8 @@ module _ {count number seeds : ℕ} (x : ℕ) (row : IsPackedRow count number se
   -- it stands after the others
   pub houses_pushed : cells (count + 1) (number + 32 ^ count * x) ≡ houses ++ x ∷ []
   houses_pushed =
-      let long : length _ ≡ count + 1 = omega (arith, length-append houses (x ∷ []), length-cells) in
-      let same : number_of _ + 32 ^ _ * 0 ≡ number + 32 ^ _ * x = omega (arith, number_more) in
+      let long : length (houses ++ x ∷ []) ≡ count + 1 = omega (arith, length-append houses (x ∷ []), length-cells) in
+      let same : number_of (houses ++ x ∷ []) + 32 ^ (count + 1) * 0 ≡ number + 32 ^ count * x = omega (arith, number_more) in
       ap (cells _) (sym same) ∙ cells-number_of _ _ _ long (omega (arith, sum_more))
 
   pub row_pushed : count < 6 → IsPackedRow (count + 1) (number + 32 ^ count * x) (seeds + x)
@@ -552,7 +552,7 @@ packed_new {m} {own} {other} rule own_long other_long can own_is other_is varian
     let other_sum = sum-shown m _ other_padded in
     let own_same = number_of-shown m _ own_padded in
     let other_same = number_of-shown m _ other_padded in
-    let limits : IsWithinHouses _ = omega arith in
+    let limits : IsWithinHouses (record { own = take m own; other = take m other; rule = rule }) = omega arith in
     packed_as _ _ _ _ limits (omega arith)
     (omega arith)
     (omega arith)

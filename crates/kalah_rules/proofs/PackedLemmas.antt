@@ -64,8 +64,8 @@ pub record LeavesRows (r : RowNumbers) (seeds count : ℕ) (p : Position) : Type
 -- the five bits of a house
 house_bits : (rows k : ℕ) → bit_and rows (31 * 32 ^ k) ≡ rows / 32 ^ k % 32 * 32 ^ k
 house_bits rows k =
-    let p = 2 ^ _ in
-    let low = mod_below _ p (pow_pos _) in
+    let p = 2 ^ (5 * k) in
+    let low = mod_below rows p (pow_pos (5 * k)) in
     let none : bit_and (rows % p) 0 ≡ 0 = omega (arith, and_le_r (rows % p) 0) in
     let both = and_block (5 * k) (rows / p) 31 (rows % p) 0 low (pow_pos (5 * k)) in
     let mask : 31 * p + 0 ≡ 31 * p = omega arith in
@@ -603,7 +603,7 @@ pub moves_into_store : {a : HousesState} {h rows seeds variant : ℕ} (more : �
 moves_into_store {a} {h} {rows} {seeds} {variant} more packed view has ends more_is =
     let pack = pack_of packed view in
     let w = pack.limits in
-    let holds = legal_holds _ _ has in
+    let holds = legal_holds (storeless a) h has in
     let house = 32 ^ (h - 1) * position.seeds a.own h in
     let later = ones (length a.own) - ones h in
     let few : length a.own + 1 - h ≡ position.seeds a.own h = omega arith in

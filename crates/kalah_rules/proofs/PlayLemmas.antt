@@ -68,7 +68,7 @@ pub distance_range_le : (row : List ℕ) (a n : ℕ) (w : ℕ → ℕ) → ((i :
     → sum_by (λ i. slice_index row (i - a) * w i) (range_with_len a (length row)) ≤ n * sum row
 distance_range_le [] a n w near = zero-le
 distance_range_le (x ∷ xs) a n w near =
-    let f : ℕ → ℕ = λ i. slice_index (x ∷ xs) _ * w i in
+    let f : ℕ → ℕ = λ i. slice_index (x ∷ xs) (i - a) * w i in
     let start : a - a ≡ 0 = omega arith in
     let rest = sum_range_same f _ _ (length xs) (λ j j_low. ap (λ k. k * w j) (slice_index_more _ _ _ _ j_low)) in
     distance_step _ _ n x _ (sum_by-cons f a (range_with_len _ (length xs))) (rw start (mul-le x _ x n (omega arith) (omega arith)))

@@ -39,9 +39,8 @@ others_stay zero zero n low high other = omega arith
 others_stay zero (suc i) n low high other = grind arith
 others_stay (suc q) zero n low high other = omega arith
 others_stay (suc q) (suc i) n low high other =
-    let rest : _ / 32 ≡ n / 32 - 32 ^ q = omega arith in
-    ap (λ k. cell k i) rest ∙ others_stay q i _ (omega arith) (omega arith)
-    (omega arith)
+    let rest : (n - 32 ^ suc q) / 32 ≡ n / 32 - 32 ^ q = omega arith in
+    ap (λ k. cell k i) rest ∙ others_stay q i (n / 32) (omega arith) (omega arith) (omega arith)
 
 -- one less there leaves no more in that cell
 top_less : (q n : ℕ) → 32 ^ q ≤ n → n < 32 ^ suc q → cell (n - 32 ^ q) q ≤ cell n q
@@ -138,7 +137,7 @@ cell_of_row [] i few = cell_none i
 cell_of_row (x ∷ xs) zero few = omega (arith, sum_by-cons)
 cell_of_row (x ∷ xs) (suc i) few =
     let cons = sum_by-cons (λ (y : ℕ). y) x xs in
-    let rest : _ / 32 ≡ number_of xs = omega arith in
+    let rest : number_of (x ∷ xs) / 32 ≡ number_of xs = omega arith in
     ap (λ k. cell k i) rest ∙ cell_of_row xs i (omega arith)
 
 later_cell : (d r i : ℕ) → d < 32 → cell (r * 32 + d) (suc i) ≡ cell r i
@@ -419,7 +418,7 @@ turns_more are slots low last is =
 -- one that waits no more
 turns_fewer : (a : HousesState) (priorities : List ℕ) (turns : List HousesState) (at : ℕ) → AreTurns a priorities turns → at < 6 →
     AreTurns a (slice_set priorities at 0) turns
-turns_fewer a priorities turns at are place = let inside : at < length _ = omega arith in record {
+turns_fewer a priorities turns at are place = let inside : at < length priorities = omega arith in record {
   cells = length-set _ at 0 ∙ are.cells;
   each = λ k high. elim (cases_eq k at) [
     | inl same ↦
@@ -455,12 +454,12 @@ module _ (a : HousesState) (most marks h : ℕ) (priorities : List ℕ) (turns :
   -- the last marked house was played, and waits with a priority
   pub played_more : (v : ℕ) (b : HousesState) → 0 < v → IsTurnOf a h v b →
       ArePlayed a most (marks - 32 ^ (h - 1)) (slice_set priorities (h - 1) v) (slice_set turns (h - 1) b)
-  played_more v b some turn = let inside : h - 1 < length _ = omega arith in record {
+  played_more v b some turn = let inside : h - 1 < length priorities = omega arith in record {
     waiting = turns_more is.waiting is.slots last.first last.last turn;
     slots = length-set turns _ b ∙ is.slots;
     others = λ i may gone none apart. elim (cases_eq i h) [
       | inl same ↦
-          let at = sym (get_or-set_same _ (h - 1) v 0 inside)
+          let at = sym (get_or-set_same priorities (h - 1) v 0 inside)
           ∙ subst (λ j. get_or (slice_set priorities (h - 1) v) (j - 1) 0 ≡ 0) same none in
           absurd (omega arith)
       | inr other ↦
