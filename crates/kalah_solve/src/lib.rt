@@ -10,7 +10,6 @@ mod table;
 #[cfg(test)]
 mod tests;
 
-pub use bounds::interval::Interval;
 pub use key::{pack, unpack};
 pub use solver::laws::{
     best_house_is_lowest, best_moves_attain_worth, best_verdict_is_one, players_play_one_game,

@@ -9,11 +9,11 @@ pub(crate) const MOST_MARGIN: i8 = MOST_SEEDS as i8;
 
 /// The numbers from `lo` to `hi`.
 #[derive(Clone, Copy, Debug, PartialEq, Eq)]
-pub struct Interval {
+pub(crate) struct Interval {
     /// The least number.
-    pub lo: i8,
+    pub(crate) lo: i8,
     /// The greatest number.
-    pub hi: i8,
+    pub(crate) hi: i8,
 }
 
 impl Interval {
