@@ -29,7 +29,7 @@ use kalah_rules::{House, Houses, HousesStep};
 use std::alloc::{AllocError, Allocator, Global};
 
 /// What is known of houses with at most this many seeds is kept in their slot, and of others among the entries.
-const MOST_SLOTTED: u8 = 20;
+const MOST_SLOTTED: u8 = 24;
 
 /// An answer that took fewer nodes than this is not worth an entry.
 const LEAST_NODES: u64 = 60;
@@ -189,26 +189,27 @@ impl<A: Allocator + Clone> Search<A> {
         low
     }
 
-    /// Returns whether house `h` wins at least `beta` seeds.
-    pub fn move_reaches(&mut self, houses: &Houses, h: u8, beta: u8) -> bool
-        requires legal { Contains (legal_houses (storeless houses.now)) h }
-        ensures { IsTrue result ↔ beta ≤ won_by_step (houses_step houses.now h) }
+    /// Returns whether the move of this house wins at least `beta` seeds.
+    pub fn move_reaches(&mut self, houses: &Houses, house: House, beta: u8) -> bool
+        requires legal { Contains (legal_houses (storeless houses.now)) house }
+        ensures { IsTrue result ↔ beta ≤ won_by_step (houses_step houses.now house) }
     {
-        in_its_variant!(self.move_reaches_in_variant(houses, h, beta))
+        in_its_variant!(self.move_reaches_in_variant(houses, house, beta))
     }
 
-    // Returns whether house `h` wins at least `beta` seeds, for houses of this variant.
+    // Returns whether the move of this house wins at least `beta` seeds, for houses of this variant.
     fn move_reaches_in_variant<const VARIANT: u8>(
         &mut self,
         houses: &Houses,
-        h: u8,
+        house: House,
         beta: u8,
     ) -> bool
-        requires legal { Contains (legal_houses (storeless houses.now)) h }
+        requires legal { Contains (legal_houses (storeless houses.now)) house }
         requires variant { variant_of houses.now ≡ VARIANT }
-        ensures { IsTrue result ↔ beta ≤ won_by_step (houses_step houses.now h) }
+        ensures { IsTrue result ↔ beta ≤ won_by_step (houses_step houses.now house) }
     {
-        beta <= self.bound_step::<VARIANT>(houses.play(h), beta)
+        let step = houses.play_by(&self.table.endings.sowings, house);
+        beta <= self.bound_step::<VARIANT>(step, beta)
     }
 
     // Returns a fail-soft bound of how many seeds the mover wins. From `beta` on it is a lower bound, and below `beta` an upper one.

@@ -17,7 +17,7 @@ use crate::bounds::seed_bounds::won_of;
 use crate::bounds::window::Window;
 use crate::search::Search;
 use crate::table::Table;
-use kalah_rules::{Board, Houses, Moves};
+use kalah_rules::{Board, House, Houses, Moves};
 use std::alloc::{AllocError, Allocator, Global};
 
 /// The worth of a position to the player to move, and the house that attains it.
@@ -99,7 +99,7 @@ impl<A: Allocator + Clone> Solver<A> {
         let last = moves.len() - 1;
         for i in 0..last {
             let h = moves.get(i);
-            if self.search.move_reaches(houses, h, beta) {
+            if self.search.move_reaches(houses, House::new(h), beta) {
                 return h;
             }
         }

@@ -4,6 +4,6 @@ use Rattle.kalah_solve.proofs.search.Search.move_reaches_in_variant.Goals as goa
 pub bound_step-requires : goal.bound_step-requires
 bound_step-requires g c =
     record {
-      on = goes_on _ _ _ _ c.requires.variant c.play.ensures.limits c.requires.legal
-          c.play.ensures.step;
+      on = goes_on _ _ _ _ c.requires.variant c.play_by-step.ensures.limits c.requires.legal
+          c.play_by-step.ensures.step;
     }

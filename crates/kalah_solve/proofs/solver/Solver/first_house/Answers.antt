@@ -1,5 +1,8 @@
-use Rattle.std.proofs.Common.{arith, refl, ap, ◌∙◌, ◌≡◌, ◌<◌, ◌-◌, ℕ, List, length, get_or}
-use Rattle.kalah_rules.specs.Position.{storeless}
+use Rattle.std.proofs.Common.{arith, refl, sym, ap, ◌∙◌, ◌≡◌, ◌<◌, ◌≤◌, ◌-◌, ℕ, List, length, get_or}
+use Rattle.std.proofs.lemmas.List.Elements.{Contains-get_or}
+use Rattle.kalah_rules.specs.Position.{HousesState, storeless, IsWithinHouses}
+use Rattle.kalah_rules.specs.Play.{legal_houses}
+use Rattle.kalah_rules.proofs.PlayLemmas.{legal_holds}
 use Rattle.kalah_solve.proofs.WorthLemmas.{legal_some}
 use Rattle.kalah_solve.proofs.SolverLemmas.{root_found, root_short, root_last}
 use Rattle.kalah_solve.proofs.SearchLemmas.{enough_of, short_of}
@@ -18,17 +21,35 @@ looked_at : (moves legal : List ℕ) (i count house : ℕ) → count ≡ length 
 looked_at moves legal i count house many before at are =
     (omega (arith, ap length are), at ∙ ap (λ xs. get_or xs i 0) are)
 
+-- a legal house is one of 1 to 6
+legal_within : (a : HousesState) (i h : ℕ) → IsWithinHouses a → i < length (legal_houses (storeless a))
+    → h ≡ get_or (legal_houses (storeless a)) i 0 →
+    (1 ≤ h) × (h ≤ 6)
+legal_within a i h w inside at =
+    let holds = legal_holds (storeless a) h (rw at (Contains-get_or _ i 0 inside)) in
+    (holds.first, omega (arith, holds.last, w.at_most_six))
+
+pub new-requires-clause-first : goal.new-requires-clause-first
+new-requires-clause-first g c =
+    let at = looked_at _ _ _ _ _ c.len-last.ensures c.loop-i-test.true c.get-h.ensures c.requires.moves in
+    (legal_within _ _ _ c.seeds-seeds.ensures.limits at.0 at.1).0
+
+pub new-requires-clause-last : goal.new-requires-clause-last
+new-requires-clause-last g c =
+    let at = looked_at _ _ _ _ _ c.len-last.ensures c.loop-i-test.true c.get-h.ensures c.requires.moves in
+    (legal_within _ _ _ c.seeds-seeds.ensures.limits at.0 at.1).1
+
 pub returns-then-move_reaches : goal.returns-then-move_reaches
 returns-then-move_reaches g c =
     let enough = enough_of _ _ _ c.if-move_reaches.ensures refl in
-    let at = looked_at _ _ _ _ _ c.len-last.ensures c.loop-i-test.true c.get-h.ensures c.requires.moves in
-    at.1 ∙ root_found c.args.houses.now c.seeds-seeds.ensures.limits c.loop-i.i at.0 c.loop-i.invariant
+    let at = looked_at _ _ _ _ _ c.len-last.ensures c.loop-i-test.true (c.new.ensures ∙ c.get-h.ensures) c.requires.moves in
+    sym c.new.ensures ∙ at.1 ∙ root_found c.args.houses.now c.seeds-seeds.ensures.limits c.loop-i.i at.0 c.loop-i.invariant
     (rw (← at.1, ← c.requires.best) enough)
 
 pub loop-i-preserved : goal.loop-i-preserved
 loop-i-preserved g c =
     let less = short_of _ _ _ c.if-move_reaches.ensures refl in
-    let at = looked_at _ _ _ _ _ c.len-last.ensures c.loop-i-test.true c.get-h.ensures c.requires.moves in
+    let at = looked_at _ _ _ _ _ c.len-last.ensures c.loop-i-test.true (c.new.ensures ∙ c.get-h.ensures) c.requires.moves in
     root_short c.args.houses.now c.seeds-seeds.ensures.limits c.loop-i.i at.0 c.loop-i.invariant (rw (← at.1, ← c.requires.best) less)
 
 pub returns : goal.returns
