@@ -1,3 +1,4 @@
 pub mod PlayLemmas
+pub mod WaysLemmas
 pub mod KeyLemmas
 pub mod PackedLemmas

@@ -26,7 +26,7 @@ rows_number a = number_of a.own + 2 ^ 30 * number_of a.other
 
 -- own houses from bit 0, other houses from bit 30, the houses per side from bit 60, the rule at bit 63
 abbrev pub key_of : HousesState → ℕ
-key_of a = number_of a.own + 2 ^ 30 * number_of a.other + 2 ^ 60 * length a.own + 2 ^ 63 * rule_bit a.rule
+key_of a = rows_number a + 2 ^ 60 * length a.own + 2 ^ 63 * rule_bit a.rule
 
 -- the variant of houses: how many there are per side, and 8 more for the empty-capture rule
 abbrev pub variant_of : HousesState → ℕ

@@ -13,10 +13,10 @@ pub(crate) mod sowings;
 use crate::houses::house::House;
 use crate::houses::house_row::HouseRow;
 use crate::houses::numbers::{
-    OTHER_ROW, RULE, SIDE, cells_of, number_of, rule_of, seeds_at, variant_number,
+    OTHER_ROW, RULE, SIDE, cells_of, is_empty_past, number_of, rule_of, seeds_at, total,
+    variant_number,
 };
 use crate::limits::{MOST_HOUSES, MOST_SEEDS};
-use crate::row::{is_empty_past, total};
 use crate::rule::Rule;
 use std::marker::Model;
 

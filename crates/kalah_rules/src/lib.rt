@@ -6,7 +6,6 @@ mod houses;
 mod laws;
 mod limits;
 mod moves;
-mod row;
 mod rule;
 mod step;
 #[cfg(test)]

@@ -1,5 +1,5 @@
-//! Rows of houses as numbers, with five bits for each house, house 1 lowest.
-ghost use Rattle.std.specs.Prelude.{◌≡◌, ◌+◌, ◌-◌, ◌*◌, ◌/◌, ◌%◌, ◌^◌, ◌<◌, ◌≤◌, sum};
+//! Rows of six cells, and rows of houses as numbers, with five bits for each house, house 1 lowest.
+ghost use Rattle.std.specs.Prelude.{◌≡◌, ◌+◌, ◌-◌, ◌*◌, ◌/◌, ◌%◌, ◌^◌, ◌<◌, ◌≤◌, ◌↔◌, length, sum, drop, IsTrue, All};
 ghost use Rattle.kalah_rules.specs.Key.{number_of, cells, rule_bit};
 ghost use Rattle.kalah_rules.specs.Packed.{ones, ones_up_to};
 
@@ -14,6 +14,22 @@ pub(super) const SIDE: u64 = 0x1000_0000_0000_0000;
 
 // The bit of the rule in a key, bit 63.
 pub(super) const RULE: u64 = 0x8000_0000_0000_0000;
+
+// Returns the number of seeds of a row.
+pub(super) fn total(row: &[u8]) -> u16
+    requires { length row.now ≤ 6 }
+    ensures { result ≡ sum row.now }
+{
+    row.iter().map(|seeds| *seeds as u16).sum()
+}
+
+// Returns whether the cells after the first `m` hold no seeds.
+pub(super) fn is_empty_past(cells: &[u8; 6], m: u8) -> bool
+    requires { m ≤ 6 }
+    ensures { IsTrue result ↔ All (λ seeds. seeds ≡ 0) (drop m cells.now) }
+{
+    cells[m as usize..].iter().all(|seeds| *seeds == 0)
+}
 
 // Returns a row as a number.
 pub(super) fn number_of(cells: &[u8; 6]) -> u64

@@ -5,7 +5,7 @@ use Rattle.std.proofs.lemmas.List.{take_all}
 use Rattle.std.proofs.lemmas.List.Elements.{Contains-get_or}
 use Rattle.std.proofs.lemmas.List.Sums.{sum_by_more}
 use Rattle.kalah_rules.specs.Ways.{ways_by}
-use Rattle.kalah_rules.proofs.PlayLemmas.{legal_few}
+use Rattle.kalah_rules.proofs.WaysLemmas.{legal_few}
 use Rattle.kalah_solve.proofs.SolverLemmas.{house_small}
 use Rattle.kalah_jobs.specs.Writing.Counts.{ways_line}
 use Rattle.kalah_jobs.specs.Writing.Given.{WasGiven}

@@ -1,7 +1,7 @@
 use Rattle.std.proofs.Common.{◌∙◌, ap, sym}
 use Rattle.kalah_rules.specs.Position.{HousesState, storeless}
 use Rattle.kalah_rules.specs.Ways.{ways}
-use Rattle.kalah_rules.proofs.PlayLemmas.{ways_of_rows}
+use Rattle.kalah_rules.proofs.WaysLemmas.{ways_of_rows}
 use Rattle.kalah_rules.proofs.board.Board.ways.Goals as goal
 
 pub returns-clause-ways : goal.returns-clause-ways

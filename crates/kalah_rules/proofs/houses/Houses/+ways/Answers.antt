@@ -1,7 +1,8 @@
 use Rattle.std.proofs.Common.{arith, inl, inr, sym, ◌≡◌, ◌+◌, ◌-◌, ◌∙◌, ◌==◌}
 use Rattle.kalah_rules.specs.Position.{storeless}
 use Rattle.kalah_rules.specs.Lap.{HoldsSeeds}
-use Rattle.kalah_rules.proofs.PlayLemmas.{holds_legal, legal_holds, one_if, ways_none, ways_one, ways_over, ways_by_step, before_none, before_more, before_same, before_all, before_small, power_fits}
+use Rattle.kalah_rules.proofs.PlayLemmas.{holds_legal, legal_holds}
+use Rattle.kalah_rules.proofs.WaysLemmas.{one_if, ways_none, ways_one, ways_over, ways_by_step, before_none, before_more, before_same, before_all, before_small, power_fits}
 use Rattle.kalah_rules.proofs.houses.Houses.+ways.Goals as goal
 use Rattle.kalah_rules.proofs.houses.Houses.+ways.Goals.{ways-then-own-gt0, ways-else-own-gt0}
 

@@ -1,6 +1,6 @@
 use Rattle.std.proofs.Common.{◌+◌, ◌-◌, ◌*◌}
 use Rattle.kalah_rules.specs.Position.{storeless}
-use Rattle.kalah_rules.proofs.PlayLemmas.{AreWaysBefore}
+use Rattle.kalah_rules.proofs.WaysLemmas.{AreWaysBefore}
 use Rattle.kalah_rules.proofs.houses.Houses.+ways.Given as goal
 
 abbrev pub decreases-ways : goal.decreases-ways

@@ -1,6 +1,6 @@
 use Rattle.std.proofs.Common.{arith, ap, ◌∙◌, ◌∷◌, [], length, sym, length-append}
 use Rattle.kalah_rules.specs.Position.{storeless}
-use Rattle.kalah_rules.proofs.PlayLemmas.{seeded_before, seeded_few, seeded_legal, seeded_more, seeded_same}
+use Rattle.kalah_rules.proofs.WaysLemmas.{seeded_before, seeded_few, seeded_legal, seeded_more, seeded_same}
 use Rattle.kalah_rules.proofs.houses.Houses.legal_count.Goals as goal
 use Rattle.kalah_rules.proofs.houses.Houses.legal_count.Goals.{then-own-gt0, else-own-gt0}
 

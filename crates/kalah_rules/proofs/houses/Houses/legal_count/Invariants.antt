@@ -1,5 +1,5 @@
 use Rattle.std.proofs.Common.{◌≡◌, length}
-use Rattle.kalah_rules.proofs.PlayLemmas.{seeded_before}
+use Rattle.kalah_rules.proofs.WaysLemmas.{seeded_before}
 use Rattle.kalah_rules.proofs.houses.Houses.legal_count.Given as goal
 
 abbrev pub invariant-loop-h : goal.invariant-loop-h
