@@ -8,10 +8,10 @@ use Rattle.std.specs.Int.Count.{count_leading_zeros}
 use Rattle.kalah_rules.specs.Key.{number_of}
 use Rattle.kalah_rules.specs.Packed.{BeginsHouse}
 use Rattle.kalah_rules.proofs.KeyLemmas.{pow_five}
-use Rattle.kalah_solve.specs.RowMarks.{cell, each, distances, AreMarks, IsLastMark}
+use Rattle.kalah_solve.specs.Marks.{cell, each, distances, AreMarks, IsLastMark}
 use Rattle.std.proofs.lemmas.List.{get_or_past, get_or-set_same, get_or-set_other, get_or_default}
 use Rattle.kalah_rules.specs.Position.{HousesState, IsWithinHouses, seeds, seeds_in_houses, is_over, storeless}
-use Rattle.kalah_solve.specs.Search.Tried.{EndsInStore, IsSoftBound, WinsAtMost, IsTurnOf, AreWaiting}
+use Rattle.kalah_solve.specs.Search.{EndsInStore, IsSoftBound, WinsAtMost, IsTurnOf, AreWaiting}
 use Rattle.kalah_rules.specs.Play.{legal_houses}
 use Rattle.kalah_rules.specs.HousesStep.{houses_step}
 use Rattle.kalah_rules.specs.declared.step.HousesStep.TheVariants.{Turn}
@@ -234,8 +234,8 @@ module _ (f d e m n i : ℕ) (few : m ≤ 6) (d_is : d ≡ distances m) (e_is : 
   ending_single = grind (arith, cases_lt, cell_of_each, past_each, ending_cell, xor_lt)
 
 -- one mark, of a cell that is filled and not among others that are
-pub one_other : (x f e : ℕ) → f ≡ min 1 x → e ≤ 1 → (0 < e → 0 < x) → (0 < bit_xor f e) ↔ ((0 < x) × ¬ (0 < e))
-one_other x f e f_is single within = grind arith
+pub one_remaining : (x f e : ℕ) → f ≡ min 1 x → e ≤ 1 → (0 < e → 0 < x) → (0 < bit_xor f e) ↔ ((0 < x) × ¬ (0 < e))
+one_remaining x f e f_is single within = grind arith
 
 -- ==== Marks of a player's houses, by the cells of their row
 
@@ -284,17 +284,17 @@ module _ (a : HousesState) (row : ℕ) (w : IsWithinHouses a) (row_is : row ≡ 
     ]
 
     -- the marks of the other houses with seeds
-    pub other_marked : (f i : ℕ) → f < 2 ^ 30 → ((j : ℕ) → j < 6 → cell f j ≡ min 1 (cell row j)) →
+    pub remaining_marked : (f i : ℕ) → f < 2 ^ 30 → ((j : ℕ) → j < 6 → cell f j ≡ min 1 (cell row j)) →
         ((j : ℕ) → j < 6 → cell n j ≤ 1) →
         cell (bit_xor f n) i ≡ bit_xor (cell f i) (cell n i) →
         (0 < cell (bit_xor f n) i) ↔ ((0 < slice_index a.own i) × ¬ EndsInStore a (i + 1))
-    other_marked f i few cells single apart = elim (cases_lt i 6) [
+    remaining_marked f i few cells single apart = elim (cases_lt i 6) [
       | inl low ↦
           let again = again_marked i in
           let within : 0 < cell n i → 0 < cell row i =
           λ some. let both = again.0 some in let ends = (ends_at i).0 both.1 in let before = both.0 in
           omega (arith, own_cell i) in
-          let one = one_other _ _ _ (cells i low) (single i low) within in (
+          let one = one_remaining _ _ _ (cells i low) (single i low) within in (
             λ some. let both = one.0 (omega arith) in
                 let filled : 0 < slice_index a.own i = let has = both.0 in omega (arith, own_cell i) in (
                   filled,

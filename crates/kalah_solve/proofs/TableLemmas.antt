@@ -18,7 +18,7 @@ use Rattle.kalah_solve.specs.Bounds.Won.{won, won_by_step}
 use Rattle.kalah_rules.specs.Play.{legal_houses}
 use Rattle.kalah_rules.specs.HousesStep.{houses_step}
 use Rattle.kalah_rules.proofs.PlayLemmas.{legal_holds}
-use Rattle.kalah_solve.specs.RowMarks.{cell, IsLastMark}
+use Rattle.kalah_solve.specs.Marks.{cell, IsLastMark}
 use Rattle.kalah_solve.proofs.SearchLemmas.{cell_none, gone_before}
 use Rattle.kalah_solve.proofs.BoundsLemmas.{won_at_most, won_reached, won_of_houses}
 use Rattle.std.specs.Map.{lookup}

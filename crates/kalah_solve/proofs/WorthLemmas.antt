@@ -22,7 +22,7 @@ use Rattle.kalah_rules.specs.Key.{variant_of, rule_bit}
 use Rattle.kalah_rules.specs.declared.step.HousesStep.{HousesStep}
 use Rattle.kalah_rules.specs.declared.step.HousesStep.TheVariants.{Over, Again, Turn}
 use Rattle.kalah_rules.specs.HousesStep.{houses_step_to, houses_step}
-use Rattle.kalah_solve.specs.Solver.StepWorth.{GoesOn, GoesOnAt}
+use Rattle.kalah_solve.specs.Solver.GoingOn.{GoesOn, GoesOnAt}
 use Rattle.kalah_rules.proofs.PackedLemmas.{after_keeps, on_cond, over_swapped, after_within, swapped_within}
 
 -- ==== What a search in a list finds

@@ -2,4 +2,4 @@ pub mod Solver
 pub mod Table
 pub mod Bounds
 pub mod Search
-pub mod RowMarks
+pub mod Marks

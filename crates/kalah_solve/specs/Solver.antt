@@ -2,5 +2,5 @@ pub mod Worth
 pub mod BestPlay
 pub mod Verdict
 pub mod Laws
-pub mod StepWorth
+pub mod GoingOn
 pub mod MoveValues

@@ -1,8 +1,8 @@
 //! Marks of houses: a number with five bits for each house of a row, house 1 lowest. They are 1 if the house is marked, otherwise 0.
 ghost use Rattle.std.specs.Prelude.{◌≡◌, ◌↔◌, ◌+◌, ◌-◌, ◌≤◌, ◌<◌, ◌^◌, ℕ, min, length, slice_index};
 ghost use Rattle.kalah_rules.specs.Position.{IsWithinHouses};
-ghost use Rattle.kalah_solve.specs.Search.Tried.{EndsInStore};
-ghost use Rattle.kalah_solve.specs.RowMarks.{cell, each, distances, AreMarks, IsLastMark};
+ghost use Rattle.kalah_solve.specs.Search.{EndsInStore};
+ghost use Rattle.kalah_solve.specs.Marks.{cell, each, distances, AreMarks, IsLastMark};
 
 use kalah_rules::{House, Houses};
 
@@ -72,8 +72,8 @@ pub(crate) fn again_houses(houses: &Houses) -> u64
     ending_in_store(houses.own_row(), houses.m())
 }
 
-/// Returns the mover's other houses that have seeds, marked.
-pub(crate) fn other_houses(houses: &Houses) -> u64
+/// Returns the mover's remaining houses that have seeds, marked: those that don't end in the store.
+pub(crate) fn remaining_houses(houses: &Houses) -> u64
     ensures marked { (i : ℕ) → (0 < cell result i) ↔ ((0 < slice_index houses.now.own i) × ¬ EndsInStore houses.now (i + 1)) }
     ensures marks { AreMarks result }
     ensures limits { IsWithinHouses houses.now }

@@ -6,10 +6,10 @@ ghost use Rattle.kalah_rules.specs.Play.{legal_houses};
 ghost use Rattle.kalah_rules.specs.Key.{variant_of};
 ghost use Rattle.kalah_rules.specs.HousesStep.{houses_step};
 ghost use Rattle.kalah_solve.specs.Solver.Worth.{houses_worth};
-ghost use Rattle.kalah_solve.specs.Solver.StepWorth.{GoesOn, GoesOnAt};
+ghost use Rattle.kalah_solve.specs.Solver.GoingOn.{GoesOn, GoesOnAt};
 ghost use Rattle.kalah_solve.specs.Bounds.Intervals.{clamped};
 ghost use Rattle.kalah_solve.specs.Bounds.Won.{won, won_by_step};
-ghost use Rattle.kalah_solve.specs.Search.Tried.{IsSoftBound, WinsAtMost, EndsInStore, IsTriedMove, AreWaiting};
+ghost use Rattle.kalah_solve.specs.Search.{IsSoftBound, WinsAtMost, EndsInStore, IsTriedMove, AreWaiting};
 ghost use Rattle.kalah_solve.specs.Table.Entries.{most_entries, empty_table};
 
 mod known;
@@ -21,7 +21,7 @@ mod tests;
 use crate::bounds::interval::Interval;
 use crate::bounds::seed_bounds::{SeedBounds, margin_of};
 use crate::bounds::window::Window;
-use crate::marks::{again_houses, other_houses, split_last};
+use crate::marks::{again_houses, remaining_houses, split_last};
 use crate::search::move_order::{MoveOrder, Priorities, highest};
 use crate::search::node_counts::{EndingLimit, NodeCounts, SEEDS_THAT_ALWAYS_PAY};
 use crate::table::Table;
@@ -276,11 +276,11 @@ impl<A: Allocator + Clone> Search<A> {
         }
         let mut priorities = [0u16; 8];
         let mut turns = [houses.without_seeds(); 6]; // Of a known variant they are a constant.
-        let others = self.others_waiting::<VARIANT>(&houses, beta, &mut priorities, &mut turns);
-        if beta <= others {
-            return others;
+        let remaining = self.try_remaining::<VARIANT>(&houses, beta, &mut priorities, &mut turns);
+        if beta <= remaining {
+            return remaining;
         }
-        let mut most = again.max(others);
+        let mut most = again.max(remaining);
         let waiting = &turns[..];
         let reply_beta = seeds.saturating_sub(beta) + 1; // If the other player wins less of the seeds, the turn is enough.
         let mut priority = highest(&priorities);
@@ -321,11 +321,11 @@ impl<A: Allocator + Clone> Search<A> {
         most
     }
 
-    // Plays each of the other moves once. Returns the most that they win, or a bound that is enough. The turns that wait are written
-    // down, each with its priority, which is 0 for the others.
+    // Plays each of the remaining moves once. Returns the most that they win, or a bound that is enough. The turns that wait are
+    // written down, each with its priority, which is 0 for all else.
     #[inline(always)]
     #[cycle(search)]
-    fn others_waiting<const VARIANT: u8>(
+    fn try_remaining<const VARIANT: u8>(
         &mut self,
         houses: &Houses,
         beta: u8,
@@ -338,7 +338,7 @@ impl<A: Allocator + Clone> Search<A> {
         ensures { AreWaiting houses.now beta result priorities.new turns.new }
     {
         let mut most = 0;
-        let mut untried = other_houses(houses);
+        let mut untried = remaining_houses(houses);
         while untried > 0 {
             let (house, rest) = split_last(untried);
             untried = rest;

@@ -1,6 +1,6 @@
 //! The solver: the worth of positions, by a search with a table.
 ghost use Rattle.std.specs.Prelude.{◌≡◌, ◌≤◌, IfOk, false};
-ghost use Rattle.kalah_rules.specs.Position.{is_over, storeless};
+ghost use Rattle.kalah_rules.specs.Position.{is_over, storeless, IsWithinHouses};
 ghost use Rattle.kalah_rules.specs.Play.{legal_houses};
 ghost use Rattle.kalah_solve.specs.Solver.Worth.{best_house, houses_worth};
 ghost use Rattle.kalah_solve.specs.Table.Entries.{most_entries, empty_table};
@@ -81,21 +81,21 @@ impl<A: Allocator + Clone> Solver<A> {
 
     // Returns what houses are worth to the player to move, by a search in the whole window.
     fn houses_worth(&mut self, houses: &Houses) -> i32
-        requires { is_over (storeless houses.now) ≡ false }
+        requires limits { IsWithinHouses houses.now }
+        requires going { is_over (storeless houses.now) ≡ false }
         ensures { result ≡ houses_worth houses.now }
     {
-        let _seeds = houses.seeds(); // For its clause: the houses are within the limits.
         self.search.search(houses, Window::whole())
     }
 
     // Returns the lowest-numbered house that wins as many seeds as best play. If all but the last fall short, it is the last.
     fn first_house(&mut self, houses: &Houses, moves: &Moves, beta: u8) -> u8
+        requires limits { IsWithinHouses houses.now }
         requires moves { moves.now ≡ legal_houses (storeless houses.now) }
         requires going { is_over (storeless houses.now) ≡ false }
         requires best { beta ≡ won houses.now }
         ensures { result ≡ best_house (storeless houses.now) }
     {
-        let _seeds = houses.seeds(); // For its clause: the houses are within the limits.
         let last = moves.len() - 1;
         for i in 0..last {
             let h = moves.get(i);

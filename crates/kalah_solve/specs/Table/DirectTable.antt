@@ -44,16 +44,16 @@ StoreBounds shift slots = (a : HousesState) (number : ℕ) (d : Slot) → IsWith
     stored_tag (slice_index_or slots (slot_at shift number) d) ≡ tag_of_key number →
     IsWithinSlot (slice_index_or slots (slot_at shift number) d) (won a)
 
--- how many slots go with a number of entries: the greatest power of two that is no more, and never fewer than 1,024
-pub record AreSlotsFor (entries count : ℕ) : Type 0 where
+-- how many slots a table of this capacity has: the greatest power of two that is no more, and never fewer than 1,024
+pub record AreSlotsFor (capacity count : ℕ) : Type 0 where
   pub power : ℕ
   pub is : count ≡ 2 ^ power
-  pub most : count ≤ max LEAST_SLOTS entries
-  pub next : max LEAST_SLOTS entries < 2 * count
+  pub most : count ≤ max LEAST_SLOTS capacity
+  pub next : max LEAST_SLOTS capacity < 2 * count
 
--- the slots of a table with room for this many entries: its first ones, or all
+-- the slots of a table of this capacity: its first ones, or all
 abbrev pub AreSlots : ℕ → List Slot → Type 0
-AreSlots entries slots = AreSlotsFor (min entries FIRST_SLOTS) (length slots) ⊎ AreSlotsFor (min entries most_entries) (length slots)
+AreSlots capacity slots = AreSlotsFor (min capacity FIRST_SLOTS) (length slots) ⊎ AreSlotsFor (min capacity most_entries) (length slots)
 
 -- a slot for each value of a key's bits from `shift` on, and enough that no two keys share a slot and a tag
 pub record AreEnough (shift count : ℕ) : Type 0 where

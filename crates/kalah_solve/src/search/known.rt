@@ -1,7 +1,7 @@
 //! What a search knows of houses, what it learns of them, and how it grows with its nodes.
-ghost use Rattle.std.specs.Prelude.{◌≡◌, ◌≤ℤ◌};
+ghost use Rattle.kalah_rules.specs.Position.{IsWithinHouses};
 ghost use Rattle.kalah_solve.specs.Solver.Worth.{houses_worth};
-ghost use Rattle.kalah_solve.specs.Bounds.Intervals.{Encloses, least_margin, most_margin};
+ghost use Rattle.kalah_solve.specs.Bounds.Intervals.{Encloses};
 ghost use Rattle.kalah_solve.specs.Bounds.Won.{won, IsWithinBounds};
 
 use crate::bounds::interval::Interval;
@@ -13,11 +13,9 @@ use std::alloc::Allocator;
 impl<A: Allocator + Clone> Search<A> {
     // Returns an interval that holds the worth of the houses.
     pub(super) fn known_margins(&mut self, houses: &Houses) -> Interval
-        ensures holds { Encloses result (houses_worth houses.now) }
-        ensures least { least_margin ≤ℤ houses_worth houses.now }
-        ensures most { houses_worth houses.now ≤ℤ most_margin }
+        requires { IsWithinHouses houses.now }
+        ensures { Encloses result (houses_worth houses.now) }
     {
-        let _seeds = houses.seeds(); // For its clause: the houses are within the limits.
         match self.table.look_up(houses) {
             Some(interval) => interval,
             None => Interval::whole(),
@@ -46,7 +44,7 @@ impl<A: Allocator + Clone> Search<A> {
         }
     }
 
-    // Stores what was learned of the houses by so many `nodes`.
+    // Stores what was learned of the houses in this many nodes.
     pub(super) fn learn(&mut self, houses: &Houses, bounds: SeedBounds, nodes: u64)
         requires { IsWithinBounds bounds (won houses.now) }
     {

@@ -106,17 +106,18 @@ fn tag_of(mixed: u64) -> u64
 }
 
 impl<A: Allocator> DirectTable<A> {
-    /// Makes the slots that go with this many entries, with nothing known: as many, rounded down to a power of two, but at least 1,024.
+    /// Makes the slots of a table with this capacity, with nothing known. Their number is the capacity, rounded down to a power of two, but
+    /// at least 1,024.
     ///
     /// Fails with `AllocError` only if memory was refused.
-    pub(crate) fn new(alloc: A, entries: u32) -> Result<DirectTable<A>, AllocError>
-        ensures { IfOk result (λ p. AreSlotsFor entries (length p)) }
+    pub(crate) fn new(alloc: A, capacity: u32) -> Result<DirectTable<A>, AllocError>
+        ensures { IfOk result (λ p. AreSlotsFor capacity (length p)) }
     {
         let unknown = SeedBounds {
             least: 0,
             most: MOST_SEEDS as u8,
         };
-        let bits = LEAST_SLOTS.max(entries).ilog2();
+        let bits = LEAST_SLOTS.max(capacity).ilog2();
         let slots = Vec::from_elem(alloc, Slot::of(0, unknown), 1 << bits)?;
         Ok(DirectTable {
             slots,

@@ -1,6 +1,6 @@
 use Rattle.std.proofs.Common.{arith, refl, ◌≡◌, ◌+◌, ◌-◌, ◌*◌, ◌/◌, ◌%◌, ◌^◌}
 use Rattle.std.specs.Int.Count.{count_leading_zeros}
-use Rattle.kalah_solve.specs.RowMarks.{IsLastMark}
+use Rattle.kalah_solve.specs.Marks.{IsLastMark}
 use Rattle.kalah_solve.proofs.SearchLemmas.{last_begins, last_by_zeros, last_is_worth}
 use Rattle.kalah_solve.proofs.marks.split_last.Goals as goal
 

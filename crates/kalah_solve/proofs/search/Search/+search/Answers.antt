@@ -1,8 +1,8 @@
 use Rattle.std.proofs.Common.{arith, rules, refl, sym, ◌∙◌, ◌≡◌, ◌+◌, ◌-◌, ◌%◌, subst, length, max}
 use Rattle.std.proofs.lemmas.List.Sums.{sum_by-set}
 use Rattle.kalah_rules.specs.declared.step.HousesStep.TheVariants.{Turn}
-use Rattle.kalah_solve.specs.Solver.StepWorth.{GoesOn}
-use Rattle.kalah_solve.specs.Search.Tried.{EndsInStore, WinsAtMost}
+use Rattle.kalah_solve.specs.Solver.GoingOn.{GoesOn}
+use Rattle.kalah_solve.specs.Search.{EndsInStore, WinsAtMost}
 use Rattle.kalah_solve.proofs.SearchLemmas.{cell_none, marks_fall, move_enough, turn_enough, turn_at_most, turn_of, turn_at, waits_there, reply_fits, bound_up_to, bound_left, low_more, played_none, played_more, played_bound, ending_legal, marked_legal, moves_fewer, last_legal, each_fewer, each_last, again_none, again_fewer, untried_first, untried_fewer, none_untried}
 use Rattle.kalah_solve.proofs.WorthLemmas.{goes_on, leads_by, step_falls}
 use Rattle.kalah_solve.proofs.BoundsLemmas.{won_of_houses}
@@ -58,7 +58,7 @@ explore-bounds-priorities-at g t c = omega (arith, (c.loop-priority.invariant.ne
 
 pub explore-bounds-waiting-at : goal.explore-bounds-waiting-at
 explore-bounds-waiting-at g t c =
-    let long : length c.others_waiting-others.new.turns ≡ 6 = search rules in
+    let long : length c.try_remaining-remaining.new.turns ≡ 6 = search rules in
     omega (arith, (c.loop-priority.invariant.next c.loop-priority-test.true).place)
 
 pub explore-bound_by_search-requires : goal.explore-bound_by_search-requires
@@ -198,32 +198,32 @@ bound_again-returns-clause-upper g t c = λ short h has ends.
     let none : c.loop-untried.untried ≡ 0 = omega arith in
     c.loop-untried.invariant.tried h has ends (rw none (cell_none (h - 1)))
 
-pub others_waiting-loop-untried-init : goal.others_waiting-loop-untried-init
-others_waiting-loop-untried-init g t c =
+pub try_remaining-loop-untried-init : goal.try_remaining-loop-untried-init
+try_remaining-loop-untried-init g t c =
     let a = c.args.houses.now in
-    let marks = c.other_houses-untried.ensures in
+    let marks = c.remaining_houses-untried.ensures in
     record {
       low = λ enough. refl;
       may = record { are = marks.marks; legal = λ i some. marked_legal _ marks.limits c.requires.going ((marks.marked i).0 some).0 };
       played = played_none (search rules) (search rules) c.requires.none marks.marked;
     }
 
-pub others_waiting-try_move-requires : goal.others_waiting-try_move-requires
-others_waiting-try_move-requires g t c κs within =
+pub try_remaining-try_move-requires : goal.try_remaining-try_move-requires
+try_remaining-try_move-requires g t c κs within =
     (omega arith, (within, (search rules, (last_legal c.loop-untried.invariant.may c.split_last-house.ensures.last, c.requires.variant))))
 
-pub others_waiting-returns-then-beta-bound : goal.others_waiting-returns-then-beta-bound
-others_waiting-returns-then-beta-bound g t c =
+pub try_remaining-returns-then-beta-bound : goal.try_remaining-returns-then-beta-bound
+try_remaining-returns-then-beta-bound g t c =
     let has = last_legal c.loop-untried.invariant.may c.split_last-house.ensures.last in
     record {
-      lower = move_enough _ _ _ _ c.other_houses-untried.ensures.limits has
+      lower = move_enough _ _ _ _ c.remaining_houses-untried.ensures.limits has
           c.in-Bounded.ensures;
       waiting = c.loop-untried.invariant.played.waiting.each;
       others = λ short. absurd (omega arith);
     }
 
-pub others_waiting-loop-untried-preserved : goal.others_waiting-loop-untried-preserved
-others_waiting-loop-untried-preserved g t c =
+pub try_remaining-loop-untried-preserved : goal.try_remaining-loop-untried-preserved
+try_remaining-loop-untried-preserved g t c =
     let a = c.args.houses.now in
     let marks = c.loop-untried.untried in
     let h = c.split_last-house.result.0 in
@@ -238,13 +238,13 @@ others_waiting-loop-untried-preserved g t c =
           (c.in-Bounded.ensures.upper c.if-beta-bound.false) new_is;
     })
 
-pub others_waiting-loop-untried-smaller : goal.others_waiting-loop-untried-smaller
-others_waiting-loop-untried-smaller g t c =
+pub try_remaining-loop-untried-smaller : goal.try_remaining-loop-untried-smaller
+try_remaining-loop-untried-smaller g t c =
     let split = c.split_last-house in
     rw split.ensures.rest (marks_fall split.ensures.last)
 
-pub others_waiting-returns : goal.others_waiting-returns
-others_waiting-returns g t c =
+pub try_remaining-returns : goal.try_remaining-returns
+try_remaining-returns g t c =
     let none : c.loop-untried.untried ≡ 0 = omega arith in
     record {
       lower = λ enough. omega (arith, c.loop-untried.invariant.low enough);
@@ -252,8 +252,8 @@ others_waiting-returns g t c =
       others = λ short h has. c.loop-untried.invariant.played.others h has (rw none (cell_none (h - 1)));
     }
 
-pub others_waiting-loop-untried-preserved-in-Waits : goal.others_waiting-loop-untried-preserved-in-Waits
-others_waiting-loop-untried-preserved-in-Waits g t c =
+pub try_remaining-loop-untried-preserved-in-Waits : goal.try_remaining-loop-untried-preserved-in-Waits
+try_remaining-loop-untried-preserved-in-Waits g t c =
     let a = c.args.houses.now in
     let marks = c.loop-untried.untried in
     let h = c.split_last-house.result.0 in
@@ -270,11 +270,11 @@ others_waiting-loop-untried-preserved-in-Waits g t c =
 
 pub explore-loop-priority-init : goal.explore-loop-priority-init
 explore-loop-priority-init g t c =
-    let others = c.others_waiting-others.ensures in
-    let most_is : c.max-most.result ≡ max c.bound_again-again.result c.others_waiting-others.result =
+    let others = c.try_remaining-remaining.ensures in
+    let most_is : c.max-most.result ≡ max c.bound_again-again.result c.try_remaining-remaining.result =
     search (rules, c.max-most.ensures) in
     let untried = untried_first _ (search rules) others
-    (c.bound_again-again.ensures.upper c.if-beta-again.false) c.if-beta-others.false most_is in
+    (c.bound_again-again.ensures.upper c.if-beta-again.false) c.if-beta-remaining.false most_is in
     record {
       low = omega arith;
       highest = c.highest-priority.ensures.highest;

@@ -2,8 +2,8 @@ use Rattle.kalah_rules.specs.Position.{storeless}
 use Rattle.std.proofs.Common.{◌+◌, ◌*◌, ◌<◌, ◌≤◌, ◌≡◌, ℕ, get_or, sum}
 use Rattle.kalah_rules.specs.Measure.{moves_left}
 use Rattle.kalah_solve.proofs.WorthLemmas.{moves_after}
-use Rattle.kalah_solve.specs.RowMarks.{cell}
-use Rattle.kalah_solve.specs.Search.Tried.{EndsInStore}
+use Rattle.kalah_solve.specs.Marks.{cell}
+use Rattle.kalah_solve.specs.Search.{EndsInStore}
 use Rattle.kalah_solve.proofs.SearchLemmas.{AreAgain, ArePlayed, AreUntried, MayMove, WaitsWith}
 use Rattle.kalah_solve.proofs.search.Search.+search.Given as goal
 
@@ -19,8 +19,8 @@ decreases-explore g l = 9 * moves_left (storeless l.houses.now) + 4
 abbrev pub decreases-bound_again : goal.decreases-bound_again
 decreases-bound_again g l = 9 * moves_left (storeless l.houses.now) + 3
 
-abbrev pub decreases-others_waiting : goal.decreases-others_waiting
-decreases-others_waiting g l = 9 * moves_left (storeless l.houses.now) + 3
+abbrev pub decreases-try_remaining : goal.decreases-try_remaining
+decreases-try_remaining g l = 9 * moves_left (storeless l.houses.now) + 3
 
 abbrev pub decreases-try_move : goal.decreases-try_move
 decreases-try_move g l = 9 * moves_left (storeless l.houses.now) + 2
@@ -42,15 +42,15 @@ invariant-bound_again-loop-untried g l = record {
 abbrev pub decreases-bound_again-loop-untried : goal.decreases-bound_again-loop-untried
 decreases-bound_again-loop-untried g l = l.untried
 
-abbrev pub invariant-others_waiting-loop-untried : goal.invariant-others_waiting-loop-untried
-invariant-others_waiting-loop-untried g l = record {
+abbrev pub invariant-try_remaining-loop-untried : goal.invariant-try_remaining-loop-untried
+invariant-try_remaining-loop-untried g l = record {
   low : l.beta ≤ l.most → l.most ≡ 0;
   may : MayMove l.houses l.untried;
   played : ArePlayed l.houses l.most l.untried l.priorities l.turns;
 }
 
-abbrev pub decreases-others_waiting-loop-untried : goal.decreases-others_waiting-loop-untried
-decreases-others_waiting-loop-untried g l = l.untried
+abbrev pub decreases-try_remaining-loop-untried : goal.decreases-try_remaining-loop-untried
+decreases-try_remaining-loop-untried g l = l.untried
 
 abbrev pub invariant-explore-loop-priority : goal.invariant-explore-loop-priority
 invariant-explore-loop-priority g l = record {

@@ -1,7 +1,7 @@
 use Rattle.std.proofs.Common.{ap, refl, rules, ◌≡◌, ◌∙◌, w8, w32, to_z, of_z, SFits, to_z-of_z}
 use Rattle.kalah_solve.specs.Bounds.Intervals.{clamped}
 use Rattle.kalah_solve.specs.Solver.Worth.{houses_worth}
-use Rattle.kalah_solve.proofs.BoundsLemmas.{within_both, won_by_bounds, told_by_won}
+use Rattle.kalah_solve.proofs.BoundsLemmas.{worth_low, worth_high, within_both, won_by_bounds, told_by_won}
 use Rattle.kalah_solve.proofs.search.Search.search_in_variant.Given.{Over}
 use Rattle.kalah_solve.proofs.search.Search.search_in_variant.Goals as goal
 
@@ -28,12 +28,13 @@ found g c =
 
 pub learn_margins-requires : goal.learn_margins-requires
 learn_margins-requires g c =
-    let known = c.known_margins-known.ensures in
+    let limits = c.seeds-seeds.ensures.limits in
     let worth = houses_worth c.args.houses.now in
-    c.intersection.ensures.held worth (c.interval_of.ensures.held worth known.least known.most (found g c)) known.holds
+    c.intersection.ensures.held worth (c.interval_of.ensures.held worth (worth_low _ limits) (worth_high _ limits) (found g c))
+    c.known_margins-known.ensures
 
 pub returns : goal.returns
-returns g c = found g c.before ∙ c.in-Some.ensures.some (houses_worth c.args.houses.now) c.known_margins-known.ensures.holds
+returns g c = found g c.before ∙ c.in-Some.ensures.some (houses_worth c.args.houses.now) c.known_margins-known.ensures
 
 pub returns-then-seeds-self : goal.returns-then-seeds-self
 returns-then-seeds-self g c =
@@ -48,4 +49,4 @@ returns-in_default g c =
     let fits : SFits w32 c.clamp-in_default.result = search rules in
     let lo : SFits w8 c.known_margins-known.result.lo = search rules in
     let lo_wide : SFits w32 c.known_margins-known.result.lo = search (rules, lo) in
-    simp to_z-of_z (simp to_z-of_z at c.clamp-in_default.ensures ∙ c.in_default.ensures.none refl _ c.known_margins-known.ensures.holds)
+    simp to_z-of_z (simp to_z-of_z at c.clamp-in_default.ensures ∙ c.in_default.ensures.none refl _ c.known_margins-known.ensures)

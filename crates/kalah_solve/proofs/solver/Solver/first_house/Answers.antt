@@ -32,25 +32,25 @@ legal_within a i h w inside at =
 pub new-requires-clause-first : goal.new-requires-clause-first
 new-requires-clause-first g c =
     let at = looked_at _ _ _ _ _ c.len-last.ensures c.loop-i-test.true c.get-h.ensures c.requires.moves in
-    (legal_within _ _ _ c.seeds-seeds.ensures.limits at.0 at.1).0
+    (legal_within _ _ _ c.requires.limits at.0 at.1).0
 
 pub new-requires-clause-last : goal.new-requires-clause-last
 new-requires-clause-last g c =
     let at = looked_at _ _ _ _ _ c.len-last.ensures c.loop-i-test.true c.get-h.ensures c.requires.moves in
-    (legal_within _ _ _ c.seeds-seeds.ensures.limits at.0 at.1).1
+    (legal_within _ _ _ c.requires.limits at.0 at.1).1
 
 pub returns-then-move_reaches : goal.returns-then-move_reaches
 returns-then-move_reaches g c =
     let enough = enough_of _ _ _ c.if-move_reaches.ensures refl in
     let at = looked_at _ _ _ _ _ c.len-last.ensures c.loop-i-test.true (c.new.ensures ∙ c.get-h.ensures) c.requires.moves in
-    sym c.new.ensures ∙ at.1 ∙ root_found c.args.houses.now c.seeds-seeds.ensures.limits c.loop-i.i at.0 c.loop-i.invariant
+    sym c.new.ensures ∙ at.1 ∙ root_found c.args.houses.now c.requires.limits c.loop-i.i at.0 c.loop-i.invariant
     (rw (← at.1, ← c.requires.best) enough)
 
 pub loop-i-preserved : goal.loop-i-preserved
 loop-i-preserved g c =
     let less = short_of _ _ _ c.if-move_reaches.ensures refl in
     let at = looked_at _ _ _ _ _ c.len-last.ensures c.loop-i-test.true (c.new.ensures ∙ c.get-h.ensures) c.requires.moves in
-    root_short c.args.houses.now c.seeds-seeds.ensures.limits c.loop-i.i at.0 c.loop-i.invariant (rw (← at.1, ← c.requires.best) less)
+    root_short c.args.houses.now c.requires.limits c.loop-i.i at.0 c.loop-i.invariant (rw (← at.1, ← c.requires.best) less)
 
 pub returns : goal.returns
 returns g c =
@@ -59,5 +59,5 @@ returns g c =
     let some = legal_some (storeless a) c.requires.going in
     let last = c.len-last.result - 1 in
     let place = c.get.ensures ∙ ap (λ xs. get_or xs last 0) c.requires.moves in
-    place ∙ root_last a c.seeds-seeds.ensures.limits last c.requires.going (omega arith)
+    place ∙ root_last a c.requires.limits last c.requires.going (omega arith)
     (λ k low. c.loop-i.invariant k (omega arith))

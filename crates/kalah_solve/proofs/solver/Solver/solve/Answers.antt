@@ -2,6 +2,7 @@ use Rattle.std.proofs.Common.{arith, rules, sym, ap, ◌∙◌, ◌≡◌, w32, 
 use Rattle.std.proofs.lemmas.Int.{ints, to_z-of_z}
 use Rattle.kalah_rules.specs.Play.{legal_houses}
 use Rattle.kalah_rules.specs.Position.{HousesState, houses_in, storeless}
+use Rattle.kalah_rules.proofs.PackedLemmas.{rows_within}
 use Rattle.kalah_solve.specs.Solver.Worth.{houses_worth, best_house}
 use Rattle.kalah_solve.specs.declared.solver.Verdict.TheVariants.{Best, Over}
 use Rattle.kalah_solve.proofs.SolverLemmas.{verdict_by, verdict_of_over, small_best, stored, told_fits, told_small, told_worth, verdict_tells}
@@ -17,6 +18,9 @@ returns-then-is_over-clause-best_play g c =
     (verdict_of_over c.args.board.now c.returns.result (sym c.if-is_over.ensures.over) c.returns.ensures.margin))
 
 -- ---- the game goes on
+pub houses_worth-best-requires-clause-limits : goal.houses_worth-best-requires-clause-limits
+houses_worth-best-requires-clause-limits g c = rw c.houses-houses.ensures (rows_within _ c.is_over.ensures.limits)
+
 pub first_house-house-requires-clause-moves : goal.first_house-house-requires-clause-moves
 first_house-house-requires-clause-moves g c = c.legal.ensures.moves ∙ sym (ap (λ (a : HousesState). legal_houses (storeless a)) c.houses-houses.ensures)
 

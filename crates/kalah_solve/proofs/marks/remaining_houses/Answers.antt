@@ -1,12 +1,12 @@
 use Rattle.std.proofs.Common.{arith}
-use Rattle.kalah_solve.specs.RowMarks.{cell}
+use Rattle.kalah_solve.specs.Marks.{cell}
 use Rattle.std.proofs.lemmas.Nat.{xor_lt}
-use Rattle.kalah_solve.proofs.SearchLemmas.{cell_xor, six_marks, other_marked}
-use Rattle.kalah_solve.proofs.marks.other_houses.Goals as goal
+use Rattle.kalah_solve.proofs.SearchLemmas.{cell_xor, six_marks, remaining_marked}
+use Rattle.kalah_solve.proofs.marks.remaining_houses.Goals as goal
 
 pub returns-clause-marked : goal.returns-clause-marked
 returns-clause-marked c = λ i.
-    other_marked c.args.houses.now c.own_row-row.result c.own_row-row.ensures.limits c.own_row-row.ensures.value c.m.result
+    remaining_marked c.args.houses.now c.own_row-row.result c.own_row-row.ensures.limits c.own_row-row.ensures.value c.m.result
     c.ending_in_store.result c.m.ensures.side
     c.ending_in_store.ensures.small c.ending_in_store.ensures.inside c.ending_in_store.ensures.past c.filled.result i c.filled.ensures.small
     c.filled.ensures.cells
