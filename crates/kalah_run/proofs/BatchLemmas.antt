@@ -3,7 +3,7 @@ use Rattle.std.proofs.Common.{add-one, IfErr, ◌≡◌, ◌≤◌, ◌<◌, ◌
 use Rattle.std.proofs.lemmas.List.{nil_from_length, map-append, reverse-append, append-nil, take-append-drop, take_all, take_more, flat_map_more, get_or-map, length-append, length-map}
 use Rattle.kalah_jobs.specs.declared.files.entry.Entry.{Entry}
 use Rattle.kalah_jobs.specs.declared.files.job.Job.{Job}
-use Rattle.std.specs.Prelude.{◌⊎◌, All, Some, IfSome, fold, slice_get, Option, None, Result, Ok, Err, sum_by, OnOk, count_by, IfOk}
+use Rattle.std.specs.Prelude.{max, min, vec_capacity, ◌⊎◌, All, Some, IfSome, fold, slice_get, Option, None, Result, Ok, Err, sum_by, OnOk, count_by, IfOk}
 use Rattle.std.proofs.lemmas.List.Sums.{fold-append, sum_by-cons}
 use Rattle.std.proofs.lemmas.Option.{get_or_from_slice_get, slice_get_within}
 use Rattle.kalah_jobs.specs.Files.JobList.{job_list, jobs_from, file_jobs, line_job, entries_of, entry_at}
@@ -11,7 +11,7 @@ use Rattle.kalah_jobs.specs.declared.files.entry.Entry.TheVariants.{Bad}
 use Rattle.kalah_jobs.specs.declared.line.line_fault.LineFault.TheVariants.{Empty}
 use Rattle.kalah_jobs.specs.Collecting.Batch.{job, AreJobsInSomeOrder}
 use Rattle.kalah_run.specs.declared.desk.rule.DrawnRow.{DrawnRow}
-use Rattle.kalah_run.specs.Batch.AtWork.{drawn_jobs, passes_of, puts_of, AreAtWork, HaveRun}
+use Rattle.kalah_run.specs.Batch.AtWork.{drawn_jobs, passes_of, puts_of, AreAtWork, HasRun, HaveRun}
 use Rattle.std.specs.Io.KnownBytes.{Appends, Keeps}
 use Rattle.std.proofs.Math.Seq.{take-nil}
 use Rattle.std.proofs.KnownBytes.{Appends-kept, Appends-nil, Appends-trans, Keeps-refl}
@@ -33,11 +33,12 @@ use Rattle.kalah_jobs.specs.Collecting.Held.{Kept}
 use Rattle.kalah_jobs.specs.Files.Lines.{line_feed}
 use Rattle.kalah_jobs.specs.Files.NamedBytes.{NamedBytes}
 use Rattle.kalah_run.specs.declared.batch.ordered_output.OrderedOutput.{OrderedOutput}
-use Rattle.std.proofs.lemmas.List.Elements.{All-cons, All-map, All-nil, All-tail}
+use Rattle.std.proofs.lemmas.List.Elements.{All-append, All-cons, All-map, All-nil, All-tail}
 use Rattle.kalah_run.specs.Queue.States.{GetState, PutState, ArePassesFrom, sent_by, Accounts, outcomes_in}
 use Rattle.kalah_run.specs.Desk.States.{DeskState, PassState, IsPassAt, AreNewPasses, new_pass, drawn_rows}
 use Rattle.kalah_run.specs.declared.batch.worker.Worker.{Worker}
-use Rattle.kalah_run.specs.Batch.Running.{HasOwnTable, HaveOwnTables, HasCollected}
+use Rattle.kalah_run.specs.Batch.Running.{HasOwnTable, HaveOwnTables, IsReadyToRun, HasCollected}
+use Rattle.kalah_run.specs.declared.batch.open_batch.OpenBatch.{OpenBatch}
 use Rattle.kalah_jobs.specs.Files.Jobs.{MakesJobs, job_count, jobs_to, lines_in_all}
 use Rattle.kalah_jobs.proofs.FilesLemmas.{length-job_list, job_count-jobs_to, lines_between, slice_get-job_list}
 use Rattle.kalah_jobs.specs.Collecting.Shares.{AreShared, times_in}
@@ -360,6 +361,23 @@ tables_more workers workers' w entries is has so_far =
     subst (λ l. HaveOwnTables entries l) (sym (last_first workers workers' w is))
     (All-cons (HasOwnTable entries) w (reverse workers) has so_far)
 
+-- ==== Workers taken apart into their passes, the first one first
+
+-- one worker more has given one of its passes
+pub one_taken : {X : Type 0} (f : Worker → X) (workers : List Worker) (w : Worker) {given given' : List X}
+    → given' ≡ given ++ f w ∷ [] → given ≡ map f workers → given' ≡ map f (workers ++ w ∷ [])
+one_taken f workers w is so_far = is ∙ ap (λ l. l ++ f w ∷ []) so_far ∙ sym (map-append f workers (w ∷ []))
+
+-- a list that has room for one element of each worker that is left, and for some more, has room for the first worker's
+pub room_for_one : {w : Worker} {workers workers' : List Worker} {len capacity : ℕ} (more : ℕ) → workers ≡ w ∷ workers'
+    → length workers + (len + more) ≤ capacity → len < capacity
+room_for_one more is room = omega (arith, room, ap (λ (l : List Worker). length l) is)
+
+-- then it has room for those of the others
+pub room_still : {w : Worker} {workers workers' : List Worker} {len' capacity capacity' : ℕ} (len more : ℕ) → workers ≡ w ∷ workers'
+    → len' ≡ len + 1 → capacity' ≡ capacity → length workers + (len + more) ≤ capacity → length workers' + (len' + more) ≤ capacity'
+room_still len more is longer same room = omega (arith, room, longer, same, ap (λ (l : List Worker). length l) is)
+
 -- ==== The workers of a batch, from their passes to what was got of them
 
 -- there are as many workers as passes
@@ -368,6 +386,12 @@ pub as_many_workers : (workers : List Worker) (passes : List PassState) (count :
     → length workers ≡ count
 as_many_workers workers passes count are many =
     sym (length-map workers (λ (w : Worker). w.pass)) ∙ ap (λ (l : List PassState). length l) are ∙ many
+
+-- a new batch has a worker for each job up to the number asked for, and one for no job
+pub as_asked : (workers : List Worker) (passes : List PassState) {count fewer total : ℕ} (wanted jobs : ℕ)
+    → passes_of workers ≡ passes → length passes ≡ count → count ≡ max fewer 1 → fewer ≡ min wanted total → total ≡ jobs
+    → length workers ≡ max 1 (min wanted jobs)
+as_asked workers passes wanted jobs are many some few total = omega (arith, as_many_workers workers passes _ are many, some, few, total)
 
 -- workers of new passes are at work
 pub new_at_work : {G : Type 0} {knows : G → ℕ → Bool} (shared : SharedWork G) (workers : List Worker) (count : ℕ)
@@ -390,7 +414,7 @@ new_at_work {knows = knows} shared workers count new from unsent = λ k d within
     }
 
 -- after the run each pass to put is still of the queue, and in its place
-pub puts_after : {G : Type 0} {knows : G → ℕ → Bool} (shared : SharedWork G) (before after : List Worker) (n : ℕ)
+puts_after : {G : Type 0} {knows : G → ℕ → Bool} (shared : SharedWork G) (before after : List Worker) (n : ℕ)
     → HaveRun knows shared before after
     → ArePassesFrom shared.queue.id n (puts_of before) → ArePassesFrom shared.queue.id n (puts_of after)
 puts_after shared [] [] n run from = tt
@@ -404,13 +428,20 @@ puts_after {knows = knows} shared (b ∷ bs) (a ∷ others) n run from =
     } in
     (first.at_work.sends, first.number ∙ from.1, puts_after shared bs others (suc n) rest from.2)
 
+-- the workers have run if each element of their list has
+pub have_run : {G : Type 0} {knows : G → ℕ → Bool} {shared : SharedWork G} {before list after : List Worker} → list ≡ before
+    → length after ≡ length list
+    → ((k : ℕ) (w : Worker) → k < length list → HasRun knows shared (get_or list k w) (get_or after k w))
+    → HaveRun knows shared before after
+have_run is as_many each = rw (← is) (record { as_many = as_many; each = each })
+
 -- each worker that has run
 module _ {G : Type 0} {knows : G → ℕ → Bool} (shared : SharedWork G) (before after : List Worker)
     (run : HaveRun knows shared before after) where
   pub run_at_work : AreAtWork knows shared after
   run_at_work = λ k d within. (run.each k d (let many = run.as_many in omega arith)).at_work
 
-  pub run_passes : All (IsPassAt shared.desk) (passes_of after)
+  run_passes : All (IsPassAt shared.desk) (passes_of after)
   run_passes = All-map (IsPassAt shared.desk) (λ (w : Worker). w.pass) after (λ k d within. (run_at_work k d within).draws)
 
 -- what worker w sent are the outcomes of its row
@@ -425,13 +456,17 @@ sent_in_order shared (x ∷ xs) (suc w) at_work within = sent_in_order shared xs
 
 -- Each number below the count of those drawn stands in the rows once, the pairs that were got and those left inside account for what was
 -- sent, and as many were got as there are jobs: so each job was got once.
-pub each_job_got : {G : Type 0} {knows : G → ℕ → Bool} (shared : SharedWork G) (workers : List Worker) {count drawn : ℕ}
-    (got rest : List (ℕ × Job))
-    → AreAtWork knows shared workers
-    → length workers ≡ count → DealsEachOnce (job_count shared.jobs.now) drawn (drawn_rows (passes_of workers))
-    → Accounts count (sent_by (puts_of workers)) (got ++ rest) → length got ≡ job_count shared.jobs.now
-    → AreJobsInSomeOrder shared.jobs.now (outcomes_in got)
-each_job_got shared workers {count} {drawn} got rest at_work as_many deals accounts all =
+pub each_job_got : {G : Type 0} {knows : G → ℕ → Bool} {shared : SharedWork G} {before after : List Worker}
+    {count drawn left : ℕ} {puts : List PutState} {jobs : List (List Entry)} (run : HaveRun knows shared before after) (got : List (ℕ × Job))
+    → count ≡ length before → DealsEachOnce (job_count shared.jobs.now) drawn (drawn_rows (passes_of after)) → puts ≡ puts_of after
+    → (rest : List (ℕ × Job)) × (length rest ≡ left) × Accounts count (sent_by puts) (got ++ rest)
+    → jobs ≡ shared.jobs.now → length got ≡ job_count jobs → AreJobsInSomeOrder jobs (outcomes_in got)
+each_job_got {shared = shared} {before} {after = workers} {count} {drawn} run got each deals are inside is all =
+    let rest = inside.0 in
+    let accounts : Accounts count (sent_by (puts_of workers)) (got ++ rest) = rw are at inside.2 in
+    let at_work = run_at_work shared before workers run in
+    let as_many : length workers ≡ count = run.as_many ∙ sym each in
+    rw is (let all : length got ≡ job_count shared.jobs.now = all ∙ ap job_count is in
     let jobs = shared.jobs.now in
     let rows = drawn_numbers (drawn_rows (passes_of workers)) in
     let row_count : length rows ≡ length workers = length-drawn_numbers (passes_of workers)
@@ -449,7 +484,7 @@ each_job_got shared workers {count} {drawn} got rest at_work as_many deals accou
     let many : length (job_list jobs) ≡ job_count jobs = length-job_list jobs in
     let whole : drawn ≡ length (job_list jobs) =
     omega (arith, as_many_as_numbers drawn (job jobs) rows (got ++ rest) are_shared, length-append got rest, all, deals.within, many) in
-    gets_each_job_once jobs rows got rest (subst (λ n. AreShared n (job jobs) rows (got ++ rest)) whole are_shared) (all ∙ sym many)
+    gets_each_job_once jobs rows got rest (subst (λ n. AreShared n (job jobs) rows (got ++ rest)) whole are_shared) (all ∙ sym many))
 
 -- ==== The gate knows each job, if all are drawn
 
@@ -548,8 +583,33 @@ pub new_left : (desk : DeskState) (number : ℕ) (left : Option PassState) → I
 new_left desk number None new = tt
 new_left desk number (Some p) new = ap (λ (p : PassState). p.row.numbers) new
 
+-- A new batch is ready to run: `count` workers with the new passes, and with room in the two lists from which these were taken.
+pub ready_to_run : {G : Type 0} {knows : G → ℕ → Bool} (b : OpenBatch G) {count places room puts_room : ℕ} {passes : List PassState}
+    (fewer : ℕ) (puts : List PutState) → count ≡ max fewer 1 → passes_of b.workers.items ≡ passes → AreNewPasses b.shared.desk count passes
+    → puts_of b.workers.items ≡ puts → (places ≡ count) × ArePassesFrom b.shared.queue.id 0 puts × All (λ p. p.sent ≡ []) puts
+    → (places ≡ length puts) × (places ≤ puts_room) → IfSome b.left (λ left. left ≡ new_pass b.shared.desk count)
+    → count + length (pass_in b.left) ≡ b.shared.desk.passes → b.get ≡ record { queue = b.shared.queue.id; workers = count; got = [] }
+    → IsNew b.output → b.output.jobs.now ≡ b.shared.jobs.now → (b.passes.items ≡ []) × (b.puts.items ≡ [])
+    → (vec_capacity b.passes ≡ room) × (vec_capacity b.puts ≡ puts_room) → count + length (pass_in b.left) ≤ room → IsReadyToRun knows b
+ready_to_run b {count} fewer puts some are new are_puts opened fits left all get output jobs empty same room =
+    let many = as_many_workers b.workers.items _ count are new.0 in
+    let queue = b.shared.queue.id in
+    let from : ArePassesFrom queue 0 (puts_of b.workers.items) = rw are_puts opened.1 in
+    record {
+      some = omega (arith, many, some);
+      passes = omega (arith, many, all);
+      own = new_own b.shared.desk count b.left left;
+      left = new_left b.shared.desk count b.left left;
+      at_work = new_at_work b.shared b.workers.items count (rw are new) from (rw are_puts opened.2);
+      puts = from;
+      get = get ∙ ap (λ n. let p : GetState = record { queue = queue; workers = n; got = [] } in p) (sym many);
+      output = output;
+      jobs = jobs;
+      room = record { empty = empty; passes = omega (arith, many, same, room); puts = omega (arith, many, same, opened.0, fits) };
+    }
+
 -- it has a pass as it had one
-pub as_many_left : (before after : Option PassState) → rest_of after ≡ rest_of before
+as_many_left : (before after : Option PassState) → rest_of after ≡ rest_of before
     → length (pass_in after) ≡ length (pass_in before)
 as_many_left None None same = refl
 as_many_left (Some p) (Some q) same = refl
@@ -557,9 +617,43 @@ as_many_left None (Some q) same = absurd (let both : Leave ≡ Solve = same in c
 as_many_left (Some p) None same = absurd (let both : Solve ≡ Leave = same in cc)
 
 -- what holds of it holds of each in its list
-pub own_in : (P : PassState → Type 0) (left : Option PassState) → IfSome left P → All P (pass_in left)
+own_in : (P : PassState → Type 0) (left : Option PassState) → IfSome left P → All P (pass_in left)
 own_in P None own = All-nil P
 own_in P (Some p) own = All-cons P p [] own (All-nil P)
+
+-- after the run the passes of the workers and that of the calling thread come back
+module _ {G : Type 0} {knows : G → ℕ → Bool} {shared : SharedWork G} {before after : List Worker} (run : HaveRun knows shared before after) where
+  pub puts_fit : {len capacity : ℕ} → len ≡ length after → length before ≤ capacity → len ≤ capacity
+  puts_fit is room = omega (arith, is, run.as_many, room)
+
+  pub passes_fit : {len capacity : ℕ} (left left' : Option PassState) → rest_of left' ≡ rest_of left → len ≡ length after
+      → length before + length (pass_in left) ≤ capacity → len + length (pass_in left') ≤ capacity
+  passes_fit left left' same is room = omega (arith, is, run.as_many, room, as_many_left left left' same)
+
+  pub all_back : {passes : ℕ} {back : List PassState} (left left' : Option PassState) → rest_of left' ≡ rest_of left
+      → back ≡ passes_of after ++ pass_in left' → length before + length (pass_in left) ≡ passes → length back ≡ passes
+  all_back left left' same is all =
+      omega (
+        arith,
+        ap (λ (l : List PassState). length l) is,
+        length-append (passes_of after) (pass_in left'),
+        length-map after (λ (w : Worker). w.pass),
+        run.as_many,
+        all,
+        as_many_left left left' same,
+      )
+
+  pub own_back : {back : List PassState} (left' : Option PassState) → IfSome left' (IsPassAt shared.desk)
+      → back ≡ passes_of after ++ pass_in left' → All (IsPassAt shared.desk) back
+  own_back left' own is = rw is (All-append (IsPassAt shared.desk) (passes_of after) (pass_in left') (run_passes shared before after run)
+      (own_in (IsPassAt shared.desk) left' own))
+
+  pub puts_back : {len count : ℕ} {puts : List PutState} → len ≡ length puts → puts ≡ puts_of after → count ≡ length before
+      → ArePassesFrom shared.queue.id 0 (puts_of before) → (len ≡ count) × ArePassesFrom shared.queue.id 0 puts
+  puts_back many is count from = (
+    omega (arith, many, ap (λ (l : List PutState). length l) is, length-map after (λ (w : Worker). w.put), run.as_many, count),
+    rw is (puts_after shared before after 0 run from),
+  )
 
 -- it has drawn nothing if it had not, unless the rest is left
 pub nothing_drawn : {desk : DeskState} {failed : Bool} {before after : Option PassState} → HasDrawnNothing before

@@ -3,9 +3,7 @@ ghost use Rattle.std.specs.Prelude.{◌≡◌, ℕ, ◌<◌, ◌≤◌, ◌↔�
 ghost use Rattle.kalah_jobs.specs.Limits.{most_lines};
 ghost use Rattle.kalah_run.specs.Limits.{AreWorkers, most_passes};
 ghost use Rattle.kalah_run.specs.Desk.Rows.{drawn_row, spent_in, DealsEachOnce};
-ghost use Rattle.kalah_run.specs.Desk.Rule.{opening_view};
 ghost use Rattle.kalah_run.specs.Desk.States.{IsPassAt, AreNewPasses, drawn_rows};
-ghost use Rattle.kalah_run.specs.declared.desk.rule.DeskView.TheVariants.{Closing};
 
 pub(crate) mod laws;
 pub(crate) mod pass;

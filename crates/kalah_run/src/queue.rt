@@ -1,11 +1,8 @@
 //! The results queue: outcomes on their way from many workers to one thread.
 ghost use Rattle.std.specs.Prelude.{◌≡◌, ◌≤◌, ◌<◌, ℕ, true, false, List, [], ◌∷◌, ◌++◌, length, All, IfNone, IfOk, MatchOption, vec_len};
-ghost use Rattle.crossbeam_queue.specs.Passes.{view, IsPassOf};
 ghost use Rattle.kalah_jobs.specs.declared.files.job.Job.{Job};
 ghost use Rattle.kalah_run.specs.Limits.{IsQueueCapacity, AreWorkers};
-ghost use Rattle.kalah_run.specs.declared.queue.rule.QueueView.TheVariants.{Getting};
 ghost use Rattle.kalah_run.specs.Queue.States.{ArePassesFrom, HasGot, sent_by, Accounts};
-ghost use Rattle.kalah_run.specs.Queue.Rule.{got_in, made_in};
 
 pub(crate) mod laws;
 pub(crate) mod passes;

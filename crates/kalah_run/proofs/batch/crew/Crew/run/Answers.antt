@@ -1,6 +1,7 @@
-use Rattle.std.proofs.lemmas.Grind.{common_steps}
-use Rattle.std.proofs.Common.{arith, rules}
+use Rattle.std.proofs.Common.{◌∙◌, ap, length, sym}
+use Rattle.std.proofs.lemmas.List.{with_items_is}
 use denote.Param.Send.{sendable}
+use Rattle.kalah_run.proofs.BatchLemmas.{have_run}
 use Rattle.kalah_run.proofs.Crossing.{worker_send}
 use Rattle.kalah_run.proofs.batch.crew.Crew.run.Goals as goal
 
@@ -8,7 +9,15 @@ pub for_each_mut-requires-send-T : goal.for_each_mut-requires-send-T
 for_each_mut-requires-send-T g c κs within = search (sendable, worker_send)
 
 pub end-requires : goal.end-requires
-end-requires g c = search (rules, c.requires.ends)
+end-requires g c = c.requires.ends _ (have_run c.as_mut_slice.ensures.value c.for_each_mut.auto.s (λ k w low.
+    let ran = (c.for_each_mut.ensures k w low).1 in rw (← ran.left, ← ran.argument_is) ran.call))
 
 pub returns : goal.returns
-returns g c = grind (arith, common_steps)
+returns g c =
+    let as_many = c.for_each_mut.auto.s in
+    rw (
+      c.end.ensures,
+      with_items_is c.args.self.workers c.for_each_mut.new.s (as_many ∙ ap (λ l. length l) c.as_mut_slice.ensures.value
+          ∙ sym c.args.self.workers.ok.0),
+    ) (have_run c.as_mut_slice.ensures.value as_many (λ k w low.
+    let ran = (c.for_each_mut.ensures k w low).1 in rw (← ran.left, ← ran.argument_is) ran.call))
