@@ -33,7 +33,7 @@ use Rattle.kalah_jobs.specs.Collecting.Held.{Kept}
 use Rattle.kalah_jobs.specs.Files.Lines.{line_feed}
 use Rattle.kalah_jobs.specs.Files.NamedBytes.{NamedBytes}
 use Rattle.kalah_run.specs.declared.batch.ordered_output.OrderedOutput.{OrderedOutput}
-use Rattle.std.proofs.lemmas.List.Elements.{All-append, All-cons, All-map, All-nil, All-tail}
+use Rattle.std.proofs.lemmas.List.Elements.{All-cons, All-map, All-push, All-tail}
 use Rattle.kalah_run.specs.Queue.States.{GetState, PutState, ArePassesFrom, sent_by, Accounts, outcomes_in}
 use Rattle.kalah_run.specs.Desk.States.{DeskState, PassState, IsPassAt, AreNewPasses, new_pass, drawn_rows}
 use Rattle.kalah_run.specs.declared.batch.worker.Worker.{Worker}
@@ -336,7 +336,7 @@ new_written begun r new = record {
 abbrev pub ready_lines : List FileState → ℕ
 ready_lines files = sum_by (λ (s : FileState). front s - s.taken) files
 
--- ==== Workers put together from their passes, the last one first
+-- ==== Workers put together from their passes, the last one first, and taken apart, the first one first
 
 last_first : (workers workers' : List Worker) (w : Worker) → workers' ≡ workers ++ w ∷ []
     → reverse workers' ≡ w ∷ reverse workers
@@ -360,8 +360,6 @@ pub tables_more : (workers workers' : List Worker) (w : Worker) (entries : ℕ) 
 tables_more workers workers' w entries is has so_far =
     subst (λ l. HaveOwnTables entries l) (sym (last_first workers workers' w is))
     (All-cons (HasOwnTable entries) w (reverse workers) has so_far)
-
--- ==== Workers taken apart into their passes, the first one first
 
 -- one worker more has given one of its passes
 pub one_taken : {X : Type 0} (f : Worker → X) (workers : List Worker) (w : Worker) {given given' : List X}
@@ -464,8 +462,6 @@ pub each_job_got : {G : Type 0} {knows : G → ℕ → Bool} {shared : SharedWor
 each_job_got {shared = shared} {before} {after = workers} {count} {drawn} run got each deals are inside is all =
     let rest = inside.0 in
     let accounts : Accounts count (sent_by (puts_of workers)) (got ++ rest) = rw are at inside.2 in
-    let at_work = run_at_work shared before workers run in
-    let as_many : length workers ≡ count = run.as_many ∙ sym each in
     rw is (let all : length got ≡ job_count shared.jobs.now = all ∙ ap job_count is in
     let jobs = shared.jobs.now in
     let rows = drawn_numbers (drawn_rows (passes_of workers)) in
@@ -473,13 +469,13 @@ each_job_got {shared = shared} {before} {after = workers} {count} {drawn} run go
     ∙ length-map workers (λ (w : Worker). w.pass) in
     let sent_count : length (sent_by (puts_of workers)) ≡ length workers =
     length-map (puts_of workers) (λ (p : PutState). p.sent) ∙ length-map workers (λ (w : Worker). w.put) in
-    let row_workers : count ≡ length rows = sym as_many ∙ sym row_count in
+    let row_workers : count ≡ length rows = each ∙ sym run.as_many ∙ sym row_count in
     let are_shared : AreShared drawn (job jobs) rows (got ++ rest) = record {
       each_once = deals.each_once;
       workers = subst (λ n. All (λ (t : ℕ × Job). t.0 < n) (got ++ rest)) row_workers accounts.below;
       whole = λ w within.
           let low : w < length workers = omega arith in
-          accounts.whole w (omega arith) ∙ sent_in_order shared workers w at_work low;
+          accounts.whole w (omega arith) ∙ sent_in_order shared workers w (run_at_work shared before workers run) low;
     } in
     let many : length (job_list jobs) ≡ job_count jobs = length-job_list jobs in
     let whole : drawn ≡ length (job_list jobs) =
@@ -573,15 +569,10 @@ draws_on {failed = failed} {first} {second} {third} one two = record {
 }
 
 -- if it is new, it is a pass of the desk, and has drawn nothing
-pub new_own : (desk : DeskState) (number : ℕ) (left : Option PassState) → IfSome left (λ p. p ≡ new_pass desk number)
-    → IfSome left (IsPassAt desk)
-new_own desk number None new = tt
-new_own desk number (Some p) new = (ap (λ (p : PassState). p.desk) new, ap (λ (p : PassState). p.total) new)
-
-pub new_left : (desk : DeskState) (number : ℕ) (left : Option PassState) → IfSome left (λ p. p ≡ new_pass desk number)
-    → HasDrawnNothing left
-new_left desk number None new = tt
-new_left desk number (Some p) new = ap (λ (p : PassState). p.row.numbers) new
+new_left : (desk : DeskState) (number : ℕ) (left : Option PassState) → IfSome left (λ p. p ≡ new_pass desk number)
+    → IfSome left (IsPassAt desk) × HasDrawnNothing left
+new_left desk number None new = (tt, tt)
+new_left desk number (Some p) new = rw new ((refl, refl), refl)
 
 -- A new batch is ready to run: `count` workers with the new passes, and with room in the two lists from which these were taken.
 pub ready_to_run : {G : Type 0} {knows : G → ℕ → Bool} (b : OpenBatch G) {count places room puts_room : ℕ} {passes : List PassState}
@@ -598,8 +589,8 @@ ready_to_run b {count} fewer puts some are new are_puts opened fits left all get
     record {
       some = omega (arith, many, some);
       passes = omega (arith, many, all);
-      own = new_own b.shared.desk count b.left left;
-      left = new_left b.shared.desk count b.left left;
+      own = (new_left b.shared.desk count b.left left).0;
+      left = (new_left b.shared.desk count b.left left).1;
       at_work = new_at_work b.shared b.workers.items count (rw are new) from (rw are_puts opened.2);
       puts = from;
       get = get ∙ ap (λ n. let p : GetState = record { queue = queue; workers = n; got = [] } in p) (sym many);
@@ -616,16 +607,8 @@ as_many_left (Some p) (Some q) same = refl
 as_many_left None (Some q) same = absurd (let both : Leave ≡ Solve = same in cc)
 as_many_left (Some p) None same = absurd (let both : Solve ≡ Leave = same in cc)
 
--- what holds of it holds of each in its list
-own_in : (P : PassState → Type 0) (left : Option PassState) → IfSome left P → All P (pass_in left)
-own_in P None own = All-nil P
-own_in P (Some p) own = All-cons P p [] own (All-nil P)
-
 -- after the run the passes of the workers and that of the calling thread come back
 module _ {G : Type 0} {knows : G → ℕ → Bool} {shared : SharedWork G} {before after : List Worker} (run : HaveRun knows shared before after) where
-  pub puts_fit : {len capacity : ℕ} → len ≡ length after → length before ≤ capacity → len ≤ capacity
-  puts_fit is room = omega (arith, is, run.as_many, room)
-
   pub passes_fit : {len capacity : ℕ} (left left' : Option PassState) → rest_of left' ≡ rest_of left → len ≡ length after
       → length before + length (pass_in left) ≤ capacity → len + length (pass_in left') ≤ capacity
   passes_fit left left' same is room = omega (arith, is, run.as_many, room, as_many_left left left' same)
@@ -645,8 +628,8 @@ module _ {G : Type 0} {knows : G → ℕ → Bool} {shared : SharedWork G} {befo
 
   pub own_back : {back : List PassState} (left' : Option PassState) → IfSome left' (IsPassAt shared.desk)
       → back ≡ passes_of after ++ pass_in left' → All (IsPassAt shared.desk) back
-  own_back left' own is = rw is (All-append (IsPassAt shared.desk) (passes_of after) (pass_in left') (run_passes shared before after run)
-      (own_in (IsPassAt shared.desk) left' own))
+  own_back None own is = rw (is, append-nil (passes_of after)) (run_passes shared before after run)
+  own_back (Some p) own is = rw is (All-push (IsPassAt shared.desk) (passes_of after) p (run_passes shared before after run) own)
 
   pub puts_back : {len count : ℕ} {puts : List PutState} → len ≡ length puts → puts ≡ puts_of after → count ≡ length before
       → ArePassesFrom shared.queue.id 0 (puts_of before) → (len ≡ count) × ArePassesFrom shared.queue.id 0 puts

@@ -69,21 +69,18 @@ impl<'a, E: Rule> Receiver<'a, E> {
         &mut self,
         rt: &R,
         shared: &SharedWork<'_, G>,
-        watch: &V,
-        out: &W,
+        _watch: &V,
+        _out: &W,
     ) -> Outcome
         requires queue { self.old.pass.queue ≡ shared.now.queue.id }
         // The workers go on, so an outcome comes.
-        requires goes_on { IsLeft (rest_of self.old.left) (W.state out.now).has_failed → ⊥ }
-        requires known { V.is_waiting watch.now ≡ true }
+        requires goes_on { IsLeft (rest_of self.old.left) (W.state _out.now).has_failed → ⊥ }
+        requires known { V.is_waiting _watch.now ≡ true }
         // The sink has flushed all that was written, unless it may keep bytes in its buffer while its caller waits.
-        requires ready { IsReady (W.state out.now) }
+        requires ready { IsReady (W.state _out.now) }
         ensures got { HasGot self.old.pass result self.new.pass }
         ensures left { self.new.left ≡ self.old.left }
     {
-        // Only the contract reads these.
-        let _ = watch;
-        let _ = out;
         shared.queue.get(rt, &mut self.pass)
     }
 
@@ -93,18 +90,16 @@ impl<'a, E: Rule> Receiver<'a, E> {
         &mut self,
         rt: &R,
         queue: &ResultsQueue,
-        out: &W,
+        _out: &W,
     ) -> Option<Outcome>
         requires queue { self.old.pass.queue ≡ queue.now.id }
         // No worker can begin a further job.
         requires spent { NothingIsLeft self.old.left }
-        requires ready { IsReady (W.state out.now) }
+        requires ready { IsReady (W.state _out.now) }
         ensures got { MatchOption result (self.new.pass ≡ self.old.pass) (λ outcome. HasGot self.old.pass outcome self.new.pass) }
         ensures ended { IfNone result (E.invariant 1) }
         ensures left { self.new.left ≡ self.old.left }
     {
-        // Only the contract reads it.
-        let _ = out;
         queue.get_to_end(rt, &mut self.pass, Some(self.ended))
     }
 

@@ -5,7 +5,7 @@ mod out_of_memory;
 mod told;
 mod writers;
 
-use crate::{Gate, OpenGate, RunFault, Tally, solve_batch};
+use crate::{BatchRequest, Gate, OpenGate, Rest, RunFault, Tally, solve_batch};
 use kalah_jobs::{FileText, Question, Sink, Stream};
 use std::alloc::{AllocError, Global};
 use std::process::Abort;
@@ -89,6 +89,24 @@ impl Gate for Counting {
     }
 }
 
+// The tally of a batch of this many lines, none of which is answered by a fault.
+fn tally_of(lines: u32) -> Tally {
+    Tally { lines, faults: 0 }
+}
+
+// What is asked of the lines of the files, by workers with small tables.
+fn request_of(question: Question, files: &[FileText], workers: u32, rest: Rest) -> BatchRequest<'_>
+    requires workers { (0 < workers) × (workers ≤ 64) }
+{
+    BatchRequest {
+        question,
+        files,
+        workers,
+        table: 16,
+        rest,
+    }
+}
+
 // Returns the tally of the batch and what it writes, or nothing if it fails.
 fn answers<R: Threads + Wait + Sync, G: Gate>(
     rt: &R,
@@ -132,7 +150,7 @@ fn lines_are_answered<R: Abort + Threads + Wait + Sync, G: Gate>(
         text.push_str(answer.as_str()).expect(rt, "no memory");
     }
     let got = answers(rt, alloc, &files, workers, 16, gate);
-    are(got, text.as_str(), Tally { lines, faults: 0 })
+    are(got, text.as_str(), tally_of(lines))
 }
 
 #[test]
@@ -146,22 +164,14 @@ fn lines_are_answered_in_order_by_any_number_of_workers(rt: HostRuntime) {
         }
     }
     let got = answers(&rt, alloc, &[], 3, 1, &OpenGate);
-    assert!(rt;
-        are(
-            got,
-            "",
-            Tally {
-                lines: 0,
-                faults: 0
-            }
-        )
-    );
+    assert!(rt; are(got, "", tally_of(0)), "no file");
 }
 
 // More lines than there are workers, and more than the queue has places.
 #[test]
 fn many_lines_are_answered(rt: HostRuntime) {
     for lines in [200, 1000] {
-        assert!(rt; lines_are_answered(&rt, rt.alloc(), lines, 64, &OpenGate));
+        let answered = lines_are_answered(&rt, rt.alloc(), lines, 64, &OpenGate);
+        assert!(rt; answered, "{lines}");
     }
 }

@@ -49,14 +49,12 @@ impl Worker {
 
     /// Solves a job, and returns its outcome. The gate knows that the worker has the job.
     #[inline(always)]
-    pub(crate) fn answer<G: Gate>(&mut self, jobs: &Jobs, job: u32, gate: &G) -> Outcome
+    pub(crate) fn answer<G: Gate>(&mut self, jobs: &Jobs, job: u32, _gate: &G) -> Outcome
         requires there { job < job_count jobs.now }
-        requires known { G.knows gate.now job ≡ true }
+        requires known { G.knows _gate.now job ≡ true }
         ensures answer { slice_get (job_list jobs.now) job ≡ Some result }
         ensures same { (self.new.pass ≡ self.old.pass) × (self.new.put ≡ self.old.put) }
     {
-        // Only the contract reads it.
-        let _ = gate;
         Outcome::of_job(jobs, job, &mut self.solver)
     }
 }

@@ -1,7 +1,7 @@
 //! Batches in which workers wait for one another: jobs are solved in parallel, drawn by any free worker, and written
 //! while later ones are under way. The watch learns of an answer once it is written.
-use super::{ONE_AND_TWO, answers, are, file_of, lines_are_answered};
-use crate::{BatchRequest, Gate, Rest, Tally, Watch, answer_batch};
+use super::{ONE_AND_TWO, answers, are, file_of, lines_are_answered, request_of, tally_of};
+use crate::{Gate, Rest, Watch, answer_batch};
 use kalah_jobs::{FileText, Question, Stream};
 use std::alloc::Global;
 use std::io::Write;
@@ -86,16 +86,7 @@ fn a_later_job_is_done_while_an_earlier_one_waits(rt: HostRuntime) {
     };
     let files = two_lines(&rt, rt.alloc());
     let got = answers(&rt, rt.alloc(), &files, 2, 16, &gate);
-    assert!(rt;
-        are(
-            got,
-            TWO,
-            Tally {
-                lines: 2,
-                faults: 0
-            }
-        )
-    );
+    assert!(rt; are(got, TWO, tally_of(2)));
     assert!(rt; gate.done.came());
 }
 
@@ -107,8 +98,8 @@ fn a_free_worker_takes_whatever_is_left(rt: HostRuntime) {
             others: 3,
             done: Events::none(),
         };
-        assert!(rt; lines_are_answered(&rt, rt.alloc(), 4, 2, &gate));
-        assert!(rt; gate.done.came());
+        assert!(rt; lines_are_answered(&rt, rt.alloc(), 4, 2, &gate), "{last}");
+        assert!(rt; gate.done.came(), "{last}");
     }
 }
 
@@ -133,7 +124,8 @@ fn as_many_jobs_are_under_way_at_once_as_there_are_workers(rt: HostRuntime) {
     for jobs in [2, 64] {
         let drawn = Events::none();
         let gate = AllDrawn { jobs, drawn };
-        assert!(rt; lines_are_answered(&rt, rt.alloc(), jobs, jobs, &gate));
+        let answered = lines_are_answered(&rt, rt.alloc(), jobs, jobs, &gate);
+        assert!(rt; answered, "{jobs}");
         assert!(rt; gate.drawn.came(), "{jobs}");
     }
 }
@@ -201,23 +193,13 @@ fn a_line_is_written_before_the_next_job_begins(rt: HostRuntime) {
         bytes: Vec::new(rt.alloc()),
         written: &written,
     });
-    let tally = Tally {
-        lines: 2,
-        faults: 0,
-    };
-    let request = BatchRequest {
-        question: Question::BestMove,
-        files: &files,
-        workers: 1,
-        table: 16,
-        rest: Rest::Solve,
-    };
+    let request = request_of(Question::BestMove, &files, 1, Rest::Solve);
     let mut watch = Following {
         written: &written,
         accepted: 0,
     };
     let answered = answer_batch(&rt, rt.alloc(), &request, &gate, &mut watch, &mut out);
-    assert!(rt; answered == Ok(tally) && watch.accepted == 2);
+    assert!(rt; answered == Ok(tally_of(2)) && watch.accepted == 2);
     assert!(rt; out.into_inner().bytes.as_slice() == TWO.as_bytes());
     assert!(rt; written.came());
 }

@@ -2,9 +2,9 @@
 ghost use Rattle.std.specs.Prelude.{◌<◌, ◌≤◌};
 
 use super::told::{ROOM, wait_for_begun};
-use super::{ANSWERS, Counting, SEVEN_LINES, four_files, same_lines};
+use super::{ANSWERS, Counting, SEVEN_LINES, four_files, request_of, same_lines};
 use crate::limits::QUEUE_CAPACITY;
-use crate::{BatchRequest, NoWatch, Rest, RunFault, Tally, answer_batch, solve_batch};
+use crate::{NoWatch, Rest, RunFault, Tally, answer_batch, solve_batch};
 use kalah_jobs::{FileText, Question, Stream};
 use std::alloc::Global;
 use std::io;
@@ -64,13 +64,7 @@ fn run_with<R: Threads + Wait + Sync>(
 ) -> Run {
     let gate = Counting::new();
     let mut out = Stream::new(Failing::after(alloc, most));
-    let request = BatchRequest {
-        question,
-        files,
-        workers: 2,
-        table: 16,
-        rest,
-    };
+    let request = request_of(question, files, 2, rest);
     let tally = answer_batch(rt, alloc, &request, &gate, &mut NoWatch, &mut out);
     Run {
         tally,
@@ -112,23 +106,17 @@ fn ends_the_writing_alone(run: &Run, most: u32) -> bool {
 // There is a call for each line, and one to flush them. One that fails ends the writing and nothing else.
 #[test]
 fn every_failing_call_ends_the_writing_and_nothing_else(rt: HostRuntime) {
-    let files = four_files(rt.alloc()).expect(&rt, "no memory");
+    let alloc = rt.alloc();
+    let files = four_files(alloc).expect(&rt, "no memory");
     for question in [Question::BestMove, Question::Values, Question::Steps] {
         for most in 0..9u32 {
-            let run = run_with(
-                &rt,
-                rt.alloc(),
-                question,
-                files.as_slice(),
-                Rest::Solve,
-                most,
-            );
+            let run = run_with(&rt, alloc, question, files.as_slice(), Rest::Solve, most);
             assert!(rt; ends_the_writing_alone(&run, most), "{most}");
         }
     }
     for most in 0..9u32 {
         for workers in [1, 2, 64] {
-            let run = solve_with(&rt, rt.alloc(), files.as_slice(), workers, most);
+            let run = solve_with(&rt, alloc, files.as_slice(), workers, most);
             assert!(rt; ends_the_writing_alone(&run, most), "{workers} {most}");
         }
     }
@@ -136,18 +124,12 @@ fn every_failing_call_ends_the_writing_and_nothing_else(rt: HostRuntime) {
 
 #[test]
 fn a_flush_that_fails_is_a_failed_write(rt: HostRuntime) {
-    let files = four_files(rt.alloc()).expect(&rt, "no memory");
+    let alloc = rt.alloc();
+    let files = four_files(alloc).expect(&rt, "no memory");
     for (files, text, most) in [(files.as_slice(), ANSWERS, 7), (&[], "", 0)] {
-        let run = run_with(
-            &rt,
-            rt.alloc(),
-            Question::BestMove,
-            files,
-            Rest::Solve,
-            most,
-        );
-        assert!(rt; run.tally == Err(RunFault::Write));
-        assert!(rt; run.writer.bytes.as_slice() == text.as_bytes());
+        let run = run_with(&rt, alloc, Question::BestMove, files, Rest::Solve, most);
+        assert!(rt; run.tally == Err(RunFault::Write), "{most}");
+        assert!(rt; run.writer.bytes.as_slice() == text.as_bytes(), "{most}");
     }
 }
 
@@ -159,9 +141,11 @@ fn all_jobs_are_done_though_the_writer_takes_one_line(rt: HostRuntime) {
         let asked = run_with(&rt, rt.alloc(), Question::BestMove, &files, Rest::Solve, 1);
         let solved = solve_with(&rt, rt.alloc(), &files, 64, 1);
         for run in [&asked, &solved] {
-            assert!(rt; (run.tally, run.writer.calls) == (Err(RunFault::Write), 2));
-            assert!(rt; run.writer.bytes.as_slice() == b"n:1 0 house 1\n".as_slice());
-            assert!(rt; run.gate.sent.load(SeqCst) == lines);
+            let ended = (run.tally, run.writer.calls);
+            assert!(rt; ended == (Err(RunFault::Write), 2), "{lines}");
+            let written = run.writer.bytes.as_slice();
+            assert!(rt; written == b"n:1 0 house 1\n".as_slice(), "{lines}");
+            assert!(rt; run.gate.sent.load(SeqCst) == lines, "{lines}");
         }
     }
 }
@@ -207,19 +191,11 @@ fn a_batch_ends_though_its_workers_wait_for_room(rt: HostRuntime) {
             gate: &gate,
             workers,
         });
-        let request = BatchRequest {
-            question: Question::BestMove,
-            files: &files,
-            workers,
-            table: 16,
-            rest: Rest::Leave,
-        };
+        let request = request_of(Question::BestMove, &files, workers, Rest::Leave);
         let tally = answer_batch(&rt, rt.alloc(), &request, &gate, &mut NoWatch, &mut out);
-        assert!(rt; tally == Err(RunFault::Write));
+        assert!(rt; tally == Err(RunFault::Write), "{workers}");
         let (begun, sent) = (gate.begun.load(SeqCst), gate.sent.load(SeqCst));
-        assert!(rt;
-            (begun, sent) == (ROOM + workers, ROOM + workers),
-            "{workers}"
-        );
+        let all = ROOM + workers;
+        assert!(rt; (begun, sent) == (all, all), "{workers}");
     }
 }

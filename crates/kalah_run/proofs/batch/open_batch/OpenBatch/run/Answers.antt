@@ -6,7 +6,7 @@ use Rattle.kalah_run.specs.Desk.States.{drawn_rows}
 use Rattle.kalah_run.specs.Queue.States.{GetState, outcomes_in}
 use Rattle.kalah_run.specs.Batch.AtWork.{passes_of}
 use Rattle.kalah_run.specs.Batch.Leaving.{rest_of, HasDrawnNothing}
-use Rattle.kalah_run.proofs.BatchLemmas.{all_back, each_job_known, each_job_got, nothing_drawn, own_back, passes_fit, puts_back, puts_fit, unless_left}
+use Rattle.kalah_run.proofs.BatchLemmas.{all_back, each_job_known, each_job_got, nothing_drawn, own_back, passes_fit, puts_back, unless_left}
 use Rattle.kalah_run.proofs.DeskLemmas.{deals_to_others}
 use Rattle.kalah_run.proofs.batch.open_batch.OpenBatch.run.Given.{Over}
 use Rattle.kalah_run.proofs.batch.open_batch.OpenBatch.run.Goals as goal
@@ -33,7 +33,7 @@ take_apart-requires-clause-passes_room g c = passes_fit c.in_ok-workers.ensures.
 
 pub take_apart-requires-clause-puts_room : goal.take_apart-requires-clause-puts_room
 take_apart-requires-clause-puts_room g c =
-    puts_fit c.in_ok-workers.ensures.ended.all_ran c.in_ok-workers.workers.ok.0 c.requires.ready.room.puts
+    rw (c.in_ok-workers.workers.ok.0 ∙ c.in_ok-workers.ensures.ended.all_ran.as_many) c.requires.ready.room.puts
 
 pub close-requires-clause-all : goal.close-requires-clause-all
 close-requires-clause-all g c = all_back c.in_ok-workers.ensures.ended.all_ran _ _
