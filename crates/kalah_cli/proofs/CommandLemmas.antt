@@ -4,11 +4,11 @@ use Rattle.std.specs.List.{fold, list_all}
 use Rattle.std.proofs.lemmas.List.{map_more, map-append}
 use Rattle.std.proofs.lemmas.List.Sums.{fold_more}
 use Rattle.std.proofs.lemmas.Bool.{and_parts}
-use Rattle.clap.specs.Words.{AddsArg, AddsInTurn, AddsSubcommand, App, app_of, with_rule, with_subcommand}
+use Rattle.clap.specs.Words.{AddsArg, AddsInTurn, AddsSubcommand, App, app_of, with_rule}
 use Rattle.clap.specs.declared.builder.arg.Arg.{Arg}
 use Rattle.clap.specs.declared.builder.command.Command.{Command}
 use Rattle.clap.proofs.SimpleLemmas.{plain_fields}
-use Rattle.kalah_cli.specs.Command.{IsReadBy, argument_rule}
+use Rattle.kalah_cli.specs.Command.{IsReadBy, argument_rule, with_all}
 use Rattle.kalah_cli.specs.declared.subcommands.Argument.{Argument}
 
 -- one argument more
@@ -29,10 +29,6 @@ subcommand_made app xs i x commands made within is so_far =
     map-append app_of commands (made ∷ []) ∙ ap (λ apps. apps ++ app_of made ∷ []) so_far
     ∙ ap (λ a. map app (take i xs) ++ a ∷ []) is
     ∙ sym (map_more app xs i x within)
-
--- the app with these subcommands
-abbrev pub with_all : App → List App → App
-with_all app subs = fold (λ a sub. with_subcommand a sub.top) app subs
 
 -- no subcommand has a global argument
 abbrev pub are_plain : List App → Bool

@@ -10,10 +10,10 @@ use Rattle.kalah_rules.proofs.PlayLemmas.{after_equal_sides, legal_going, row_di
 use Rattle.kalah_rules.specs.Play.{legal_houses, position_after, step_of}
 use Rattle.kalah_rules.specs.declared.step.Step.TheVariants as step
 use Rattle.kalah_rules.specs.declared.step.Step.{Step}
-use Rattle.kalah_solve.specs.Solver.BestPlay.{Game, follow}
+use Rattle.kalah_solve.specs.Solver.BestPlay.{Game, Policy, follow}
 use Rattle.kalah_solve.specs.Solver.BestPlay.Game.{is_at_end, moves_on, passes_turn}
 use Rattle.kalah_solve.specs.Solver.Verdict.{verdict_of}
-use Rattle.kalah_solve.specs.Solver.Worth.{best_house, worth}
+use Rattle.kalah_solve.specs.Solver.Worth.{best_house, value_of_move, worth}
 use Rattle.kalah_solve.specs.declared.solver.Verdict.TheVariants.{Best, Over}
 use Rattle.std.proofs.lemmas.List.Elements.{Contains-push}
 use Rattle.kalah_solve.proofs.SolverLemmas.{best_is_strategy, best_plays, bounds, strategy_keeps, strategy_within, widened}
@@ -33,17 +33,6 @@ use Rattle.kalah_cli.specs.Solver.IsShown.{begins, moves}
 -- both players always move the lowest best house
 abbrev pub BestGame : Position → List ℕ → Position → Type 0
 BestGame p houses final = Game (follow best_house) (follow best_house) p houses final
-
--- the first move of the game from a position that is not over: its best house, and the step of that house
-pub record IsFirst (p : Position) (h : ℕ) (s : Step) : Type 0 where
-  pub even : HasEqualSides p
-  pub going : is_over p ≡ false
-  pub best : h ≡ best_house p
-  pub step : s ≡ step_of p h
-
--- its house is legal
-first_is_legal : {p : Position} {h : ℕ} {s : Step} → IsFirst p h s → Contains (legal_houses p) h
-first_is_legal {p} first = rw first.best (best_is_strategy.moves p first.even first.going)
 
 -- the solver's verdict has the worth and the best house, if the game goes on
 pub best_told : (p : Position) (margin : ℤ) (house : ℕ) → is_over p ≡ false → Best margin house ≡ verdict_of p
@@ -81,37 +70,47 @@ some_left : (p : Position) → is_over p ≡ false → 0 < moves_left p
 some_left p going = grind (arith, over_at_end)
 
 -- after a move fewer are left
-pub fewer_left : {p : Position} {h : ℕ} (s : Step) → IsFirst p h s → moves_left (position_after s) < moves_left p
-fewer_left {p} {h} (step.Again q) first = again_fewer p h q first.even (first_is_legal first) first.step
-fewer_left {p} {h} (step.Turn q) first = turn_fewer p h q first.even (first_is_legal first) first.step
-fewer_left {p} {h} (step.Over q) first = omega (arith, none_after p h q first.step, some_left p first.going)
+pub fewer_left : {p : Position} {h : ℕ} (s : Step) → HasEqualSides p → Contains (legal_houses p) h → s ≡ step_of p h
+    → moves_left (position_after s) < moves_left p
+fewer_left {p} {h} (step.Again q) even legal is = again_fewer p h q even legal is
+fewer_left {p} {h} (step.Turn q) even legal is = turn_fewer p h q even legal is
+fewer_left {p} {h} (step.Over q) even legal is = omega (arith, none_after p h q is, some_left p (legal_going p h legal))
 
--- the policy of a strategy has its house
-followed_best : (p : Position) (h : ℕ) → h ≡ best_house p → Contains (follow best_house p) h
-followed_best p h best = rw best (Contains-push [] (best_house p))
-
-next_game : (p q : Position) (h : ℕ) (s : Step) (houses : List ℕ) (final : Position) → IsFirst p h s → (s ≡ step.Again q)
-    ⊎ (s ≡ step.Turn q) →
-    BestGame q houses final → (end : Position) × BestGame p (h ∷ houses) end
-next_game p q h s houses final first (inl again) game =
-    let moved_to = again_step (is_over (after p h)) (is_again p h) (after p h) q (sym again ∙ first.step) in
-    (final, moves_on first.going (followed_best p h first.best) moved_to.1 (subst (λ r. BestGame r houses final) moved_to.2 game))
-next_game p q h s houses final first (inr turn) game =
-    let moved_to = turn_step (is_over (after p h)) (is_again p h) (after p h) q (sym turn ∙ first.step) in (
-      swapped final,
-      passes_turn first.going (followed_best p h first.best) moved_to.1
-          (subst (λ r. BestGame r houses final) moved_to.2 game),
+-- A move in front of a game from the position after it, by a policy that both players share. If that game ends with the worth of its
+-- position, the longer one ends with the value of the move
+game_before : {policy : Policy} {p : Position} {h : ℕ} {houses : List ℕ} {final : Position} (s : Step) → is_over p ≡ false
+    → Contains (policy p) h → s ≡ step_of p h → Game policy policy (position_after s) houses final
+    → (end : Position) × Game policy policy p (h ∷ houses) end
+    × (final_margin final ≡ worth (position_after s) → final_margin end ≡ value_of_move p h)
+game_before {policy} {p} {h} {houses} {final} (step.Again q) going may is game =
+    let to = again_step (is_over (after p h)) (is_again p h) (after p h) q is in (
+      final,
+      moves_on going may to.1 (subst (λ r. Game policy policy r houses final) to.2 game),
+      λ margin. margin ∙ value_of_again p h q is,
     )
-
-over_game : (p e : Position) (h : ℕ) (s : Step) → IsFirst p h s → s ≡ step.Over e → (final : Position)
-    × BestGame p (h ∷ []) final
-over_game p e h s first over =
-    let moved_to = over_step (is_over (after p h)) (is_again p h) (after p h) e (sym over ∙ first.step) in
-    let moved = followed_best p h first.best in
+game_before {policy} {p} {h} {houses} {final} (step.Turn q) going may is game =
+    let to = turn_step (is_over (after p h)) (is_again p h) (after p h) q is in (
+      swapped final,
+      passes_turn going may to.1 (subst (λ r. Game policy policy r houses final) to.2 game),
+      λ margin. omega (arith, ints, final_swapped final, margin, value_of_turn p h q is),
+    )
+game_before {p = p} {h = h} (step.Over q) going may is (is_at_end _) =
+    let over = (over_step (is_over (after p h)) (is_again p h) (after p h) q is).0 in
+    let other = over_for_other (after p h) over in
     elim (cases_Bool (is_again p h)) [
-      | inl again ↦ (after p h, moves_on first.going moved again (is_at_end moved_to.0))
-      | inr turn ↦ (swapped (swapped (after p h)), passes_turn first.going moved turn (is_at_end (over_for_other (after p h) moved_to.0)))
+      | inl again ↦ (
+        after p h,
+        moves_on going may again (is_at_end over),
+        λ _. sym (value_going_on p h again ∙ worth_of_over (after p h) over),
+      )
+      | inr turn ↦ (
+        swapped (swapped (after p h)),
+        passes_turn going may turn (is_at_end other),
+        λ _. omega (arith, ints, final_swapped (swapped (after p h)), value_passing p h turn, worth_of_over (swapped (after p h)) other),
+      )
     ]
+game_before {p = p} {h = h} (step.Over q) going may is (moves_on on has again rest) = absurd (let over = over_ends p h q is in cc)
+game_before {p = p} {h = h} (step.Over q) going may is (passes_turn on has turn rest) = absurd (let over = over_ends p h q is in cc)
 
 -- ---- the moves of the game
 
@@ -128,16 +127,9 @@ one_left : (n : ℕ) (p : Position) → is_over p ≡ false
 unfolding best_moves
 one_left n p going = ap (λ b. if b then [] else best_house p ∷ best_moves n (position_after (step_of p (best_house p)))) going
 
--- after the best move of a game that goes on
-module _ (p : Position) (even : HasEqualSides p) (going : is_over p ≡ false) where
-  first_step : (s : Step) → s ≡ step_of p (best_house p) → IsFirst p (best_house p) s
-  first_step s is = record { even = even; going = going; best = refl; step = is }
-
-  even_next : (s : Step) → s ≡ step_of p (best_house p) → HasEqualSides (position_after s)
-  even_next s is = subst (λ x. HasEqualSides (position_after x)) (sym is) (even_after p (best_house p))
-
-  fewer_next : moves_left (position_after (step_of p (best_house p))) < moves_left p
-  fewer_next = fewer_left _ (first_step _ refl)
+-- fewer are left after its best move
+fewer_next : (p : Position) → HasEqualSides p → is_over p ≡ false → moves_left (position_after (step_of p (best_house p))) < moves_left p
+fewer_next p even going = fewer_left _ even (best_is_strategy.moves p even going) refl
 
 -- more moves than are left make no difference
 same_moves : (n m : ℕ) (p : Position) → HasEqualSides p → moves_left p ≤ n → moves_left p ≤ m
@@ -152,7 +144,7 @@ same_moves (suc n) (suc m) p even low high = elim (cases_Bool (is_over p)) [
   | inl over ↦ none_left (suc n) p over ∙ sym (none_left (suc m) p over)
   | inr going ↦
       let fewer = fewer_next p even going in
-      let next = same_moves n m _ (even_next p even going _ refl) (omega (arith, low, fewer)) (omega (arith, high, fewer)) in
+      let next = same_moves n m _ (even_after p (best_house p)) (omega (arith, low, fewer)) (omega (arith, high, fewer)) in
       one_left n p going ∙ ap (λ moves. best_house p ∷ moves) next ∙ sym (one_left m p going)
 ]
 
@@ -162,15 +154,15 @@ game_goes_on : (p : Position) → HasEqualSides p → is_over p ≡ false
 game_goes_on p even going =
     let n = moves_left p - 1 in
     let more : moves_left p ≡ suc n = omega (arith, some_left p going) in
-    let next = same_moves n _ _ (even_next p even going _ refl) (omega (arith, fewer_next p even going)) (omega arith) in
+    let next = same_moves n _ _ (even_after p (best_house p)) (omega (arith, fewer_next p even going)) (omega arith) in
     ap (λ k. best_moves k p) more ∙ one_left n p going ∙ ap (λ moves. best_house p ∷ moves) next
 
 -- the text of a game is that of its first move, and the text from the position after it
-pub text_goes_on : (form : Form) {p : Position} {h : ℕ} {s : Step} → IsFirst p h s → game_text form p (best_game p)
+pub text_goes_on : (form : Form) {p : Position} {h : ℕ} {s : Step} → HasEqualSides p → is_over p ≡ false → h ≡ best_house p
+    → s ≡ step_of p h → game_text form p (best_game p)
     ≡ move_text form (worth p) h s ++ game_text form (position_after s) (best_game (position_after s))
-text_goes_on form {p} {h} {s} first =
-    ap (game_text form p) (game_goes_on p first.even first.going)
-    ∙ ap (λ k. text_from k (step_of p k)) (sym first.best) ∙ ap (text_from h) (sym first.step)
+text_goes_on form {p} {h} {s} even going best is =
+    ap (game_text form p) (game_goes_on p even going) ∙ ap (λ k. text_from k (step_of p k)) (sym best) ∙ ap (text_from h) (sym is)
   where
     text_from : ℕ → Step → List ℕ
     text_from k x = move_text form (worth p) k x ++ game_text form (position_after x) (best_game (position_after x))
@@ -180,38 +172,20 @@ no_text form p over = ap (game_text form p) (none_left (moves_left p) p over)
 
 -- ---- the law on it
 
+-- if it is over, it has no moves
+none_played : (n : ℕ) (p : Position) → is_over p ≡ true → (final : Position) × BestGame p (best_moves n p) final
+none_played n p over = (p, subst (λ houses. BestGame p houses p) (sym (none_left n p over)) (is_at_end over))
+
 -- they are the moves of a game
 is_game : (n : ℕ) (p : Position) → HasEqualSides p → moves_left p ≤ n → (final : Position) × BestGame p (best_moves n p) final
-is_game zero p even low = (
-  p,
-  subst (λ houses. BestGame p houses p) (sym (none_left zero p (over_at_end p (omega (arith, low)))))
-      (is_at_end (over_at_end p (omega (arith, low)))),
-)
+is_game zero p even low = none_played zero p (over_at_end p (omega (arith, low)))
 is_game (suc n) p even low = elim (cases_Bool (is_over p)) [
-  | inl over ↦ (p, subst (λ houses. BestGame p houses p) (sym (none_left (suc n) p over)) (is_at_end over))
+  | inl over ↦ none_played (suc n) p over
   | inr going ↦
-      let next = begins_game p n even going (step_of p (best_house p)) refl
-      (λ q even_q fewer. is_game n q even_q (omega (arith, low, fewer))) in
-      (next.0, subst (λ houses. BestGame p houses next.0) (sym (one_left n p going)) next.1)
+      let next = is_game n _ (even_after p (best_house p)) (omega (arith, low, fewer_next p even going)) in
+      let game = game_before {policy = follow best_house} _ going (Contains-push [] (best_house p)) refl next.1 in
+      (game.0, subst (λ houses. BestGame p houses game.0) (sym (one_left n p going)) game.1)
 ]
-  where
-    begins_game : (p : Position) (n : ℕ) (even : HasEqualSides p) (going : is_over p ≡ false) (s : Step)
-        → s ≡ step_of p (best_house p)
-        → ((q : Position) → HasEqualSides q → moves_left q < moves_left p → (final : Position) × BestGame q (best_moves n q) final)
-        → (final : Position) × BestGame p (best_house p ∷ best_moves n (position_after s)) final
-    begins_game p n even going (step.Again q) is rest =
-        let first = first_step p even going (step.Again q) is in
-        let game = rest q (even_next p even going (step.Again q) is) (fewer_left (step.Again q) first) in
-        next_game p q (best_house p) (step.Again q) (best_moves n q) game.0 first (inl refl) game.1
-    begins_game p n even going (step.Turn q) is rest =
-        let first = first_step p even going (step.Turn q) is in
-        let game = rest q (even_next p even going (step.Turn q) is) (fewer_left (step.Turn q) first) in
-        next_game p q (best_house p) (step.Turn q) (best_moves n q) game.0 first (inr refl) game.1
-    begins_game p n even going (step.Over q) is rest =
-        let game = over_game p q (best_house p) (step.Over q) (first_step p even going (step.Over q) is) refl in (
-          game.0,
-          subst (λ houses. BestGame p (best_house p ∷ houses) game.0) (sym (none_left n q (over_ends p (best_house p) q is))) game.1,
-        )
 
 -- of one that ends with the margin of best play
 pub plays_best : PlaysBestGames
@@ -223,69 +197,13 @@ plays_best p even =
 
 -- ---- the law on variations
 
--- a game of best play is one by the rules
-legally : {p : Position} {houses : List ℕ} {final : Position} → HasEqualSides p → BestGame p houses final
-    → Game legal_houses legal_houses p houses final
-legally even game = widened (strategy_within best_is_strategy) (strategy_within best_is_strategy) even game
-
--- the game after a move ends with the value of that move
+-- the game after a move, which is one by the rules, ends with the value of that move
 pub variations_end : VariationsEndWithTheirValue
-variations_end p h even legal = go (step_of p h) refl
-  where
-    going : is_over p ≡ false
-    going = legal_going p h legal
-
-    go : (s : Step) → s ≡ step_of p h → (final : Position) × IsVariation p h (h ∷ best_game (position_after s)) final
-    go (step.Again q) is =
-        let moved_to = again_step (is_over (after p h)) (is_again p h) (after p h) q is in
-        let even_q = subst HasEqualSides (sym (ap position_after is)) (even_after p h) in
-        let game = plays_best q even_q in (
-          game.0,
-          record {
-            game = moves_on going legal moved_to.1
-                (subst (λ r. Game legal_houses legal_houses r (best_game q) game.0) moved_to.2 (legally even_q game.1.game));
-            margin = game.1.margin ∙ value_of_again p h q is;
-          },
-        )
-    go (step.Turn q) is =
-        let moved_to = turn_step (is_over (after p h)) (is_again p h) (after p h) q is in
-        let even_q = subst HasEqualSides (sym (ap position_after is)) (even_after p h) in
-        let game = plays_best q even_q in (
-          swapped game.0,
-          record {
-            game = passes_turn going legal moved_to.1
-                (subst (λ r. Game legal_houses legal_houses r (best_game q) game.0) moved_to.2 (legally even_q game.1.game));
-            margin = omega (arith, ints, final_swapped game.0, game.1.margin, value_of_turn p h q is);
-          },
-        )
-    go (step.Over q) is =
-        let over = (over_step (is_over (after p h)) (is_again p h) (after p h) q is).0 in
-        let none = sym (none_left (moves_left q) q (over_ends p h q is)) in
-        elim (cases_Bool (is_again p h)) [
-          | inl again ↦ (
-            after p h,
-            record {
-              game = subst (λ houses. Game legal_houses legal_houses p (h ∷ houses) (after p h)) none
-                  (moves_on going legal again (is_at_end over));
-              margin = sym (value_going_on p h again ∙ worth_of_over (after p h) over);
-            },
-          )
-          | inr turn ↦
-              let end = over_for_other (after p h) over in (
-                swapped (swapped (after p h)),
-                record {
-                  game = subst (λ houses. Game legal_houses legal_houses p (h ∷ houses) (swapped (swapped (after p h)))) none
-                      (passes_turn going legal turn (is_at_end end));
-                  margin = omega (
-                    arith,
-                    ints,
-                    final_swapped (swapped (after p h)),
-                    value_passing p h turn,
-                    worth_of_over (swapped (after p h)) end,
-                  );
-                },
-              )
-        ]
+variations_end p h even legal =
+    let best = plays_best (position_after (step_of p h)) (even_after p h) in
+    let by_rules = widened (strategy_within best_is_strategy) (strategy_within best_is_strategy) (even_after p h) best.1.game in
+    let game = game_before (step_of p h) (legal_going p h legal) legal refl by_rules in
+    (game.0, record { game = game.1; margin = game.2 best.1.margin })
 
 -- ---- the positions that are shown
 

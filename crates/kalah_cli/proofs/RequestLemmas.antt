@@ -23,7 +23,9 @@ use Rattle.clap.proofs.WalkLemmas.{one_text-rows, raw_values-rows}
 use Rattle.clap.specs.declared.error.Error.{Error}
 use Rattle.clap.specs.declared.error.kind.ErrorKind.TheVariants.{OutOfMemory}
 use Rattle.kalah_rules.specs.Position.{Position}
-use Rattle.kalah_jobs.specs.Line.Line.{AreHouses, IsNumber, IsSide, Reads, without_cr}
+use Rattle.kalah_jobs.specs.Line.Line.{Reads, without_cr}
+use Rattle.kalah_jobs.specs.Line.Reading.{side_at, written_of}
+use Rattle.kalah_jobs.proofs.LineLemmas.{empty_is_no_line, line_is_written}
 
 -- ---- what the matches of each subcommand have of its arguments
 
@@ -89,11 +91,6 @@ takes_table Values searches = refl
 takes_table Steps searches = elim searches [ inl best ↦ cc | inr values ↦ cc ]
 
 -- ---- what the getters of matches return, by the rows of the matches
-
--- an option that maps to a value has one
-pub is_there : {A B : Type 0} (f : A → B) (o : Option A) → is_some (option_map f o) ≡ true → is_some o ≡ true
-is_there f None e = cc
-is_there f (Some x) e = refl
 
 -- an option of pairs, by what a getter returns of the first and of the second parts
 pub pair_got : {S A B R : Type 0} (n : S → A) (r : S → B) (s : Option S) (f : R → A) (g : R → B) (o : Option R) (p : R)
@@ -223,45 +220,15 @@ pub on_error : {T E : Type 0} (r : Result T E) (P : T → Type 0) (S Q : E → T
 on_error (Ok x) P S Q is all = absurd is
 on_error (Err e) P S Q is all = all e is
 
--- ---- a line that is read begins with a digit, so it is no flag
+-- ---- a line that is read is no flag, as no number begins with a dash
 
--- a number begins with a digit
-plain_number : (text : List ℕ) (n : ℕ) → IsNumber text n → IsPlainWord text
-plain_number [] n h = h
-plain_number (ones ∷ []) n h = λ e. absurd (omega arith)
-plain_number (tens ∷ ones ∷ []) n h = λ e. absurd (omega arith)
-plain_number (a ∷ b ∷ c ∷ rest) n h = absurd h
-
--- what begins with a plain argument is a plain argument
-plain_front : (text front rest : List ℕ) → text ≡ front ++ rest → IsPlainWord front → IsPlainWord text
-plain_front text front rest is h = subst IsPlainWord (sym is) (go front h)
-  where
-    go : (xs : List ℕ) → IsPlainWord xs → IsPlainWord (xs ++ rest)
-    go [] bad = absurd bad
-    go (x ∷ xs) good = good
-
--- houses begin with a number
-plain_houses : (text : List ℕ) (houses : List ℕ) → AreHouses text houses → IsPlainWord text
-plain_houses text [] h = absurd h
-plain_houses text (house ∷ []) h = plain_number text house h
-plain_houses text (house ∷ other ∷ houses) h = plain_front _ _ _ h.1.1.0 (plain_number h.0 house h.1.1.1)
-
--- a side begins with its houses
-plain_side : (text houses : List ℕ) (store : ℕ) → IsSide text houses store → IsPlainWord text
-plain_side text houses store s = plain_front _ _ _ s.parts (plain_houses s.houses_text houses s.houses_written)
-
--- dropping the CR at the end keeps the first byte
-plain_with_cr : (line : List ℕ) → IsPlainWord (without_cr line) → IsPlainWord line
-plain_with_cr [] h = h
-plain_with_cr (byte ∷ []) h = go (byte == 13) h
-  where
-    go : (b : Bool) → IsPlainWord (cond b [] (byte ∷ [])) → byte ≢ 45
-    go true bad = absurd bad
-    go false good = good
-plain_with_cr (byte ∷ more ∷ rest) h = h
-
--- a line that is read begins with the mover's side
 pub read_is_plain : (line : List ℕ) (p : Position) → Reads line p → IsPlainWord line
-read_is_plain line p reads =
-    let own = plain_side reads.form.own_text p.own p.own_store reads.form.own_side in
-    plain_with_cr line (plain_front _ _ _ reads.form.parts (plain_front _ reads.form.own_text _ refl own))
+unfolding written_of side_at
+read_is_plain [] p reads = empty_is_no_line p reads.form
+read_is_plain (byte ∷ []) p reads = λ dash.
+    let none : None ≡ Some p = line_is_written (45 ∷ []) p (subst (λ b. Reads (b ∷ []) p) dash reads).form in
+    cc
+read_is_plain (byte ∷ more ∷ rest) p reads = λ dash.
+    let none : None ≡ Some p =
+    line_is_written (45 ∷ without_cr (more ∷ rest)) p (subst (λ b. Reads (b ∷ more ∷ rest) p) dash reads).form in
+    cc

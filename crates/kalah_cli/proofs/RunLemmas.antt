@@ -48,10 +48,6 @@ use Rattle.kalah_cli.proofs.RequestLemmas.{moves_taken, taken_at, read_is_plain}
 
 -- ---- how runs end that answer a line
 
--- equal lines read as the same position
-read_at : {bytes line : List ℕ} → bytes ≡ line → (p : Position) → Reads bytes p → Reads line p
-read_at same p reads = subst (λ l. Reads l p) same reads
-
 -- an error is a failure
 pub ended_err : (ended : Result ExitStatus Failure) → IsErr ended → ended_by ended ≡ Failed
 ended_err (Ok status) bad = cc
@@ -76,8 +72,8 @@ module _ {O : Type 0} (state : O → SinkState) {status : ExitStatus} where
   pub prints_nothing : {out : O} {text : List ℕ} → status ≡ Failed → Prints state out out status text
   prints_nothing {out} {text} failed = record { start = start_none (state out).written text; whole = λ went. absurd (went failed) }
 
-  module _ (command : LineCommand) {line bytes : List ℕ} (same : bytes ≡ line) where
-    module _ (p : Position) (reads : Reads bytes p) where
+  module _ (command : LineCommand) {line : List ℕ} where
+    module _ (p : Position) (reads : Reads line p) where
       -- the text of the position was printed
       pub line_answered : {old new : O} → IsPrinted state old new (command_output command p) → MayPrint command p
           → ((state new).has_failed ≡ true) ↔ (status ≡ Failed) → status ≢ LineFaults
@@ -87,13 +83,13 @@ module _ {O : Type 0} (state : O → SinkState) {status : ExitStatus} where
           λ went. false_from_ne_true (state new).has_failed (λ failed. went (fails.0 failed)) in
           let prints : Prints state old new status (command_output command p) =
           record { start = printed.given.start; whole = λ went. (printed.given.whole (sound went)).1 } in
-          let is : (q : Position) → Reads line q → p ≡ q = λ q other. reads_once line p q (read_at same p reads) other in (
+          let is : (q : Position) → Reads line q → p ≡ q = λ q other. reads_once line p q reads other in (
             record {
               read = λ q other. (
                 no_fault,
                 subst (λ r. Prints state old new status (command_output command r)) (is q other) prints,
               );
-              unread = λ none. absurd (none p (read_at same p reads));
+              unread = λ none. absurd (none p reads);
               ends = record {
                 failed = fails.0;
                 unchanged = λ failed still. absurd (let both : true ≡ false = sym (fails.1 failed) ∙ still in cc);
@@ -110,22 +106,22 @@ module _ {O : Type 0} (state : O → SinkState) {status : ExitStatus} where
           subst (λ new. Does state old new status any_bytes (about_line command line)) (sym still) (
             record {
               read = λ q other. (λ fault. let both : Failed ≡ LineFaults = sym failed ∙ fault in cc, prints_nothing failed);
-              unread = λ none. absurd (none p (read_at same p reads));
+              unread = λ none. absurd (none p reads);
               ends = ends_unchanged sound;
             },
             λ _ _ _. (failed, refl),
           )
 
     -- the line writes no position
-    pub line_unread : {out : O} → IsUnread bytes → status ≡ LineFaults → (state out).has_failed ≡ false
+    pub line_unread : {out : O} → IsUnread line → status ≡ LineFaults → (state out).has_failed ≡ false
         → Does state out out status any_bytes (about_line command line)
     line_unread none fault sound = (
       record {
-        read = λ p reads. absurd (none p (read_at (sym same) p reads));
+        read = λ p reads. absurd (none p reads);
         unread = λ _. (fault, refl);
         ends = ends_unchanged sound;
       },
-      λ p reads. absurd (none p (read_at (sym same) p reads)),
+      λ p reads. absurd (none p reads),
     )
 
 -- ---- what is answered of files

@@ -1,5 +1,5 @@
 -- The command line of the program, as data that a parse reads.
-use Rattle.std.specs.Prelude.{◌≡◌, ℕ, false, true, [], ◌∷◌, Some, codes, map}
+use Rattle.std.specs.Prelude.{◌≡◌, ℕ, false, true, List, [], ◌∷◌, Some, codes, map}
 use Rattle.std.specs.List.{fold}
 use Rattle.clap.specs.Words.{App, Rule, Text, new_app, new_rule, rule_of, with_rule, with_subcommand}
 use Rattle.clap.specs.Simple.{on_top}
@@ -66,63 +66,52 @@ flag_rule name = record (new_rule name) { long = Some name; action = Some SetTru
 abbrev pub file_rule : Rule
 file_rule = record (value_rule (codes "file")) { required = true; action = Some Append }
 
--- `moves [--boards] LINE`
-abbrev pub moves_app : App
-moves_app = with_rule (with_rule (new_app (codes "moves")) (flag_rule (codes "boards"))) line_rule
+-- a subcommand with these arguments, in order
+abbrev pub app_with : Text → List Rule → App
+app_with name rules = fold with_rule (new_app name) rules
+
+-- `NAME [--workers N] [--table N] [--progress] FILE..`
+abbrev pub answers_app : Text → App
+answers_app name = app_with name (workers_rule ∷ table_rule ∷ flag_rule (codes "progress") ∷ file_rule ∷ [])
+
+-- `show [--plain] [--lines] [--table N] LINE`
+abbrev pub show_app : App
+show_app = app_with (codes "show") (flag_rule (codes "plain") ∷ flag_rule (codes "lines") ∷ table_rule ∷ line_rule ∷ [])
 
 -- `play [--table N] [--boards] [--values] [--first H] LINE`
 abbrev pub play_app : App
 play_app =
-    with_rule (with_rule (with_rule (with_rule (with_rule (new_app (codes "play")) table_rule) (flag_rule (codes "boards")))
-    (flag_rule (codes "values"))) first_rule) line_rule
+    app_with (codes "play") (table_rule ∷ flag_rule (codes "boards") ∷ flag_rule (codes "values") ∷ first_rule ∷ line_rule ∷ [])
 
--- `NAME [--workers N] [--table N] [--progress] FILE..`
-abbrev pub answers_app : Text → App
-answers_app name = with_rule (with_rule (with_rule (with_rule (new_app name) workers_rule) table_rule) (flag_rule (codes "progress")))
-    file_rule
-
-abbrev pub solve_app : App
-solve_app = answers_app (codes "solve")
-
-abbrev pub values_app : App
-values_app = answers_app (codes "values")
+-- `moves [--boards] LINE`
+abbrev pub moves_app : App
+moves_app = app_with (codes "moves") (flag_rule (codes "boards") ∷ line_rule ∷ [])
 
 -- `ask [--values] [--steps] [--table N]`, whose table has no default, as `--steps` excludes it
 abbrev pub ask_app : App
-ask_app =
-    with_rule (with_rule (with_rule (new_app (codes "ask")) (flag_rule (codes "values"))) (flag_rule (codes "steps")))
-    (limited_rule (codes "table") most_entries)
+ask_app = app_with (codes "ask") (flag_rule (codes "values") ∷ flag_rule (codes "steps") ∷ limited_rule (codes "table") most_entries ∷ [])
 
 -- `steps [--workers N] [--progress] FILE..`
 abbrev pub steps_app : App
-steps_app = with_rule (with_rule (with_rule (new_app (codes "steps")) workers_rule) (flag_rule (codes "progress"))) file_rule
-
--- `show [--plain] [--lines] [--table N] LINE`
-abbrev pub show_app : App
-show_app =
-    with_rule (with_rule (with_rule (with_rule (new_app (codes "show")) (flag_rule (codes "plain"))) (flag_rule (codes "lines"))) table_rule)
-    line_rule
+steps_app = app_with (codes "steps") (workers_rule ∷ flag_rule (codes "progress") ∷ file_rule ∷ [])
 
 -- `count DEPTH LINE`
 abbrev pub count_app : App
-count_app = with_rule (with_rule (new_app (codes "count")) depth_rule) line_rule
+count_app = app_with (codes "count") (depth_rule ∷ line_rule ∷ [])
 
 -- the program with no subcommand yet
 abbrev pub program_app : App
 program_app = on_top (λ s. record s { has_version = true; subcommand_required = true; disable_help_subcommand = true })
     (new_app (codes "kalah"))
 
--- the program with its first four subcommands
-abbrev first_app : App
-first_app =
-    with_subcommand
-    (with_subcommand (with_subcommand (with_subcommand program_app solve_app.top) values_app.top) show_app.top) play_app.top
+-- an app with these subcommands
+abbrev pub with_all : App → List App → App
+with_all app subs = fold (λ a sub. with_subcommand a sub.top) app subs
 
 -- the program, which is always given one of its subcommands
 abbrev pub kalah_app : App
-kalah_app =
-    with_subcommand
-    (with_subcommand (with_subcommand (with_subcommand first_app moves_app.top) ask_app.top) steps_app.top) count_app.top
+kalah_app = with_all program_app (answers_app (codes "solve") ∷ answers_app (codes "values") ∷ show_app ∷ play_app ∷ moves_app ∷ ask_app
+    ∷ steps_app ∷ count_app ∷ [])
 
 -- ---- what the table of subcommands says
 

@@ -7,7 +7,6 @@ use crate::help;
 use crate::subcommands::{
     ASK, Argument, COUNT, Kind, MOVES, PLAY, SHOW, SOLVE, STEPS, Subcommand, VALUES,
 };
-use crate::version::VERSION_LINE;
 use clap::builder::ValueParser;
 use clap::{Arg, ArgAction, Command};
 use std::alloc::{AllocError, Global};
@@ -94,7 +93,7 @@ pub fn command<'a>(alloc: Global) -> Result<Command<'a>, AllocError>
     Command::new(alloc, "kalah")
         .about(about)
         .long_about(help::ABOUT)
-        .version(VERSION_LINE)
+        .version(help::VERSION_LINE)
         .after_help(help::SHORT)
         .after_long_help(help::LONG)
         .subcommand_required(true)

@@ -1,4 +1,7 @@
-//! The texts of the help that `clap` doesn't write itself.
+//! The texts of the help that `clap` doesn't write itself, and the version.
+
+/// What `--version` prints. The contract (`version_line`) has the number too.
+pub(crate) const VERSION_LINE: &str = "kalah 1.4.0\n";
 
 // What a position is, before more about a subcommand that takes one.
 macro_rules! of_a_position {

@@ -27,7 +27,6 @@ mod status;
 mod subcommands;
 mod terminal;
 mod tips;
-mod version;
 
 use failure::Failure;
 use fused::Fused;

@@ -204,6 +204,3 @@ pub(crate) fn parse<'a, S: AsStr>(alloc: Global, words: &'a [S]) -> Result<Reque
     let (name, found) = matches.subcommand().unwrap();
     requested(alloc, name, found)
 }
-
-#[cfg(test)]
-mod tests;

@@ -12,6 +12,7 @@ ghost use Rattle.kalah_cli.specs.Runs.{Does, DoesWhatIsAsked, IsOfNoInput, Moves
 
 use crate::ask::run_ask;
 use crate::failure::{Failure, report_end, status_of_sink};
+use crate::help::VERSION_LINE;
 use crate::line::run_line;
 use crate::request::{Request, parse};
 use crate::solve_files::run_files;
@@ -19,7 +20,6 @@ use crate::sources::Sources;
 use crate::status::ExitStatus;
 use crate::terminal::Terminal;
 use crate::tips::report_refused;
-use crate::version::VERSION_LINE;
 use clap::Error;
 use clap::error::ErrorKind;
 use kalah_jobs::{Sink, flush_unless_failed, write_unless_failed};

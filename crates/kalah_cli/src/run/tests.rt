@@ -1,6 +1,5 @@
 ghost use Rattle.std.specs.Prelude.{◌<◌, vec_len};
 
-mod help;
 mod hostile;
 mod known;
 mod solving;
@@ -117,7 +116,7 @@ fn assert_said(rt: &impl Host, status: ExitStatus, rows: &[(&[&str], &str)]) {
     }
 }
 
-// Arguments with a position, and what is printed for them.
+// Arguments, and what is printed for them.
 const WRITTEN: &[(&[&str], &str)] = &[
     (
         &["moves", "1,1/0 1,1/0"],
@@ -152,10 +151,11 @@ const WRITTEN: &[(&[&str], &str)] = &[
         &["count", "3", "1,0,0,1/0 0,1,0,1/0 e"],
         "1 2\n4 0\ntotal 2\n",
     ),
+    (&["--version"], "kalah 1.4.0\n"),
 ];
 
 #[test]
-fn prints_what_is_asked_of_a_position(rt: HostRuntime) {
+fn prints_what_is_asked(rt: HostRuntime) {
     assert_written(&rt, WRITTEN);
 }
 

@@ -2,8 +2,7 @@ use Rattle.std.proofs.Common.{of_z, to_z, w32, ◌<◌, ◌≡◌, ◌∙◌, []
 use Rattle.std.specs.Prelude.{ℤ}
 use Rattle.kalah_rules.specs.Measure.{moves_left}
 use Rattle.kalah_rules.specs.Play.{position_after, step_of}
-use Rattle.kalah_rules.specs.Position.{IsWithinLimits, Position}
-use Rattle.kalah_rules.specs.declared.step.Step.{Step}
+use Rattle.kalah_rules.specs.Position.{Position}
 use Rattle.kalah_solve.specs.Solver.Worth.{worth}
 use Rattle.kalah_solve.specs.Solver.Verdict.{IsSmallBest, TellsBestMove, verdict_of}
 use Rattle.kalah_solve.specs.declared.solver.Verdict.TheVariants.{Best}
@@ -11,17 +10,10 @@ use Rattle.kalah_solve.proofs.WorthLemmas.{board_equal_sides}
 use Rattle.kalah_jobs.specs.Writing.Given.{WasGiven}
 use Rattle.kalah_jobs.proofs.WritingLemmas.{given_after, given_cut_off, given_then}
 use Rattle.kalah_cli.specs.Game.{best_game, game_text, move_text}
-use Rattle.kalah_cli.proofs.GameLemmas.{IsFirst, kept, after_step, best_told, fewer_left, text_goes_on, no_text, shown_flushed, shown_next}
+use Rattle.kalah_cli.proofs.GameLemmas.{kept, after_step, best_told, fewer_left, text_goes_on, no_text, shown_flushed, shown_next}
 use Rattle.kalah_cli.proofs.game.+game.Goals as goal
 
--- the solver's best move is the first move of the game
-first_of : {p : Position} {margin : ℤ} {h : ℕ} {s : Step} → IsWithinLimits p → TellsBestMove p margin h
-    → Best margin h ≡ verdict_of p →
-    s ≡ step_of p h → IsFirst p h s
-first_of {p} {margin} {h} {s} limits told verdict step =
-    record { even = board_equal_sides p limits; going = told.going; best = (best_told p margin h told.going verdict).1; step = step }
-
--- made in a position with the margin of best play
+-- the margin of the verdict is that of best play
 margin_of : {p : Position} {margin : ℤ} {h : ℕ} → IsSmallBest margin h → TellsBestMove p margin h → Best margin h ≡ verdict_of p
     → to_z w32 (of_z w32 (to_z w32 (of_z w32 margin))) ≡ worth p
 margin_of {p} {margin} {h} small told verdict =
@@ -48,10 +40,11 @@ apply-step-requires g t c = c.in-Best.ensures.best_play.best.legal
 
 pub write_game-requires : goal.write_game-requires
 write_game-requires g t c κs within =
-    let first = first_of c.apply-step.ensures.limits c.in-Best.ensures.best_play c.in-Best.ensures.verdict c.apply-step.ensures.step in
+    let even = board_equal_sides c.args.board.now c.apply-step.ensures.limits in
     let next = after_step c.apply-step.result c.in-Again.next c.in-Again.is in
     let fewer : moves_left c.in-Again.next < moves_left c.args.board.now =
-    subst (λ q. moves_left q < moves_left c.args.board.now) (sym next) (fewer_left c.apply-step.result first) in (
+    subst (λ q. moves_left q < moves_left c.args.board.now) (sym next)
+    (fewer_left c.apply-step.result even c.in-Best.ensures.best_play.best.legal c.apply-step.ensures.step) in (
       omega (arith, fewer),
       (
         within,
@@ -69,14 +62,16 @@ returns-clause-printed g t c =
     let form = c.args.form in
     let house = c.in-Best.house in
     let step = c.apply-step.result in
-    let first = first_of c.apply-step.ensures.limits c.in-Best.ensures.best_play c.in-Best.ensures.verdict c.apply-step.ensures.step in
+    let even = board_equal_sides c.args.board.now c.apply-step.ensures.limits in
+    let going = c.in-Best.ensures.best_play.going in
+    let best = (best_told c.args.board.now _ house going c.in-Best.ensures.verdict).1 in
     let text = move_text form (to_z w32 (of_z w32 (to_z w32 (of_z w32 c.in-Best.margin)))) house step in
     let next = after_step step c.in-Again.next c.in-Again.is in
     let rest = game_text form (position_after step) (best_game (position_after step)) in
     record {
       given = subst (WasGiven g.O.Sink.state c.args.out.now c.write_game.new.out) (ap (λ q. text ++ game_text form q (best_game q)) next
           ∙ ap (λ z. move_text form z house step ++ rest) (margin_of c.in-Best.ensures.small c.in-Best.ensures.best_play c.in-Best.ensures.verdict)
-          ∙ sym (text_goes_on form first))
+          ∙ sym (text_goes_on form even going best c.apply-step.ensures.step))
           (given_after _ _ _ _ _ c.flush_unless_failed.ensures.given
           (given_then _ _ _ _ text _ c.write_in_form.ensures c.write_game.ensures.printed.given));
       all_flushed = c.write_game.ensures.printed.all_flushed;

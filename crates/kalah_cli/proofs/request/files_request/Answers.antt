@@ -1,11 +1,12 @@
 use Rattle.std.proofs.Common.{◌∙◌, ◌≡◌, ◌∷◌, Some, ap, arith, codes, inl, inr, is_some, length, map, refl}
 use Rattle.std.proofs.lemmas.List.{length-map}
 use Rattle.clap.specs.Words.{found_of, rows_of}
+use Rattle.clap.proofs.CallerLemmas.{some_of_text}
 use Rattle.clap.proofs.WalkLemmas.{raw_values-rows}
 use Rattle.kalah_solve.specs.Table.Entries.{most_entries}
 use Rattle.kalah_run.specs.Limits.{IsTableSize, most_workers}
 use Rattle.kalah_cli.specs.Request.{table_asked}
-use Rattle.kalah_cli.proofs.RequestLemmas.{is_there, number_in_range, values_are, given, has_number, may_have_number, takes_files, takes_table}
+use Rattle.kalah_cli.proofs.RequestLemmas.{number_in_range, values_are, given, has_number, may_have_number, takes_files, takes_table}
 use Rattle.kalah_cli.proofs.request.files_request.Goals.{in-BestMove, in-Steps}
 use Rattle.kalah_cli.proofs.request.files_request.Goals as goal
 
@@ -20,8 +21,8 @@ number_of-requires-in-BestMove c =
 
 pub unwrap-requires : goal.unwrap-requires
 unwrap-requires c =
-    is_there _ c.get_strs.result (ap is_some (c.get_strs.ensures ∙ raw_values-rows (found_of c.args.found.now) (codes "file"))
-    ∙ ap is_some (given (codes "file") c.requires (takes_files c.args.question).1 refl).all)
+    some_of_text _ c.get_strs.result _ (c.get_strs.ensures ∙ raw_values-rows (found_of c.args.found.now) (codes "file"))
+    (ap is_some (given (codes "file") c.requires (takes_files c.args.question).1 refl).all)
 
 pub returns-clause-asked : goal.returns-clause-asked
 returns-clause-asked c =

@@ -1,14 +1,13 @@
 use Rattle.std.proofs.Common.{◌∙◌, ap, codes, is_some, sym}
 use Rattle.std.specs.Prelude.{option_map}
 use Rattle.clap.specs.Words.{found_of}
+use Rattle.clap.proofs.CallerLemmas.{some_of_text}
 use Rattle.clap.proofs.WalkLemmas.{first_value-rows}
-use Rattle.kalah_cli.proofs.RequestLemmas.{is_there}
 use Rattle.kalah_cli.proofs.request.line_of.Goals as goal
 
 pub unwrap-requires : goal.unwrap-requires
 unwrap-requires c =
-    is_there _ c.get_str.result (ap is_some (c.get_str.ensures ∙ first_value-rows (found_of c.args.found.now) (codes "line"))
-    ∙ c.requires)
+    some_of_text _ c.get_str.result _ (c.get_str.ensures ∙ first_value-rows (found_of c.args.found.now) (codes "line")) c.requires
 
 pub returns : goal.returns
 returns c =

@@ -1,12 +1,13 @@
 use Rattle.std.proofs.lemmas.Grind.{common_steps}
-use Rattle.std.proofs.Common.{◌≡◌, ◌∙◌, ap, arith, is_some, map, subst, sym}
+use Rattle.std.proofs.Common.{◌≡◌, ◌∙◌, ap, arith, is_some, map, refl, subst, sym}
 use Rattle.std.specs.Prelude.{option_and_then}
 use Rattle.std.proofs.lemmas.Result.{IfOk-weaker}
 use Rattle.clap.specs.Words.{HasKind, fault_of}
+use Rattle.clap.proofs.CallerLemmas.{some_of_text}
 use Rattle.clap.specs.declared.error.Error.{Error}
 use Rattle.kalah_cli.specs.Command.{kalah_app}
 use Rattle.kalah_cli.specs.Request.{IsTakenAs, matches_ask, request_asks}
-use Rattle.kalah_cli.proofs.RequestLemmas.{faulty, fails_by_memory, is_there, on_error, pair_got, parsed}
+use Rattle.kalah_cli.proofs.RequestLemmas.{faulty, fails_by_memory, on_error, pair_got, parsed}
 use Rattle.kalah_cli.proofs.request.parse.Given.{Over}
 use Rattle.kalah_cli.proofs.request.parse.Goals as goal
 
@@ -15,7 +16,7 @@ unwrap-requires g c =
     let words = map g.S.AsStr.text c.args.words.now in
     let read = parsed _ words _ c.in_ok-command.ensures c.in_ok-matches.ensures.kinds
     (λ simple. (c.in_ok-matches.ensures.matches simple).1) in
-    c.subcommand.ensures.variant ∙ is_there _ _ (ap is_some read.taken.2)
+    c.subcommand.ensures.variant ∙ some_of_text _ _ _ refl (ap is_some read.taken.2)
 
 pub requested-requires : goal.requested-requires
 requested-requires g c =

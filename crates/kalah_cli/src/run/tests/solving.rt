@@ -3,30 +3,6 @@ use super::{assert_answers, write_file};
 use crate::status::ExitStatus::{Clean, Failed, LineFaults};
 use std::fs;
 
-const BATCH: &[&[&str]] = &[
-    &["solve", "a.txt", "b.txt", "c.txt", "b.txt"],
-    &[
-        "solve",
-        "--workers",
-        "1",
-        "a.txt",
-        "b.txt",
-        "c.txt",
-        "b.txt",
-    ],
-    &["solve", "--workers=2", "a.txt", "b.txt", "c.txt", "b.txt"],
-    &[
-        "solve",
-        "--workers",
-        "64",
-        "a.txt",
-        "b.txt",
-        "c.txt",
-        "b.txt",
-    ],
-    &["solve", "--table", "1", "a.txt", "b.txt", "c.txt", "b.txt"],
-];
-
 const BATCH_ANSWERS: &str = "\
 b.txt:1 0 house 1
 b.txt:2 -2 house 1
@@ -42,8 +18,9 @@ fn answers_each_line_of_each_file(rt: HostRuntime) {
     write_file(&rt, "a.txt", b"");
     write_file(&rt, "b.txt", b"1/0 1/0\n2/0 2/0");
     write_file(&rt, "c.txt", b"3/0 3/0\r\n\r\n01/0 1/0\r\n");
-    for words in BATCH {
-        assert_answers(&rt, *words, LineFaults, (BATCH_ANSWERS, ""));
+    for option in ["--workers=1", "--workers=2", "--workers=64", "--table=1", "--"] {
+        let words = ["solve", option, "a.txt", "b.txt", "c.txt", "b.txt"];
+        assert_answers(&rt, &words, LineFaults, (BATCH_ANSWERS, ""));
     }
     assert_answers(&rt, &["solve", "a.txt"], Clean, ("", ""));
     let want = "b.txt:1 0 house 1\nb.txt:2 -2 house 1\n";
