@@ -23,7 +23,7 @@ use Rattle.kalah_jobs.specs.Writing.Shown.{shown_of}
 use Rattle.kalah_jobs.specs.Writing.Variation.{variation_start}
 use Rattle.kalah_jobs.proofs.WritingLemmas.{given_flushed, given_off, given_then}
 use Rattle.kalah_solve.specs.declared.solver.move_values.MoveValue.{MoveValue}
-use Rattle.kalah_cli.specs.Game.{IsVariation, PlaysBestGames, VariationsEndWithTheirValue, best_game, best_moves, game_text, move_text}
+use Rattle.kalah_cli.specs.Game.{PlaysBestGames, VariationsEndWithTheirValue, best_game, best_moves, game_text, move_text}
 use Rattle.kalah_cli.specs.Moves.{board_lines}
 use Rattle.kalah_cli.specs.Solver.{Begins, Begun, IsOfVariations, IsShown}
 use Rattle.kalah_cli.specs.declared.game.Form.{Form}

@@ -1,5 +1,5 @@
 -- What arguments are accepted, and the request that they make.
-use Rattle.std.proofs.Common.{◌≡◌, ◌⊎◌, ◌≤◌, ℕ, true, refl, ap, subst, inl, inr, List, Some, is_some, codes, arith, ◌∙◌, ◌<◌, ◌^◌, Bool, false, Option, None, map, sym, [], ◌∷◌, Result, Ok, Err, ◌≢◌, ◌==◌, ◌++◌, cond}
+use Rattle.std.proofs.Common.{◌≡◌, ◌⊎◌, ◌≤◌, ℕ, true, refl, ap, subst, inl, inr, List, Some, is_some, codes, arith, ◌∙◌, ◌<◌, ◌^◌, Bool, false, Option, None, map, sym, [], ◌∷◌, Result, Ok, Err}
 use Rattle.std.specs.List.{AllByRecursion as AllOf}
 use Rattle.std.specs.Prelude.{option_map, unwrap_or, IfErr, IsErrAnd, MatchResult}
 use Rattle.clap.specs.Facts.{parser_of_value}

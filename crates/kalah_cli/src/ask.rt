@@ -67,6 +67,3 @@ pub(crate) fn run_ask<I: Read + Drop, O: Sink, E: Write>(
     }
     ended(answer_lines(&mut input, question, &mut solver, out))
 }
-
-#[cfg(test)]
-mod tests;

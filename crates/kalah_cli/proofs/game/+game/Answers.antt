@@ -1,7 +1,7 @@
 use Rattle.std.proofs.Common.{of_z, to_z, w32, ◌<◌, ◌≡◌, ◌∙◌, [], ◌++◌, ℕ, ap, arith, subst, sym}
 use Rattle.std.specs.Prelude.{ℤ}
 use Rattle.kalah_rules.specs.Measure.{moves_left}
-use Rattle.kalah_rules.specs.Play.{position_after, step_of}
+use Rattle.kalah_rules.specs.Play.{position_after}
 use Rattle.kalah_rules.specs.Position.{Position}
 use Rattle.kalah_solve.specs.Solver.Worth.{worth}
 use Rattle.kalah_solve.specs.Solver.Verdict.{IsSmallBest, TellsBestMove, verdict_of}

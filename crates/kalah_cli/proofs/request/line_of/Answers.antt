@@ -1,4 +1,4 @@
-use Rattle.std.proofs.Common.{◌∙◌, ap, codes, is_some, sym}
+use Rattle.std.proofs.Common.{◌∙◌, ap, codes, sym}
 use Rattle.std.specs.Prelude.{option_map}
 use Rattle.clap.specs.Words.{found_of}
 use Rattle.clap.proofs.CallerLemmas.{some_of_text}
