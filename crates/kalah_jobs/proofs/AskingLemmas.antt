@@ -15,10 +15,9 @@ use Rattle.kalah_jobs.specs.declared.asking.ask_fault.AskFault.TheVariants.{Read
 use Rattle.kalah_jobs.specs.declared.writing.answer.Answer.{Answer}
 use Rattle.kalah_jobs.specs.declared.line.line_fault.LineFault.{LineFault}
 use Rattle.kalah_jobs.specs.Asking.Asked.{kept_bytes, reply, last_reply, is_last_read, answers_to, are_all_read, AnswersAreThoseOfAFile, AreAnswered, Asking, IsAnswered, IsBegun, IsCutOff}
-use Rattle.kalah_jobs.specs.Files.Entry.{entry_of, entry_of_reading}
+use Rattle.kalah_jobs.specs.Files.Entry.{entry_of_reading, entry_to}
 use Rattle.kalah_jobs.specs.declared.files.entry.Entry.TheVariants.{Bad}
 use Rattle.kalah_jobs.specs.Files.Lines.{line_feed, lines_of, HasNoLineFeed}
-use Rattle.kalah_jobs.specs.Files.Question.{entry_asked, entry_to}
 use Rattle.kalah_jobs.specs.Line.Line.{without_cr}
 use Rattle.kalah_jobs.specs.Line.Reading.{reading_of}
 use Rattle.kalah_jobs.specs.declared.line.line_fault.LineFault.TheVariants.{Long}
@@ -103,25 +102,25 @@ cr_is_one (byte ∷ []) = omega arith
 cr_is_one (byte ∷ more ∷ line) = omega (arith, cr_is_one (more ∷ line))
 
 -- a line of `kept_bytes` bytes is too long
-too_long : (line : List ℕ) → kept_bytes ≤ length line → entry_of line ≡ Bad Long
-unfolding entry_of
-too_long line long = ap entry_of_reading (long_is_read line (omega (arith, cr_is_one line, long)))
+too_long : (question : Question) (line : List ℕ) → kept_bytes ≤ length line → entry_to question line ≡ Bad Long
+unfolding entry_to
+too_long question line long = ap (entry_of_reading question) (long_is_read line (omega (arith, cr_is_one line, long)))
 
 -- the bytes that are kept determine the entry of the line
-pub kept_says : (line : List ℕ) → entry_of (take kept_bytes line) ≡ entry_of line
-kept_says line = elim (cases_lt kept_bytes (length line)) [
+pub kept_says : (question : Question) (line : List ℕ) → entry_to question (take kept_bytes line) ≡ entry_to question line
+kept_says question line = elim (cases_lt kept_bytes (length line)) [
   | inl long ↦
-      too_long (take kept_bytes line) (omega (arith, length-take-le kept_bytes line (omega (arith, long))))
-      ∙ sym (too_long line (omega (arith, long)))
-  | inr short ↦ ap entry_of (take_all kept_bytes line short)
+      too_long question (take kept_bytes line) (omega (arith, length-take-le kept_bytes line (omega (arith, long))))
+      ∙ sym (too_long question line (omega (arith, long)))
+  | inr short ↦ ap (entry_to question) (take_all kept_bytes line short)
 ]
 
 -- the bytes that are kept are answered as the line is
 pub kept_reply : (question : Question) (line : List ℕ) → reply question (take kept_bytes line) ≡ reply question line
-kept_reply question line = ap (λ entry. joined_text (answer_of (entry_asked question entry)) ++ line_feed ∷ []) (kept_says line)
+kept_reply question line = ap (λ entry. joined_text (answer_of entry) ++ line_feed ∷ []) (kept_says question line)
 
 pub kept_faulty : (line : List ℕ) → is_faulty (take kept_bytes line) ≡ is_faulty line
-kept_faulty line = ap (λ entry. is_fault (answer_of entry)) (kept_says line)
+kept_faulty line = ap (λ entry. is_fault (answer_of entry)) (kept_says BestMove line)
 
 -- one byte more of those that are kept
 pub kept_more : (line : List ℕ) (byte : ℕ) → take kept_bytes (take kept_bytes line ++ byte ∷ []) ≡ take kept_bytes
@@ -155,7 +154,7 @@ one_of_two false a b one other = other
 
 -- where no steps are asked an answer is of one line
 one_line_read : (question : Question) → question ≢ Steps → (r : Result position.Position LineFault) →
-    IsOfOneLine (answer_of (entry_asked question (entry_of_reading r)))
+    IsOfOneLine (answer_of (entry_of_reading question r))
 unfolding answer_of
 one_line_read BestMove other (Ok p) = one_of_two (is_over p) _ _ tt tt
 one_line_read BestMove other (Err fault) = tt
@@ -164,7 +163,7 @@ one_line_read Values other (Err fault) = tt
 one_line_read Steps other r = absurd (other refl)
 
 one_line_asked : (question : Question) → question ≢ Steps → (line : List ℕ) → IsOfOneLine (answer_of (entry_to question line))
-unfolding entry_of
+unfolding entry_to
 one_line_asked question other line = one_line_read question other (reading_of line)
 
 -- where no steps are asked an answer line is the place, and then the answer

@@ -11,8 +11,9 @@ use Rattle.std.proofs.lemmas.List.Sums.{sum_by-cons, sum_by-append, sum_by_push,
 use Rattle.kalah_jobs.specs.Files.Lines.{line_feed, lines_of, HasNoLineFeed, with_line_feeds, EndsInOpenLine, AreLines, LinesAreOne}
 use Rattle.std.proofs.lemmas.Bool.{cases_eq}
 use Rattle.kalah_jobs.specs.declared.files.entry.Entry.{Entry}
-use Rattle.kalah_jobs.specs.declared.files.entry.Entry.TheVariants.{Position, ValuesOf, StepsOf, Bad}
-use Rattle.kalah_jobs.specs.Files.Entry.{Says, entry_of_reading, entry_of, EntriesAreOne}
+use Rattle.kalah_jobs.specs.declared.files.entry.Entry.TheVariants.{Position, Bad}
+use Rattle.kalah_jobs.specs.Line.Reading.{reading_of}
+use Rattle.kalah_jobs.specs.Files.Entry.{Says, entry_asked, entry_of_reading, entry_of, entry_to, EntriesAreOne}
 use Rattle.kalah_jobs.proofs.LineLemmas.{is_reading, only_reading}
 use Rattle.std.proofs.lemmas.Bool.Decides.{nat_tests}
 use Rattle.std.proofs.lemmas.Option.{slice_get_within}
@@ -21,11 +22,11 @@ use Rattle.kalah_jobs.specs.declared.files.job.Job.{Job}
 use Rattle.kalah_jobs.specs.Files.NamedBytes.{NamedBytes}
 use Rattle.kalah_jobs.specs.Files.JobList.{entries_of, line_job, file_jobs, jobs_from, job_list}
 use Rattle.kalah_jobs.specs.Files.Jobs.{lines_in_all, lines_in, entries_to, jobs_to, job_count, AreStarts}
-use Rattle.kalah_jobs.specs.Files.Question.{entry_to, entry_asked}
 use Rattle.kalah_jobs.specs.declared.files.question.Question.{Question}
+use Rattle.kalah_jobs.specs.declared.files.question.Question.TheVariants.{BestMove}
 use Rattle.kalah_rules.specs.Position.{is_over, final_margin, IsWithinLimits, houses_in, seeds_in_houses}
-use Rattle.kalah_jobs.specs.Writing.Answer.{answer_of, is_fault, is_faulty_entry}
-use Rattle.kalah_jobs.specs.Writing.Output.{is_faulty_job}
+use Rattle.kalah_jobs.specs.Writing.Answer.{answer_of, is_faulty_entry}
+use Rattle.kalah_jobs.specs.Writing.Output.{is_faulty, is_faulty_job}
 use Rattle.kalah_rules.proofs.KeyLemmas.{same_key}
 use Rattle.kalah_rules.proofs.PackedLemmas.{rows_within}
 use Rattle.kalah_rules.specs.contracts.board.BoardEq.TheImpl.Laws.{laws-law}
@@ -210,13 +211,13 @@ lines_are_one = record { some = are_lines_of; one = no_others }
 -- ==== Each line has one entry
 
 says : (line : List ℕ) → Says line (entry_of line)
-unfolding entry_of
+unfolding entry_to
 says line = grind (arith, is_reading line)
 
 says_once : (line : List ℕ) (entry : Entry) → Says line entry → entry ≡ entry_of line
-unfolding entry_of
-says_once line (Position p) is = ap entry_of_reading (sym (only_reading line (Ok p) is))
-says_once line (Bad fault) is = ap entry_of_reading (sym (only_reading line (Err fault) is))
+unfolding entry_to
+says_once line (Position p) is = ap (entry_of_reading BestMove) (sym (only_reading line (Ok p) is))
+says_once line (Bad fault) is = ap (entry_of_reading BestMove) (sym (only_reading line (Err fault) is))
 says_once line entry is = absurd is
 
 pub entries_are_one : EntriesAreOne
@@ -373,20 +374,19 @@ pub ruleset counts_of_jobs = (get_or-map, length-map, length-job_list, lines_bet
 
 -- ==== The lines that are answered by a fault are those that are not read
 
--- the line is not read
-abbrev pub is_bad : Entry → Bool
-is_bad (Position p) = false
-is_bad (ValuesOf p) = false
-is_bad (StepsOf p) = false
-is_bad (Bad fault) = true
-
-pub bad_is_fault : (entry : Entry) → is_fault (answer_of entry) ≡ is_bad entry
+-- a position is answered by no fault
+no_fault : (question : Question) (p : position.Position) → is_faulty_entry (entry_asked question p) ≡ false
 unfolding answer_of
-bad_is_fault entry = grind arith
+no_fault question p = grind arith
 
--- what is asked of a position makes no fault of it
-pub asked_fault : (question : Question) (entry : Entry) → is_fault (answer_of (entry_asked question entry)) ≡ is_fault (answer_of entry)
-asked_fault question entry = grind (arith, bad_is_fault)
+-- what is asked of a line makes no fault of it
+pub asked_fault : (question : Question) (line : List ℕ) → is_faulty_entry (entry_to question line) ≡ is_faulty line
+unfolding entry_to
+asked_fault question line =
+    elim (reading_of line) as (λ r. is_faulty_entry (entry_of_reading question r) ≡ is_faulty_entry (entry_of_reading BestMove r)) [
+      | Ok p ↦ no_fault question p ∙ sym (no_fault BestMove p)
+      | Err fault ↦ refl
+    ]
 
 -- as many jobs are answered by a fault as entries
 pub faulty_jobs : (jobs : List (List Entry)) → count_by is_faulty_job (job_list jobs) ≡ count_by is_faulty_entry (all_entries jobs)

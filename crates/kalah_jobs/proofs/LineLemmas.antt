@@ -6,7 +6,7 @@ use Rattle.std.proofs.lemmas.Bool.{cases_lt, cases_Bool, lt-ltb, cond-true, cond
 use Rattle.std.proofs.lemmas.Bool.Decides.{nat_tests, eqb_tells}
 use Rattle.std.proofs.lemmas.Option.{cond_some}
 use Rattle.std.proofs.lemmas.Fmt.{decimal_digit, decimal_step, length-decimal-le}
-use Rattle.kalah_jobs.specs.Line.Line.{IsNumber, comma, slash, AreHouses, IsSide, space, ending_of, IsLineOf, without_cr, HasSidesInLimits, Reads, Holds, HasFault, side_text, line_text_of}
+use Rattle.kalah_jobs.specs.Line.Line.{IsNumber, comma, slash, AreHouses, IsSide, space, suffix_of, IsLineOf, without_cr, HasSidesInLimits, Reads, Holds, HasFault, side_text, line_text_of}
 use Rattle.kalah_jobs.specs.Line.Reading.{number_from, number_at, ◌>>=◌, Found, store_at, house_followed, side_from, side_at, rule_of, position_from, written_of, admitted, admitted_if_written, reading_of}
 use Rattle.std.proofs.lemmas.List.{nil_from_length}
 use Rattle.kalah_jobs.specs.Line.Side.{AreKept}
@@ -305,23 +305,23 @@ module _ {bytes : List ℕ} {side : Side} {rest : List ℕ} {n : ℕ} {after : L
 
 -- ==== What writes a position, and what it is read as
 
--- ---- endings
+-- ---- the suffix that names the rule
 
-pub ending_is_read : (rule : Rule) → rule_of (ending_of rule) ≡ Some rule
-ending_is_read rule = grind arith
+pub suffix_is_read : (rule : Rule) → rule_of (suffix_of rule) ≡ Some rule
+suffix_is_read rule = grind arith
 
-ending_is_written : (bytes : List ℕ) (rule : Rule) → rule_of bytes ≡ Some rule → bytes ≡ ending_of rule
-ending_is_written bytes rule e = grind (arith, nat_tests)
+suffix_is_written : (bytes : List ℕ) (rule : Rule) → rule_of bytes ≡ Some rule → bytes ≡ suffix_of rule
+suffix_is_written bytes rule e = grind (arith, nat_tests)
 
-ending_ends : (rule : Rule) → EndsNumber (ending_of rule)
-ending_ends rule = grind arith
+suffix_ends : (rule : Rule) → EndsNumber (suffix_of rule)
+suffix_ends rule = grind arith
 
 -- ---- positions
 
 abbrev pub made : Found → Found → Rule → Position
 made own other rule = record { own = own.0; own_store = own.1; other = other.0; other_store = other.1; rule = rule }
 
--- a side, a space, a side and an ending write a line
+-- a side, a space, a side and a suffix write a line
 line_of_sides : {text rest : List ℕ} {own other : Found} {rule : Rule} → side_at text ≡ Some own → own.2 ≡ space ∷ rest →
     side_at rest ≡ Some other → rule_of other.2 ≡ Some rule → IsLineOf text (made own other rule)
 line_of_sides {text} {rest} {own} {other} {rule} own_read mark other_read rule_read =
@@ -332,8 +332,8 @@ line_of_sides {text} {rest} {own} {other} {rule} own_read mark other_read rule_r
       other_text = second.text;
       parts =
           first.parts ∙ ap (λ (t : List ℕ). first.text ++ t) mark ∙ ap (λ (t : List ℕ). first.text ++ space ∷ t) second.parts
-          ∙ ap (λ (t : List ℕ). first.text ++ space ∷ (second.text ++ t)) (ending_is_written other.2 rule rule_read)
-          ∙ sym (append_assoc first.text (space ∷ second.text) (ending_of rule));
+          ∙ ap (λ (t : List ℕ). first.text ++ space ∷ (second.text ++ t)) (suffix_is_written other.2 rule rule_read)
+          ∙ sym (append_assoc first.text (space ∷ second.text) (suffix_of rule));
       own_side = subst (λ (houses : List ℕ). IsSide first.text houses own.1) (sym first.all) first.side;
       other_side = subst (λ (houses : List ℕ). IsSide second.text houses other.1) (sym second.all) second.side;
     }
@@ -344,7 +344,7 @@ pub sides_are_written : (text rest : List ℕ) {own other : Found} {mark : ℕ} 
 unfolding written_of
 sides_are_written text rest own_read mark is other_read rule_read = rw (own_read, mark, is, other_read, rule_read) refl
 
--- a side, a space and a side without an ending write no line
+-- a side, a space and a side without such a suffix write no line
 pub sides_are_no_line : (text rest : List ℕ) {own other : Found} {mark : ℕ} → side_at text ≡ Some own
     → own.2 ≡ mark ∷ rest →
     mark ≡ space → side_at rest ≡ Some other → rule_of other.2 ≡ None → written_of text ≡ None
@@ -374,14 +374,14 @@ written_is_line text p e =
 pub line_is_written : (text : List ℕ) (p : Position) → IsLineOf text p → written_of text ≡ Some p
 unfolding written_of
 line_is_written text p line =
-    let rest = line.other_text ++ ending_of p.rule in
+    let rest = line.other_text ++ suffix_of p.rule in
     let parts : text ≡ line.own_text ++ space ∷ rest =
-    line.parts ∙ append_assoc line.own_text (space ∷ line.other_text) (ending_of p.rule) in
+    line.parts ∙ append_assoc line.own_text (space ∷ line.other_text) (suffix_of p.rule) in
     rw (
       parts,
       side_is_read line.own_text p.own p.own_store (space ∷ rest) line.own_side (λ digit. omega (arith, digit)),
-      side_is_read line.other_text p.other p.other_store (ending_of p.rule) line.other_side (ending_ends p.rule),
-      ending_is_read p.rule,
+      side_is_read line.other_text p.other p.other_store (suffix_of p.rule) line.other_side (suffix_ends p.rule),
+      suffix_is_read p.rule,
     ) refl
 
 pub empty_is_no_line : (p : Position) → ¬ IsLineOf [] p
@@ -560,7 +560,7 @@ unfolding line_text_of
 is_line_text text p line =
     let own = is_side_text line.own_text p.own p.own_store line.own_side in
     let other = is_side_text line.other_text p.other p.other_store line.other_side in
-    line.parts ∙ ap₂ (λ (a b : List ℕ). a ++ space ∷ b ++ ending_of p.rule) own other
+    line.parts ∙ ap₂ (λ (a b : List ℕ). a ++ space ∷ b ++ suffix_of p.rule) own other
 
 -- what holds of the result of a reading
 pub record IsResult (line : List ℕ) (r : Result Position LineFault) : Type 0 where
@@ -636,8 +636,8 @@ side_text_length houses store few short low =
     let last = number_length store low in
     omega (arith, few, own, last, length-append (join_with_byte comma (map decimal houses)) (slash ∷ decimal store))
 
-ending_length : (rule : Rule) → length (ending_of rule) ≤ 2
-ending_length rule = grind arith
+suffix_length : (rule : Rule) → length (suffix_of rule) ≤ 2
+suffix_length rule = grind arith
 
 -- ---- the text of a position is read back
 
@@ -652,14 +652,14 @@ text_has_few_bytes p limits own_low other_low =
       side_text_length p.own p.own_store limits.at_most_six (omega (arith, limits.few_seeds)) own_low,
       side_text_length p.other p.other_store (omega (arith, limits.at_most_six, limits.same_side))
           (omega (arith, limits.few_seeds)) other_low,
-      ending_length p.rule,
-      length-append (own ++ space ∷ other) (ending_of p.rule),
+      suffix_length p.rule,
+      length-append (own ++ space ∷ other) (suffix_of p.rule),
       length-append own (space ∷ other),
     )
 
 -- it does not end in a CR
 text_without_cr : (front houses : List ℕ) (store : ℕ) (rule : Rule) → store ≤ 99 →
-    without_cr (front ++ space ∷ side_text houses store ++ ending_of rule) ≡ front ++ space ∷ side_text houses store ++ ending_of rule
+    without_cr (front ++ space ∷ side_text houses store ++ suffix_of rule) ≡ front ++ space ∷ side_text houses store ++ suffix_of rule
 text_without_cr front houses store Classic low =
     let row = join_with_byte comma (map decimal houses) in
     let last = number_ends_without_cr slash (decimal store) store (decimal_is_number store low) in
@@ -682,7 +682,7 @@ text_is_read_back p limits own_low other_low =
       few_seeds = limits.few_seeds;
     }
 
--- ==== Only the ending of a line names the rule
+-- ==== Only the suffix of a line names the rule
 
 abbrev last_or : ℕ → List ℕ → ℕ
 last_or byte [] = byte
@@ -705,7 +705,7 @@ side_ends_in_digit byte text houses store side =
     omega (arith, last, number_ends_in_digit slash side.store_text store side.store_written)
 
 -- a line that ends in ` e` is under the empty-capture rule
-rule_of_end : (rule : Rule) (text own other front : List ℕ) → text ≡ own ++ space ∷ other ++ ending_of rule
+rule_of_end : (rule : Rule) (text own other front : List ℕ) → text ≡ own ++ space ∷ other ++ suffix_of rule
     → last_or space other ≤ 57 → text ≡ front ++ codes " e" → rule ≡ EmptyCapture
 rule_of_end EmptyCapture text own other front parts digit ends = refl
 rule_of_end Classic text own other front parts digit ends =
@@ -714,14 +714,14 @@ rule_of_end Classic text own other front parts digit ends =
     ∙ last_or-append 0 own space other in
     absurd (omega (arith, last, digit))
 
-pub ending_names_rule : (line : List ℕ) (p : Position) → Reads line p →
+pub suffix_names_rule : (line : List ℕ) (p : Position) → Reads line p →
     ((p.rule ≡ EmptyCapture) ↔ ((front : List ℕ) × (without_cr line ≡ front ++ codes " e")))
-ending_names_rule line p reads =
+suffix_names_rule line p reads =
     let form = reads.form in (
       λ is. (
         form.own_text ++ space ∷ form.other_text,
         form.parts
-            ∙ ap (λ (rule : Rule). form.own_text ++ space ∷ form.other_text ++ ending_of rule) is,
+            ∙ ap (λ (rule : Rule). form.own_text ++ space ∷ form.other_text ++ suffix_of rule) is,
       ),
       λ ends. rule_of_end p.rule (without_cr line) form.own_text form.other_text ends.0 form.parts
           (side_ends_in_digit space form.other_text p.other p.other_store form.other_side) ends.1,

@@ -37,8 +37,7 @@ use Rattle.kalah_jobs.specs.Writing.Shown.{AreSmall, AscendFrom, value_cell, val
 use Rattle.std.proofs.lemmas.List.Sums.{sum_by-cons, sum_by-append}
 use Rattle.kalah_jobs.specs.declared.writing.answer.Taken.{Taken}
 use Rattle.kalah_jobs.specs.Files.NamedBytes.{NamedBytes}
-use Rattle.kalah_jobs.specs.Files.Entry.{entry_of}
-use Rattle.kalah_jobs.specs.Files.Question.{entry_to}
+use Rattle.kalah_jobs.specs.Files.Entry.{entry_to}
 use Rattle.kalah_jobs.specs.declared.files.question.Question.{Question}
 use Rattle.kalah_jobs.specs.Files.JobList.{job_list}
 use Rattle.kalah_jobs.specs.Files.Jobs.{entries_to, jobs_to}
@@ -516,7 +515,7 @@ same_lines question files = sym (length-job_list (jobs_to question files) ∙ jo
 faults_of_lines : (question : Question) (lines : List (List ℕ)) →
     count_by is_faulty_entry (map (entry_to question) lines) ≡ count_by is_faulty lines
 faults_of_lines question lines =
-    count_map is_faulty_entry (entry_to question) lines ∙ (λ i. count_by (λ line. asked_fault question (entry_of line) i) lines)
+    count_map is_faulty_entry (entry_to question) lines ∙ (λ i. count_by (λ line. asked_fault question line i) lines)
 
 faults_of_files : (question : Question) (files : List NamedBytes)
     → sum_by (λ (file : NamedBytes). count_by is_faulty (lines_of file.bytes)) files

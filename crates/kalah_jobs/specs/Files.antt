@@ -1,5 +1,4 @@
 pub mod Entry
-pub mod Question
 pub mod JobList
 pub mod NamedBytes
 pub mod Lines

@@ -28,7 +28,7 @@ pub use files::question::Question;
 pub use limits::{MOST_FILE_BYTES, MOST_FILES, MOST_LINE_BYTES, MOST_LINES, limits_of_reading};
 pub use line::laws::{
     every_line_is_its_text, every_text_is_read_back, no_line_reads_twice,
-    only_the_ending_names_the_rule, plain_lines_read_the_same,
+    only_the_suffix_names_the_rule, plain_lines_read_the_same,
 };
 pub use line::line_fault::LineFault;
 pub use line::reading::read_line;

@@ -13,7 +13,7 @@ use Rattle.kalah_jobs.specs.declared.files.question.Question.TheVariants.{Steps}
 use Rattle.kalah_jobs.specs.Limits.{most_line_bytes}
 use Rattle.kalah_jobs.specs.Files.Lines.{line_feed, lines_of, HasNoLineFeed}
 use Rattle.kalah_jobs.specs.Files.NamedBytes.{NamedBytes}
-use Rattle.kalah_jobs.specs.Files.Question.{entry_to}
+use Rattle.kalah_jobs.specs.Files.Entry.{entry_to}
 use Rattle.kalah_jobs.specs.Writing.Answer.{answer_of, answer_texts, joined_text, in_one_line, place_text}
 use Rattle.kalah_jobs.specs.Writing.Output.{is_faulty, output_to, line_output}
 use Rattle.kalah_jobs.specs.Writing.Given.{SinkState}

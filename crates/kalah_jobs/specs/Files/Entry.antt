@@ -6,6 +6,8 @@ use Rattle.kalah_jobs.specs.Line.Reading.{reading_of}
 use Rattle.kalah_jobs.specs.declared.line.line_fault.LineFault.{LineFault}
 use Rattle.kalah_jobs.specs.declared.files.entry.Entry.{Entry}
 use Rattle.kalah_jobs.specs.declared.files.entry.Entry.TheVariants.{Position, ValuesOf, StepsOf, Bad}
+use Rattle.kalah_jobs.specs.declared.files.question.Question.{Question}
+use Rattle.kalah_jobs.specs.declared.files.question.Question.TheVariants.{BestMove, Values, Steps}
 
 -- the content of the line: it is read as the position, or the fault is the first that holds of it. A question is no part
 -- of a line
@@ -15,14 +17,24 @@ Says line (ValuesOf p) = ⊥
 Says line (StepsOf p) = ⊥
 Says line (Bad fault) = HasFault line fault
 
--- the position that was read, or the fault that was found
-abbrev pub entry_of_reading : Result position.Position LineFault → Entry
-entry_of_reading (Ok p) = Position p
-entry_of_reading (Err fault) = Bad fault
+-- the entry of a position of which this is asked
+abbrev pub entry_asked : Question → position.Position → Entry
+entry_asked BestMove p = Position p
+entry_asked Values p = ValuesOf p
+entry_asked Steps p = StepsOf p
 
--- the entry of a line
-unfoldable pub entry_of : List ℕ → Entry
-entry_of line = entry_of_reading (reading_of line)
+-- of the position that was read, or with the fault that was found
+abbrev pub entry_of_reading : Question → Result position.Position LineFault → Entry
+entry_of_reading question (Ok p) = entry_asked question p
+entry_of_reading question (Err fault) = Bad fault
+
+-- the entry of a line, with this asked of its position
+unfoldable pub entry_to : Question → List ℕ → Entry
+entry_to question line = entry_of_reading question (reading_of line)
+
+-- with its best move asked
+abbrev pub entry_of : List ℕ → Entry
+entry_of line = entry_to BestMove line
 
 -- each line has exactly one content
 pub record EntriesAreOne : Type 0 where

@@ -65,16 +65,16 @@ pub record IsSide (text : List ℕ) (houses : List ℕ) (store : ℕ) : Type 0 w
   pub store_written : IsNumber store_text store
 
 -- what stands after the second side
-abbrev pub ending_of : Rule → List ℕ
-ending_of Classic = []
-ending_of EmptyCapture = codes " e"
+abbrev pub suffix_of : Rule → List ℕ
+suffix_of Classic = []
+suffix_of EmptyCapture = codes " e"
 
 -- the text writes the position, of any number of houses and seeds: the mover's side, a space, the other player's side
--- and the ending of the rule
+-- and the suffix of the rule
 pub record IsLineOf (text : List ℕ) (p : Position) : Type 0 where
   pub own_text : List ℕ
   pub other_text : List ℕ
-  pub parts : text ≡ own_text ++ space ∷ other_text ++ ending_of p.rule
+  pub parts : text ≡ own_text ++ space ∷ other_text ++ suffix_of p.rule
   pub own_side : IsSide own_text p.own p.own_store
   pub other_side : IsSide other_text p.other p.other_store
 
@@ -112,7 +112,7 @@ side_text houses store = join_with_byte comma (map decimal houses) ++ slash ∷ 
 
 -- the line that writes the position, with each number in full
 unfoldable pub line_text_of : Position → List ℕ
-line_text_of p = side_text p.own p.own_store ++ space ∷ side_text p.other p.other_store ++ ending_of p.rule
+line_text_of p = side_text p.own p.own_store ++ space ∷ side_text p.other p.other_store ++ suffix_of p.rule
 
 -- ---- the text of a step
 

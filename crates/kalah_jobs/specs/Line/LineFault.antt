@@ -4,12 +4,12 @@ use Rattle.kalah_jobs.specs.declared.line.line_fault.LineFault.{LineFault}
 use Rattle.kalah_jobs.specs.declared.line.line_fault.LineFault.TheVariants.{Long, Empty, Shape, Houses, Seeds}
 
 -- the word that is printed for a fault
-abbrev pub word_of : LineFault → List ℕ
-word_of Long = codes "long"
-word_of Empty = codes "empty"
-word_of Shape = codes "shape"
-word_of Houses = codes "houses"
-word_of Seeds = codes "seeds"
+abbrev pub fault_word : LineFault → List ℕ
+fault_word Long = codes "long"
+fault_word Empty = codes "empty"
+fault_word Shape = codes "shape"
+fault_word Houses = codes "houses"
+fault_word Seeds = codes "seeds"
 
 -- the order in which faults are looked for
 abbrev pub order_of : LineFault → ℕ

@@ -19,7 +19,7 @@ abbrev pub EveryTextIsReadBack : Type 0
 EveryTextIsReadBack = (p : Position) → IsWithinLimits p → p.own_store ≤ most_in_store → p.other_store ≤ most_in_store
     → Reads (line_text_of p) p
 
--- the line is read as the position by a program that knows no ending and accepts at most `seeds` seeds
+-- the line is read as the position by a program that knows no suffix and accepts at most `seeds` seeds
 pub record ReadsPlainly (seeds : ℕ) (line : List ℕ) (p : Position) : Type 0 where
   pub few_bytes : length (without_cr line) ≤ most_line_bytes
   pub own_text : List ℕ
@@ -31,12 +31,12 @@ pub record ReadsPlainly (seeds : ℕ) (line : List ℕ) (p : Position) : Type 0 
   pub sides : HasSidesInLimits p
   pub few_seeds : seeds_in_houses p ≤ seeds
 
--- what such a program reads, of fewer seeds and without endings, is read here as the same position
+-- what such a program reads, of fewer seeds and without suffixes, is read here as the same position
 abbrev pub PlainLinesReadTheSame : Type 0
 PlainLinesReadTheSame = (seeds : ℕ) (line : List ℕ) (p : Position) → seeds ≤ most_seeds → ReadsPlainly seeds line p
     → Reads line p
 
 -- of the lines that are read, those that end in ` e` are under the empty-capture rule, and no others
-abbrev pub OnlyTheEndingNamesTheRule : Type 0
-OnlyTheEndingNamesTheRule = (line : List ℕ) (p : Position) → Reads line p →
+abbrev pub OnlyTheSuffixNamesTheRule : Type 0
+OnlyTheSuffixNamesTheRule = (line : List ℕ) (p : Position) → Reads line p →
     ((p.rule ≡ EmptyCapture) ↔ ((front : List ℕ) × (without_cr line ≡ front ++ codes " e")))

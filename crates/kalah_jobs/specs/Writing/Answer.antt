@@ -10,7 +10,7 @@ use Rattle.kalah_solve.specs.Solver.MoveValues.{values_of}
 use Rattle.kalah_solve.specs.declared.solver.move_values.MoveValue.{MoveValue}
 use Rattle.kalah_jobs.specs.Files.Lines.{line_feed}
 use Rattle.kalah_jobs.specs.Line.Line.{space, step_text_of}
-use Rattle.kalah_jobs.specs.Line.LineFault.{word_of}
+use Rattle.kalah_jobs.specs.Line.LineFault.{fault_word}
 use Rattle.kalah_jobs.specs.declared.files.entry.Entry.{Entry}
 use Rattle.kalah_jobs.specs.declared.files.entry.Entry.TheVariants.{Position, ValuesOf, StepsOf, Bad}
 use Rattle.kalah_jobs.specs.declared.writing.answer.Answer.{Answer}
@@ -67,7 +67,7 @@ answer_texts (Best margin house) = (signed_decimal margin ++ (codes " house " ++
 answer_texts (Over margin) = (signed_decimal margin ++ codes " over") ∷ []
 answer_texts (Values values) = values_text values ∷ []
 answer_texts (Steps p) = steps_texts p
-answer_texts (Fault fault) = (codes "fault " ++ word_of fault) ∷ []
+answer_texts (Fault fault) = (codes "fault " ++ fault_word fault) ∷ []
 
 -- the answer isn't of steps, so that it has one text
 abbrev pub IsOfOneLine : Answer → Type 0

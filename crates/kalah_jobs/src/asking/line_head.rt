@@ -17,12 +17,13 @@ pub(crate) struct LineHead {
 
 impl Model for LineHead {
     ghost use Rattle.std.specs.Prelude.{◌≡◌, ◌≤◌, ℕ, List, length, take};
+    ghost use Rattle.kalah_jobs.specs.declared.asking.line_head.TheConstants.{ROOM};
 
     ghost Value = { List ℕ };
 
     ghost view = { λ h. take h.len h.bytes };
 
-    ghost invariant = { λ h. (length h.bytes ≡ 82) × (h.len ≤ 82) };
+    ghost invariant = { λ h. (length h.bytes ≡ ROOM) × (h.len ≤ ROOM) };
 }
 
 impl LineHead {

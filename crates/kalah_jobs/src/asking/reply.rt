@@ -8,7 +8,7 @@ use crate::asking::line_head::LineHead;
 use crate::asking::prompt_solver::{PromptSolver, takes_long};
 use crate::files::entry::Entry;
 use crate::files::question::Question;
-use crate::writing::answer_line::write_text;
+use crate::writing::answer_line::write_joined_text;
 use crate::writing::sink::{Sink, flush_unless_failed};
 
 // Writes the answer to a line, and a line feed, and returns whether the line was read.
@@ -22,7 +22,7 @@ pub(crate) fn write_reply<O: Sink>(
     ensures read { result ≡ not (is_faulty line.now) }
 {
     let entry = Entry::of_line(question, line.bytes());
-    let is_read = !entry.is_bad();
+    let is_read = !entry.is_faulty();
     if takes_long(&entry) {
         flush_unless_failed(out);
         if out.failed() {
@@ -30,7 +30,7 @@ pub(crate) fn write_reply<O: Sink>(
         }
     }
     let answer = solver.answer(&entry, out);
-    write_text(out, &answer);
+    write_joined_text(out, &answer);
     is_read
 }
 

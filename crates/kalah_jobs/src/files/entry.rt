@@ -1,6 +1,6 @@
 //! The content of a line of a file, and what is asked of it.
 ghost use Rattle.std.specs.Prelude.{◌≡◌, ◌↔◌, IsTrue};
-ghost use Rattle.kalah_jobs.specs.Files.Question.{entry_asked, entry_to};
+ghost use Rattle.kalah_jobs.specs.Files.Entry.{entry_asked, entry_to};
 ghost use Rattle.kalah_jobs.specs.Writing.Answer.{is_faulty_entry};
 
 use crate::files::question::Question;
@@ -22,12 +22,10 @@ pub enum Entry {
 }
 
 impl Entry {
-    ghost use Rattle.kalah_jobs.specs.declared.files.entry.Entry.TheVariants.{Position};
-
     // Returns the content of a line that writes this position, with this question.
     #[inline(always)]
     pub(crate) fn of_board(question: Question, board: Board) -> Entry
-        ensures { result ≡ entry_asked question (Position board) }
+        ensures { result ≡ entry_asked question board }
     {
         match question {
             Question::BestMove => Entry::Position(board),
@@ -37,7 +35,7 @@ impl Entry {
     }
 
     // Returns the content of the line, with this question.
-    #[tactic(auto, unfolding(crate::specs::Files::Entry::entry_of))]
+    #[tactic(auto, unfolding(crate::specs::Files::Entry::entry_to))]
     #[inline(always)]
     pub(crate) fn of_line(question: Question, line: &[u8]) -> Entry
         ensures { result ≡ entry_to question line.now }
@@ -49,8 +47,8 @@ impl Entry {
     }
 
     // Returns whether the line is not read, so that it is answered by its fault.
-    #[tactic(auto, using(crate::proofs::FilesLemmas::bad_is_fault))]
-    pub(crate) fn is_bad(&self) -> bool
+    #[tactic(auto, unfolding(crate::specs::Writing::Answer::answer_of))]
+    pub(crate) fn is_faulty(&self) -> bool
         ensures { result ≡ is_faulty_entry self.now }
     {
         match self {

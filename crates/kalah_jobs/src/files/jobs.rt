@@ -222,7 +222,7 @@ fn read_entries(
     while !rest.is_empty() {
         let (line, after) = first_line(rest);
         let entry = Entry::of_line(question, line);
-        if entry.is_bad() {
+        if entry.is_faulty() {
             faults += 1;
         }
         entries.push(entry)?;

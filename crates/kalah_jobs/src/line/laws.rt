@@ -1,5 +1,5 @@
 //! Laws of lines, over the definitions that the contracts use.
-ghost use Rattle.kalah_jobs.specs.Line.LineLaws.{NoLineReadsTwice, EveryLineIsItsText, EveryTextIsReadBack, PlainLinesReadTheSame, OnlyTheEndingNamesTheRule};
+ghost use Rattle.kalah_jobs.specs.Line.LineLaws.{NoLineReadsTwice, EveryLineIsItsText, EveryTextIsReadBack, PlainLinesReadTheSame, OnlyTheSuffixNamesTheRule};
 
 /// No line is read as two positions.
 pub fn no_line_reads_twice()
@@ -22,6 +22,6 @@ pub fn plain_lines_read_the_same()
 {}
 
 /// Of the lines that are read, those that end in ` e` are under the empty-capture rule, and all others under the classic one.
-pub fn only_the_ending_names_the_rule()
-    ensures { OnlyTheEndingNamesTheRule }
+pub fn only_the_suffix_names_the_rule()
+    ensures { OnlyTheSuffixNamesTheRule }
 {}

@@ -1,6 +1,6 @@
 //! Why a line is not read.
 ghost use Rattle.std.specs.Prelude.{◌≡◌};
-ghost use Rattle.kalah_jobs.specs.Line.LineFault.{word_of};
+ghost use Rattle.kalah_jobs.specs.Line.LineFault.{fault_word};
 
 /// Why a line is not read as a position: the first of these that holds.
 #[derive(Clone, Copy, Debug, PartialEq, Eq)]
@@ -9,7 +9,7 @@ pub enum LineFault {
     Long,
     /// It has no bytes.
     Empty,
-    /// It is not two sides of at least one house each, followed by nothing but the ending of the rule.
+    /// It is not two sides of at least one house each, followed by nothing but the suffix of the rule.
     Shape,
     /// The sides differ in length, or have more than 6 houses.
     Houses,
@@ -20,7 +20,7 @@ pub enum LineFault {
 impl LineFault {
     /// Returns the word that is printed for the fault.
     pub fn word(self) -> &'static str
-        ensures { result.now ≡ word_of self }
+        ensures { result.now ≡ fault_word self }
     {
         match self {
             LineFault::Long => "long",

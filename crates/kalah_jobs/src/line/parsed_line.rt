@@ -1,7 +1,5 @@
 //! The form of a position line, before its limits are tested.
 ghost use Rattle.std.specs.Prelude.{◌≡◌, ◌≤◌, length, IfSome, IfNone, Some, None};
-ghost use Rattle.kalah_rules.specs.declared.rule.Rule.{Rule as AnyRule};
-ghost use Rattle.kalah_jobs.specs.Line.Line.{ending_of};
 ghost use Rattle.kalah_jobs.specs.Line.Reading.{rule_of};
 
 use crate::line::line_fault::LineFault;
@@ -16,13 +14,11 @@ pub(crate) struct ParsedLine {
     pub(crate) rule: Rule,
 }
 
-// Returns the rule that what stands after the second side names.
-fn read_rule(ending: &[u8]) -> Option<Rule>
-    ensures is { IfSome result (λ rule. ending.now ≡ ending_of rule) }
-    ensures every { (rule : AnyRule) → ending.now ≡ ending_of rule → result ≡ Some rule }
-    ensures exact { result ≡ rule_of ending.now }
+// Returns the rule that the suffix of a line, which stands after the second side, names.
+fn read_rule(suffix: &[u8]) -> Option<Rule>
+    ensures { result ≡ rule_of suffix.now }
 {
-    match ending {
+    match suffix {
         [] => Some(Rule::Classic),
         [b' ', b'e'] => Some(Rule::EmptyCapture),
         _ => None,
@@ -35,7 +31,7 @@ impl ParsedLine {
     ghost use Rattle.kalah_jobs.specs.Line.ParsedLine.{Shows};
     ghost use Rattle.kalah_jobs.specs.Line.Reading.{written_of, admitted};
 
-    // Reads the two sides of a text, with one space between them, and the rule that its ending names.
+    // Reads the two sides of a text, with one space between them, and the rule that its suffix names.
     #[tactic(auto, unfolding(crate::specs::Line::Reading::written_of))]
     #[inline(always)]
     pub(crate) fn read(text: &[u8]) -> Option<ParsedLine>

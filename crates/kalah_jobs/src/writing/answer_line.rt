@@ -49,7 +49,7 @@ fn prepend_values(text: &mut StackText, values: &MoveValues, i: u8)
 
 // Puts an answer in words in front of the text.
 #[inline(always)]
-fn prepend_text(text: &mut StackText, answer: &Answer)
+fn prepend_joined_text(text: &mut StackText, answer: &Answer)
     requires room { length text.old + 96 ≤ ROOM }
     requires one_line { IsOfOneLine answer.now }
     ensures words { text.new ≡ joined_text answer.now ++ text.old }
@@ -96,17 +96,17 @@ pub fn answer_text(alloc: Global, name: &str, taken: &Taken) -> Result<String, A
     ensures { IfOk result (λ text. string_bytes text ≡ answer_line name.now taken.now) }
 {
     let mut text = String::new(alloc);
-    let mut ending = StackText::new();
+    let mut rest = StackText::new();
     match &taken.answer {
         Answer::Steps(board) => {
-            prepend_place(&mut ending, taken.line);
-            push_steps(&mut text, name, ending.as_str(), board)?;
+            prepend_place(&mut rest, taken.line);
+            push_steps(&mut text, name, rest.as_str(), board)?;
         }
         _ => {
-            prepend_text(&mut ending, &taken.answer);
-            prepend_place(&mut ending, taken.line);
+            prepend_joined_text(&mut rest, &taken.answer);
+            prepend_place(&mut rest, taken.line);
             text.push_str(name)?;
-            text.push_str(ending.as_str())?;
+            text.push_str(rest.as_str())?;
         }
     }
     Ok(text)
@@ -125,7 +125,7 @@ pub fn write_answer_unless_failed<W: Sink>(out: &mut W, name: &str, taken: &Take
         }
         _ => {
             text.prepend("\n");
-            prepend_text(&mut text, &taken.answer);
+            prepend_joined_text(&mut text, &taken.answer);
             prepend_place(&mut text, taken.line);
             write_named(out, name, &mut text);
         }
@@ -152,7 +152,7 @@ pub fn write_answer<W: Sink>(out: &mut W, name: &str, taken: &Taken) -> Result<(
 }
 
 // Writes an answer in words, and a line feed.
-pub(crate) fn write_text<W: Sink>(out: &mut W, answer: &Answer)
+pub(crate) fn write_joined_text<W: Sink>(out: &mut W, answer: &Answer)
     ensures { WasGiven W.state out.old out.new (joined_text answer.now ++ line_feed ∷ []) }
 {
     match answer {
@@ -160,7 +160,7 @@ pub(crate) fn write_text<W: Sink>(out: &mut W, answer: &Answer)
         _ => {
             let mut text = StackText::new();
             text.prepend("\n");
-            prepend_text(&mut text, answer);
+            prepend_joined_text(&mut text, answer);
             write_unless_failed(out, text.bytes());
         }
     }

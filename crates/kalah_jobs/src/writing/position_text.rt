@@ -5,7 +5,7 @@ ghost use Rattle.kalah_rules.specs.Limits.{most_in_store};
 ghost use Rattle.kalah_rules.specs.Play.{position_after};
 ghost use Rattle.kalah_rules.specs.Position.{IsWithinLimits, side_length};
 ghost use Rattle.kalah_jobs.specs.Files.Lines.{line_feed};
-ghost use Rattle.kalah_jobs.specs.Line.Line.{Reads, ending_of, side_text, line_text_of, word_of_step, step_text_of};
+ghost use Rattle.kalah_jobs.specs.Line.Line.{Reads, suffix_of, side_text, line_text_of, word_of_step, step_text_of};
 ghost use Rattle.kalah_jobs.specs.Writing.Player.{houses_of, store_of};
 ghost use Rattle.kalah_jobs.specs.Writing.Variation.{value_after};
 
@@ -34,9 +34,9 @@ fn prepend_side(text: &mut StackText, board: &Board, player: Player, i: u8)
     text.prepend_byte(seeds);
 }
 
-// Returns the ending of a line, which names its rule.
-fn ending(rule: Rule) -> &'static str
-    ensures ending { result.now ≡ ending_of rule }
+// Returns the suffix of a line, which names its rule.
+fn suffix(rule: Rule) -> &'static str
+    ensures suffix { result.now ≡ suffix_of rule }
     ensures short { length result.now ≤ 2 }
 {
     match rule {
@@ -53,7 +53,7 @@ fn prepend_board(text: &mut StackText, board: &Board)
     ensures line { text.new ≡ line_text_of board.now ++ text.old }
     ensures short { length text.new ≤ length text.old + 57 }
 {
-    text.prepend(ending(board.rule()));
+    text.prepend(suffix(board.rule()));
     prepend_side(text, board, Player::Other, 0);
     text.prepend(" ");
     prepend_side(text, board, Player::Mover, 0);

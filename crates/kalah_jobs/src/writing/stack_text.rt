@@ -20,12 +20,13 @@ pub(crate) struct StackText {
 
 impl Model for StackText {
     ghost use Rattle.std.specs.Prelude.{◌≡◌, ◌≤◌, ℕ, List, IsUtf8, length, drop};
+    ghost use Rattle.kalah_jobs.specs.declared.writing.stack_text.TheConstants.{ROOM};
 
     ghost Value = { List ℕ };
 
     ghost view = { λ t. drop t.start t.bytes };
 
-    ghost invariant = { λ t. (length t.bytes ≡ 128) × (t.start ≤ 128) × IsUtf8 (drop t.start t.bytes) };
+    ghost invariant = { λ t. (length t.bytes ≡ ROOM) × (t.start ≤ ROOM) × IsUtf8 (drop t.start t.bytes) };
 }
 
 impl StackText {

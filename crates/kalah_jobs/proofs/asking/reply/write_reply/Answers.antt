@@ -10,9 +10,9 @@ returns-then-failed-clause-given g c =
     given_cut_off _ _ _ [] _ c.flush_unless_failed.ensures.given (sym c.failed.ensures ∙ c.if-failed.true)
 
 pub returns-then-failed-clause-read : goal.returns-then-failed-clause-read
-returns-then-failed-clause-read g c = ap not (c.is_bad-is_read.ensures ∙ ap is_faulty_entry c.of_line-entry.ensures
+returns-then-failed-clause-read g c = ap not (c.is_faulty-is_read.ensures ∙ ap is_faulty_entry c.of_line-entry.ensures
     ∙ asked_fault c.args.question _ ∙ ap is_faulty c.bytes.ensures)
 
 pub returns-clause-read : goal.returns-clause-read
-returns-clause-read g c = ap not (c.is_bad-is_read.ensures ∙ ap is_faulty_entry c.of_line-entry.ensures
+returns-clause-read g c = ap not (c.is_faulty-is_read.ensures ∙ ap is_faulty_entry c.of_line-entry.ensures
     ∙ asked_fault c.args.question _ ∙ ap is_faulty c.bytes.ensures)

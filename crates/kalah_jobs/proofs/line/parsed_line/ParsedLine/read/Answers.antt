@@ -10,7 +10,7 @@ pub returns-in_err-rule-clause-none : goal.returns-in_err-rule-clause-none
 returns-in_err-rule-clause-none c =
     rw c.from_residual-in_err-rule.ensures
     (sides_are_no_line c.args.text.now c.in_ok-mark.rest.now c.in_ok-own.ensures.is.1.1 c.in_ok-mark.ensures.cases.0
-    c.if-mark-ne32.false c.in_ok-other.ensures.is.1.1 (sym c.in_err-rule.ensures.exact))
+    c.if-mark-ne32.false c.in_ok-other.ensures.is.1.1 (sym c.in_err-rule.ensures))
 
 pub returns-clause-is : goal.returns-clause-is
 returns-clause-is c =
@@ -20,7 +20,7 @@ returns-clause-is c =
     c.in_ok-rule.rule in
     let written =
     sides_are_written c.args.text.now c.in_ok-mark.rest.now own.1.1 c.in_ok-mark.ensures.cases.0 c.if-mark-ne32.false other.1.1
-    (sym c.in_ok-rule.ensures.exact) in
+    (sym c.in_ok-rule.ensures) in
     let form = written_is_line c.args.text.now p written in (
       p,
       (

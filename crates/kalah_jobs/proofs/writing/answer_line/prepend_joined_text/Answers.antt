@@ -3,7 +3,7 @@ use Rattle.std.specs.Fmt.{decimal}
 use Rattle.std.proofs.lemmas.Int.{ints}
 use Rattle.kalah_jobs.specs.Writing.Answer.{joined_text}
 use Rattle.kalah_jobs.proofs.WritingLemmas.{from_margin}
-use Rattle.kalah_jobs.proofs.writing.answer_line.prepend_text.Goals as goal
+use Rattle.kalah_jobs.proofs.writing.answer_line.prepend_joined_text.Goals as goal
 
 pub returns-in-Best-clause-words : goal.returns-in-Best-clause-words
 returns-in-Best-clause-words c =
