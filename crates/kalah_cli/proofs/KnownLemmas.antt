@@ -3,7 +3,7 @@ use Rattle.std.proofs.Common.{◌≡◌, ◌≢◌, ◌∷◌, ℕ, List, [], Op
 use Rattle.std.specs.Prelude.{◌↔◌, IfSome}
 use Rattle.std.specs.Io.KnownBytes.{Appends}
 use Rattle.clap.specs.Words.{Text}
-use Rattle.kalah_jobs.specs.Asking.Asked.{answers_to, are_all_read}
+use Rattle.kalah_jobs.specs.Asking.{answers_to, are_all_read}
 use Rattle.kalah_jobs.specs.Files.NamedBytes.{NamedBytes}
 use Rattle.kalah_jobs.specs.Writing.Given.{SinkState}
 use Rattle.kalah_jobs.specs.declared.files.question.Question.{Question}

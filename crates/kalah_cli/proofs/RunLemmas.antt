@@ -28,7 +28,7 @@ use Rattle.std.specs.Io.Buffered.{reader_buffer, reader_capacity, reader_inner, 
 use Rattle.std.specs.Io.KnownBytes.{prepend_known}
 use Rattle.std.specs.declared.io.buffered.BufReader.{BufReader}
 use Rattle.std.proofs.KnownBytes.{Keeps-refl}
-use Rattle.kalah_jobs.specs.Asking.Asked.{IsAnswered, IsBegun, IsCutOff}
+use Rattle.kalah_jobs.specs.Asking.{IsAnswered, IsBegun, IsCutOff}
 use Rattle.kalah_jobs.proofs.AskingLemmas.{begun_so_far, cut_off, nothing_read}
 use Rattle.kalah_cli.specs.Ask.{AnswersInput, StopsBetweenLines}
 use Rattle.std.proofs.Math.Nat.{le_trans, pow-le-pow_right}

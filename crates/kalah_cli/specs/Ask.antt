@@ -1,6 +1,6 @@
 -- What `kalah ask` writes for the bytes that a reader had left, if these are known. Of the standard input they aren't.
 use Rattle.std.specs.Prelude.{◌≡◌, ◌≢◌, ◌↔◌, ℕ, List, Bool, Option, false, true}
-use Rattle.kalah_jobs.specs.Asking.Asked.{IsAnswered, IsBegun, IsCutOff}
+use Rattle.kalah_jobs.specs.Asking.{IsAnswered, IsBegun, IsCutOff}
 use Rattle.kalah_jobs.specs.declared.files.question.Question.{Question}
 use Rattle.kalah_jobs.specs.Writing.Given.{SinkState}
 use Rattle.kalah_cli.specs.declared.status.ExitStatus.{ExitStatus}

@@ -1,7 +1,7 @@
 -- Runs over a disk and a standard input that are known.
 use Rattle.std.specs.Prelude.{◌≡◌, ◌≢◌, ◌↔◌, ℕ, All, Bool, true, List, Some, map}
 use Rattle.clap.specs.Words.{Text}
-use Rattle.kalah_jobs.specs.Asking.Asked.{answers_to, are_all_read}
+use Rattle.kalah_jobs.specs.Asking.{answers_to, are_all_read}
 use Rattle.kalah_jobs.specs.Files.NamedBytes.{NamedBytes}
 use Rattle.kalah_jobs.specs.Writing.Output.{output_to, tally_of}
 use Rattle.kalah_jobs.specs.declared.files.question.Question.{Question}

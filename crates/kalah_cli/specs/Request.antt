@@ -100,7 +100,7 @@ abbrev pub flags_ask : Bool → Bool → Option ℕ → Asked
 flags_ask false false table = ask BestMove (unwrap_or table default_entries)
 flags_ask true false table = ask Values (unwrap_or table default_entries)
 flags_ask false true None = ask Steps (table_of Steps)
-flags_ask false true (Some entries) = conflict
+flags_ask false true (Some table) = conflict
 flags_ask true true table = conflict
 
 -- what the matches of `ask` ask for
@@ -144,13 +144,13 @@ request_asks Conflict = conflict
 
 -- ---- what is in its range
 
--- workers and entries are in their ranges, and there is a file
+-- workers and table are in their ranges, and there is a file
 abbrev pub IsInLimits : FilesRequest → Type 0
 IsInLimits b = AreWorkers b.workers × IsTableSize b.table × (0 < length b.files.items)
 
--- the solver has an empty table of this size
+-- the solver has an empty table of this capacity
 abbrev pub HasTable : ℕ → Solver Global → Type 0
-HasTable entries solver = solver.search.table ≡ empty_table entries
+HasTable capacity solver = solver.search.table ≡ empty_table capacity
 
 -- numbers are in their ranges
 abbrev pub IsCommandInRange : LineCommand → Type 0

@@ -26,12 +26,12 @@ pub(crate) struct GameSolver<O> {
     sink: Snapshot<O>,
 }
 
-/// Returns a solver with an empty table that has room for `entries` entries. Fails with `AllocError` only if memory was refused.
-pub(crate) fn new_solver(alloc: Global, entries: u32) -> Result<Solver, AllocError>
-    requires { IsTableSize entries }
-    ensures { IfOk result (HasTable entries) }
+/// Returns a solver with an empty table of this capacity. Fails with `AllocError` only if memory was refused.
+pub(crate) fn new_solver(alloc: Global, capacity: u32) -> Result<Solver, AllocError>
+    requires { IsTableSize capacity }
+    ensures { IfOk result (HasTable capacity) }
 {
-    Ok(Solver::new(Table::new(alloc, entries)?))
+    Ok(Solver::new(Table::new(alloc, capacity)?))
 }
 
 impl<O: Sink> GameSolver<O> {
@@ -39,17 +39,17 @@ impl<O: Sink> GameSolver<O> {
     /// written yet.
     pub(crate) fn new(
         alloc: Global,
-        entries: u32,
+        capacity: u32,
         board: &Board,
         form: Form,
         out: &O,
     ) -> Result<GameSolver<O>, AllocError>
-        requires { IsTableSize entries }
-        ensures table { IfOk result (λ s. HasTable entries s.solver) }
+        requires { IsTableSize capacity }
+        ensures table { IfOk result (λ s. HasTable capacity s.solver) }
         ensures begun { IfOk result (λ s. begun s ≡ record { form = form; first = board.now; sink = out.now }) }
     {
         Ok(GameSolver {
-            solver: new_solver(alloc, entries)?,
+            solver: new_solver(alloc, capacity)?,
             form,
             first: *board,
             sink: Snapshot::of(out),

@@ -82,7 +82,10 @@ const TABLE: Argument = Argument {
     },
 };
 
-const PROGRESS: Argument = flag!("progress", "Show on standard error how many lines are answered");
+const PROGRESS: Argument = flag!(
+    "progress",
+    "Show on standard error how many lines are answered"
+);
 
 const FILES: Argument = Argument {
     name: "file",
@@ -124,7 +127,10 @@ pub(crate) const SHOW: &Subcommand = &Subcommand {
     long_help: help::LONG_OF_SHOW,
     arguments: &[
         flag!("plain", "Draw the position alone, and search nothing"),
-        flag!("lines", "Print the best play after each move, the best move first"),
+        flag!(
+            "lines",
+            "Print the best play after each move, the best move first"
+        ),
         TABLE,
         LINE,
     ],
@@ -137,7 +143,10 @@ pub(crate) const PLAY: &Subcommand = &Subcommand {
     arguments: &[
         TABLE,
         BOARDS,
-        flag!("values", "Print with each move the value of the position it was made in"),
+        flag!(
+            "values",
+            "Print with each move the value of the position it was made in"
+        ),
         Argument {
             name: "first",
             help: "Begin with house H, 1 to 6, and go on with best play",
@@ -165,7 +174,10 @@ pub(crate) const ASK: &Subcommand = &Subcommand {
     long_help: help::LONG_OF_ASK,
     arguments: &[
         flag!("values", "Print what each move is worth, as `values`"),
-        flag!("steps", "Print each legal move, as `steps`, with `; ` between any two"),
+        flag!(
+            "steps",
+            "Print each legal move, as `steps`, with `; ` between any two"
+        ),
         Argument {
             name: "table",
             help: "Use tables of N entries, 1 to 1048576 [default: 65536]",

@@ -178,6 +178,7 @@ are_lines_of (byte ∷ bytes) =
 
 -- ---- and no others are
 
+-- pieces that each end in a line feed are lines, before those of the rest
 lines_of-feeds : (pieces : List (List ℕ)) (rest : List ℕ) → All HasNoLineFeed pieces →
     lines_of (with_line_feeds pieces ++ rest) ≡ pieces ++ lines_of rest
 lines_of-feeds [] rest whole = refl
@@ -196,6 +197,7 @@ All-before (piece ∷ before) last whole =
     let rest = All-before before last (All-tail HasNoLineFeed piece (before ++ last ∷ []) whole) in
     (All-cons HasNoLineFeed piece before (All-head HasNoLineFeed piece (before ++ last ∷ []) whole) rest.0, rest.1)
 
+-- no other pieces are the lines of the bytes
 no_others : (bytes : List ℕ) (pieces : List (List ℕ)) → AreLines bytes pieces → pieces ≡ lines_of bytes
 unfolding lines_of
 no_others bytes pieces are = elim are.parts [

@@ -37,6 +37,7 @@ pub record WritesNumber (bytes : List ℕ) (n : ℕ) (rest : List ℕ) : Type 0 
   pub parts : bytes ≡ text ++ rest
   pub number : IsNumber text n
 
+-- the digits at the front of the bytes write the number that is read of them
 digits_written : (first : ℕ) (rest : List ℕ) → IsAsciiDigit first →
     WritesNumber (first ∷ rest) (number_from (first - 48) rest).0 (number_from (first - 48) rest).1
 digits_written first [] digit = record { text = first ∷ []; parts = refl; number = (digit, refl) }
@@ -160,6 +161,7 @@ module _ {houses bytes : List ℕ} {n : ℕ} where
     };
   }
 
+  -- what is read after a house is its store, or a comma and more houses
   house_written : (i : ℕ) (rest : List ℕ) (found : Found) → WritesNumber bytes n rest →
       ((next : List ℕ) → side_from i (houses ++ n ∷ []) next ≡ Some found → WritesSide (houses ++ n ∷ []) next found) →
       house_followed (store_at (houses ++ n ∷ [])) (side_from i (houses ++ n ∷ [])) rest ≡ Some found →
@@ -249,6 +251,7 @@ pub record IsTaking (bytes : List ℕ) (side : Side) (rest : List ℕ) : Type 0 
   pub has : AreKept houses side.row side.left_out
   pub goes_on : side_at bytes ≡ side_from steps houses rest
 
+-- before the first house
 pub begins_taking : (bytes : List ℕ) (side : Side) → AreKept [] side.row side.left_out → side.left_out ≡ 0 →
     IsTaking bytes side bytes
 unfolding side_at
@@ -351,6 +354,7 @@ pub sides_are_no_line : (text rest : List ℕ) {own other : Found} {mark : ℕ} 
 unfolding written_of
 sides_are_no_line text rest own_read mark is other_read none = rw (own_read, mark, is, other_read, none) refl
 
+-- what is read after the first side is a space, the other side and a suffix
 rest_is_written : (text : List ℕ) (houses : List ℕ) (store : ℕ) (rest : List ℕ) (p : Position) →
     side_at text ≡ Some (houses, store, rest) → position_from houses store rest ≡ Some p → IsLineOf text p
 rest_is_written text houses store [] p own e = absurd cc
@@ -410,6 +414,7 @@ same_order a b same = grind arith
 abbrev NoneBefore : List ℕ → ℕ → Type 0
 NoneBefore text n = (earlier : LineFault) → order_of earlier < n → ¬ Holds earlier text
 
+-- there is none before the first
 none_at_first : (text : List ℕ) → NoneBefore text 1
 none_at_first text earlier low = grind arith
 
@@ -502,6 +507,7 @@ one_fault : (line : List ℕ) (a b : LineFault) → HasFault line a → HasFault
 one_fault line a b first second =
     grind (arith, same_order a b, first.first b, second.first a, first.holds, second.holds)
 
+-- a line has one reading
 one_reading : (line : List ℕ) (r s : Result Position LineFault) → IsReading line r → IsReading line s → r ≡ s
 one_reading line (Ok p) (Ok q) first second = ap (λ (p : Position). Ok p) (reads_once line p q first second)
 one_reading line (Ok p) (Err fault) first second = absurd (no_fault line p first fault second.holds)

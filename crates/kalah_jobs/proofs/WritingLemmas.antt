@@ -172,6 +172,7 @@ pub first_moves : (one : ℕ → List ℕ) (moves others : List ℕ) (i : ℕ) �
 first_moves one moves others i same =
     sym (flat_map-append one (take i moves) (drop i moves)) ∙ ap (flat_map one) (take-append-drop i moves ∙ same)
 
+-- a place after the first isn't the first
 later : (i : ℕ) → (suc i == 0) ≡ false
 later i = ne_eqb (suc i) 0 (λ e. omega (arith, e))
 
@@ -258,11 +259,6 @@ module _ {O : Type 0} (state : O → SinkState) where
       → WasGiven state between new [] → WasGiven state old new text
   given_flushed old between new text first second =
       subst (WasGiven state old new) (append-nil text) (given_then old between new text [] first second)
-
-  -- a flush, and then a text
-  pub given_after : (old between new : O) (text : List ℕ) → WasGiven state old between []
-      → WasGiven state between new text → WasGiven state old new text
-  given_after old between new text first second = given_then old between new [] text first second
 
   -- a text that goes on after a failure
   pub given_cut_off : (old between : O) (text more : List ℕ) → WasGiven state old between text → (state between).has_failed ≡ true
@@ -381,6 +377,7 @@ line_before name taken after words text other is place =
 
 -- ==== Values below the houses of a picture
 
+-- the value and the house are in their ranges
 abbrev IsSmallValue : MoveValue → Type 0
 IsSmallValue v = IsSmallMargin v.value × (v.house ≤ most_houses)
 
@@ -447,6 +444,7 @@ ascend_more : (p : Position) (from : ℕ) (rest : List ℕ) (is_kept : Bool) →
 ascend_more p from rest true ascend = (omega arith, ascend)
 ascend_more p from rest false ascend = ascend_later from (from + 1) (map (move_value p) rest) (omega arith) ascend
 
+-- the values of the houses that are kept ascend by their houses
 kept_ascend : (f : ℕ → Bool) (p : Position) (from n : ℕ) → AscendFrom from (map (move_value p) (filter f (range_with_len from n)))
 kept_ascend f p from zero = tt
 kept_ascend f p from (suc n) = ascend_more p from (filter f (range_with_len (from + 1) n)) (f from) (kept_ascend f p (from + 1) n)
@@ -517,6 +515,7 @@ faults_of_lines : (question : Question) (lines : List (List ℕ)) →
 faults_of_lines question lines =
     count_map is_faulty_entry (entry_to question) lines ∙ (λ i. count_by (λ line. asked_fault question line i) lines)
 
+-- the faults of files are the faulty entries of their jobs
 faults_of_files : (question : Question) (files : List NamedBytes)
     → sum_by (λ (file : NamedBytes). count_by is_faulty (lines_of file.bytes)) files
     ≡ count_by is_faulty_entry (all_entries (jobs_to question files))
@@ -600,6 +599,7 @@ enumerate_from-append number (line ∷ lines) more =
     let e : number + 1 + length lines ≡ number + suc (length lines) = omega arith in
     simp (enumerate_from-append (number + 1) lines more, e)
 
+-- what is written for two parts, of which the first ends with its line, is what is written for each
 output_split : (first second : List ℕ) → EndsWithItsLine first → (number : ℕ) (question : Question) (name : List ℕ) →
     output_from number question name (first ++ second)
     ≡ output_from number question name first ++ output_from (number + length (lines_of first)) question name second
@@ -614,6 +614,7 @@ whole_tally : (file : NamedBytes) → tally_of (file ∷ []) ≡ tally_in file.b
 unfolding tally_of
 whole_tally file = refl
 
+-- they are counted together
 tally_split : (first second : List ℕ) → EndsWithItsLine first
     → tally_in (first ++ second) ≡ counted_together (tally_in first) (tally_in second)
 unfolding tally_of

@@ -1,1 +1,125 @@
-pub mod Asked
+-- What is written if lines come one after another, and each is answered. A reader is seen as the bytes that it has left, and a
+-- sink as those that were written to it, before and after, if these are known.
+use Rattle.std.specs.Prelude.{◌≡◌, ◌≢◌, ℕ, ◌+◌, ◌<◌, ◌≤◌, List, [], ◌∷◌, ◌++◌, Bool, true, not, IfSome, Option, None, Some, length, take, map}
+use Rattle.std.specs.List.{flat_map, enumerate_from, join_with_byte, list_any}
+use Rattle.std.specs.Io.Buffered.{reader_remaining}
+use Rattle.std.specs.Io.KnownBytes.{Appends, Consumes}
+use Rattle.kalah_rules.specs.Position.{seeds_in_houses}
+use Rattle.kalah_jobs.specs.declared.asking.prompt_reader.PromptReader.{PromptReader}
+use Rattle.kalah_jobs.specs.declared.files.entry.Entry.{Entry}
+use Rattle.kalah_jobs.specs.declared.files.entry.Entry.TheVariants.{Position, ValuesOf}
+use Rattle.kalah_jobs.specs.declared.files.question.Question.{Question}
+use Rattle.kalah_jobs.specs.declared.files.question.Question.TheVariants.{Steps}
+use Rattle.kalah_jobs.specs.Limits.{most_line_bytes}
+use Rattle.kalah_jobs.specs.Files.Lines.{line_feed, lines_of, HasNoLineFeed}
+use Rattle.kalah_jobs.specs.Files.NamedBytes.{NamedBytes}
+use Rattle.kalah_jobs.specs.Files.Entry.{entry_to}
+use Rattle.kalah_jobs.specs.Writing.Answer.{answer_of, answer_texts, joined_text, in_one_line, place_text}
+use Rattle.kalah_jobs.specs.Writing.Output.{is_faulty, output_to, line_output}
+use Rattle.kalah_jobs.specs.Writing.Given.{SinkState}
+use Rattle.kalah_jobs.specs.Writing.Splitting.{EndsWithItsLine}
+
+-- the bytes of a line that are kept, enough to determine its entry: a line with that many, with its CR or not, is too long
+abbrev pub kept_bytes : ℕ
+kept_bytes = most_line_bytes + 2
+
+-- a byte, or none, as a list
+abbrev pub bytes_of : Option ℕ → List ℕ
+bytes_of None = []
+bytes_of (Some byte) = byte ∷ []
+
+-- the answer to a line, and a line feed
+abbrev pub reply : Question → List ℕ → List ℕ
+reply question line = joined_text (answer_of (entry_to question line)) ++ line_feed ∷ []
+
+-- the answer to what stands after the last line feed, if anything does, and whether it is read
+abbrev pub last_reply : Question → List ℕ → List ℕ
+last_reply question [] = []
+last_reply question (byte ∷ line) = reply question (byte ∷ line)
+
+abbrev pub is_last_read : List ℕ → Bool
+is_last_read [] = true
+is_last_read (byte ∷ line) = not (is_faulty (byte ∷ line))
+
+-- for each of the lines of the bytes, in order, its answer
+unfoldable pub answers_to : Question → List ℕ → List ℕ
+answers_to question bytes = flat_map (reply question) (lines_of bytes)
+
+-- no line of the bytes is answered by a fault
+abbrev pub are_all_read : List ℕ → Bool
+are_all_read bytes = not (list_any is_faulty (lines_of bytes))
+
+-- Some bytes were read, which are all that there were, and the answers to their lines were written, and nothing else was.
+pub record IsAnswered (question : Question) (before after old new : Option (List ℕ)) (all_read : Bool) : Type 0 where
+  pub read : List ℕ
+  pub taken : Consumes before after read
+  pub all : IfSome before (λ bytes. read ≡ bytes)
+  pub written : Appends old new (answers_to question read)
+  pub status : all_read ≡ are_all_read read
+
+-- Lines were read, and then a part of the next one. The answers to the lines were written, and nothing else was.
+pub record IsCutOff (question : Question) (before after old new : Option (List ℕ)) : Type 0 where
+  pub lines : List ℕ
+  pub part : List ℕ
+  pub ended : EndsWithItsLine lines
+  pub unended : HasNoLineFeed part
+  pub taken : Consumes before after (lines ++ part)
+  pub written : Appends old new (answers_to question lines)
+
+-- what is asked of the lines of a reader, with the reader and the sink as they were then
+pub record Asking : Type 0 where
+  pub question : Question
+  pub before : Option (List ℕ)
+  pub old : Option (List ℕ)
+
+-- what a prompt reader has left, and what is asked of its lines, with the reader and the sink as they were when it was made
+module _ {I O : Type 0} (remaining : I → Option (List ℕ)) where
+  abbrev pub unread : PromptReader I O → Option (List ℕ)
+  unread r = reader_remaining remaining r.input.now
+
+  abbrev pub asking_of : (O → SinkState) → PromptReader I O → Asking
+  asking_of state r = record { question = r.question; before = reader_remaining remaining r.first.value; old = (state r.sink.value).written }
+
+-- all lines that were read since then are answered
+abbrev pub AreAnswered : Asking → Option (List ℕ) → Option (List ℕ) → Type 0
+AreAnswered a after new = IsCutOff a.question a.before after a.old new
+
+-- the most seeds in houses of a position that is solved in no time
+abbrev pub quick_seeds : ℕ
+quick_seeds = 9
+
+-- the position is to be solved, and has more seeds in houses
+abbrev pub TakesLong : Entry → Type 0
+TakesLong (Position p) = quick_seeds < seeds_in_houses p
+TakesLong (ValuesOf p) = quick_seeds < seeds_in_houses p
+TakesLong _ = ⊥
+
+-- Lines were read, and then no more than one. The answers to the lines were written, then a prefix of the answer to that one,
+-- and nothing else was.
+pub record IsBegun (question : Question) (before after old new : Option (List ℕ)) : Type 0 where
+  pub lines : List ℕ
+  pub last : List ℕ
+  pub ended : EndsWithItsLine lines
+  pub one : length (lines_of last) ≤ 1
+  pub taken : Consumes before after (lines ++ last)
+  pub count : ℕ
+  pub written : Appends old new (answers_to question lines ++ take count (answers_to question last))
+
+-- the texts of the answer to a line
+abbrev pub reply_texts : Question → List ℕ → List (List ℕ)
+reply_texts question line = answer_texts (answer_of (entry_to question line))
+
+-- What is written for lines that are asked of is what is written for a file with these bytes, but for what stands before each
+-- answer; if steps are asked, the texts that have a line each for a file stand in one line, with `; ` between any two. And what
+-- begins with whole lines is answered as they are, and then as the rest is.
+pub record AnswersAreThoseOfAFile : Type 0 where
+  pub lines : (question : Question) → question ≢ Steps → (name : List ℕ) (number : ℕ) (line : List ℕ) →
+      line_output question name (number, line) ≡ place_text name number ++ reply question line
+  pub file : (question : Question) → question ≢ Steps → (file : NamedBytes) →
+      output_to question (file ∷ []) ≡ flat_map (λ p. place_text file.name p.0 ++ reply question p.1)
+      (enumerate_from 0 (lines_of file.bytes))
+  pub texts : (question : Question) (line : List ℕ) → reply question line ≡ in_one_line (reply_texts question line) ++ line_feed ∷ []
+  pub placed : (question : Question) (name : List ℕ) (number : ℕ) (line : List ℕ) → line_output question name (number, line)
+      ≡ join_with_byte line_feed (map (λ text. place_text name number ++ text) (reply_texts question line)) ++ line_feed ∷ []
+  pub parts : (question : Question) (lines more : List ℕ) → EndsWithItsLine lines →
+      answers_to question (lines ++ more) ≡ answers_to question lines ++ answers_to question more

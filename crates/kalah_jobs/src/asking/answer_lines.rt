@@ -1,7 +1,7 @@
 //! Lines of a reader, answered as they come.
 ghost use Rattle.std.specs.Prelude.{◌≡◌, ◌↔◌, true, false, IfOk, IsErrOf};
 ghost use Rattle.std.specs.Io.Buffered.{reader_remaining};
-ghost use Rattle.kalah_jobs.specs.Asking.Asked.{IsAnswered, IsBegun, IsCutOff, asking_of, unread};
+ghost use Rattle.kalah_jobs.specs.Asking.{IsAnswered, IsBegun, IsCutOff, asking_of, unread};
 
 use crate::asking::ask_fault::AskFault;
 use crate::asking::line_head::LineHead;

@@ -1,5 +1,5 @@
 //! The law of lines answered one by one.
-ghost use Rattle.kalah_jobs.specs.Asking.Asked.{AnswersAreThoseOfAFile};
+ghost use Rattle.kalah_jobs.specs.Asking.{AnswersAreThoseOfAFile};
 
 /// What `answer_lines` writes for some bytes is what a batch writes for a file with these bytes, without what stands before each
 /// answer. If the bytes are cut between two lines, the answers are those to the two parts in sequence.

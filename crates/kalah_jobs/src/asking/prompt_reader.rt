@@ -2,7 +2,7 @@
 ghost use Rattle.std.specs.Prelude.{◌≡◌, ◌↔◌, ◌+◌, ◌-◌, ◌<◌, ◌^◌, [], true, false, None, IfErr, IfOk, IsErrOf, OnErr, OnOk, length};
 ghost use Rattle.std.specs.Io.KnownBytes.{Consumes, IsAtEnd, Keeps};
 ghost use Rattle.std.specs.Io.Buffered.{reader_buffer, reader_remaining};
-ghost use Rattle.kalah_jobs.specs.Asking.Asked.{AreAnswered, asking_of, bytes_of, unread};
+ghost use Rattle.kalah_jobs.specs.Asking.{AreAnswered, asking_of, bytes_of, unread};
 
 use crate::asking::ask_fault::AskFault;
 use crate::files::question::Question;

@@ -1,6 +1,6 @@
 //! A solver that is asked for the answer to a line once earlier answers are flushed, if that may take a while.
 ghost use Rattle.std.specs.Prelude.{◌≡◌, ◌↔◌, true};
-ghost use Rattle.kalah_jobs.specs.Asking.Asked.{TakesLong};
+ghost use Rattle.kalah_jobs.specs.Asking.{TakesLong};
 ghost use Rattle.kalah_jobs.specs.Writing.Answer.{answer_of};
 
 use crate::collecting::outcome::answer_to;

@@ -6,7 +6,7 @@ ghost use Rattle.kalah_jobs.specs.Line.Reading.{number_at};
 // Returns `None` if there is none.
 #[inline(always)]
 pub(crate) fn take_number(bytes: &[u8]) -> Option<(u8, &[u8])>
-    ensures is { IfSome result (λ found. number_at bytes.now ≡ Some (found.0, found.1.now)) }
+    ensures read { IfSome result (λ found. number_at bytes.now ≡ Some (found.0, found.1.now)) }
     ensures none { IfNone result (number_at bytes.now ≡ None) }
 {
     let (first, rest) = bytes.split_first()?;

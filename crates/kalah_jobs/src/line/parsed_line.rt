@@ -36,7 +36,7 @@ impl ParsedLine {
     #[inline(always)]
     pub(crate) fn read(text: &[u8]) -> Option<ParsedLine>
         requires { length text.now ≤ most_line_bytes }
-        ensures is { IfSome result (λ line. (p : Position) × (Shows line p × (written_of text.now ≡ Some p))) }
+        ensures shows { IfSome result (λ line. (p : Position) × (Shows line p × (written_of text.now ≡ Some p))) }
         ensures none { IfNone result (written_of text.now ≡ None) }
     {
         let (own, rest) = Side::take(text)?;

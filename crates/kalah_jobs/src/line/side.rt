@@ -50,7 +50,7 @@ impl Side {
     #[inline(always)]
     pub(crate) fn take(bytes: &[u8]) -> Option<(Side, &[u8])>
         requires { length bytes.now ≤ most_line_bytes }
-        ensures is { IfSome result (λ found. (houses : List ℕ)
+        ensures read { IfSome result (λ found. (houses : List ℕ)
             × (AreKept houses found.0.row found.0.left_out
             × (side_at bytes.now ≡ Some (houses, found.0.store, found.1.now)))) }
         ensures none { IfNone result (side_at bytes.now ≡ None) }

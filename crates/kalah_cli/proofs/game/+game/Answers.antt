@@ -8,7 +8,7 @@ use Rattle.kalah_solve.specs.Solver.Verdict.{IsSmallBest, TellsBestMove, verdict
 use Rattle.kalah_solve.specs.declared.solver.Verdict.TheVariants.{Best}
 use Rattle.kalah_solve.proofs.WorthLemmas.{board_equal_sides}
 use Rattle.kalah_jobs.specs.Writing.Given.{WasGiven}
-use Rattle.kalah_jobs.proofs.WritingLemmas.{given_after, given_cut_off, given_then}
+use Rattle.kalah_jobs.proofs.WritingLemmas.{given_cut_off, given_then}
 use Rattle.kalah_cli.specs.Game.{best_game, game_text, move_text}
 use Rattle.kalah_cli.proofs.GameLemmas.{kept, after_step, best_told, fewer_left, text_goes_on, no_text, shown_flushed, shown_next}
 use Rattle.kalah_cli.proofs.game.+game.Goals as goal
@@ -72,7 +72,7 @@ returns-clause-printed g t c =
       given = subst (WasGiven g.O.Sink.state c.args.out.now c.write_game.new.out) (ap (λ q. text ++ game_text form q (best_game q)) next
           ∙ ap (λ z. move_text form z house step ++ rest) (margin_of c.in-Best.ensures.small c.in-Best.ensures.best_play c.in-Best.ensures.verdict)
           ∙ sym (text_goes_on form even going best c.apply-step.ensures.step))
-          (given_after _ _ _ _ _ c.flush_unless_failed.ensures.given
+          (given_then _ _ _ _ [] _ c.flush_unless_failed.ensures.given
           (given_then _ _ _ _ text _ c.write_in_form.ensures c.write_game.ensures.printed.given));
       all_flushed = c.write_game.ensures.printed.all_flushed;
     }

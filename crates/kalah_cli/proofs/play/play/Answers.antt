@@ -1,8 +1,8 @@
-use Rattle.std.proofs.Common.{◌++◌, ◌∙◌, ap, refl, subst, sym}
+use Rattle.std.proofs.Common.{[], ◌++◌, ◌∙◌, ap, refl, subst, sym}
 use Rattle.kalah_rules.specs.Play.{position_after}
 use Rattle.kalah_solve.specs.Solver.Worth.{worth}
 use Rattle.kalah_jobs.specs.Writing.Given.{WasGiven}
-use Rattle.kalah_jobs.proofs.WritingLemmas.{given_after, given_then}
+use Rattle.kalah_jobs.proofs.WritingLemmas.{given_then}
 use Rattle.kalah_cli.specs.Ends.{IsPrinted}
 use Rattle.kalah_cli.specs.Game.{best_game, game_text, move_text}
 use Rattle.kalah_cli.specs.Moves.{board_lines}
@@ -47,7 +47,7 @@ returns g c =
     (play_output first c.args.boards c.args.values p)) (sym c.in-Some.is) (record {
       given = subst (λ text. WasGiven g.O.Sink.state c.args.out.now c.write_game-in-Again.new.out
           (board_lines c.args.boards p ++ text)) game (given_then _ _ _ _ _ _ c.write_board.ensures
-          (given_after _ _ _ _ _ c.margin_shown-margin.ensures.flushed
+          (given_then _ _ _ _ [] _ c.margin_shown-margin.ensures.flushed
           (given_then _ _ _ _ _ _ move c.write_game-in-Again.ensures.printed.given)));
       all_flushed = c.write_game-in-Again.ensures.printed.all_flushed;
     })

@@ -18,7 +18,13 @@ fn answers_each_line_of_each_file(rt: HostRuntime) {
     write_file(&rt, "a.txt", b"");
     write_file(&rt, "b.txt", b"1/0 1/0\n2/0 2/0");
     write_file(&rt, "c.txt", b"3/0 3/0\r\n\r\n01/0 1/0\r\n");
-    for option in ["--workers=1", "--workers=2", "--workers=64", "--table=1", "--"] {
+    for option in [
+        "--workers=1",
+        "--workers=2",
+        "--workers=64",
+        "--table=1",
+        "--",
+    ] {
         let words = ["solve", option, "a.txt", "b.txt", "c.txt", "b.txt"];
         assert_answers(&rt, &words, LineFaults, (BATCH_ANSWERS, ""));
     }

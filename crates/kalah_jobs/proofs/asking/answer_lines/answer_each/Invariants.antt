@@ -1,5 +1,5 @@
 use Rattle.std.proofs.Common.{◌≡◌, false}
-use Rattle.kalah_jobs.specs.Asking.Asked.{asking_of, unread}
+use Rattle.kalah_jobs.specs.Asking.{asking_of, unread}
 use Rattle.kalah_jobs.proofs.AskingLemmas.{Underway}
 use Rattle.kalah_jobs.proofs.asking.answer_lines.answer_each.Given as goal
 

@@ -1,5 +1,5 @@
 use Rattle.std.proofs.Common.{◌≡◌, ℕ, List, Option, IfOk, rules, sym}
-use Rattle.kalah_jobs.specs.Asking.Asked.{IsAnswered, IsBegun, IsCutOff}
+use Rattle.kalah_jobs.specs.Asking.{IsAnswered, IsBegun, IsCutOff}
 use Rattle.kalah_jobs.proofs.asking.answer_lines.answer_lines.Goals as goal
 
 -- what holds of the bytes of a prompt reader holds of those of its reader

@@ -4,18 +4,18 @@ use Rattle.kalah_jobs.proofs.line.parsed_line.ParsedLine.read.Goals as goal
 
 pub take-requires-2 : goal.take-requires-2
 take-requires-2 c =
-    omega (arith, c.requires, side_shorter c.args.text.now c.in_ok-own.ensures.is.1.1, ap length c.in_ok-mark.ensures.cases.0)
+    omega (arith, c.requires, side_shorter c.args.text.now c.in_ok-own.ensures.read.1.1, ap length c.in_ok-mark.ensures.cases.0)
 
 pub returns-in_err-rule-clause-none : goal.returns-in_err-rule-clause-none
 returns-in_err-rule-clause-none c =
     rw c.from_residual-in_err-rule.ensures
-    (sides_are_no_line c.args.text.now c.in_ok-mark.rest.now c.in_ok-own.ensures.is.1.1 c.in_ok-mark.ensures.cases.0
-    c.if-mark-ne32.false c.in_ok-other.ensures.is.1.1 (sym c.in_err-rule.ensures))
+    (sides_are_no_line c.args.text.now c.in_ok-mark.rest.now c.in_ok-own.ensures.read.1.1 c.in_ok-mark.ensures.cases.0
+    c.if-mark-ne32.false c.in_ok-other.ensures.read.1.1 (sym c.in_err-rule.ensures))
 
-pub returns-clause-is : goal.returns-clause-is
-returns-clause-is c =
-    let own = c.in_ok-own.ensures.is in
-    let other = c.in_ok-other.ensures.is in
+pub returns-clause-shows : goal.returns-clause-shows
+returns-clause-shows c =
+    let own = c.in_ok-own.ensures.read in
+    let other = c.in_ok-other.ensures.read in
     let p = made (own.0, c.in_ok-own.own.store, c.in_ok-own.rest.now) (other.0, c.in_ok-other.other.store, c.in_ok-other.rest.now)
     c.in_ok-rule.rule in
     let written =

@@ -12,28 +12,28 @@ returns-in_err-seeds-clause-none c = rw c.from_residual.ensures (no_house c.loop
 pub returns-in_err-mark-clause-none : goal.returns-in_err-mark-clause-none
 returns-in_err-mark-clause-none c =
     rw c.from_residual-in_err-mark.ensures
-    (nothing_follows c.loop-seeds.invariant c.in_ok-seeds.ensures.is c.in_err-mark.ensures.cases)
+    (nothing_follows c.loop-seeds.invariant c.in_ok-seeds.ensures.read c.in_err-mark.ensures.cases)
 
 pub returns-in_err-store-clause-none : goal.returns-in_err-store-clause-none
 returns-in_err-store-clause-none c =
     rw c.from_residual-in_err-store.ensures
-    (no_store c.loop-seeds.invariant c.in_ok-seeds.ensures.is c.in_ok-mark.ensures.cases.0 c.if-mark-eq47.true
+    (no_store c.loop-seeds.invariant c.in_ok-seeds.ensures.read c.in_ok-mark.ensures.cases.0 c.if-mark-eq47.true
     c.in_err-store.ensures.none)
 
-pub returns-then-mark-eq47-clause-is : goal.returns-then-mark-eq47-clause-is
-returns-then-mark-eq47-clause-is c =
+pub returns-then-mark-eq47-clause-read : goal.returns-then-mark-eq47-clause-read
+returns-then-mark-eq47-clause-read c =
     let so_far = c.loop-seeds.invariant in (
       so_far.houses ++ c.in_ok-seeds.seeds ∷ [],
       (
         c.push.ensures.houses so_far.houses so_far.has,
-        store_follows so_far c.in_ok-seeds.ensures.is c.in_ok-mark.ensures.cases.0 c.if-mark-eq47.true c.in_ok-store.ensures.is,
+        store_follows so_far c.in_ok-seeds.ensures.read c.in_ok-mark.ensures.cases.0 c.if-mark-eq47.true c.in_ok-store.ensures.read,
       ),
     )
 
 pub loop-seeds-preserved : goal.loop-seeds-preserved
 loop-seeds-preserved c =
     let so_far = c.loop-seeds.invariant in
-    house_follows so_far c.in_ok-seeds.ensures.is c.in_ok-mark.ensures.cases.0 c.if-mark-ne44.false
+    house_follows so_far c.in_ok-seeds.ensures.read c.in_ok-mark.ensures.cases.0 c.if-mark-ne44.false
     (c.push.ensures.houses so_far.houses so_far.has) c.push.ensures.one
 
 pub loop-seeds-smaller : goal.loop-seeds-smaller
