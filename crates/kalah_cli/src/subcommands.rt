@@ -46,17 +46,6 @@ pub(crate) enum Kind {
     },
 }
 
-// The argument `--NAME`.
-macro_rules! flag {
-    ($name:literal, $help:literal) => {
-        Argument {
-            name: $name,
-            help: $help,
-            kind: Kind::Flag,
-        }
-    };
-}
-
 const LONG_HELP_OF_TABLE: &str =
     "Use tables of N entries, 1 to 1048576.\nLeave it at the default, 65536, unless memory is short";
 
@@ -82,10 +71,11 @@ const TABLE: Argument = Argument {
     },
 };
 
-const PROGRESS: Argument = flag!(
-    "progress",
-    "Show on standard error how many lines are answered"
-);
+const PROGRESS: Argument = Argument {
+    name: "progress",
+    help: "Show on standard error how many lines are answered",
+    kind: Kind::Flag,
+};
 
 const FILES: Argument = Argument {
     name: "file",
@@ -96,7 +86,11 @@ const FILES: Argument = Argument {
     },
 };
 
-const BOARDS: Argument = flag!("boards", "Draw each position below its line");
+const BOARDS: Argument = Argument {
+    name: "boards",
+    help: "Draw each position below its line",
+    kind: Kind::Flag,
+};
 
 const LINE: Argument = Argument {
     name: "line",
@@ -126,11 +120,16 @@ pub(crate) const SHOW: &Subcommand = &Subcommand {
     about: "Draw a position, and below each house what its move is worth",
     long_help: help::LONG_OF_SHOW,
     arguments: &[
-        flag!("plain", "Draw the position alone, and search nothing"),
-        flag!(
-            "lines",
-            "Print the best play after each move, the best move first"
-        ),
+        Argument {
+            name: "plain",
+            help: "Draw the position alone, and search nothing",
+            kind: Kind::Flag,
+        },
+        Argument {
+            name: "lines",
+            help: "Print the best play after each move, the best move first",
+            kind: Kind::Flag,
+        },
         TABLE,
         LINE,
     ],
@@ -143,10 +142,11 @@ pub(crate) const PLAY: &Subcommand = &Subcommand {
     arguments: &[
         TABLE,
         BOARDS,
-        flag!(
-            "values",
-            "Print with each move the value of the position it was made in"
-        ),
+        Argument {
+            name: "values",
+            help: "Print with each move the value of the position it was made in",
+            kind: Kind::Flag,
+        },
         Argument {
             name: "first",
             help: "Begin with house H, 1 to 6, and go on with best play",
@@ -173,11 +173,16 @@ pub(crate) const ASK: &Subcommand = &Subcommand {
     about: "Answer each line of standard input before reading the next",
     long_help: help::LONG_OF_ASK,
     arguments: &[
-        flag!("values", "Print what each move is worth, as `values`"),
-        flag!(
-            "steps",
-            "Print each legal move, as `steps`, with `; ` between any two"
-        ),
+        Argument {
+            name: "values",
+            help: "Print what each move is worth, as `values`",
+            kind: Kind::Flag,
+        },
+        Argument {
+            name: "steps",
+            help: "Print each legal move, as `steps`, with `; ` between any two",
+            kind: Kind::Flag,
+        },
         Argument {
             name: "table",
             help: "Use tables of N entries, 1 to 1048576 [default: 65536]",

@@ -57,6 +57,9 @@ write_game-requires g t c κs within =
       ),
     )
 
+pub returns-clause-begun : goal.returns-clause-begun
+returns-clause-begun g t c = c.write_game.ensures.begun ∙ c.solve.ensures.begun
+
 pub returns-clause-printed : goal.returns-clause-printed
 returns-clause-printed g t c =
     let form = c.args.form in
