@@ -365,28 +365,28 @@ turn_leads : {a b : HousesState} {h priority : ℕ} → IsWithinHouses a → IsT
     LeadsTo a (seeds_in_houses (storeless a) - seeds_in_houses (storeless b)) b
 turn_leads w turn = leads_by _ _ w turn.legal (sym turn.step)
 
--- a bound of what the other player wins after a turn that waited
-module _ {a b : HousesState} {h priority bound : ℕ} (beta : ℕ) (w : IsWithinHouses a) (turn : IsTurnOf a h priority b)
-    (is : IsSoftBound (seeds_in_houses (storeless a) - beta + 1) (won b) bound) where
+-- a turn that waited, of all `seeds`, by a bound of what the other player wins after it; `left` and one more were asked of that player
+module _ {a b : HousesState} {h priority bound seeds left : ℕ} (beta : ℕ) (w : IsWithinHouses a) (turn : IsTurnOf a h priority b)
+    (seeds_are : seeds ≡ seeds_in_houses (storeless a)) (left_is : left ≡ seeds - beta) (is : IsSoftBound (left + 1) (won b) bound) where
   reply_few : won b ≤ seeds_in_houses (storeless b)
   reply_few = (won_of_houses (turn_leads w turn).limits).few
 
-  reply_left : IsSoftBound beta (won_by_step (houses_step a h)) (seeds_in_houses (storeless a) - bound)
-  reply_left = rw turn.step (left_of_all _ _ (omega (arith, (turn_leads w turn).kept)) reply_few is)
+  reply_left : IsSoftBound beta (won_by_step (houses_step a h)) (seeds - bound)
+  reply_left = rw (turn.step, seeds_are) (left_of_all _ _ (omega (arith, (turn_leads w turn).kept)) reply_few (rw (left_is, seeds_are) at is))
 
-  -- is at most all seeds
-  pub reply_fits : bound ≤ seeds_in_houses (storeless a)
-  reply_fits = elim (cases_lt bound (seeds_in_houses (storeless a) - beta + 1)) [
+  -- the bound is at most all seeds
+  pub reply_fits : bound ≤ seeds
+  reply_fits = elim (cases_lt bound (left + 1)) [
     | inl short ↦ omega arith
     | inr enough ↦ omega (arith, is.lower enough, reply_few, (turn_leads w turn).kept)
   ]
 
-  -- so what is left of them is no more than best play wins, if it is enough
-  pub turn_enough : beta ≤ seeds_in_houses (storeless a) - bound → seeds_in_houses (storeless a) - bound ≤ won a
+  -- what is left of them is no more than best play wins, if it is enough
+  pub turn_enough : beta ≤ seeds - bound → seeds - bound ≤ won a
   turn_enough = move_enough _ _ _ _ w turn.legal reply_left
 
-  -- and otherwise no less than the turn wins
-  pub turn_at_most : seeds_in_houses (storeless a) - bound < beta → WinsAtMost a (seeds_in_houses (storeless a) - bound) h
+  -- otherwise it is no less than the turn wins
+  pub turn_at_most : seeds - bound < beta → WinsAtMost a (seeds - bound) h
   turn_at_most = reply_left.upper
 
 -- a turn that was played waits

@@ -103,7 +103,7 @@ impl<A: Allocator + Clone> Table<A> {
         })
     }
 
-    // Makes the slots that go with all entries, with nothing known. It fails if there is no memory for them.
+    // Makes the slots that go with the capacity, with nothing known. It fails if there is no memory for them.
     fn all_slots(&self) -> Result<DirectTable<A>, AllocError>
         ensures { IfOk result (λ p. AreSlotsFor (min self.now.capacity most_entries) (length p)) }
     {
@@ -117,7 +117,7 @@ impl<A: Allocator + Clone> Table<A> {
     pub(crate) fn grow(&mut self)
         ensures { self.new ≡ self.old }
     {
-        // Twice as many would be more than the entries.
+        // Twice as many would be more than the capacity.
         if self.slots.len() > self.entries.cap().get() / 2 {
             return;
         }

@@ -73,15 +73,15 @@ explore-bound_by_search-requires g t c κs within =
 pub explore-overflow_sub-bound : goal.explore-overflow_sub-bound
 explore-overflow_sub-bound g t c =
     let turn = waits_there (c.loop-priority.invariant.next c.loop-priority-test.true) c.index-waiting-at.is in
-    let is = rw (c.saturating_sub-reply_beta.ensures, c.seeds-seeds.ensures.seeds) at c.bound_by_search.ensures in
-    rw c.seeds-seeds.ensures.seeds (reply_fits c.args.beta c.seeds-seeds.ensures.limits turn is)
+    reply_fits c.args.beta c.seeds-seeds.ensures.limits turn c.seeds-seeds.ensures.seeds c.saturating_sub-reply_beta.ensures
+    c.bound_by_search.ensures
 
 pub explore-returns-then-beta-bound : goal.explore-returns-then-beta-bound
 explore-returns-then-beta-bound g t c =
     let turn = waits_there (c.loop-priority.invariant.next c.loop-priority-test.true) c.index-waiting-at.is in
-    let is = rw (c.saturating_sub-reply_beta.ensures, c.seeds-seeds.ensures.seeds) at c.bound_by_search.ensures in
     record {
-      lower = rw (← c.seeds-seeds.ensures.seeds) at (turn_enough c.args.beta c.seeds-seeds.ensures.limits turn is);
+      lower = turn_enough c.args.beta c.seeds-seeds.ensures.limits turn c.seeds-seeds.ensures.seeds c.saturating_sub-reply_beta.ensures
+          c.bound_by_search.ensures;
       upper = λ short. absurd (omega arith);
     }
 
@@ -90,8 +90,8 @@ explore-loop-priority-preserved g t c =
     let before = c.loop-priority.invariant in
     let here = before.next c.loop-priority-test.true in
     let turn = waits_there here c.index-waiting-at.is in
-    let is = rw (c.saturating_sub-reply_beta.ensures, c.seeds-seeds.ensures.seeds) at c.bound_by_search.ensures in
-    let takes = (rw (← c.seeds-seeds.ensures.seeds) at (turn_at_most c.args.beta c.seeds-seeds.ensures.limits turn is)) c.if-beta-bound.false in
+    let takes = turn_at_most c.args.beta c.seeds-seeds.ensures.limits turn c.seeds-seeds.ensures.seeds c.saturating_sub-reply_beta.ensures
+    c.bound_by_search.ensures c.if-beta-bound.false in
     let untried = untried_fewer (c.loop-priority.priority % 8) _ before.untried here.place takes
     c.max-most-in-loop-priority.ensures in
     record {

@@ -21,23 +21,20 @@ looked_at : (moves legal : List ℕ) (i count house : ℕ) → count ≡ length 
 looked_at moves legal i count house many before at are =
     (omega (arith, ap length are), at ∙ ap (λ xs. get_or xs i 0) are)
 
--- a legal house is one of 1 to 6
-legal_within : (a : HousesState) (i h : ℕ) → IsWithinHouses a → i < length (legal_houses (storeless a))
-    → h ≡ get_or (legal_houses (storeless a)) i 0 →
-    (1 ≤ h) × (h ≤ 6)
-legal_within a i h w inside at =
-    let holds = legal_holds (storeless a) h (rw at (Contains-get_or _ i 0 inside)) in
+-- it is one of 1 to 6
+legal_within : {a : HousesState} {i h : ℕ} → IsWithinHouses a → (i < length (legal_houses (storeless a)))
+    × (h ≡ get_or (legal_houses (storeless a)) i 0) → (1 ≤ h) × (h ≤ 6)
+legal_within {a} {i} {h} w at =
+    let holds = legal_holds (storeless a) h (rw at.1 (Contains-get_or _ i 0 at.0)) in
     (holds.first, omega (arith, holds.last, w.at_most_six))
 
 pub new-requires-clause-first : goal.new-requires-clause-first
 new-requires-clause-first g c =
-    let at = looked_at _ _ _ _ _ c.len-last.ensures c.loop-i-test.true c.get-h.ensures c.requires.moves in
-    (legal_within _ _ _ c.requires.limits at.0 at.1).0
+    (legal_within c.requires.limits (looked_at _ _ _ _ _ c.len-last.ensures c.loop-i-test.true c.get-h.ensures c.requires.moves)).0
 
 pub new-requires-clause-last : goal.new-requires-clause-last
 new-requires-clause-last g c =
-    let at = looked_at _ _ _ _ _ c.len-last.ensures c.loop-i-test.true c.get-h.ensures c.requires.moves in
-    (legal_within _ _ _ c.requires.limits at.0 at.1).1
+    (legal_within c.requires.limits (looked_at _ _ _ _ _ c.len-last.ensures c.loop-i-test.true c.get-h.ensures c.requires.moves)).1
 
 pub returns-then-move_reaches : goal.returns-then-move_reaches
 returns-then-move_reaches g c =
