@@ -449,7 +449,7 @@ pub record ArePlayed (a : HousesState) (most marks : ℕ) (priorities : List ℕ
       ¬ EndsInStore a i → WinsAtMost a most i
 
 -- the last marked house was played
-module _ (a : HousesState) (most marks h : ℕ) (priorities : List ℕ) (turns : List HousesState) (is : ArePlayed a most marks priorities turns)
+module _ {a : HousesState} {most marks h : ℕ} {priorities : List ℕ} {turns : List HousesState} (is : ArePlayed a most marks priorities turns)
     (last : IsLastMark marks h) where
   -- the last marked house was played, and waits with a priority
   pub played_more : (v : ℕ) (b : HousesState) → 0 < v → IsTurnOf a h v b →
@@ -517,13 +517,13 @@ pub ending_legal : {a : HousesState} (i : ℕ) → IsWithinHouses a → is_over 
 ending_legal {a} i w going inside ends = grind (arith, filled_legal)
 
 -- what holds of each marked house holds of those that stay marked
-pub each_fewer : (P : ℕ → Type 0) (marks h : ℕ) → IsLastMark marks h → ((i : ℕ) → 0 < cell marks i → P (i + 1)) →
+pub each_fewer : (P : ℕ → Type 0) {marks h : ℕ} → IsLastMark marks h → ((i : ℕ) → 0 < cell marks i → P (i + 1)) →
     (i : ℕ) → 0 < cell (marks - 32 ^ (h - 1)) i → P (i + 1)
-each_fewer P marks h last each i some = each i (left_before marks h last i some)
+each_fewer P {marks} {h} last each i some = each i (left_before marks h last i some)
 
 -- what holds of each marked house holds of the last one
-pub each_last : (P : ℕ → Type 0) (marks h : ℕ) → IsLastMark marks h → ((i : ℕ) → 0 < cell marks i → P (i + 1)) → P h
-each_last P marks h last each = grind (arith, last_marked)
+pub each_last : (P : ℕ → Type 0) {marks h : ℕ} → IsLastMark marks h → ((i : ℕ) → 0 < cell marks i → P (i + 1)) → P h
+each_last P {marks} {h} last each = grind (arith, last_marked)
 
 -- marked houses that may all be moved
 pub record MayMove (a : HousesState) (marks : ℕ) : Type 0 where
@@ -532,13 +532,13 @@ pub record MayMove (a : HousesState) (marks : ℕ) : Type 0 where
 
 -- the last of them
 pub last_legal : {a : HousesState} {marks h : ℕ} → MayMove a marks → IsLastMark marks h → Contains (legal_houses (storeless a)) h
-last_legal {a} {marks} {h} may last = each_last (Contains _) marks h last may.legal
+last_legal may last = each_last (Contains _) last may.legal
 
 -- the houses before the last may be moved
 pub moves_fewer : {a : HousesState} {marks h : ℕ} → MayMove a marks → IsLastMark marks h → MayMove a (marks - 32 ^ (h - 1))
 moves_fewer {a} {marks} {h} may last = record {
   are = marks_fewer may.are last;
-  legal = each_fewer (Contains _) marks h last may.legal;
+  legal = each_fewer (Contains _) last may.legal;
 }
 
 -- each house that ends in the store is still marked, or wins at most `most` seeds

@@ -135,7 +135,6 @@ try_move-returns-then-seeds-self g t c =
 
 pub bound_again-loop-untried-init : goal.bound_again-loop-untried-init
 bound_again-loop-untried-init g t c =
-    let a = c.args.houses.now in
     let marks = c.again_houses-untried.ensures in
     record {
       low = λ enough. refl;
@@ -152,8 +151,7 @@ bound_again-play_into_store-requires-clause-legal g t c = last_legal c.loop-untr
 
 pub bound_again-play_into_store-requires-clause-ends : goal.bound_again-play_into_store-requires-clause-ends
 bound_again-play_into_store-requires-clause-ends g t c =
-    each_last (EndsInStore c.args.houses.now) c.loop-untried.untried c.split_last-house.result.0 c.split_last-house.ensures.last
-    c.loop-untried.invariant.ends
+    each_last (EndsInStore c.args.houses.now) c.split_last-house.ensures.last c.loop-untried.invariant.ends
 
 pub bound_again-bound_step-bound-requires : goal.bound_again-bound_step-bound-requires
 bound_again-bound_step-bound-requires g t c κs within =
@@ -174,17 +172,15 @@ bound_again-returns-then-beta-bound-clause-lower g t c =
 pub bound_again-loop-untried-preserved : goal.bound_again-loop-untried-preserved
 bound_again-loop-untried-preserved g t c =
     let a = c.args.houses.now in
-    let marks = c.loop-untried.untried in
-    let h = c.split_last-house.result.0 in
     let last = c.split_last-house.ensures.last in
     let before = c.loop-untried.invariant in
     let new_is : c.max-most.result ≡ max c.loop-untried.most c.bound_step-bound.result = search (rules, c.max-most.ensures) in
-    let takes : WinsAtMost a c.bound_step-bound.result h = rw c.play_into_store.ensures at
+    let takes : WinsAtMost a c.bound_step-bound.result c.split_last-house.result.0 = rw c.play_into_store.ensures at
     (c.bound_step-bound.ensures.upper c.if-beta-bound.false) in
     rw c.split_last-house.ensures.rest (record {
       low = low_more _ _ _ _ before.low c.if-beta-bound.false new_is;
       may = moves_fewer before.may last;
-      ends = each_fewer (EndsInStore a) marks h last before.ends;
+      ends = each_fewer (EndsInStore a) last before.ends;
       tried = again_fewer _ _ c.bound_step-bound.result before.tried last takes new_is;
     })
 
@@ -200,7 +196,6 @@ bound_again-returns-clause-upper g t c = λ short h has ends.
 
 pub try_remaining-loop-untried-init : goal.try_remaining-loop-untried-init
 try_remaining-loop-untried-init g t c =
-    let a = c.args.houses.now in
     let marks = c.remaining_houses-untried.ensures in
     record {
       low = λ enough. refl;
@@ -224,18 +219,13 @@ try_remaining-returns-then-beta-bound g t c =
 
 pub try_remaining-loop-untried-preserved : goal.try_remaining-loop-untried-preserved
 try_remaining-loop-untried-preserved g t c =
-    let a = c.args.houses.now in
-    let marks = c.loop-untried.untried in
-    let h = c.split_last-house.result.0 in
     let last = c.split_last-house.ensures.last in
     let before = c.loop-untried.invariant in
     let new_is : c.max-most.result ≡ max c.loop-untried.most c.in-Bounded.bound = search (rules, c.max-most.ensures) in
     rw c.split_last-house.ensures.rest (record {
       low = low_more _ _ _ _ before.low c.if-beta-bound.false new_is;
       may = moves_fewer before.may last;
-      played = played_bound a c.loop-untried.most marks h c.loop-untried.priorities c.loop-untried.turns before.played last c.in-Bounded.bound
-          c.max-most.result
-          (c.in-Bounded.ensures.upper c.if-beta-bound.false) new_is;
+      played = played_bound before.played last c.in-Bounded.bound c.max-most.result (c.in-Bounded.ensures.upper c.if-beta-bound.false) new_is;
     })
 
 pub try_remaining-loop-untried-smaller : goal.try_remaining-loop-untried-smaller
@@ -254,18 +244,13 @@ try_remaining-returns g t c =
 
 pub try_remaining-loop-untried-preserved-in-Waits : goal.try_remaining-loop-untried-preserved-in-Waits
 try_remaining-loop-untried-preserved-in-Waits g t c =
-    let a = c.args.houses.now in
-    let marks = c.loop-untried.untried in
-    let h = c.split_last-house.result.0 in
     let last = c.split_last-house.ensures.last in
     let before = c.loop-untried.invariant in
-    let place : c.in-Waits.priority % 8 ≡ h - 1 = omega (arith, c.in-Waits.ensures.1.house) in
+    let place : c.in-Waits.priority % 8 ≡ c.split_last-house.result.0 - 1 = omega (arith, c.in-Waits.ensures.1.house) in
     rw (c.split_last-house.ensures.rest, place) (record {
       low = before.low;
       may = moves_fewer before.may last;
-      played = played_more a c.loop-untried.most marks h c.loop-untried.priorities c.loop-untried.turns before.played last c.in-Waits.priority
-          c.in-Waits.next
-          c.in-Waits.ensures.0 c.in-Waits.ensures.1;
+      played = played_more before.played last c.in-Waits.priority c.in-Waits.next c.in-Waits.ensures.0 c.in-Waits.ensures.1;
     })
 
 pub explore-loop-priority-init : goal.explore-loop-priority-init
