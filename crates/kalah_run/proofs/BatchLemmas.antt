@@ -607,30 +607,27 @@ as_many_left (Some p) (Some q) same = refl
 as_many_left None (Some q) same = absurd (let both : Leave ≡ Solve = same in cc)
 as_many_left (Some p) None same = absurd (let both : Solve ≡ Leave = same in cc)
 
--- after the run the passes of the workers and that of the calling thread come back
+-- after the run, when the passes of the workers and that of the calling thread come back
 module _ {G : Type 0} {knows : G → ℕ → Bool} {shared : SharedWork G} {before after : List Worker} (run : HaveRun knows shared before after) where
+  -- a list that had room for all passes has room for them again
   pub passes_fit : {len capacity : ℕ} (left left' : Option PassState) → rest_of left' ≡ rest_of left → len ≡ length after
       → length before + length (pass_in left) ≤ capacity → len + length (pass_in left') ≤ capacity
   passes_fit left left' same is room = omega (arith, is, run.as_many, room, as_many_left left left' same)
 
+  -- all passes of the desk are back
   pub all_back : {passes : ℕ} {back : List PassState} (left left' : Option PassState) → rest_of left' ≡ rest_of left
       → back ≡ passes_of after ++ pass_in left' → length before + length (pass_in left) ≡ passes → length back ≡ passes
   all_back left left' same is all =
-      omega (
-        arith,
-        ap (λ (l : List PassState). length l) is,
-        length-append (passes_of after) (pass_in left'),
-        length-map after (λ (w : Worker). w.pass),
-        run.as_many,
-        all,
-        as_many_left left left' same,
-      )
+      let many = ap (λ (l : List PassState). length l) is ∙ length-append (passes_of after) (pass_in left') in
+      omega (arith, many, length-map after (λ (w : Worker). w.pass), run.as_many, all, as_many_left left left' same)
 
+  -- each of them is of the desk
   pub own_back : {back : List PassState} (left' : Option PassState) → IfSome left' (IsPassAt shared.desk)
       → back ≡ passes_of after ++ pass_in left' → All (IsPassAt shared.desk) back
   own_back None own is = rw (is, append-nil (passes_of after)) (run_passes shared before after run)
   own_back (Some p) own is = rw is (All-push (IsPassAt shared.desk) (passes_of after) p (run_passes shared before after run) own)
 
+  -- all passes to put are back, each in its place
   pub puts_back : {len count : ℕ} {puts : List PutState} → len ≡ length puts → puts ≡ puts_of after → count ≡ length before
       → ArePassesFrom shared.queue.id 0 (puts_of before) → (len ≡ count) × ArePassesFrom shared.queue.id 0 puts
   puts_back many is count from = (
