@@ -30,10 +30,10 @@ outcome_send = search (sendable, crosses) depth 60
 jobs_sync : IsSync Jobs.the_row
 jobs_sync = search (sendable, crosses) depth 60
 
-desk_sync : IsSync Desk.the_row
+pub desk_sync : IsSync Desk.the_row
 desk_sync = search (sendable, crosses, shared_sync, lease_sync) depth 60
 
-queue_sync : IsSync ResultsQueue.the_row
+pub queue_sync : IsSync ResultsQueue.the_row
 queue_sync = search (sendable, crosses, shared_sync, lease_sync, outcome_send) depth 60
 
 -- what workers share may be shared

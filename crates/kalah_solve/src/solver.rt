@@ -61,6 +61,8 @@ impl<A: Allocator + Clone> Solver<A> {
     /// Returns what the position is worth to the player to move. That is the final margin of a game that is over, otherwise the margin
     /// of best play with the lowest-numbered best house. What the table learns on the way is kept for later positions. If there is no
     /// memory for an entry, it is left out.
+    // In line, as a worker calls it once a line.
+    #[inline(always)]
     pub fn solve(&mut self, board: &Board) -> Verdict
         ensures verdict { result ≡ verdict_of board.now }
         ensures best_play { TellsBestPlay board.now result }

@@ -113,7 +113,8 @@ pub fn answer_text(alloc: Global, name: &str, taken: &Taken) -> Result<String, A
 }
 
 /// Writes what `write_answer` does, unless the sink has failed, and allocates nothing.
-#[inline(always)]
+// Out of line, so that the loop that collects keeps its variables in registers.
+#[inline(never)]
 pub fn write_answer_unless_failed<W: Sink>(out: &mut W, name: &str, taken: &Taken)
     ensures { WasGiven W.state out.old out.new (answer_line name.now taken.now ++ line_feed ∷ []) }
 {
