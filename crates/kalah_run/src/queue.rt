@@ -93,7 +93,11 @@ impl ResultsQueue {
             Some(wake_up) => {
                 wake_up.send();
             }
-            None => self.put_later(rt, pass, &outcome),
+            None => {
+                // A copy, so that an outcome that is put at once may be kept in registers.
+                let late = outcome;
+                self.put_later(rt, pass, &late)
+            }
         }
     }
 
