@@ -21,8 +21,9 @@ use std::marker::Model;
 #[derive(Clone, Copy, Debug, PartialEq, Eq)]
 pub struct Board {
     houses: Houses,
-    own_store: u8,
-    other_store: u8,
+    // As wide as half of the rows, like the seeds, so that a copy has no gap.
+    own_store: u32,
+    other_store: u32,
 }
 
 impl Model for Board {
@@ -60,8 +61,8 @@ impl Board {
         let houses = Houses::new(m, own, other, rule)?;
         Some(Board {
             houses,
-            own_store,
-            other_store,
+            own_store: own_store as u32,
+            other_store: other_store as u32,
         })
     }
 
@@ -87,8 +88,8 @@ impl Board {
         let houses = Houses::of_rows(own, other, rule)?;
         Some(Board {
             houses,
-            own_store,
-            other_store,
+            own_store: own_store as u32,
+            other_store: other_store as u32,
         })
     }
 
@@ -122,14 +123,14 @@ impl Board {
     pub fn own_store(&self) -> u8
         ensures { result ≡ self.now.own_store }
     {
-        self.own_store
+        self.own_store as u8
     }
 
     /// Returns the number of seeds in the other player's store, at most 130.
     pub fn other_store(&self) -> u8
         ensures { result ≡ self.now.other_store }
     {
-        self.other_store
+        self.other_store as u8
     }
 
     /// Returns the rule of capture.
@@ -163,6 +164,6 @@ impl Board {
         ensures small { IsSmallMargin result }
     {
         let (own, other) = self.houses.final_seeds();
-        (own + self.own_store) as i32 - (other + self.other_store) as i32
+        (own as u32 + self.own_store) as i32 - (other as u32 + self.other_store) as i32
     }
 }

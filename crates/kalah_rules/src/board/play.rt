@@ -50,18 +50,18 @@ impl Board {
         match self.houses.play(h) {
             HousesStep::Over { own, other } => Step::Over(Board {
                 houses: self.houses.without_seeds(),
-                own_store: self.own_store + own,
-                other_store: self.other_store + other,
+                own_store: self.own_store + own as u32,
+                other_store: self.other_store + other as u32,
             }),
             HousesStep::Again(gained, houses) => Step::Again(Board {
                 houses,
-                own_store: self.own_store + gained,
+                own_store: self.own_store + gained as u32,
                 other_store: self.other_store,
             }),
             HousesStep::Turn(gained, houses) => Step::Turn(Board {
                 houses,
                 own_store: self.other_store,
-                other_store: self.own_store + gained,
+                other_store: self.own_store + gained as u32,
             }),
         }
     }
