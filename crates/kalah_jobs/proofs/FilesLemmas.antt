@@ -28,7 +28,7 @@ use Rattle.kalah_rules.specs.Position.{is_over, final_margin, IsWithinLimits, ho
 use Rattle.kalah_jobs.specs.Writing.Answer.{answer_of, is_faulty_entry}
 use Rattle.kalah_jobs.specs.Writing.Output.{is_faulty, is_faulty_job}
 use Rattle.kalah_rules.proofs.KeyLemmas.{same_key}
-use Rattle.kalah_rules.proofs.PackedLemmas.{rows_within}
+use Rattle.kalah_rules.proofs.PackedLemmas.{houses_within}
 use Rattle.kalah_rules.specs.contracts.board.BoardEq.TheImpl.Laws.{laws-law}
 
 -- ==== Where the first line of some bytes ends
@@ -408,7 +408,7 @@ same_board p q = (board_eq.ghosts).eq p q
 -- boards that are equal by `==` show the same position
 pub same_board_means : (p q : position.Position) → IsWithinLimits p → IsWithinLimits q → same_board p q ≡ true → p ≡ q
 same_board_means p q p_limits q_limits h =
-    let rows : houses_in p ≡ houses_in q = same_key (houses_in p) (houses_in q) (rows_within p p_limits) (rows_within q q_limits)
+    let rows : houses_in p ≡ houses_in q = same_key (houses_in p) (houses_in q) (houses_within p p_limits) (houses_within q q_limits)
     (grind (arith, nat_tests)) in
     let own_store : p.own_store ≡ q.own_store = grind (arith, nat_tests) in
     let other_store : p.other_store ≡ q.other_store = grind (arith, nat_tests) in

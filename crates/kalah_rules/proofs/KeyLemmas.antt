@@ -8,7 +8,7 @@ use Rattle.std.proofs.lemmas.Bool.{cases_eq}
 use Rattle.kalah_rules.specs.Position.{seeds, HousesState, IsWithinHouses, seeds_in_houses, storeless, without_seeds}
 use Rattle.kalah_rules.specs.Sowing.{row_of, lap_length, gain, own_distance, other_distance}
 use Rattle.kalah_rules.proofs.PlayLemmas.{range_more, length-row_of, same_as_row, row_of_same, seeds-set_same, seeds-set_other, sum-zeros}
-use Rattle.kalah_rules.specs.Key.{number_of, cells, rule_bit, rows_number, key_of, variant_of, side_at, rows_at, IsKey}
+use Rattle.kalah_rules.specs.Key.{number_of, cells, rule_bit, rows_number, key_of, variant_of, side_at, houses_at, IsKey}
 use Rattle.kalah_rules.specs.Packed.{ones, up_to, unpacked, IsPacked, IsPackedRow}
 use Rattle.kalah_rules.specs.Sowings.{own_gained, other_gained, store_gained}
 use Rattle.std.proofs.lemmas.Grind.{same_number_lists}
@@ -17,7 +17,7 @@ use Rattle.std.proofs.lemmas.List.Folds.{sum_by-replicate}
 use Rattle.std.proofs.lemmas.List.Elements.{All-replicate}
 use Rattle.kalah_rules.specs.declared.rule.Rule.{Rule}
 use Rattle.kalah_rules.specs.declared.rule.Rule.TheVariants.{Classic, EmptyCapture}
-use Rattle.kalah_rules.specs.Cells.{padded, rows_from, CanBeHouses}
+use Rattle.kalah_rules.specs.Cells.{padded, houses_from, CanBeHouses}
 
 -- ==== Rows as numbers: houses read and written, and rows of seeds added
 
@@ -75,10 +75,11 @@ number_of-set (x ∷ xs) zero v h = omega arith
 number_of-set (x ∷ xs) (suc k) v h = omega (arith, number_of-set xs k v (omega arith), times_power)
 
 -- ---- rows that are given house by house
+-- one house more at the end
 number_of-more : (n : ℕ) (f : ℕ → ℕ) → number_of (row_of (n + 1) f) ≡ number_of (row_of n f) + 32 ^ n * f (n + 1)
 number_of-more n f = grind (arith, range_more, map_push, number_of-append, length-row_of)
 
--- one house more at the end
+-- the same, by the successor
 number_of-suc : (n : ℕ) (f : ℕ → ℕ) → number_of (row_of (suc n) f) ≡ number_of (row_of n f) + 32 ^ n * f (suc n)
 number_of-suc n f = subst (λ k. number_of (row_of k f) ≡ number_of (row_of n f) + 32 ^ n * f k) (add-one n)
     (number_of-more n f)
@@ -128,6 +129,7 @@ pub other_lap : (m h r j : ℕ) → 1 ≤ h → h ≤ m → 1 ≤ j → up_to r 
 other_lap m h r j low high j_low = grind arith
 
 -- ---- what a sowing adds
+-- the own row after a sowing, by what was lifted and what it gains
 pub own_sown : (xs : List ℕ) (h c : ℕ) → 1 ≤ h → h ≤ length xs →
     number_of
     (row_of (length xs) (λ i. (if i == h then 0 else seeds xs i) + gain (lap_length (length xs)) c (own_distance (length xs) h i)))
@@ -149,10 +151,6 @@ other_sown ys h c =
     omega arith
 
 module _ (m h c : ℕ) (low : 1 ≤ h) (high : h ≤ m) where
-  -- the seeds of the last lap are fewer than a lap
-  few : c % lap_length m < lap_length m
-  few = omega arith
-
   -- what the own row gains, and one seed more in each house up to the one that is emptied
   pub own_gain : own_gained m h c + ones h ≡ c / lap_length m * ones m + number_of (row_of m (up_to (h + c % lap_length m)))
       + number_of (row_of m (up_to (h + c % lap_length m - lap_length m)))
@@ -187,7 +185,7 @@ module _ (m h c : ℕ) (low : 1 ≤ h) (high : h ≤ m) where
   pub store_gain : store_gained m h c ≡ c / lap_length m + (if nat_lt m (h + c % lap_length m) then 1 else 0)
   store_gain = grind arith
 
--- a few houses hold a small number
+-- one seed in each of fewer houses is no larger number
 pub ones_le : (a b : ℕ) → a ≤ b → ones a ≤ ones b
 ones_le a zero h = grind arith
 ones_le a (suc b) h = elim (cases_eq a (suc b)) [
@@ -218,7 +216,7 @@ product_small x y h k = grind arith
 pub up_to_past : (m h x : ℕ) → h ≤ m → h ≤ x → ones h ≤ number_of (row_of m (up_to x))
 up_to_past m h x within past = grind (arith, number_of-up_to, ones_le, number_of-all)
 
--- ==== Rows as numbers, and what a key determines of its houses
+-- ==== Padded rows, cells of a key, and the houses that it determines
 
 -- zeros past the houses are what a row is padded with
 pub padded_from_zeros : (m : ℕ) (cells : List ℕ) → length cells ≡ 6 → m ≤ 6 → All (λ x. x ≡ 0) (drop m cells) →
@@ -325,7 +323,7 @@ key_says {a} {k} h e =
       rule = omega arith;
     }
 
--- a value's key may hold
+-- the key of houses within the limits is a key
 pub key_holds : {a : HousesState} {k : ℕ} → IsWithinHouses a → key_of a ≡ k → IsKey k
 key_holds {a} h e =
     let says = key_says h e in
@@ -337,7 +335,7 @@ key_holds {a} h e =
       few_seeds = omega (arith, sum-padded);
     })
 
--- rules with one bit are one
+-- rules with the same bit are equal
 rule_bit-same : (r s : Rule) → rule_bit r ≡ rule_bit s → r ≡ s
 rule_bit-same Classic Classic e = refl
 rule_bit-same Classic EmptyCapture e = cc
@@ -349,9 +347,9 @@ pub same_houses_in : {a b : HousesState} → a.own ≡ b.own → a.other ≡ b.o
 same_houses_in x y z = grind arith
 
 -- the houses that have a key, by its parts
-pub rows_of_key : (a : HousesState) (k : ℕ) (rule : Rule) → IsWithinHouses a → key_of a ≡ k → rule_bit rule ≡ k / 2 ^ 63 →
-    rows_from (side_at k) (cells 6 k) (cells 6 (k / 2 ^ 30)) rule ≡ a
-rows_of_key a k rule h e bit =
+pub houses_of_key : (a : HousesState) (k : ℕ) (rule : Rule) → IsWithinHouses a → key_of a ≡ k → rule_bit rule ≡ k / 2 ^ 63 →
+    houses_from (side_at k) (cells 6 k) (cells 6 (k / 2 ^ 30)) rule ≡ a
+houses_of_key a k rule h e bit =
     let says = key_says h e in
     let other_shown : take (side_at k) (cells 6 (k / 2 ^ 30)) ≡ a.other =
     rw (says.side, says.other_cells, sym h.same_side) (take-padded _) in
@@ -363,13 +361,13 @@ key_from_parts : {k side : ℕ} {own other : List ℕ} (rule : Rule) → number_
     padded (take side own) ≡ own → padded (take side other) ≡ other → length (take side own) ≡ side
     → side ≡ k / 2 ^ 60 % 8 →
     rule_bit rule ≡ k / 2 ^ 63 →
-    key_of (rows_from side own other rule) ≡ k
+    key_of (houses_from side own other rule) ≡ k
 key_from_parts rule own_is other_is own_padded other_padded long side_is bit = omega (arith, number_of-shown)
 
 -- the key of the houses that a key holds
-pub key_of_rows : {k : ℕ} (rule : Rule) → IsKey k → rule_bit rule ≡ k / 2 ^ 63 →
-    key_of (rows_from (side_at k) (cells 6 k) (cells 6 (k / 2 ^ 30)) rule) ≡ k
-key_of_rows {k} rule h bit = search (rules, key_from_parts, number_of-cells, padded_from_zeros)
+pub key_of_houses : {k : ℕ} (rule : Rule) → IsKey k → rule_bit rule ≡ k / 2 ^ 63 →
+    key_of (houses_from (side_at k) (cells 6 k) (cells 6 (k / 2 ^ 30)) rule) ≡ k
+key_of_houses {k} rule h bit = search (rules, key_from_parts, number_of-cells, padded_from_zeros)
 
 -- the rule that a key names has the key's bit
 rule_at-bit : (bit : ℕ) → bit ≤ 1 → rule_bit (if bit == 0 then Classic else EmptyCapture) ≡ bit
@@ -378,11 +376,11 @@ rule_at-bit (suc zero) h = refl
 rule_at-bit (suc (suc n)) h = omega arith
 
 -- the houses of a key are those whose key it is
-pub rows_at_key : {a : HousesState} → IsWithinHouses a → rows_at (key_of a) ≡ a
-rows_at_key {a} h =
+pub houses_at_key : {a : HousesState} → IsWithinHouses a → houses_at (key_of a) ≡ a
+houses_at_key {a} h =
     let says = key_says h refl in
     let bit : key_of a / 2 ^ 63 ≤ 1 = omega (arith, rule_bit-small) in
-    rows_of_key a _ _ h refl (rule_at-bit _ bit)
+    houses_of_key a _ _ h refl (rule_at-bit _ bit)
 
 -- a key fits sixty-four bits
 pub key_fits : (b : HousesState) → IsWithinHouses b → key_of b < 2 ^ 64
@@ -394,7 +392,7 @@ pub packed_as : (b : HousesState) (rows seeds variant : ℕ) → IsWithinHouses 
     variant ≡ variant_of b → IsPacked rows seeds variant × (unpacked rows variant ≡ b)
 packed_as b rows seeds variant h rows_are seeds_are variant_is =
     let key_is : rows + 2 ^ 60 * variant ≡ key_of b = omega arith in
-    let same : unpacked rows variant ≡ b = ap rows_at key_is ∙ rows_at_key h in
+    let same : unpacked rows variant ≡ b = ap houses_at key_is ∙ houses_at_key h in
     grind arith
 
 -- what the fields of packed houses determine of the houses
@@ -404,6 +402,7 @@ pub record IsPackOf (a : HousesState) (rows seeds variant : ℕ) : Type 0 where
   pub seeds_are : seeds ≡ seeds_in_houses (storeless a)
   pub variant_is : variant ≡ variant_of a
 
+-- the fields of packed houses are those of their value
 pub pack_of : {a : HousesState} {rows seeds variant : ℕ} → IsPacked rows seeds variant → unpacked rows variant ≡ a
     → IsPackOf a rows seeds variant
 pack_of is e = grind arith
@@ -414,13 +413,14 @@ pub record AreRows (a : HousesState) (rows : ℕ) : Type 0 where
   pub own : number_of a.own ≡ rows % 2 ^ 30
   pub other : number_of a.other ≡ rows / 2 ^ 30
 
+-- both rows are read off the packed rows
 pub rows_of_pack : {a : HousesState} {rows seeds variant : ℕ} → IsPackOf a rows seeds variant → AreRows a rows
 rows_of_pack {a} is =
     let own_small = number_of-small 6 a.own is.limits.at_most_six (omega (arith, is.limits.few_seeds)) in
     let other_small = number_of-small 6 a.other (omega (arith, is.limits.same_side)) (omega (arith, is.limits.few_seeds)) in
     omega (arith, is.rows_are)
 
--- a row is empty exactly when its number is 0
+-- a row with the number 0 has no seeds
 pub sum-zero : (xs : List ℕ) → number_of xs ≡ 0 → sum xs ≡ 0
 sum-zero [] e = refl
 sum-zero (x ∷ xs) e = let rest = sum-zero xs (omega arith) in let cons = sum_by-cons (λ (y : ℕ). y) x xs in omega arith
@@ -430,7 +430,7 @@ pub number_of-zero : (xs : List ℕ) → sum xs ≡ 0 → number_of xs ≡ 0
 number_of-zero [] e = refl
 number_of-zero (x ∷ xs) e = let cons = sum_by-cons (λ (y : ℕ). y) x xs in let rest = number_of-zero xs (omega arith) in omega arith
 
--- a row's number is 0 if its seeds are none
+-- a row's number is 0 exactly when it has no seeds
 pub no_seeds : (xs : List ℕ) → nat_eq (number_of xs) 0 ≡ nat_eq (sum xs) 0
 no_seeds xs = grind (arith, number_of-zero, sum-zero)
 
@@ -460,26 +460,26 @@ read_more {xs} {number} {x} m passed few sum_few long more is at =
 module _ (k : ℕ) (rule : Rule) (bit : rule_bit rule ≡ k / 2 ^ 63) where
   -- the parts of a key as houses
   abbrev parts : HousesState
-  parts = rows_from (side_at k) (cells 6 k) (cells 6 (k / 2 ^ 30)) rule
+  parts = houses_from (side_at k) (cells 6 k) (cells 6 (k / 2 ^ 30)) rule
 
   -- what is found has the key
-  pub unpacks_same : (o : Option HousesState) → (IsSome o ↔ IsKey k) → IfSome o (λ a. a ≡ parts)
+  pub of_key_same : (o : Option HousesState) → (IsSome o ↔ IsKey k) → IfSome o (λ a. a ≡ parts)
       → IfSome o (λ a. key_of a ≡ k)
-  unpacks_same None valid value = tt
-  unpacks_same (Some a) valid value = ap key_of value ∙ key_of_rows _ (valid.0 (search rules)) bit
+  of_key_same None valid value = tt
+  of_key_same (Some a) valid value = ap key_of value ∙ key_of_houses _ (valid.0 (search rules)) bit
 
   -- the houses of a key are found
-  pub unpacks_found : (o : Option HousesState) → (IsSome o ↔ IsKey k) → IfSome o (λ a. a ≡ parts) → (a : HousesState)
+  pub of_key_found : (o : Option HousesState) → (IsSome o ↔ IsKey k) → IfSome o (λ a. a ≡ parts) → (a : HousesState)
       → IsWithinHouses a →
       key_of a ≡ k → o ≡ Some a
-  unpacks_found None valid value a h e = grind (arith, key_holds)
-  unpacks_found (Some b) valid value a h e = ap Some (value ∙ rows_of_key _ _ _ h e bit)
+  of_key_found None valid value a h e = grind (arith, key_holds)
+  of_key_found (Some b) valid value a h e = ap Some (value ∙ houses_of_key _ _ _ h e bit)
 
 -- two values of houses with one key are one
 pub same_key : (a b : HousesState) → IsWithinHouses a → IsWithinHouses b → key_of a ≡ key_of b → a ≡ b
 same_key a b ha hb e =
     let bit = sym (key_says ha e).rule in
-    sym (rows_of_key _ _ _ ha e bit) ∙ rows_of_key _ _ _ hb refl bit
+    sym (houses_of_key _ _ _ ha e bit) ∙ houses_of_key _ _ _ hb refl bit
 
 -- without seeds only the variant is left
 pub without_seeds_packed : {a : HousesState} {rows seeds variant : ℕ} → IsPackOf a rows seeds variant →
@@ -495,6 +495,7 @@ without_seeds_packed {a} is =
 
 -- ==== The houses of one side in one number
 
+-- a row's number has thirty bits
 pub row_is_small : {count number seeds : ℕ} → IsPackedRow count number seeds → number < 32 ^ 6
 row_is_small {count} {number} {seeds} row = grind (arith, length-cells, number_of-small)
 
@@ -504,19 +505,22 @@ module _ {count number seeds : ℕ} (x : ℕ) (row : IsPackedRow count number se
   abbrev pub houses : List ℕ
   houses = cells count number
 
+  -- its seeds are added
   sum_more : sum (houses ++ x ∷ []) ≡ seeds + x
   sum_more = omega (arith, sum_by-append)
 
+  -- it stands above the others
   number_more : number_of (houses ++ x ∷ []) ≡ number + 32 ^ count * x
   number_more = rw (number_of-append, length-cells) (omega arith)
 
-  -- it stands after the others
+  -- one house more stands after the others
   pub houses_pushed : cells (count + 1) (number + 32 ^ count * x) ≡ houses ++ x ∷ []
   houses_pushed =
       let long : length (houses ++ x ∷ []) ≡ count + 1 = omega (arith, length-append houses (x ∷ []), length-cells) in
       let same : number_of (houses ++ x ∷ []) + 32 ^ (count + 1) * 0 ≡ number + 32 ^ count * x = omega (arith, number_more) in
       ap (cells _) (sym same) ∙ cells-number_of _ _ _ long (omega (arith, sum_more))
 
+  -- a row with one house more is packed
   pub row_pushed : count < 6 → IsPackedRow (count + 1) (number + 32 ^ count * x) (seeds + x)
   row_pushed room = grind (arith, houses_pushed, number_more, sum_more)
 
@@ -542,7 +546,7 @@ pub packed_new : {m : ℕ} {own other : List ℕ} (rule : Rule) {own_number othe
     length other ≡ 6 → CanBeHouses m own other → own_number ≡ number_of own → other_number ≡ number_of other →
     variant ≡ m + 8 * rule_bit rule → seeds ≡ sum own + sum other →
     IsPacked (own_number + 2 ^ 30 * other_number) seeds variant
-    × (unpacked (own_number + 2 ^ 30 * other_number) variant ≡ rows_from m own other rule)
+    × (unpacked (own_number + 2 ^ 30 * other_number) variant ≡ houses_from m own other rule)
 packed_new {m} {own} {other} rule own_long other_long can own_is other_is variant_is seeds_are =
     let own_shown = length-take-le m own (omega arith) in
     let other_shown = length-take-le m other (omega arith) in

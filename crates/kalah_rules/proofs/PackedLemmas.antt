@@ -9,7 +9,7 @@ use Rattle.std.proofs.lemmas.Bool.Decides.{nat_tests}
 use Rattle.kalah_rules.specs.Position.{Position, HousesState, IsWithinHouses, side_length, seeds, opposite, seeds_in_houses, storeless, IsWithinLimits, is_over, swapped, houses_in, with_stores, without_seeds}
 use Rattle.kalah_rules.specs.Lap.{HoldsSeeds, lifted}
 use Rattle.kalah_rules.specs.Sowing.{lap_length, own_distance, other_distance, store_distance, sow, sown, last_distance, is_again, captures, can_capture, captured, after}
-use Rattle.kalah_rules.proofs.PlayLemmas.{set_less, sow_side, sow_keeps, sow_other_store, own_distance_past, own_distance_back, last_house_own, last_house_store, last_house_other, after_at, legal_holds, after_nearer, sum-zeros, with_more, after_of_rows, legal_going}
+use Rattle.kalah_rules.proofs.PlayLemmas.{set_less, sow_side, sow_keeps, sow_other_store, own_distance_past, own_distance_back, last_house_own, last_house_store, last_house_other, after_at, legal_holds, after_nearer, sum-zeros, with_more, after_of_houses, legal_going}
 use Rattle.kalah_rules.specs.Key.{number_of, rule_bit}
 use Rattle.kalah_rules.specs.Packed.{IsPackedPosition, ones, unpacked, IsPacked}
 use Rattle.kalah_rules.specs.declared.houses.play.RowNumbers.{RowNumbers}
@@ -27,7 +27,7 @@ use Rattle.kalah_rules.specs.declared.step.HousesStep.TheVariants.{Over, Again, 
 
 -- ==== A move on the numbers of two rows
 
--- what a sowing keeps
+-- what a move keeps: the seeds of the own store and the houses together, the other store, both sides, the rule
 pub record KeepsSeeds (p q : Position) : Type 0 where
   pub play : q.own_store + seeds_in_houses q ≡ p.own_store + seeds_in_houses p
   pub other_store : q.other_store ≡ p.other_store
@@ -47,14 +47,14 @@ taken_off : (rows x y : ℕ) {own other own_new other_new : ℕ} → rows % 2 ^ 
 taken_off rows x y own_is other_is less other_less = omega arith
 
 -- the last seed and the seeds across, where they stand in both rows
-abbrev pub seeds_to_catch : RowNumbers → ℕ → ℕ → ℕ
-seeds_to_catch r seed across = seed + r.rows / 2 ^ across % 32 * 2 ^ across % 2 ^ 64
+abbrev pub seeds_to_capture : RowNumbers → ℕ → ℕ → ℕ
+seeds_to_capture r seed across = seed + r.rows / 2 ^ across % 32 * 2 ^ across % 2 ^ 64
 
--- what is caught of rows: the last seed, if it is alone in its house, and the seeds across, as the rule says
-abbrev pub Caught : Rule → RowNumbers → ℕ → ℕ → ℕ → ℕ → ℕ → Type 0
-Caught rule r house seed across seeds count =
+-- what is captured of rows: the last seed, if it is alone in its house, and the seeds across, as the rule says
+abbrev pub HasCaptured : Rule → RowNumbers → ℕ → ℕ → ℕ → ℕ → ℕ → Type 0
+HasCaptured rule r house seed across seeds count =
     MatchBool ((bit_and r.rows house == seed) && captures rule (r.rows / 2 ^ across % 32))
-    ((seeds ≡ seeds_to_catch r seed across) × (count ≡ 1 + r.rows / 2 ^ across % 32)) ((seeds ≡ 0) × (count ≡ 0))
+    ((seeds ≡ seeds_to_capture r seed across) × (count ≡ 1 + r.rows / 2 ^ across % 32)) ((seeds ≡ 0) × (count ≡ 0))
 
 -- the rows that are left show this position
 pub record LeavesRows (r : RowNumbers) (seeds count : ℕ) (p : Position) : Type 0 where
@@ -73,12 +73,13 @@ house_bits rows k =
     rw (div-add-mod' rows p, mask, and_mask _ 5) at both ∙ omega arith in
     rw (pow_five k) at all
 
--- are one if the house has one seed
+-- x * p is p exactly if x is 1
 one_of : (x p : ℕ) → 0 < p → (x * p == p) ≡ (x == 1)
 one_of zero p some = grind arith
 one_of (suc zero) p some = grind arith
 one_of (suc (suc x)) p some = grind arith
 
+-- the five bits of a house are one exactly if it has one seed
 one_seed_at : (rows k : ℕ) → (bit_and rows (31 * 32 ^ k) == 32 ^ k) ≡ (rows / 32 ^ k % 32 == 1)
 one_seed_at rows k =
     let bits = house_bits rows k in
@@ -90,8 +91,9 @@ record GainsIntoStore (m h c : ℕ) : Type 0 where
   other : other_gained m h c ≡ 0
   store : store_gained m h c ≡ 1
 
-store_gains : (m h c : ℕ) → 1 ≤ h → h ≤ m → c + h ≡ m + 1 → GainsIntoStore m h c
-store_gains m h c low high ends =
+-- such a sowing gives each later own house and the store one seed, and the other player none
+gains_into_store : (m h c : ℕ) → 1 ≤ h → h ≤ m → c + h ≡ m + 1 → GainsIntoStore m h c
+gains_into_store m h c low high ends =
     grind (arith, div-eq_of_lt, mod-eq_of_lt, number_of-all, number_of-up_to, own_gain, other_gain)
 
 module _ (a : HousesState) (h : ℕ) (w : IsWithinHouses a) (holds : HoldsSeeds (storeless a) h) where
@@ -157,7 +159,7 @@ module _ (a : HousesState) (h : ℕ) (w : IsWithinHouses a) (holds : HoldsSeeds 
       (rows + (2 ^ 64 - loses)) % 2 ^ 64 ≡ number_of q.own + 2 ^ 30 * number_of q.other
   sown_less rows loses rows_are loses_small loses_is = omega (arith, own_is, other_is, own_small, other_small)
 
-  -- show the position after the sowing
+  -- rows and a store with what a sowing adds show the position after it
   pub rows_show : (rows store : ℕ) → rows ≡ number_of q.own + 2 ^ 30 * number_of q.other →
       store ≡ store_gained (length a.own) h (seeds a.own h) → IsPackedPosition (record { rows = rows; store = store }) q
   rows_show rows store rows_are store_is' = omega (arith, own_small, store_is)
@@ -168,7 +170,7 @@ module _ (a : HousesState) (h : ℕ) (w : IsWithinHouses a) (holds : HoldsSeeds 
       house ≡ 32 ^ (h - 1) * seeds a.own h → own_more + ones h ≡ ones (length a.own)
       → IsPackedPosition (record { rows = rows - house + own_more; store = 1 }) q
   into_store rows house own_more ends rows_are house_is own_more_is =
-      let gains = store_gains _ _ _ holds.first holds.last ends in
+      let gains = gains_into_store _ _ _ holds.first holds.last ends in
       rows_show _ 1 (sown_rows _ house _ rows_are house_is (omega arith)) (omega arith)
 
   -- a sowing brings few seeds to the store
@@ -195,11 +197,11 @@ module _ (a : HousesState) (h : ℕ) (w : IsWithinHouses a) (holds : HoldsSeeds 
       ∙ read_seeds _ _ (omega arith) (omega (arith, few)))
 
   -- all that a capture does to the rows, read and written by bits
-  capture_shows : {r : RowNumbers} {i house seed across caught_seeds count : ℕ} → IsPackedPosition r q → 1 ≤ i
+  capture_shows : {r : RowNumbers} {i house seed across captured_seeds count : ℕ} → IsPackedPosition r q → 1 ≤ i
       → i ≤ length a.own →
-      IsLastHouse (length a.own) i house seed across → Caught a.rule r house seed across caught_seeds count →
-      LeavesRows r caught_seeds count (captured q (Some i))
-  capture_shows {r} {i} {house} {seed} {across} {caught_seeds} {count} shows low high at told =
+      IsLastHouse (length a.own) i house seed across → HasCaptured a.rule r house seed across captured_seeds count →
+      LeavesRows r captured_seeds count (captured q (Some i))
+  capture_shows {r} {i} {house} {seed} {across} {captured_seeds} {count} shows low high at told =
       let j = opposite q i in
       let side = sown_keeps.side in
       let other_side = sown_keeps.other_side in
@@ -208,25 +210,25 @@ module _ (a : HousesState) (h : ℕ) (w : IsWithinHouses a) (holds : HoldsSeeds 
       let there = read_across r i across shows low high opposite_is in
       let alone : (bit_and r.rows house == seed) ≡ (seeds q.own i == 1) =
       rw (at.house, at.seed, ← read_own r i (5 * (i - 1)) shows low high refl, pow_five (i - 1)) (one_seed_at r.rows (i - 1)) in
-      let caught : MatchBool (can_capture q i) ((caught_seeds ≡ seed + seeds q.other j * 2 ^ across % 2 ^ 64) × (count ≡ 1 + seeds q.other j))
-      ((caught_seeds ≡ 0) × (count ≡ 0)) =
+      let has_captured : MatchBool (can_capture q i) ((captured_seeds ≡ seed + seeds q.other j * 2 ^ across % 2 ^ 64) × (count ≡ 1 + seeds q.other j))
+      ((captured_seeds ≡ 0) × (count ≡ 0)) =
       rw sown_keeps.rule (rw (alone, there) at told) in
       elim (cases_Bool (can_capture q i)) [
         | inr kept ↦
-            let none : (caught_seeds ≡ 0) × (count ≡ 0) = rw kept at caught in
+            let none : (captured_seeds ≡ 0) × (count ≡ 0) = rw kept at has_captured in
             record {
               within = omega (arith, none.0);
               shows = rw (kept, none.0, none.1) (omega arith);
             }
         | inl some ↦
-            let both : (caught_seeds ≡ seed + seeds q.other j * 2 ^ across % 2 ^ 64) × (count ≡ 1 + seeds q.other j) = rw some at caught in
+            let both : (captured_seeds ≡ seed + seeds q.other j * 2 ^ across % 2 ^ 64) × (count ≡ 1 + seeds q.other j) = rw some at has_captured in
             let one : seeds q.own i ≡ 1 = eqb-true (seeds q.own i) 1 (and_parts _ _ some).0 in
             let own_set = number_of-set q.own (i - 1) 0 (omega arith) in
             let other_set = number_of-set q.other (j - 1) 0 (omega (arith, w.same_side)) in
             let one_at : 32 ^ (i - 1) * seeds q.own i ≡ 32 ^ (i - 1) * 1 = ap (λ n. 32 ^ (i - 1) * n) one in
             let y : seeds q.other j * 2 ^ across % 2 ^ 64 ≡ 2 ^ 30 * (32 ^ (j - 1) * seeds q.other j) =
             rw (opposite_is, pow_other (j - 1)) (moved_far _ _ far (omega arith)) in
-            let is : caught_seeds ≡ 32 ^ (i - 1) + 2 ^ 30 * (32 ^ (j - 1) * seeds q.other j) = both.0 ∙ omega (arith, y, at.seed) in
+            let is : captured_seeds ≡ 32 ^ (i - 1) + 2 ^ 30 * (32 ^ (j - 1) * seeds q.other j) = both.0 ∙ omega (arith, y, at.seed) in
             let off = taken_off r.rows (32 ^ (i - 1)) (32 ^ (j - 1) * seeds q.other j) shows.own shows.other (omega arith) (omega arith) in
             record {
               within = rw is off.0;
@@ -235,12 +237,12 @@ module _ (a : HousesState) (h : ℕ) (w : IsWithinHouses a) (holds : HoldsSeeds 
       ]
 
 -- ---- the whole move
--- nor does a capture after it
+-- a capture keeps what a sowing keeps
 captured_keeps : {p q : Position} (o : Option ℕ) → KeepsSeeds p q → KeepsSeeds p (captured q o)
 captured_keeps None k = k
 captured_keeps {p} {q} (Some i) k = grind (arith, cases_Bool, set_less, length-set)
 
--- no seed is lost in a move
+-- a move keeps all that
 pub after_keeps : (a : HousesState) (h : ℕ) → IsWithinHouses a → HoldsSeeds (storeless a) h
     → KeepsSeeds (storeless a) (after (storeless a) h)
 unfolding after
@@ -259,16 +261,6 @@ module _ (p : Position) (h : ℕ) (holds : HoldsSeeds p h) where
   -- the seeds of less than a lap go as far as there are of them
   pub short_distance : seeds p.own h ≤ lap_length (side_length p) → last_distance p h ≡ seeds p.own h
   short_distance few = omega (arith, mod-eq_of_lt)
-
-  -- its seeds are whole laps and the distance of the last one
-  laps_and_distance : (seeds p.own h - 1) / lap_length (side_length p) * lap_length (side_length p) + last_distance p h ≡ seeds p.own h
-  laps_and_distance = omega arith
-
-  -- the place is what remains of its seeds past whole laps
-  place_after : (laps at : ℕ) → h + seeds p.own h ≡ laps * lap_length (side_length p) + at → 1 ≤ at
-      → at ≤ lap_length (side_length p) →
-      last_place (side_length p) h (seeds p.own h) ≡ at
-  place_after laps at whole low high = grind arith
 
   -- the place of a last seed that doesn't come round
   place_near : h + last_distance p h ≤ lap_length (side_length p)
@@ -318,46 +310,46 @@ module _ (p : Position) (h : ℕ) (holds : HoldsSeeds p h) where
   pub again_at : is_again p h ≡ (last_place (side_length p) h (seeds p.own h) == side_length p + 1)
   again_at = grind (arith, cases_eq, place_past, eq-eqb, place_near)
 
--- where no house has one seed, nothing is caught
-none_caught : (rule : Rule) (r : RowNumbers) (seeds count : ℕ) {p : Position} → Caught rule r 0 1 0 seeds count
+-- where no house has one seed, nothing is captured
+none_captured : (rule : Rule) (r : RowNumbers) (seeds count : ℕ) {p : Position} → HasCaptured rule r 0 1 0 seeds count
     → IsPackedPosition r p →
     LeavesRows r seeds count p
-none_caught rule r seeds count told shows = grind (arith, and_le_r)
+none_captured rule r seeds count told shows = grind (arith, and_le_r)
 
 -- the bit across lies within a key
-pub across_within : {m : ℕ} (h c : ℕ) (s : Sowing) → IsSowing m h c s → m ≤ 6 → s.across < 64
+pub across_within : {m : ℕ} (h c : ℕ) (s : Sowing) → IsSowing m h c s → m ≤ 6 → s.across_bit < 64
 across_within {m} h c s sowing few = grind arith
 
--- the rows after the move are those of the sowing, less what is caught
-pub move_leaves : {a : HousesState} {h : ℕ} {s : Sowing} {r : RowNumbers} {rule : Rule} {caught_seeds count : ℕ}
+-- the rows after the move are those of the sowing, less what is captured
+pub move_leaves : {a : HousesState} {h : ℕ} {s : Sowing} {r : RowNumbers} {rule : Rule} {captured_seeds count : ℕ}
     → IsWithinHouses a →
     HoldsSeeds (storeless a) h → IsSowing (length a.own) h (seeds a.own h) s → IsPackedPosition r (sown (storeless a) h) → rule ≡ a.rule →
-    Caught rule r s.last_house s.last_seed s.across caught_seeds count → LeavesRows r caught_seeds count (after (storeless a) h)
-move_leaves {a} {h} {s} {r} {rule} {caught_seeds} {count} w holds sowing shows same caught =
+    HasCaptured rule r s.last_mask s.last_seed s.across_bit captured_seeds count → LeavesRows r captured_seeds count (after (storeless a) h)
+move_leaves {a} {h} {s} {r} {rule} {captured_seeds} {count} w holds sowing shows same has_captured =
     let place = last_place _ h _ in
-    let told = rw same at caught in
+    let told = rw same at has_captured in
     elim (cases_lt _ place) [
       | inl past ↦
           let no = sowing.elsewhere past in
-          none_caught a.rule r caught_seeds count (rw (no.house, no.seed, no.across) at told) (after_past _ h holds r past shows)
+          none_captured a.rule r captured_seeds count (rw (no.house, no.seed, no.across) at told) (after_past _ h holds r past shows)
       | inr own ↦
           let leaves = capture_shows a h w holds shows (omega arith) own (sowing.own own) told in
           record { within = leaves.within; shows = after_own _ h holds _ own leaves.shows }
     ]
 
 -- where the last seed and the seeds across stand, is room in a number
-pub caught_fits : {m : ℕ} (h c x : ℕ) (s : Sowing) → IsSowing m h c s → m ≤ 6 → x < 32
-    → s.last_seed + x * 2 ^ s.across % 2 ^ 64 < 2 ^ 64
-caught_fits {m} h c x s sowing side small = elim (cases_lt m (last_place m h c)) [
+pub captured_fits : {m : ℕ} (h c x : ℕ) (s : Sowing) → IsSowing m h c s → m ≤ 6 → x < 32
+    → s.last_seed + x * 2 ^ s.across_bit % 2 ^ 64 < 2 ^ 64
+captured_fits {m} h c x s sowing side small = elim (cases_lt m (last_place m h c)) [
   | inl past ↦
       let no = sowing.elsewhere past in
-      let there : x * 2 ^ s.across % 2 ^ 64 ≡ x = rw no.across (omega arith) in
+      let there : x * 2 ^ s.across_bit % 2 ^ 64 ≡ x = rw no.across (omega arith) in
       omega (arith, no.seed)
   | inr own ↦
       let i = last_place m h c in
       let at = sowing.own own in
       let seed : s.last_seed < 2 ^ 30 = omega (arith, at.seed, placed_small (i - 1) 1 (omega arith) (omega arith)) in
-      let there : x * 2 ^ s.across % 2 ^ 64 ≡ 2 ^ 30 * (32 ^ (m - i) * x) =
+      let there : x * 2 ^ s.across_bit % 2 ^ 64 ≡ 2 ^ 30 * (32 ^ (m - i) * x) =
       rw (at.across, pow_other (m - i)) (moved_far _ _ (omega arith) small) in
       omega (arith, placed_small (m - i) x (omega arith) small)
 ]
@@ -389,8 +381,8 @@ pub over_swapped : (q : Position) → is_over q ≡ false → is_over (swapped q
 over_swapped q going = grind arith
 
 -- the houses of a board are within their limits
-pub rows_within : (p : Position) → IsWithinLimits p → IsWithinHouses (houses_in p)
-rows_within p l = omega arith
+pub houses_within : (p : Position) → IsWithinLimits p → IsWithinHouses (houses_in p)
+houses_within p l = omega arith
 
 -- a move keeps the houses within the limits
 pub after_within : (a : HousesState) (h : ℕ) → IsWithinHouses a → HoldsSeeds (storeless a) h
@@ -407,6 +399,7 @@ pub record IsStepTo (a : HousesState) (h rows seeds variant : ℕ) (step : House
   pub packed : IsPacked rows seeds variant
   pub is : step (unpacked rows variant) ≡ houses_step a h
 
+-- a move brings at most 31 seeds to the store
 pub store_small : {a : HousesState} {h : ℕ} {r : RowNumbers} → IsWithinHouses a → Contains (legal_houses (storeless a)) h
     → IsPackedPosition r (after (storeless a) h) →
     r.store ≤ 31
@@ -436,7 +429,7 @@ module _ {a : HousesState} {h rows seeds variant : ℕ} {r : RowNumbers} (packed
   pub store_within : r.store ≤ seeds
   store_within = omega (arith, keeps.play, is.seeds_are)
 
-  -- the mover has no seeds left
+  -- without own seeds the game is over
   pub over_own : r.rows % 2 ^ 30 ≡ 0 → Over r.store (seeds - r.store) ≡ houses_step a h
   over_own none =
       let empty = sum-zero moved.own (sym shows.own ∙ none) in
@@ -445,7 +438,7 @@ module _ {a : HousesState} {h rows seeds variant : ℕ} {r : RowNumbers} (packed
       omega (arith, shows.store, keeps.play, keeps.other_store, is.seeds_are) in
       cc (mine, theirs, step_over moved (is_again (storeless a) h) (rw empty refl))
 
-  -- or the other player has none
+  -- without seeds of the other player it is over
   pub over_other : r.rows / 2 ^ 30 ≡ 0 → Over seeds 0 ≡ houses_step a h
   over_other none =
       let empty = sum-zero moved.other (sym shows.other ∙ none) in
@@ -454,11 +447,11 @@ module _ {a : HousesState} {h rows seeds variant : ℕ} {r : RowNumbers} (packed
       cc (mine, theirs, step_over moved (is_again (storeless a) h) (grind (arith, nat_tests)))
 
   module _ (own_some : r.rows % 2 ^ 30 ≢ 0) (other_some : r.rows / 2 ^ 30 ≢ 0) where
-    -- or the game goes on
+    -- with seeds on both sides it goes on
     going : is_over moved ≡ false
     going = grind (arith, number_of-zero)
 
-    -- with the mover
+    -- if the mover moves again, the rows stay in place
     pub again_packed : is_again (storeless a) h ≡ true → IsStepTo a h r.rows (seeds - r.store) variant (Again r.store)
     again_packed more =
         let rule = ap rule_bit keeps.rule in
@@ -466,7 +459,7 @@ module _ {a : HousesState} {h rows seeds variant : ℕ} {r : RowNumbers} (packed
         (omega (arith, shows.own, shows.other)) (omega (arith, keeps.play, is.seeds_are)) (omega (arith, is.variant_is, keeps.side)) in
         record { packed = there.0; is = rw (shows.store, there.1) (sym (step_again _ _ going more)) }
 
-    -- or with the other player
+    -- if the turn passes, they change places
     pub turn_packed : is_again (storeless a) h ≡ false →
         IsStepTo a h (r.rows / 2 ^ 30 + 2 ^ 30 * (r.rows % 2 ^ 30)) (seeds - r.store) variant (Turn r.store)
     turn_packed passed =
@@ -491,6 +484,7 @@ IsStepWithin p (Over own other) = IsWithinLimits (with_stores (without_seeds (ho
 IsStepWithin p (Again gained b) = IsWithinLimits (with_stores b (p.own_store + gained) p.other_store)
 IsStepWithin p (Turn gained b) = IsWithinLimits (with_stores b p.other_store (p.own_store + gained))
 
+-- the step with the stores is that of the position with the stores
 step_with_to : (p q : Position) (over again : Bool) → side_length q ≡ side_length p → q.rule ≡ p.rule → q.other_store ≡ 0
     → is_over q ≡ over →
     step_with p (houses_step_to q again) ≡ step_to (with_more p.own_store p.other_store q) again
@@ -505,7 +499,7 @@ step_is p h w holds =
     let q = after _ h in
     let keeps = after_keeps _ _ w holds in
     step_with_to p q (is_over q) _ keeps.side keeps.rule keeps.other_store refl
-    ∙ ap (λ x. step_to x (is_again p h)) (sym (after_of_rows p h))
+    ∙ ap (λ x. step_to x (is_again p h)) (sym (after_of_houses p h))
 
 -- the step of a board is within the limits
 pub step_within : {p : Position} (h : ℕ) → IsWithinLimits p → HoldsSeeds (storeless (houses_in p)) h
@@ -513,7 +507,7 @@ pub step_within : {p : Position} (h : ℕ) → IsWithinLimits p → HoldsSeeds (
 step_within {p} h l holds =
     let a = houses_in p in
     let q = after _ h in
-    let w = rows_within p l in
+    let w = houses_within p l in
     let keeps = after_keeps a h w holds in
     let on = after_within a h w holds in
     on_cond (IsStepWithin p) (is_over q) _ _
@@ -538,6 +532,7 @@ pub record IsStepOf (p : Position) (h : ℕ) (s : HousesStep) : Type 0 where
   pub within : IsStepWithin p s
   pub nearer : IsNearerEnd (after p h) p
 
+-- a step of a board's houses is the board's, within the limits
 pub board_step : {b : HousesState} {own_store other_store h : ℕ} {p : Position} {s t : HousesStep}
     → IsWithinLimits (with_stores b own_store other_store) →
     with_stores b own_store other_store ≡ p → Contains (legal_houses p) h → t ≡ s → t ≡ houses_step b h →
@@ -546,7 +541,7 @@ board_step {b} {own_store} {other_store} {h} l view has to is =
     let p = with_stores b own_store _ in
     let legal = subst (λ (x : Position). Contains (legal_houses x) h) (sym view) has in
     let holds = legal_holds _ _ legal in
-    let w = rows_within _ l in
+    let w = houses_within _ l in
     record {
       same = ap (step_with p) (sym to ∙ is) ∙ step_is _ _ w holds;
       within = subst (IsStepWithin p) (sym is ∙ to) (step_within _ l holds);

@@ -18,6 +18,7 @@ use Rattle.kalah_rules.specs.Measure.{row_distance, distance_to_stores, IsNearer
 
 -- ==== Numbers, sums and lists of them: nothing here is of Kalah
 
+-- sums over a range are equal if their terms are
 pub sum_range_same : (f g : ℕ → ℕ) (a n : ℕ) → ((j : ℕ) → a ≤ j → f j ≡ g j) →
     sum_by f (range_with_len a n) ≡ sum_by g (range_with_len a n)
 sum_range_same f g a zero same = refl
@@ -42,22 +43,24 @@ sum_range_change f g a (suc n) i low high same =
           omega arith
     ]
 
--- one seed more that comes no farther than d
+-- a sum bounded by k times d, with one more term of at most d
 pub fall_step : (w a b k d e : ℕ) {w' : ℕ} → w + a ≤ b + k * d → w' ≡ w + e → e ≤ d → w' + a ≤ b + (k + 1) * d
 fall_step w a b k d e before more near = omega arith
 
--- a house that is emptied
+-- a list with one number set to 0 has that much less
 pub set_less : (xs : List ℕ) (k : ℕ) → sum (slice_set xs k 0) + slice_index xs k ≡ sum xs
 set_less xs k = grind (arith, sum_by-set, set_past, get_or_past)
 
--- no seed is farther from the store than its row is long
+-- a weighted sum is bounded if its first term and the rest are
 pub distance_step : (fx r n x s : ℕ) {t sxs : ℕ} → t ≡ fx + r → fx ≤ x * n → r ≤ n * s → sxs ≡ x + s → t ≤ n * sxs
 distance_step fx r n x s whole first rest sum_is = rw sum_is (omega arith)
 
+-- past the first element an index counts in the rest
 pub slice_index_more : (x : ℕ) (xs : List ℕ) (a j : ℕ) → a + 1 ≤ j
     → slice_index (x ∷ xs) (j - a) ≡ slice_index xs (j - (a + 1))
 slice_index_more x xs a j low = grind arith
 
+-- numbers times weights of at most n add up to at most n times their sum
 pub distance_range_le : (row : List ℕ) (a n : ℕ) (w : ℕ → ℕ) → ((i : ℕ) → a ≤ i → w i ≤ n)
     → sum_by (λ i. slice_index row (i - a) * w i) (range_with_len a (length row)) ≤ n * sum row
 distance_range_le [] a n w near = zero-le
@@ -68,14 +71,14 @@ distance_range_le (x ∷ xs) a n w near =
     distance_step _ _ n x _ (sum_by-cons f a (range_with_len _ (length xs))) (rw start (mul-le x _ x n (omega arith) (omega arith)))
     (rw rest (distance_range_le xs _ n w (omega arith))) (sum_by-cons _ x xs)
 
--- fewer seeds outweigh any distance
+-- the measure falls if s does, for w' up to m * s'
 pub lower_by_seeds : (m s s' w w' : ℕ) → s' < s → w' ≤ m * s' → s' * (m * s' + 1) + w' < s * (m * s + 1) + w
 lower_by_seeds m s s' w w' fewer short =
     let grow : m * (s' + 1) + 1 ≤ m * s + 1 = omega (arith, mul-le m (s' + 1) m s (omega arith) (omega arith)) in
     let whole = mul-le (s' + 1) _ s _ (omega arith) grow in
     omega arith
 
--- houses without seeds
+-- zeros add up to 0
 pub sum-zeros : (n : ℕ) → sum (replicate n 0) ≡ 0
 sum-zeros n = omega (arith, sum_by-replicate)
 
@@ -91,9 +94,11 @@ div-mod-suc n k pos = grind arith
 pub gain_more : (n k d : ℕ) → 1 ≤ d → d ≤ n → d ≡ k % n + 1 → gain n (k + 1) d ≡ gain n k d + 1
 gain_more n k d low high here = grind arith
 
+-- one seed more changes no cell at another distance
 pub gain_same : (n k d : ℕ) → 1 ≤ d → d ≤ n → d ≢ k % n + 1 → gain n (k + 1) d ≡ gain n k d
 gain_same n k d low high elsewhere = grind (arith, div-mod-suc)
 
+-- of no seeds no cell gets any
 pub gain_none : (n d : ℕ) → 0 < n → 1 ≤ d → gain n 0 d ≡ 0
 gain_none n d pos low = grind arith
 
@@ -106,6 +111,7 @@ own_distance_back m h i back = grind arith
 
 -- ==== Rows of houses, house by house
 
+-- positions with the same parts are the same
 pub same_position : {p q : Position} → p.own ≡ q.own → p.own_store ≡ q.own_store → p.other ≡ q.other →
     p.other_store ≡ q.other_store → p.rule ≡ q.rule → p ≡ q
 same_position a b c d e = grind arith
@@ -173,21 +179,6 @@ module _ (m h : ℕ) (h_low : 1 ≤ h) (h_high : h ≤ m) where
 
 -- the formula of `sow`, over a fixed position and house
 module _ (p : Position) (h : ℕ) (low : 1 ≤ h) (high : h ≤ side_length p) where
-  lap_pos : 0 < lap_length (side_length p)
-  lap_pos = omega arith
-
-  store_low : 1 ≤ store_distance (side_length p) h
-  store_low = omega arith
-
-  store_high : store_distance (side_length p) h ≤ lap_length (side_length p)
-  store_high = omega arith
-
-  other_low : (j : ℕ) → 1 ≤ other_distance (side_length p) h j
-  other_low j = omega arith
-
-  other_high : (j : ℕ) → j ≤ side_length p → other_distance (side_length p) h j ≤ lap_length (side_length p)
-  other_high j j_high = omega arith
-
   -- nothing sown yet
   pub sow_none : length p.other ≡ side_length p → sow p h 0 ≡ lifted p h
   unfolding sow
@@ -272,7 +263,7 @@ cell_at m h d low high d_low d_high = elim (cases_lt (m + 1 - h) d) [
   ]
 ]
 
--- sowing keeps the houses of both sides
+-- sowing keeps the number of houses of both sides
 pub sow_side : (p : Position) (h k : ℕ) → (side_length (sow p h k) ≡ side_length p) × (length (sow p h k).other ≡ side_length p)
 unfolding sow
 sow_side p h k = omega (arith, length-row_of)
@@ -281,7 +272,7 @@ pub sow_other_store : (p : Position) (h k : ℕ) → (sow p h k).other_store ≡
 unfolding sow
 sow_other_store p h k = refl
 
--- a seed more in a cell
+-- q has one seed more than p in its own store and houses together
 pub record AddsOne (p q : Position) : Type 0 where
   pub houses : seeds_in_houses q ≤ seeds_in_houses p + 1
   pub play : q.own_store + seeds_in_houses q ≡ p.own_store + seeds_in_houses p + 1
@@ -292,7 +283,7 @@ with_seed_adds p (Own i) same is_cell = omega (arith, sum-slice_set)
 with_seed_adds p Store same is_cell = omega arith
 with_seed_adds p (Other j) same is_cell = omega (arith, sum-slice_set)
 
--- after k of the c seeds of house h
+-- q is p after k of its c lifted seeds were sown
 pub record HasSown (p : Position) (c k : ℕ) (q : Position) : Type 0 where
   pub houses : seeds_in_houses q + c ≤ seeds_in_houses p + k
   pub play : q.own_store + seeds_in_houses q + c ≡ p.own_store + seeds_in_houses p + k
@@ -310,6 +301,7 @@ pub next_cell : (p : Position) (h : ℕ) → 1 ≤ h → h ≤ side_length p →
     (cell : Cell) × IsCellOf (side_length p) cell × (distance (side_length p) h cell ≡ k % lap_length (side_length p) + 1)
 next_cell p h low high k = grind (arith, cell_at)
 
+-- sowing loses no seed
 pub sow_keeps : (p : Position) (h : ℕ) → 1 ≤ h → h ≤ side_length p → length p.other ≡ side_length p → (k : ℕ) →
     HasSown p (seeds p.own h) k (sow p h k)
 sow_keeps p h low high same zero = grind (arith, sum-slice_set, sow_none)
@@ -339,6 +331,7 @@ find_in_range f a (suc n) i low high here before = elim (cases_eq a i) [
       (find_in_range f (a + 1) n i (omega arith) (omega arith) here (λ j j_low j_high. before j (omega arith) j_high))
 ]
 
+-- if none of a range passes, none is found
 pub find_none : (f : ℕ → Bool) (a n : ℕ) → ((j : ℕ) → a ≤ j → j < a + n → f j ≡ false)
     → find f (range_with_len a n) ≡ None
 find_none f a zero fails = refl
@@ -354,10 +347,12 @@ last_house_own {p} {h} {i} holds low high at = find_in_range _ 1 _ i low
     (λ j j_low j_high. ne_eqb _ _ (λ e.
     own_distance_apart _ h holds.first holds.last j i j_low (omega arith) low high (omega arith) (e ∙ sym at)))
 
+-- there is no last house if the last seed falls into the store
 pub last_house_store : {p : Position} {h : ℕ} → HoldsSeeds p h → store_distance (side_length p) h ≡ last_distance p h
     → last_house p h ≡ None
 last_house_store {p} {h} holds at = grind (arith, find_none)
 
+-- there is none if it falls into a house of the other player
 pub last_house_other : {p : Position} {h : ℕ} (i : ℕ) → HoldsSeeds p h → 1 ≤ i → i ≤ side_length p →
     other_distance (side_length p) h i ≡ last_distance p h → last_house p h ≡ None
 last_house_other {p} {h} i holds low high at = grind (arith, find_none)
@@ -367,11 +362,12 @@ pub after_at : (p : Position) (h : ℕ) (o : Option ℕ) → last_house p h ≡ 
 unfolding after
 after_at p h o e = cc
 
--- a number of a range that passes is kept
+-- a list contains what it did with one more element in front, kept or dropped
 contains_kept : (b : Bool) (x : ℕ) (xs : List ℕ) (y : ℕ) → Contains xs y → Contains (cond b (x ∷ xs) xs) y
 contains_kept true x xs y has = Contains-append_right (x ∷ []) xs y has
 contains_kept false x xs y has = has
 
+-- a number of a range that passes is among those that pass
 contains_range : (f : ℕ → Bool) (a n i : ℕ) → a ≤ i → i < a + n → f i ≡ true → Contains (filter f (range_with_len a n)) i
 contains_range f a zero i low high here = absurd (omega arith)
 contains_range f a (suc n) i low high here = elim (cases_eq a i) [
@@ -379,13 +375,15 @@ contains_range f a (suc n) i low high here = elim (cases_eq a i) [
   | inr ne ↦ contains_kept _ _ _ _ (contains_range f (a + 1) n i (omega arith) (omega arith) here)
 ]
 
+-- each number of a range is within it
 all_range : (a n : ℕ) → All (λ i. (a ≤ i) × (i < a + n)) (range_with_len a n)
 all_range a n = omega (arith, length-range_with_len, get_or-range_with_len)
 
--- the legal houses hold seeds, and each house with seeds is legal while the game goes on
+-- a game with a legal house isn't over
 pub legal_going : (p : Position) (h : ℕ) → Contains (legal_houses p) h → is_over p ≡ false
 legal_going p h has = grind arith
 
+-- a legal house holds seeds
 pub legal_holds : (p : Position) (h : ℕ) → Contains (legal_houses p) h → HoldsSeeds p h
 legal_holds p h has =
     let kept = rw (legal_going p h has) at has in
@@ -396,6 +394,7 @@ legal_holds p h has =
     let some = All-contains (λ i. seeded i ≡ true) _ h (filter_passes seeded houses) kept in
     record { first = range.0; last = omega arith; some = ltb-true 0 _ some }
 
+-- a house that holds seeds is legal while the game goes on
 pub holds_legal : (p : Position) (h : ℕ) → HoldsSeeds p h → is_over p ≡ false → Contains (legal_houses p) h
 holds_legal p h holds going = rw going
     (contains_range _ 1 (side_length p) h holds.first (omega arith)
@@ -433,8 +432,8 @@ pub is_with_more : (p : Position) → p ≡ with_more p.own_store p.other_store 
 is_with_more p = grind arith
 
 -- a move of a position is that of its houses
-pub after_of_rows : (p : Position) (h : ℕ) → after p h ≡ with_more p.own_store p.other_store (after (storeless (houses_in p)) h)
-after_of_rows p h = ap (λ q. after q h) (is_with_more p) ∙ after_with_more _ _ _ h
+pub after_of_houses : (p : Position) (h : ℕ) → after p h ≡ with_more p.own_store p.other_store (after (storeless (houses_in p)) h)
+after_of_houses p h = ap (λ q. after q h) (is_with_more p) ∙ after_with_more _ _ _ h
 
 -- ==== Every move brings the game nearer to its end
 
@@ -448,18 +447,20 @@ row_distance-set row i v low high =
     (λ j j_low ne. ap (λ x. x * (length row + 1 - j)) (seeds-set_other _ _ _ _ low j_low ne)) in
     rw (length-set _ _ v) (change ∙ ap (λ x. row_distance row + x) (ap (λ x. x * _) (seeds-set_same _ _ _ low high)))
 
-store_gains : (p : Position) (h : ℕ) →
+-- the own store after a sowing
+sown_store : (p : Position) (h : ℕ) →
     (sown p h).own_store ≡ p.own_store + gain (lap_length (side_length p)) (seeds p.own h) (store_distance (side_length p) h)
 unfolding sow
-store_gains p h = refl
+sown_store p h = refl
 
 pub row_distance-more : (row : List ℕ) (i : ℕ) → 1 ≤ i → i ≤ length row →
     row_distance (slice_set row (i - 1) (seeds row i + 1)) ≡ row_distance row + (length row + 1 - i)
 row_distance-more row i low high = omega (arith, row_distance-set)
 
-way_with_seed : (q : Position) (i : ℕ) → 1 ≤ i → i ≤ length q.own →
+-- one seed more in own house i adds its distance
+distance-with_seed : (q : Position) (i : ℕ) → 1 ≤ i → i ≤ length q.own →
     distance_to_stores (with_seed q (Own i)) ≡ distance_to_stores q + (length q.own + 1 - i)
-way_with_seed q i low high = omega (arith, row_distance-more)
+distance-with_seed q i low high = omega (arith, row_distance-more)
 
 -- the cell of the next seed, while sowing has not reached the store
 next_house : (m h k : ℕ) → k + 1 + h ≤ m → own_distance m h (h + (k + 1)) ≡ k % lap_length m + 1
@@ -467,43 +468,46 @@ next_house m h k near = grind (arith, mod-eq_of_lt)
 
 -- sowing that does not reach the store brings each seed nearer
 module _ (p : Position) (h : ℕ) (holds : HoldsSeeds p h) (same : length p.other ≡ side_length p) where
-  way_more : (k : ℕ) → k + 1 + h ≤ side_length p →
+  -- the next seed before the store adds its distance
+  distance_grows : (k : ℕ) → k + 1 + h ≤ side_length p →
       distance_to_stores (sow p h (k + 1)) ≡ distance_to_stores (sow p h k) + (side_length p + 1 - (h + (k + 1)))
-  way_more k near =
+  distance_grows k near =
       let side = (sow_side p h k).0 in
       let low : 1 ≤ h + _ = omega arith in
       let high : h + _ ≤ side_length p = omega arith in
       let high' : h + _ ≤ length (sow p h k).own = omega arith in
       ap distance_to_stores (sow_more p h holds.first holds.last k (Own _) (low, high) (next_house _ h k near))
-      ∙ way_with_seed (sow p h k) _ low high'
+      ∙ distance-with_seed (sow p h k) _ low high'
       ∙ ap (λ x. distance_to_stores (sow p h k) + (x + 1 - (h + (k + 1)))) side
 
-  pub way_falls : (k : ℕ) → k + h ≤ side_length p →
+  pub distance_falls : (k : ℕ) → k + h ≤ side_length p →
       distance_to_stores (sow p h k) + seeds p.own h * (side_length p + 1 - h) ≤ distance_to_stores p + k * (side_length p - h)
-  way_falls zero near = grind (arith, sow_none, row_distance-set)
-  way_falls (suc k) near = rw (← add-one k) (fall_step _ _ _ _ _ _ (way_falls k (omega arith))
-      (way_more k (omega arith)) omega arith)
+  distance_falls zero near = grind (arith, sow_none, row_distance-set)
+  distance_falls (suc k) near = rw (← add-one k) (fall_step _ _ _ _ _ _ (distance_falls k (omega arith))
+      (distance_grows k (omega arith)) omega arith)
 
-  -- all seeds fall before the store
-  pub way_falls_all : seeds p.own h + h ≤ side_length p → distance_to_stores (sown p h) < distance_to_stores p
-  way_falls_all near = grind (arith, way_falls)
+  -- k seeds sown before the store bring each nearer by one or more
+  pub distance_falls_all : seeds p.own h + h ≤ side_length p → distance_to_stores (sown p h) < distance_to_stores p
+  distance_falls_all near = grind (arith, distance_falls)
 
   -- a seed that reaches the store leaves fewer in houses
   pub houses_fall : side_length p < seeds p.own h + h → seeds_in_houses (sown p h) < seeds_in_houses p
-  houses_fall far = grind (arith, sow_keeps, store_gains)
+  houses_fall far = grind (arith, sow_keeps, sown_store)
 
+-- a capture leaves fewer seeds in houses
 captures_fall : (q : Position) (i : ℕ) → seeds q.own i ≡ 1 → seeds_in_houses (capture q i) < seeds_in_houses q
 captures_fall q i one = omega (arith, set_less)
 
--- a capture leaves fewer seeds in houses
+-- where the last seed falls there are fewer seeds in houses, or nothing changes
 captured_falls : (q : Position) (o : Option ℕ) → (seeds_in_houses (captured q o) < seeds_in_houses q) ⊎ (captured q o ≡ q)
 captured_falls q None = inr refl
 captured_falls q (Some i) = grind (arith, captures_fall)
 
+-- a sowing brings the game nearer to its end
 sown_nearer : (p : Position) (h : ℕ) → HoldsSeeds p h → length p.other ≡ side_length p → IsNearerEnd (sown p h) p
-sown_nearer p h holds same = grind (arith, houses_fall, sow_keeps, way_falls_all)
+sown_nearer p h holds same = grind (arith, houses_fall, sow_keeps, distance_falls_all)
 
--- every move
+-- a move brings the game nearer to its end
 pub after_nearer : (p : Position) (h : ℕ) → HoldsSeeds p h → HasEqualSides p → IsNearerEnd (after p h) p
 unfolding after
 after_nearer p h holds even = grind (arith, sown_nearer, captured_falls)
@@ -513,7 +517,7 @@ capture_side : (q : Position) (o : Option ℕ) → (side_length (captured q o) �
 capture_side q None = omega arith
 capture_side q (Some i) = grind (arith, length-set)
 
--- a move keeps the houses of both sides
+-- a move keeps the number of houses of both sides
 pub after_side : (p : Position) (h : ℕ) → side_length (after p h) ≡ side_length p
 unfolding after
 after_side p h = omega (arith, capture_side, sow_side)
@@ -526,18 +530,21 @@ pub row_distance_le : (row : List ℕ) → row_distance row ≤ length row * sum
 unfolding row_distance
 row_distance_le houses = distance_range_le houses 1 _ _ (omega arith)
 
+-- no seed is farther from its store than a row is long
 distance_below : (p : Position) → HasEqualSides p → distance_to_stores p ≤ side_length p * seeds_in_houses p
 distance_below p even = grind (arith, row_distance_le)
 
+-- what is nearer to the end has fewer moves left
 pub moves_left_falls : (p q : Position) → HasEqualSides q → side_length q ≡ side_length p → IsNearerEnd q p
     → moves_left q < moves_left p
 moves_left_falls p q even side (inl fewer) = rw side (lower_by_seeds _ _ _ _ _ fewer
     rw side at (distance_below _ even))
 moves_left_falls p q even side (inr near) = grind arith
 
--- the next position has fewer moves left, with either player to move
+-- the position after a move has fewer moves left
 pub after_fewer : (p : Position) (h : ℕ) → HoldsSeeds p h → HasEqualSides p → moves_left (after p h) < moves_left p
 after_fewer p h holds even = moves_left_falls p _ (after_equal_sides p h) (after_side p h) (after_nearer p h holds even)
 
-pub swap_fewer : (p : Position) → HasEqualSides p → moves_left (swapped p) ≡ moves_left p
-swap_fewer p even = grind arith
+-- as many moves are left to the other player
+pub moves_left-swapped : (p : Position) → HasEqualSides p → moves_left (swapped p) ≡ moves_left p
+moves_left-swapped p even = grind arith

@@ -44,6 +44,7 @@ step_with_more n a b q true again is same = rw is (ap (ways n) (same_position re
 step_with_more n a b q false true is same = rw is (same a b q)
 step_with_more n a b q false false is same = rw is (same b a _)
 
+-- stores do not influence the ways
 ways_with_more : (n a b : ℕ) (p : Position) → ways n (with_more a b p) ≡ ways n p
 ways_with_more zero a b p = simp (ways_none)
 ways_with_more (suc n) a b p = ways_suc n _
@@ -53,8 +54,8 @@ ways_with_more (suc n) a b p = ways_suc n _
     ∙ sym (ways_suc n p)
 
 -- the ways of a position are those of its houses
-pub ways_of_rows : (n : ℕ) (p : Position) → ways n p ≡ ways n (storeless (houses_in p))
-ways_of_rows n p = ap (ways n) (is_with_more p) ∙ ways_with_more n _ _ _
+pub ways_of_houses : (n : ℕ) (p : Position) → ways n p ≡ ways n (storeless (houses_in p))
+ways_of_houses n p = ap (ways n) (is_with_more p) ∙ ways_with_more n _ _ _
 
 -- ---- steps on houses
 -- the ways after a step
@@ -68,15 +69,17 @@ pub one_if : (b : Bool) → bool_byte b ≡ (if b then 1 else 0)
 one_if true = refl
 one_if false = refl
 
+-- a swept position has one way of no move, and no other
 ways_swept : (n : ℕ) (q : Position) → ways n (swept q) ≡ (if n == 0 then 1 else 0)
 ways_swept zero q = ways_none _
 ways_swept (suc n) q = grind (arith, sum-zeros, ways_suc)
 
+-- the ways after a step are those after the step of the houses
 ways_step_to : (n : ℕ) (q : Position) (over again : Bool) → is_over q ≡ over →
     ways n (position_after (step_to q again)) ≡ ways_from n (houses_step_to q again)
 ways_step_to n q true again is = rw is (ways_swept n q)
-ways_step_to n q false true is = rw is (ways_of_rows n q)
-ways_step_to n q false false is = rw is (ways_of_rows n _)
+ways_step_to n q false true is = rw is (ways_of_houses n q)
+ways_step_to n q false false is = rw is (ways_of_houses n _)
 
 -- the ways after a move are those after the step of the houses
 pub ways_by_step : (n : ℕ) (a : HousesState) (h : ℕ) (s t : HousesStep) → t ≡ houses_step a h → t ≡ s
@@ -84,8 +87,8 @@ pub ways_by_step : (n : ℕ) (a : HousesState) (h : ℕ) (s t : HousesStep) → 
 ways_by_step n a h s t is to = grind (arith, ways_step_to)
 
 -- the ways after a move of a position are those of its houses
-pub ways_by_of_rows : (n : ℕ) (p : Position) (h : ℕ) → ways_by n (storeless (houses_in p)) h ≡ ways_by n p h
-ways_by_of_rows n p h =
+pub ways_by_of_houses : (n : ℕ) (p : Position) (h : ℕ) → ways_by n (storeless (houses_in p)) h ≡ ways_by n p h
+ways_by_of_houses n p h =
     let a = p.own_store in
     let b = p.other_store in
     let q = storeless _ in
@@ -146,13 +149,16 @@ six_more n h low =
     let suc_of : h + 1 - 1 ≡ suc (h - 1) = omega arith in
     rw suc_of omega arith
 
+-- before the first house there are none
 pub before_none : (n : ℕ) (p : Position) → AreWaysBefore n p 1 0
 before_none n p = omega arith
 
+-- a house with seeds adds the ways after its move
 pub before_more : {n : ℕ} {p : Position} {h total : ℕ} (count : ℕ) → AreWaysBefore n p h total → 1 ≤ h → 0 < seeds p.own h →
     count ≡ ways_by n p h → count ≤ most_houses ^ n → AreWaysBefore n p (h + 1) (total + count)
 before_more {n} {p} {h} count before low some is few = grind (arith, sum_by_push, seeded_more, six_more)
 
+-- an empty house adds none
 pub before_same : {n : ℕ} {p : Position} {h total : ℕ} → AreWaysBefore n p h total → 1 ≤ h → seeds p.own h ≤ 0
     → AreWaysBefore n p (h + 1) total
 before_same {n} {p} {h} before low none = grind (arith, seeded_same)

@@ -6,14 +6,14 @@ use Rattle.kalah_rules.specs.Position.{Position, HousesState, with_stores, IsWit
 use Rattle.kalah_rules.specs.declared.rule.Rule.{Rule}
 
 -- the rows of m houses, which are the first of six cells
-abbrev pub rows_from : ℕ → List ℕ → List ℕ → Rule → HousesState
-rows_from m own other rule = record { own = take m own; other = take m other; rule = rule }
+abbrev pub houses_from : ℕ → List ℕ → List ℕ → Rule → HousesState
+houses_from m own other rule = record { own = take m own; other = take m other; rule = rule }
 
 -- their position, with these seeds in the stores
 abbrev pub position_of : ℕ → List ℕ → ℕ → List ℕ → ℕ → Rule → Position
-position_of m own own_store other other_store rule = with_stores (rows_from m own other rule) own_store other_store
+position_of m own own_store other other_store rule = with_stores (houses_from m own other rule) own_store other_store
 
--- the cells hold houses of the variant, and nothing past them
+-- the first m cells of each row can be houses within the limits, and the cells past them hold nothing
 pub record CanBeHouses (m : ℕ) (own : List ℕ) (other : List ℕ) : Type 0 where
   pub some_house : 1 ≤ m
   pub at_most_six : m ≤ most_houses

@@ -3,7 +3,7 @@ use Rattle.std.specs.Prelude.{ℕ, zero, suc, ◌+◌, ◌*◌, ◌/◌, ◌%◌
 use Rattle.kalah_rules.specs.declared.rule.Rule.{Rule}
 use Rattle.kalah_rules.specs.declared.rule.Rule.TheVariants.{Classic, EmptyCapture}
 use Rattle.kalah_rules.specs.Position.{HousesState}
-use Rattle.kalah_rules.specs.Cells.{CanBeHouses, rows_from}
+use Rattle.kalah_rules.specs.Cells.{CanBeHouses, houses_from}
 
 -- a row as a number, with five bits for each house, house 1 lowest
 abbrev pub number_of : List ℕ → ℕ
@@ -45,5 +45,5 @@ abbrev pub IsKey : ℕ → Type 0
 IsKey k = CanBeHouses (side_at k) (cells 6 k) (cells 6 (k / 2 ^ 30))
 
 -- the houses whose key the number is
-abbrev pub rows_at : ℕ → HousesState
-rows_at k = rows_from (side_at k) (cells 6 k) (cells 6 (k / 2 ^ 30)) (rule_at k)
+abbrev pub houses_at : ℕ → HousesState
+houses_at k = houses_from (side_at k) (cells 6 k) (cells 6 (k / 2 ^ 30)) (rule_at k)

@@ -3,12 +3,12 @@ use Rattle.std.specs.Prelude.{◌≡◌, ℕ, ◌≤◌, ◌+◌, ◌-◌, ◌*�
 use Rattle.kalah_rules.specs.Position.{Position, HousesState, seeds_in_houses, storeless, IsWithinHouses}
 use Rattle.kalah_rules.specs.Sowing.{row_of}
 use Rattle.kalah_rules.specs.Limits.{most_houses, most_seeds}
-use Rattle.kalah_rules.specs.Key.{number_of, cells, rows_number, variant_of, rows_at}
+use Rattle.kalah_rules.specs.Key.{number_of, cells, rows_number, variant_of, houses_at}
 use Rattle.kalah_rules.specs.declared.houses.play.RowNumbers.{RowNumbers}
 
 -- the houses whose key has these rows, and this variant above them
 abbrev pub unpacked : ℕ → ℕ → HousesState
-unpacked rows variant = rows_at (rows + 2 ^ 60 * variant)
+unpacked rows variant = houses_at (rows + 2 ^ 60 * variant)
 
 -- both rows of houses, the number of seeds in them, and their variant
 pub record IsPacked (rows seeds variant : ℕ) : Type 0 where

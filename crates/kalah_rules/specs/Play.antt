@@ -14,6 +14,7 @@ legal_houses p = if is_over p then [] else filter (λ i. nat_lt 0 (seeds p.own i
 abbrev pub step_to : Position → Bool → Step
 step_to q again = if is_over q then Over (swept q) else (if again then Again q else Turn (swapped q))
 
+-- the step of the move of house h
 abbrev pub step_of : Position → ℕ → Step
 step_of p h = step_to (after p h) (is_again p h)
 

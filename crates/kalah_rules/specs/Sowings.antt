@@ -37,8 +37,8 @@ pub record IsSowing (m h c : ℕ) (s : Sowing) : Type 0 where
   pub loses : (s.loses + (own_gained m h c + 2 ^ 30 * other_gained m h c)) % 2 ^ 64 ≡ 32 ^ (h - 1) * c
   pub store : s.store ≡ store_gained m h c
   pub again : s.again ≡ (last_place m h c == m + 1)
-  pub own : last_place m h c ≤ m → IsLastHouse m (last_place m h c) s.last_house s.last_seed s.across
-  pub elsewhere : m < last_place m h c → IsNoHouse s.last_house s.last_seed s.across
+  pub own : last_place m h c ≤ m → IsLastHouse m (last_place m h c) s.last_mask s.last_seed s.across_bit
+  pub elsewhere : m < last_place m h c → IsNoHouse s.last_mask s.last_seed s.across_bit
 
 -- the cell of c seeds of house h, on sides of m houses
 pub record IsSowingCell (m h c k : ℕ) : Type 0 where

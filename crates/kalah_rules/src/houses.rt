@@ -1,7 +1,7 @@
 //! The houses of a board without the stores, as numbers.
 ghost use Rattle.std.specs.Prelude.{◌≡◌, ◌<◌, ◌≤◌, ◌^◌, ◌↔◌, length, sum, IsSome, IfSome, IsTrue, Some};
 ghost use Rattle.kalah_rules.specs.Position.{HousesState, seeds, seeds_in_houses, is_over, storeless, without_seeds, IsWithinHouses};
-ghost use Rattle.kalah_rules.specs.Cells.{CanBeHouses, rows_from};
+ghost use Rattle.kalah_rules.specs.Cells.{CanBeHouses, houses_from};
 ghost use Rattle.kalah_rules.specs.Key.{number_of, key_of, variant_of, IsKey};
 
 pub(crate) mod house;
@@ -58,7 +58,7 @@ impl Houses {
     /// Returns `None` if and only if `m` isn't 1 to 6, a later cell isn't 0, or the houses hold more than 31 seeds together.
     pub fn new(m: u8, own: [u8; 6], other: [u8; 6], rule: Rule) -> Option<Houses>
         ensures valid { IsSome result ↔ CanBeHouses m own other }
-        ensures value { IfSome result (λ a. a ≡ rows_from m own other rule) }
+        ensures value { IfSome result (λ a. a ≡ houses_from m own other rule) }
     {
         if m < 1 || m > MOST_HOUSES {
             return None;

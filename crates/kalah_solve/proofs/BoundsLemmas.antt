@@ -42,7 +42,7 @@ module _ (interval : Interval) (n least most : ℕ) (few : n ≤ most_seeds) (is
   pub bounds_held : (t : ℕ) → t ≤ n → Encloses interval (pos (t + t) -ℤ pos n) → (least ≤ t) × (t ≤ min most most_seeds)
   bounds_held t all holds = omega (arith, ints, clamps)
 
-  -- the bounds of an interval hold no number whose margin isn't in it
+  -- the bounds of an interval hold each number whose margin is in it
   pub bounds_exact : pos 0 ≤ℤ (interval.hi +ℤ pos n) → (t : ℕ) → t ≤ n → least ≤ t → t ≤ min most most_seeds →
       Encloses interval (pos (t + t) -ℤ pos n)
   bounds_exact some t all low high = omega (arith, ints, clamps)
@@ -82,6 +82,7 @@ some_won (suc n) a w few = elim (cases_Bool _) [
 won_is_one : (n : ℕ) (z : ℤ) (t : ℕ) → IsWonOf n z t → nat_or_zero (z +ℤ pos n) / 2 ≡ t
 won_is_one n z t bounds = rw bounds.is (omega arith)
 
+-- the worth of houses is the margin of a mover who wins `won` seeds
 pub won_of_houses : {a : HousesState} → IsWithinHouses a → IsWonOf (seeds_in_houses (storeless a)) (houses_worth a) (won a)
 unfolding won
 won_of_houses {a} w =
@@ -103,7 +104,7 @@ worth_up_to w =
     let bounds = won_of_houses w in
     record { low = omega (arith, ints); high = omega (arith, ints) }
 
--- the worth of houses lies in the widest window
+-- houses are worth at most their seeds, to either player
 pub worth_low : (a : HousesState) → IsWithinHouses a → least_margin ≤ℤ houses_worth a
 worth_low a w = omega (arith, ints, (worth_up_to w).low)
 

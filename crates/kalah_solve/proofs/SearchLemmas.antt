@@ -22,7 +22,7 @@ use Rattle.kalah_solve.proofs.BoundsLemmas.{won_at_most, won_of_houses, won_reac
 
 -- ==== Cells of a row, all at once
 
--- no row, no cell
+-- an empty row has empty cells
 pub cell_none : (i : ℕ) → cell 0 i ≡ 0
 cell_none zero = refl
 cell_none (suc i) = cell_none i
@@ -58,15 +58,19 @@ top_single (suc q) n high single =
 
 -- what is left of some marks without the last was there before, and each that is missing was that one or was not marked
 module _ (marks h : ℕ) (is : IsLastMark marks h) where
+  -- the last mark is one
   pub last_marked : 0 < cell marks (h - 1)
   last_marked = top_cell _ _ is.low is.high
 
+  -- what is left was marked before
   pub left_before : (i : ℕ) → 0 < cell (marks - 32 ^ (h - 1)) i → 0 < cell marks i
   left_before i some = grind (arith, cases_eq, last_marked, others_stay)
 
+  -- each other unmarked house was unmarked before
   pub gone_before : (i : ℕ) → i ≢ h - 1 → cell (marks - 32 ^ (h - 1)) i ≡ 0 → cell marks i ≡ 0
   gone_before i other none = omega (arith, others_stay)
 
+-- without the last mark the number is lower
 pub marks_fall : {marks h : ℕ} → IsLastMark marks h → marks - 32 ^ (h - 1) < marks
 marks_fall {marks} {h} is = omega arith
 
@@ -92,7 +96,7 @@ last_by_zeros {marks} zeros some small is =
       high = rw at high;
     }
 
--- they are where it begins
+-- the last mark's bit is where its house begins
 pub last_begins : {marks : ℕ} (zeros : ℕ) → 0 < marks → AreMarks marks → zeros ≡ count_leading_zeros 64 marks
     → BeginsHouse (63 - zeros)
 last_begins {marks} zeros some are is =
@@ -140,6 +144,7 @@ cell_of_row (x ∷ xs) (suc i) few =
     let rest : number_of (x ∷ xs) / 32 ≡ number_of xs = omega arith in
     ap (λ k. cell k i) rest ∙ cell_of_row xs i (omega arith)
 
+-- a cell put in front moves the others on
 later_cell : (d r i : ℕ) → d < 32 → cell (r * 32 + d) (suc i) ≡ cell r i
 later_cell d r i small = grind arith
 
@@ -215,23 +220,23 @@ cell_of_distances (suc m) (suc i) few = later_cell (suc m) _ i (omega arith)
     ∙ cell_of_distances m i (omega arith) ∙ omega arith
 
 -- one mark, of a cell whose value equals its distance
-one_ending : (x d : ℕ) → (0 < bit_xor (min 1 (bit_xor x d)) 1) ↔ (x ≡ d)
-one_ending x d = grind (arith, cases_eq, bit_xor, xor_self, min, xor_apart)
+one_at_distance : (x d : ℕ) → (0 < bit_xor (min 1 (bit_xor x d)) 1) ↔ (x ≡ d)
+one_at_distance x d = grind (arith, cases_eq, bit_xor, xor_self, min, xor_apart)
 
 -- the marks of a row of m cells, by what was found of all of them at once
 module _ (f d e m n i : ℕ) (few : m ≤ 6) (d_is : d ≡ distances m) (e_is : e ≡ each m 1)
     (f_is : cell f i ≡ min 1 (cell (bit_xor n d) i)) where
-  ending_cell : cell (bit_xor f e) i ≡ bit_xor (min 1 (bit_xor (cell n i) (m - i))) (cell (each m 1) i)
-  ending_cell = grind (arith, cell_xor, bit_xor, cell, cell_of_distances, each, min)
+  at_distance_cell : cell (bit_xor f e) i ≡ bit_xor (min 1 (bit_xor (cell n i) (m - i))) (cell (each m 1) i)
+  at_distance_cell = grind (arith, cell_xor, bit_xor, cell, cell_of_distances, each, min)
 
-  pub ending_marked : i < m → (0 < cell (bit_xor f e) i) ↔ (cell n i + i ≡ m)
-  ending_marked inside = grind (arith, ending_cell, cell_of_each, one_ending)
+  pub at_distance_marked : i < m → (0 < cell (bit_xor f e) i) ↔ (cell n i + i ≡ m)
+  at_distance_marked inside = grind (arith, at_distance_cell, cell_of_each, one_at_distance)
 
-  pub ending_past : m ≤ i → cell n i ≡ 0 → cell (bit_xor f e) i ≡ 0
-  ending_past past none = grind (arith, ending_cell, past_each)
+  pub at_distance_past : m ≤ i → cell n i ≡ 0 → cell (bit_xor f e) i ≡ 0
+  at_distance_past past none = grind (arith, at_distance_cell, past_each)
 
-  pub ending_single : cell (bit_xor f e) i ≤ 1
-  ending_single = grind (arith, cases_lt, cell_of_each, past_each, ending_cell, xor_lt)
+  pub at_distance_single : cell (bit_xor f e) i ≤ 1
+  at_distance_single = grind (arith, cases_lt, cell_of_each, past_each, at_distance_cell, xor_lt)
 
 -- one mark, of a cell that is filled and not among others that are
 pub one_remaining : (x f e : ℕ) → f ≡ min 1 x → e ≤ 1 → (0 < e → 0 < x) → (0 < bit_xor f e) ↔ ((0 < x) × ¬ (0 < e))
@@ -268,8 +273,8 @@ module _ (a : HousesState) (row : ℕ) (w : IsWithinHouses a) (row_is : row ≡ 
   module _ (m n : ℕ) (side : m ≡ length a.own) (small : n < 2 ^ 30)
       (inside : (i : ℕ) → i < m → (0 < cell n i) ↔ (cell row i + i ≡ m))
       (past : (i : ℕ) → i < 6 → m ≤ i → cell row i ≡ 0 → cell n i ≡ 0) where
-    pub again_marked : (i : ℕ) → (0 < cell n i) ↔ ((i < length a.own) × EndsInStore a (i + 1))
-    again_marked i = elim (cases_lt i m) [
+    pub into_store_marked : (i : ℕ) → (0 < cell n i) ↔ ((i < length a.own) × EndsInStore a (i + 1))
+    into_store_marked i = elim (cases_lt i m) [
       | inl is_inside ↦
           let marked = inside i is_inside in (
             λ some. (omega arith, (ends_at i).1 (omega (arith, marked.0 some, own_cell i))),
@@ -290,7 +295,7 @@ module _ (a : HousesState) (row : ℕ) (w : IsWithinHouses a) (row_is : row ≡ 
         (0 < cell (bit_xor f n) i) ↔ ((0 < slice_index a.own i) × ¬ EndsInStore a (i + 1))
     remaining_marked f i few cells single apart = elim (cases_lt i 6) [
       | inl low ↦
-          let again = again_marked i in
+          let again = into_store_marked i in
           let within : 0 < cell n i → 0 < cell row i =
           λ some. let both = again.0 some in let ends = (ends_at i).0 both.1 in let before = both.0 in
           omega (arith, own_cell i) in
@@ -368,9 +373,11 @@ turn_leads w turn = leads_by _ _ w turn.legal (sym turn.step)
 -- a turn that waited, of all `seeds`, by a bound of what the other player wins after it; `left` and one more were asked of that player
 module _ {a b : HousesState} {h priority bound seeds left : ℕ} (beta : ℕ) (w : IsWithinHouses a) (turn : IsTurnOf a h priority b)
     (seeds_are : seeds ≡ seeds_in_houses (storeless a)) (left_is : left ≡ seeds - beta) (is : IsSoftBound (left + 1) (won b) bound) where
+  -- the other player wins at most what is in houses
   reply_few : won b ≤ seeds_in_houses (storeless b)
   reply_few = (won_of_houses (turn_leads w turn).limits).few
 
+  -- what the reply leaves is a bound of the turn
   reply_left : IsSoftBound beta (won_by_step (houses_step a h)) (seeds - bound)
   reply_left = rw (turn.step, seeds_are) (left_of_all _ _ (omega (arith, (turn_leads w turn).kept)) reply_few (rw (left_is, seeds_are) at is))
 
@@ -435,7 +442,7 @@ pub record WaitsWith (a : HousesState) (priorities : List ℕ) (turns : List Hou
   pub priority : get_or priorities (r % 8) 0 ≡ r
   pub turn : (d : HousesState) → IsTurnOf a (r % 8 + 1) r (get_or turns (r % 8) d)
 
--- with the houses that were read there
+-- the turn that is read there is that of the priority's house
 pub waits_there : {a : HousesState} {priorities : List ℕ} {turns : List HousesState} {r : ℕ} {b : HousesState}
     → WaitsWith a priorities turns r → b ≡ get_or turns (r % 8) b → IsTurnOf a (r % 8 + 1) r b
 waits_there {a} {r = r} {b = b} waits is = subst (IsTurnOf a (r % 8 + 1) r) (sym is) (waits.turn b)
@@ -470,7 +477,7 @@ module _ {a : HousesState} {most marks h : ℕ} {priorities : List ℕ} {turns :
     ];
   }
 
-  -- or wins at most `bound`
+  -- the last marked house was played, and wins at most `bound`
   pub played_bound : (bound new : ℕ) → WinsAtMost a bound h → new ≡ max most bound
       → ArePlayed a new (marks - 32 ^ (h - 1)) priorities turns
   played_bound bound new takes new_is = record {
@@ -511,10 +518,10 @@ marked_legal {a} i w going some = elim (cases_lt i (length a.own)) [
 ]
 
 -- each house that ends in the store may be moved
-pub ending_legal : {a : HousesState} (i : ℕ) → IsWithinHouses a → is_over (storeless a) ≡ false → i < length a.own
+pub into_store_legal : {a : HousesState} (i : ℕ) → IsWithinHouses a → is_over (storeless a) ≡ false → i < length a.own
     → EndsInStore a (i + 1) →
     Contains (legal_houses (storeless a)) (i + 1)
-ending_legal {a} i w going inside ends = grind (arith, filled_legal)
+into_store_legal {a} i w going inside ends = grind (arith, filled_legal)
 
 -- what holds of each marked house holds of those that stay marked
 pub each_fewer : (P : ℕ → Type 0) {marks h : ℕ} → IsLastMark marks h → ((i : ℕ) → 0 < cell marks i → P (i + 1)) →
@@ -542,23 +549,25 @@ moves_fewer {a} {marks} {h} may last = record {
 }
 
 -- each house that ends in the store is still marked, or wins at most `most` seeds
-abbrev pub AreAgain : HousesState → ℕ → ℕ → Type 0
-AreAgain a most marks = (h : ℕ) → Contains (legal_houses (storeless a)) h → EndsInStore a h → cell marks (h - 1) ≡ 0
+abbrev pub UnmarkedWinAtMost : HousesState → ℕ → ℕ → Type 0
+UnmarkedWinAtMost a most marks = (h : ℕ) → Contains (legal_houses (storeless a)) h → EndsInStore a h → cell marks (h - 1) ≡ 0
     → WinsAtMost a most h
 
-pub again_none : (a : HousesState) (most marks : ℕ)
+-- as long as all of them are marked
+pub unmarked_none : (a : HousesState) (most marks : ℕ)
     → ((i : ℕ) → (0 < cell marks i) ↔ ((i < length a.own) × EndsInStore a (i + 1))) →
-    AreAgain a most marks
-again_none a most marks marked h may ends gone = absurd (
+    UnmarkedWinAtMost a most marks
+unmarked_none a most marks marked h may ends gone = absurd (
     let holds = legal_holds (storeless a) h may in
     let at : h ≡ h - 1 + 1 = omega arith in
     let some = (marked _).1 (omega arith, subst (EndsInStore a) at ends) in
     omega arith)
 
-pub again_fewer : (a : HousesState) (most : ℕ) {marks h : ℕ} (bound : ℕ) {new : ℕ} → AreAgain a most marks → IsLastMark marks h
+-- the last of them was tried
+pub unmarked_more : (a : HousesState) (most : ℕ) {marks h : ℕ} (bound : ℕ) {new : ℕ} → UnmarkedWinAtMost a most marks → IsLastMark marks h
     → WinsAtMost a bound h → new ≡ max most bound →
-    AreAgain a new (marks - 32 ^ (h - 1))
-again_fewer a most {marks} {h} bound are last takes new_is i may ends gone = elim (cases_eq i h) [
+    UnmarkedWinAtMost a new (marks - 32 ^ (h - 1))
+unmarked_more a most {marks} {h} bound are last takes new_is i may ends gone = elim (cases_eq i h) [
   | inl same ↦ rw same (omega arith)
   | inr other ↦
       let first = (legal_holds (storeless a) i may).first in

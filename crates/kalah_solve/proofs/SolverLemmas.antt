@@ -5,11 +5,11 @@ use Rattle.kalah_rules.specs.Position.{Position, HasEqualSides, is_over, swapped
 use Rattle.kalah_rules.specs.Sowing.{after}
 use Rattle.kalah_rules.specs.Play.{legal_houses}
 use Rattle.kalah_rules.specs.Measure.{moves_left}
-use Rattle.kalah_rules.proofs.PlayLemmas.{legal_holds, after_equal_sides, after_fewer, swap_fewer}
+use Rattle.kalah_rules.proofs.PlayLemmas.{legal_holds, after_equal_sides, after_fewer, moves_left-swapped}
 use Rattle.kalah_solve.specs.Solver.BestPlay.{Strategy, IsStrategy, Policy, follow, Game, Secures, HoldsTo, IsBestPlay, IsBestMove, IsWorthOfMove}
 use Rattle.kalah_solve.specs.Solver.BestPlay.Game.{is_at_end, moves_on, passes_turn}
 use Rattle.kalah_solve.specs.Solver.Laws.{EndsInTime, StrategiesPlayAGame, StrategiesPlayOneGame, GamesEnd, WorthIsBestPlay, BestPlayIsOne, BestHouseIsBestPlay, EndsWithAtLeast, EndsWithAtMost, BestPlayAgainstStrategies, BestHouseIsLowest, BestMovesAttain, BestVerdictIsOne}
-use Rattle.kalah_solve.proofs.WorthLemmas.{swapped_equal_sides, over_at_end, over_for_other, worth_of_over, final_swapped, value_going_on, value_passing, best_found, best_attains, value_most, eq_yes, lowest_of, worth_of_going, eq_no, greatest_is_one, worth_of_rows, value_of_rows}
+use Rattle.kalah_solve.proofs.WorthLemmas.{swapped_equal_sides, over_at_end, over_for_other, worth_of_over, final_swapped, value_going_on, value_passing, best_found, best_attains, value_most, eq_yes, lowest_of, worth_of_going, eq_no, greatest_reached, worth_of_houses, value_of_houses}
 use Rattle.lru.proofs.Splits.{Contains-head}
 use Rattle.std.proofs.lemmas.Int.{ints, clamps}
 use Rattle.kalah_solve.specs.Solver.Worth.{worth, value_of_move, best_house, houses_worth}
@@ -21,7 +21,7 @@ use Rattle.kalah_solve.specs.declared.solver.Verdict.{Verdict}
 use Rattle.std.proofs.lemmas.List.Elements.{All-map, All-from_get_or, Contains-get_or}
 use Rattle.kalah_solve.specs.Solver.MoveValues.{TellMoves, ValueIsWorthOfMove, WorthOfMoveIsOne, ValuesTellVerdict, move_value, values_of, no_value}
 use Rattle.kalah_solve.specs.declared.solver.move_values.MoveValue.{MoveValue}
-use Rattle.kalah_rules.proofs.PackedLemmas.{rows_within}
+use Rattle.kalah_rules.proofs.PackedLemmas.{houses_within}
 use Rattle.kalah_solve.specs.Bounds.Intervals.{least_margin, most_margin, clamped}
 use Rattle.kalah_rules.specs.HousesStep.{houses_step}
 use Rattle.kalah_solve.specs.Bounds.Won.{won, won_by_step}
@@ -51,7 +51,7 @@ ends_within (suc n) mine theirs m t p even few = elim (cases_Bool _) [
             let rest = ends_within n mine theirs m t _ next_even (omega arith) in
             (mine p ∷ rest.0, rest.1, moves_on going (Contains-head _ []) again rest.2)
         | inr turn ↦
-            let turned = swap_fewer _ next_even in
+            let turned = moves_left-swapped _ next_even in
             let rest = ends_within n theirs mine t m _ (omega arith)
             (omega arith) in
             (mine p ∷ rest.0, swapped rest.1, passes_turn going (Contains-head _ []) turn rest.2)
@@ -73,7 +73,7 @@ ends_in_time {mine} {theirs} {p} m t even (moves_on {h = h} going has again rest
     record { over = inner.over; short = omega arith }
 ends_in_time {mine} {theirs} {p} m t even (passes_turn {h = h} {final = final} going has turn rest) =
     let fewer = after_fewer p h (legal_holds p h (m.legal_only p h even going has)) even in
-    let turned = swap_fewer _ (after_equal_sides p h) in
+    let turned = moves_left-swapped _ (after_equal_sides p h) in
     let inner = ends_in_time t m (swapped_equal_sides _ (after_equal_sides p h)) rest in
     record { over = over_for_other final inner.over; short = omega arith }
 
@@ -88,15 +88,6 @@ games_end p houses final even game = ends_in_time legal_keeps legal_keeps even g
 -- a policy that has one house at most
 pub record HasNoChoice (policy : Policy) : Type 0 where
   pub one : (p : Position) (h k : ℕ) → Contains (policy p) h → Contains (policy p) k → h ≡ k
-
--- a list of one number contains only that
-pub contains_only : (x h i : ℕ) → i < length (x ∷ []) → get_or (x ∷ []) i h ≡ h → x ≡ h
-contains_only x h zero within at = at
-contains_only x h (suc i) within at = omega arith
-
--- who follows a strategy moves its house
-pub followed : (s : Strategy) (p : Position) (h : ℕ) → Contains (follow s p) h → s p ≡ h
-followed s p h has = contains_only _ _ _ has.1 has.2
 
 -- who follows a strategy has no choice
 pub follow_one : (s : Strategy) → HasNoChoice (follow s)
@@ -170,7 +161,7 @@ pub record IsBounded (mine theirs : Policy) (p : Position) (z : ℤ) : Type 0 wh
   pub low : PlaysBest mine → worth p ≤ℤ z
   pub high : PlaysBest theirs → z ≤ℤ worth p
 
--- along a whole game, for both players at once
+-- a game by the rules ends on the right side of the worth for whoever plays best: by induction on its moves, for both players
 pub bounds : {mine theirs : Policy} {p : Position} {houses : List ℕ} {final : Position} → KeepsRules mine → KeepsRules theirs
     → HasEqualSides p →
     Game mine theirs p houses final → IsBounded mine theirs p (final_margin final)
@@ -208,7 +199,7 @@ best_secures p even = λ houses final game. (bounds (strategy_keeps _ best_is_st
 pub best_holds : (p : Position) → HasEqualSides p → HoldsTo best_house p (worth p)
 best_holds p even = grind (arith, bounds, legal_keeps, strategy_keeps, best_is_strategy, best_plays)
 
--- the law on the best house
+-- the law that always moving the best house is best play
 pub best_house_is_best_play : BestHouseIsBestPlay
 best_house_is_best_play = grind (arith, best_is_strategy, best_secures, best_holds)
 
@@ -303,7 +294,7 @@ best_lowest p h going is_legal attains =
     lowest_of (λ k. int_eq (value_of_move p k) (worth p)) (λ i. nat_lt 0 (seeds p.own i)) 1 (side_length p) h (legal_houses p) ascending
     is_legal (eq_yes _ _ attains)
 
--- the law on the best house
+-- the law that the best house is the lowest
 pub best_is_lowest : BestHouseIsLowest
 best_is_lowest p even going = record {
   is_legal = (best_found _ even going).0;
@@ -450,7 +441,7 @@ module _ (a : HousesState) (w : IsWithinHouses a) where
       → value_of_move (storeless a) h <ℤ houses_worth a
   short_is h has less = grind (arith, won_of_move, won_of_houses)
 
-  -- the first house that is worth the margin is the one
+  -- the first house worth the margin is the best house
   root_is : (i : ℕ) → i < length (legal_houses (storeless a)) → FallShort a i →
       value_of_move (storeless a) (get_or (legal_houses (storeless a)) i 0) ≡ houses_worth a →
       get_or (legal_houses (storeless a)) i 0 ≡ best_house (storeless a)
@@ -462,7 +453,7 @@ module _ (a : HousesState) (w : IsWithinHouses a) where
       get_or (legal_houses (storeless a)) i 0 ≡ best_house (storeless a)
   root_found i inside short enough = root_is i inside short (enough_is _ (Contains-get_or _ i 0 inside) enough)
 
-  -- one that falls short, too
+  -- if a house wins fewer, the first i + 1 fall short
   pub root_short : (i : ℕ) → i < length (legal_houses (storeless a)) → FallShort a i →
       won_by_step (houses_step a (get_or (legal_houses (storeless a)) i 0)) < won a →
       FallShort a (i + 1)
@@ -472,7 +463,7 @@ module _ (a : HousesState) (w : IsWithinHouses a) where
   pub root_last : (n : ℕ) → is_over (storeless a) ≡ false → length (legal_houses (storeless a)) ≡ n + 1 → FallShort a n →
       get_or (legal_houses (storeless a)) n 0 ≡ best_house (storeless a)
   root_last n going many short =
-      let one = greatest_is_one (value_of_move _) _ (omega arith) in
+      let one = greatest_reached (value_of_move _) _ (omega arith) in
       let inside = one.1.1 in
       let place = get_or_default (legal_houses (storeless a)) one.1.0 0 one.0 inside
       ∙ one.1.2 in
@@ -485,42 +476,43 @@ module _ (a : HousesState) (w : IsWithinHouses a) where
 -- ---- with the stores
 margin_is : (p : Position) (best margin : ℤ) → best ≡ houses_worth (houses_in p) →
     margin ≡ best +ℤ (pos p.own_store -ℤ pos p.other_store) → margin ≡ worth p
-margin_is p best margin best_is e = grind (arith, worth_of_rows)
+margin_is p best margin best_is e = grind (arith, worth_of_houses)
 
 -- the margin is one that a player can have
 pub margin_small : (p : Position) (best margin : ℤ) → IsWithinLimits p → best ≡ houses_worth (houses_in p) →
     margin ≡ best +ℤ (pos p.own_store -ℤ pos p.other_store)
     → IsSmallMargin margin
 margin_small p best margin limits best_is e =
-    let bounds = worth_up_to (rows_within p limits) in
+    let bounds = worth_up_to (houses_within p limits) in
     record {
       low = omega (arith, ints);
       high = omega (arith, ints);
     }
 
 -- the reported margin of the best of the houses: with the difference of the stores, in thirty-two bits
-abbrev pub stored : ℤ → ℕ → ℕ → ℤ
-stored best own other = to_z w32 (of_z w32 (to_z w32 (of_z w32 best) +ℤ to_z w32 (of_z w32 (to_z w32 own -ℤ to_z w32 other))))
+abbrev pub told_margin : ℤ → ℕ → ℕ → ℤ
+told_margin best own other = to_z w32 (of_z w32 (to_z w32 (of_z w32 best) +ℤ to_z w32 (of_z w32 (to_z w32 own -ℤ to_z w32 other))))
 
 module _ (p : Position) (best : ℤ) (own other : ℕ) (limits : IsWithinLimits p)
     (best_is : best ≡ houses_worth (houses_in p)) (own_is : own ≡ p.own_store) (other_is : other ≡ p.other_store) where
   -- no sum is too large
   pub told_fits : FitsSigned w32 (to_z w32 (of_z w32 best) +ℤ to_z w32 (of_z w32 (to_z w32 own -ℤ to_z w32 other)))
   told_fits =
-      let rows = rows_within p limits in
+      let rows = houses_within p limits in
       omega (arith, ints, worth_low _ rows, worth_high _ rows)
 
-  told_is : stored best own other ≡ best +ℤ (pos p.own_store -ℤ pos p.other_store)
+  -- nothing is lost in thirty-two bits
+  told_is : told_margin best own other ≡ best +ℤ (pos p.own_store -ℤ pos p.other_store)
   told_is =
-      let rows = rows_within p limits in
+      let rows = houses_within p limits in
       omega (arith, ints, worth_low _ rows, worth_high _ rows)
 
   -- the sum of worth and stores is the worth of the position
-  pub told_worth : stored best own other ≡ worth p
+  pub told_worth : told_margin best own other ≡ worth p
   told_worth = margin_is p best _ best_is told_is
 
   -- that sum is small
-  pub told_small : IsSmallMargin (stored best own other)
+  pub told_small : IsSmallMargin (told_margin best own other)
   told_small = margin_small p best _ limits best_is told_is
 
 -- ==== The value of a move, and its house, are numbers that a game can have
@@ -528,10 +520,10 @@ module _ (p : Position) (best : ℤ) (own other : ℕ) (limits : IsWithinLimits 
 -- the value of a move
 pub value_small : (p : Position) (h : ℕ) → IsWithinLimits p → Contains (legal_houses p) h → IsSmallMargin (value_of_move p h)
 value_small p h limits has =
-    let bounds = won_of_move (houses_in p) (rows_within p limits) h has in
+    let bounds = won_of_move (houses_in p) (houses_within p limits) h has in
     record {
-      low = omega (arith, ints, value_of_rows p h, bounds.is);
-      high = omega (arith, ints, value_of_rows p h, bounds.few, bounds.is);
+      low = omega (arith, ints, value_of_houses p h, bounds.is);
+      high = omega (arith, ints, value_of_houses p h, bounds.few, bounds.is);
     }
 
 -- a legal house
@@ -552,7 +544,7 @@ padded_more : (xs : List MoveValue) (v : MoveValue) → length xs < 6
 padded_more xs v few = grind (arith, length, after, length-append, slice_set, replicate, no_value, set_behind)
 
 -- the cells after a push
-pub six_more : (count : ℕ) (cells : List MoveValue) (v : MoveValue) → IsSixAtMost no_value count cells → count < 6 →
+pub six_pushed : (count : ℕ) (cells : List MoveValue) (v : MoveValue) → IsSixAtMost no_value count cells → count < 6 →
     IsSixAtMost no_value (count + 1) (slice_set cells count v)
-six_more count cells v six few =
+six_pushed count cells v six few =
     grind (arith, length-take-le, take_more_set, length-set, padded_with, no_value, padded_more, slice_set, take)

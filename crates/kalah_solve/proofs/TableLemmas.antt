@@ -12,7 +12,7 @@ use Rattle.kalah_rules.specs.Key.{number_of, variant_of, key_of}
 use Rattle.kalah_rules.proofs.KeyLemmas.{same_key, number_of-append, pow_five, rule_bit-small, key_fits}
 use Rattle.kalah_solve.specs.Table.RowRank.{choose, row_rank, sums_number, rank_of_houses}
 use Rattle.kalah_solve.specs.Table.EndgameTable.{choice_at, AreChoices, pair_at, ArePairs, IsEnding, StoresWon, AreTrueWords, word_of, stored_at}
-use Rattle.atomic_table.specs.Table.{State, Enters, Arrives, keeps}
+use Rattle.atomic_table.specs.Table.{State, Arrives, keeps}
 use Rattle.kalah_solve.specs.declared.table.endgame_table.words.TheConstants.{FIRST_WORDS}
 use Rattle.kalah_solve.specs.Bounds.Won.{won, won_by_step}
 use Rattle.kalah_rules.specs.Play.{legal_houses}
@@ -89,12 +89,14 @@ unfolding choose
 choose_up n zero = omega arith
 choose_up n (suc k) = omega arith
 
+-- of more things there are no fewer choices
 choose_more : (n d k : ℕ) → choose n k ≤ choose (n + d) k
 choose_more n zero k = grind arith
 choose_more n (suc d) k =
     let next : n + suc d ≡ suc (n + d) = omega arith in
     rw next (omega (arith, choose_more n d k, choose_up))
 
+-- the same, by the number of things
 pub choose_rises : (n m k : ℕ) → n ≤ m → choose n k ≤ choose m k
 choose_rises n m k few = let all : n + (m - n) ≡ m = omega arith in rw all at (choose_more n (m - n) k)
 
@@ -105,6 +107,7 @@ choose_below n zero = omega (arith, pow_pos n)
 choose_below zero (suc k) = omega arith
 choose_below (suc n) (suc k) = omega (arith, choose_below n k, choose_below n (suc k))
 
+-- of few things there are few choices
 pub choose_small : (n b k : ℕ) → n ≤ b → choose n k ≤ 2 ^ b
 choose_small n b k few = omega (arith, choose_rises n b k few, choose_below b k)
 
@@ -126,7 +129,7 @@ pub choose_next : (n k : ℕ) → choose (suc n) (suc k) ≡ choose n k + choose
 unfolding choose
 choose_next n k = refl
 
--- the ways to choose a row's cells among its seeds and cells come after its rank
+-- a row's rank is below the ways to choose as many things as it has cells, of its seeds and cells
 pub rank_below : (xs : List ℕ) → row_rank xs < choose (sum xs + length xs) (length xs)
 unfolding choose
 rank_below [] = omega arith
@@ -135,6 +138,7 @@ rank_below (x ∷ xs) =
     let all : sum (x ∷ xs) + suc (length xs) ≡ suc (x + sum xs + length xs) = omega arith in
     rw all (omega (arith, rank_below xs, choose_rises (sum xs + length xs) (x + sum xs + length xs) (length xs) (omega arith)))
 
+-- few seeds have a low rank
 rank_small : (xs : List ℕ) → sum xs + length xs ≤ 21 → row_rank xs < 2 ^ 21
 rank_small xs few = omega (arith, rank_below xs, choose_small _ 21 (length xs) few)
 
@@ -344,18 +348,20 @@ one_more before [] = []
 one_more before (w ∷ ws) = (before + w) ∷ one_more w ws
 
 -- the ways to choose 0 to 12 of n things
-abbrev ways : ℕ → List ℕ
-ways zero = 1 ∷ 0 ∷ 0 ∷ 0 ∷ 0 ∷ 0 ∷ 0 ∷ 0 ∷ 0 ∷ 0 ∷ 0 ∷ 0 ∷ 0 ∷ []
-ways (suc n) = one_more 0 (ways n)
+abbrev choose_row : ℕ → List ℕ
+choose_row zero = 1 ∷ 0 ∷ 0 ∷ 0 ∷ 0 ∷ 0 ∷ 0 ∷ 0 ∷ 0 ∷ 0 ∷ 0 ∷ 0 ∷ 0 ∷ []
+choose_row (suc n) = one_more 0 (choose_row n)
 
+-- it is as long
 one_more_long : (before : ℕ) (ws : List ℕ) → length (one_more before ws) ≡ length ws
 one_more_long before [] = refl
 one_more_long before (w ∷ ws) = ap suc (one_more_long w ws)
 
-ways_long : (n : ℕ) → length (ways n) ≡ 13
-ways_long zero = refl
-ways_long (suc n) = one_more_long 0 _ ∙ ways_long n
+length-choose_row : (n : ℕ) → length (choose_row n) ≡ 13
+length-choose_row zero = refl
+length-choose_row (suc n) = one_more_long 0 _ ∙ length-choose_row n
 
+-- each is a sum of two
 one_more_at : (before : ℕ) (ws : List ℕ) (k : ℕ) → suc k < length ws →
     get_or (one_more before ws) (suc k) 0 ≡ get_or ws k 0 + get_or ws (suc k) 0
 one_more_at before [] k inside = refl
@@ -363,55 +369,46 @@ one_more_at before (w ∷ []) k inside = omega arith
 one_more_at before (w ∷ v ∷ ws) zero inside = refl
 one_more_at before (w ∷ v ∷ ws) (suc k) inside = one_more_at w (v ∷ ws) k (omega arith)
 
-none_at : (k : ℕ) → get_or (ways zero) (suc k) 0 ≡ 0
+none_at : (k : ℕ) → get_or (choose_row zero) (suc k) 0 ≡ 0
 none_at k = grind arith
 
-first_way : (before : ℕ) (ws : List ℕ) → 1 ≤ length ws → get_or (one_more before ws) 0 0 ≡ before + get_or ws 0 0
-first_way before [] some = omega arith
-first_way before (w ∷ ws) some = refl
+one_more_first : (before : ℕ) (ws : List ℕ) → 1 ≤ length ws → get_or (one_more before ws) 0 0 ≡ before + get_or ws 0 0
+one_more_first before [] some = omega arith
+one_more_first before (w ∷ ws) some = refl
 
-ways_are : (n k : ℕ) → k < 13 → get_or (ways n) k 0 ≡ choose n k
+-- cell k has the ways to choose k of n
+choose_row_is : (n k : ℕ) → k < 13 → get_or (choose_row n) k 0 ≡ choose n k
 unfolding choose
-ways_are zero zero few = refl
-ways_are zero (suc k) few = none_at k
-ways_are (suc n) zero few =
-    let some : 1 ≤ length (ways n) = omega (arith, ways_long n) in
-    omega (arith, first_way, ways_are n zero few)
-ways_are (suc n) (suc k) few =
-    let inside : suc k < length (ways n) = omega (arith, ways_long n, few) in
-    omega (arith, one_more_at, ways_are n k (omega (arith, few)), ways_are n (suc k) few)
+choose_row_is zero zero few = refl
+choose_row_is zero (suc k) few = none_at k
+choose_row_is (suc n) zero few =
+    let some : 1 ≤ length (choose_row n) = omega (arith, length-choose_row n) in
+    omega (arith, one_more_first, choose_row_is n zero few)
+choose_row_is (suc n) (suc k) few =
+    let inside : suc k < length (choose_row n) = omega (arith, length-choose_row n, few) in
+    omega (arith, one_more_at, choose_row_is n k (omega (arith, few)), choose_row_is n (suc k) few)
 
 -- the first word of those variants of the classic rule that have m houses a side
-abbrev first : ℕ → ℕ
-first m = slice_index FIRST_WORDS m
+abbrev first_word : ℕ → ℕ
+first_word m = slice_index FIRST_WORDS m
 
 -- a variant has a word for each sixteen of its endings
-enough : (m : ℕ) → 1 ≤ m → m ≤ 6 → choose (9 + 2 * m) (2 * m) + 16 * first m ≤ 16 * first (suc m)
+enough : (m : ℕ) → 1 ≤ m → m ≤ 6 → choose (9 + 2 * m) (2 * m) + 16 * first_word m ≤ 16 * first_word (suc m)
 enough zero some most = omega arith
-enough (suc zero) some most = omega (arith, ways_are 11 2 (lit< tt))
-enough (suc (suc zero)) some most = omega (arith, ways_are 13 4 (lit< tt))
-enough (suc (suc (suc zero))) some most = omega (arith, ways_are 15 6 (lit< tt))
-enough (suc (suc (suc (suc zero)))) some most = omega (arith, ways_are 17 8 (lit< tt))
-enough (suc (suc (suc (suc (suc zero))))) some most = omega (arith, ways_are 19 10 (lit< tt))
-enough (suc (suc (suc (suc (suc (suc zero)))))) some most = omega (arith, ways_are 21 12 (lit< tt))
+enough (suc zero) some most = omega (arith, choose_row_is 11 2 (lit< tt))
+enough (suc (suc zero)) some most = omega (arith, choose_row_is 13 4 (lit< tt))
+enough (suc (suc (suc zero))) some most = omega (arith, choose_row_is 15 6 (lit< tt))
+enough (suc (suc (suc (suc zero)))) some most = omega (arith, choose_row_is 17 8 (lit< tt))
+enough (suc (suc (suc (suc (suc zero))))) some most = omega (arith, choose_row_is 19 10 (lit< tt))
+enough (suc (suc (suc (suc (suc (suc zero)))))) some most = omega (arith, choose_row_is 21 12 (lit< tt))
 enough (suc (suc (suc (suc (suc (suc (suc m))))))) some most = omega arith
 
-first_up : (m : ℕ) → m ≤ 6 → first m ≤ first (suc m)
-first_up zero most = omega arith
-first_up (suc zero) most = omega arith
-first_up (suc (suc zero)) most = omega arith
-first_up (suc (suc (suc zero))) most = omega arith
-first_up (suc (suc (suc (suc zero)))) most = omega arith
-first_up (suc (suc (suc (suc (suc zero))))) most = omega arith
-first_up (suc (suc (suc (suc (suc (suc zero)))))) most = omega arith
-first_up (suc (suc (suc (suc (suc (suc (suc m))))))) most = omega arith
-
-first_rises : (m n : ℕ) → m ≤ n → n ≤ 7 → first m ≤ first n
+first_rises : (m n : ℕ) → m ≤ n → n ≤ 7 → first_word m ≤ first_word n
 first_rises m n below most = grind arith
 
 -- an ending's word is one of its variant's
 pub its_variant : (a : HousesState) → IsWithinHouses a → IsEnding a
-    → first (length a.own) + rank_of_houses a / 16 < first (suc (length a.own))
+    → first_word (length a.own) + rank_of_houses a / 16 < first_word (suc (length a.own))
 its_variant a within few =
     let m = length a.own in
     let row = a.own ++ a.other in
@@ -422,13 +419,14 @@ its_variant a within few =
     let below = rw cells at all in
     omega (arith, enough m within.some_house within.at_most_six)
 
+-- an ending's word is one of all
 pub word_inside : {a : HousesState} → IsWithinHouses a → IsEnding a → word_of a < 52054
 word_inside {a} within few = grind (arith, its_variant)
 
 -- endings of one word and one place in it are the same
-same_told : (a b : HousesState) → IsWithinHouses a → IsWithinHouses b → IsEnding a → IsEnding b → word_of a ≡ word_of b →
+same_ending : (a b : HousesState) → IsWithinHouses a → IsWithinHouses b → IsEnding a → IsEnding b → word_of a ≡ word_of b →
     rank_of_houses a % 16 ≡ rank_of_houses b % 16 → a ≡ b
-same_told a b ha hb few few_b word place =
+same_ending a b ha hb few few_b word place =
     grind (arith, its_variant, first_rises, lit≤, rule_bit-small, cases_lt, same_houses)
 
 -- ---- what the words state
@@ -436,7 +434,7 @@ same_told a b ha hb few few_b word place =
 -- an empty word states nothing
 pub states_nothing : (i : ℕ) → StoresWon i 0
 unfolding StoresWon
-states_nothing i a within few is stored = omega arith
+states_nothing i a within few is kept = omega arith
 
 -- after one more ending is stored
 pub states_more : (word : ℕ) (a : HousesState) → StoresWon (word_of a) word → IsWithinHouses a → IsEnding a →
@@ -444,23 +442,19 @@ pub states_more : (word : ℕ) (a : HousesState) → StoresWon (word_of a) word 
     StoresWon (word_of a) (word + suc (won a) * 2 ^ (4 * (rank_of_houses a % 16)))
 unfolding StoresWon
 states_more word a before ha few none small b hb few_b one stored =
-    grind (arith, rank_of_houses, won, cases_eq, same_told, put_there, same_elsewhere, stored)
+    grind (arith, rank_of_houses, won, cases_eq, same_ending, put_there, same_elsewhere, stored)
 
 -- a stored ending is right
-pub stored : (word : ℕ) (a : HousesState) → StoresWon (word_of a) word → IsWithinHouses a → IsEnding a →
+pub stored_is_won : (word : ℕ) (a : HousesState) → StoresWon (word_of a) word → IsWithinHouses a → IsEnding a →
     stored_at word (rank_of_houses a % 16) ≢ 0 → stored_at word (rank_of_houses a % 16) ≡ suc (won a)
 unfolding StoresWon
-stored word a states within few some = states a within few refl some
+stored_is_won word a states within few some = states a within few refl some
 
 -- ---- the steps on them
 
 -- words that are all empty are true
 pub begins : (n : ℕ) → AreTrueWords (replicate n 0)
 begins n i = grind (arith, cases_lt, get_or-replicate, states_nothing, get_or_past, length-replicate)
-
--- a new seat may read each word
-pub reads : (slots i : ℕ) → Enters (λ (s : State (Unit {0}) (Unit {0})). AreTrueWords s.words) slots i (λ n w. StoresWon i n)
-reads slots i s holds homes small = (tt, holds, holds i)
 
 -- a new seat may write into each word what is true
 pub writes : (slots i word : ℕ) → StoresWon i word →
@@ -480,19 +474,19 @@ writes slots i word states s holds homes small =
 
 -- ==== The most that a move wins
 
--- no move wins more but of the houses that are still marked, nor does best play win fewer
+-- best play wins at least `most`, and no legal move of an unmarked house wins more
 pub record IsMost (a : HousesState) (marks most : ℕ) : Type 0 where
   pub reached : most ≤ won a
   pub all : (i : ℕ) → Contains (legal_houses (storeless a)) i → cell marks (i - 1) ≡ 0 → won_by_step (houses_step a i) ≤ most
 
--- as long as all houses with seeds are marked
+-- 0, while all houses with seeds are marked
 pub most_of_none : {a : HousesState} {marks : ℕ} → ((i : ℕ) → (0 < cell marks i) ↔ (0 < get_or a.own i 0)) → IsMost a marks 0
 most_of_none {a} marked = record {
   reached = omega arith;
   all = λ i has gone. absurd (let some = (marked _).1 (legal_holds (storeless a) i has).some in omega arith);
 }
 
--- the last marked house, with what it wins
+-- the last marked house was tried
 pub most_more : {a : HousesState} {marks most h : ℕ} (v new : ℕ) → IsWithinHouses a → IsMost a marks most → IsLastMark marks h →
     Contains (legal_houses (storeless a)) h →
     v ≡ won_by_step (houses_step a h) → new ≡ max most v → IsMost a (marks - 32 ^ (h - 1)) new
@@ -523,7 +517,7 @@ most_won a marks most w going is none = grind (arith, won_reached, cell_none)
 same_number : (m n : ℕ) → nat_eq m n ≡ true → m ≡ n
 same_number m n h = eqb-true m n h
 
--- what a look-up finds holds the houses_worth
+-- what a look-up finds encloses the worth of the houses
 pub found_holds : (es : List (ℕ × Interval)) (a : HousesState) (k : ℕ) → AreTrue es → IsWithinHouses a → k ≡ key_of a →
     (o : Option Interval) → lookup (nat_eq k) es ≡ o
     → IfSome o (λ i. Encloses i (houses_worth a))
@@ -593,6 +587,7 @@ unmixed : (k : ℕ) → k < 2 ^ 64 → (mixed k * 17428512612931826493) % 2 ^ 64
 unfolding mixed
 unmixed k small = omega arith
 
+-- different keys stay different when mixed
 same_unmixed : (k l : ℕ) → k < 2 ^ 64 → l < 2 ^ 64 → mixed k ≡ mixed l → k ≡ l
 same_unmixed k l hk hl same = sym (unmixed _ hk) ∙ ap (λ x. (x * 17428512612931826493) % 2 ^ 64) same ∙ unmixed _ hl
 
@@ -615,6 +610,7 @@ slot_inside s n few small =
     let worth : 2 ^ (64 - s) * 2 ^ s ≡ 2 ^ 64 = rw (← pow-add 2 (64 - s) s) (ap (λ k. 2 ^ k) all) in
     (div-lt_iff_lt-mul (pow_pos s)).1 (rw worth small)
 
+-- houses with one slot and one tag are the same
 same_slotted : (s : ℕ) (a b : HousesState) → s ≤ 54 → IsWithinHouses a → IsWithinHouses b →
     tag_of_key (mixed (key_of a)) ≡ tag_of_key (mixed (key_of b)) →
     slot_at s (mixed (key_of a)) ≡ slot_at s (mixed (key_of b)) → a ≡ b
@@ -627,7 +623,7 @@ ten_bits bits n some next = elim (cases_lt bits 10) [
   | inr many ↦ many
 ]
 
--- after more is kept
+-- slots stay true once one more is stored
 pub bounds_more : (s : ℕ) (slots : List Slot) {a : HousesState} {number at : ℕ} {p : Slot} → s ≤ 54 → StoreBounds s slots
     → IsWithinHouses a →
     number ≡ mixed (key_of a) → at ≡ slot_at s number → at < length slots

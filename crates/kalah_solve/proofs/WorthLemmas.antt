@@ -11,7 +11,7 @@ use Rattle.kalah_solve.specs.Solver.Worth.{greatest, worth, best_house, value_by
 use Rattle.std.proofs.lemmas.Bool.Decides.{Decides-int_eq}
 use Rattle.kalah_rules.specs.Position.{Position, IsWithinLimits, is_over, final_margin, HasEqualSides, seeds_in_houses, swapped, swept, houses_in, storeless, HousesState, IsWithinHouses}
 use Rattle.kalah_rules.specs.Play.{legal_houses, step_of}
-use Rattle.kalah_rules.proofs.PlayLemmas.{legal_holds, holds_legal, sum-zeros, after_equal_sides, after_fewer, swap_fewer, with_more, after_with_more, is_with_more, legal_going}
+use Rattle.kalah_rules.proofs.PlayLemmas.{legal_holds, holds_legal, sum-zeros, after_equal_sides, after_fewer, moves_left-swapped, with_more, after_with_more, is_with_more, legal_going}
 use Rattle.std.proofs.lemmas.List.Sums.{sum_by-le}
 use Rattle.kalah_rules.specs.Sowing.{after, is_again}
 use Rattle.kalah_rules.specs.Measure.{moves_left}
@@ -28,9 +28,9 @@ use Rattle.kalah_rules.proofs.PackedLemmas.{after_keeps, on_cond, over_swapped, 
 -- ==== What a search in a list finds
 
 -- the greatest value is the value of a house
-pub greatest_is_one : (f : ℕ → ℤ) (xs : List ℕ) → 0 < length xs → (k : ℕ) × Contains xs k × (f k ≡ greatest (map f xs))
-greatest_is_one f [] some = absurd (omega arith)
-greatest_is_one f (x ∷ xs) some = elim (fold-int_max_reached (f x) (map f xs) _ refl) [
+pub greatest_reached : (f : ℕ → ℤ) (xs : List ℕ) → 0 < length xs → (k : ℕ) × Contains xs k × (f k ≡ greatest (map f xs))
+greatest_reached f [] some = absurd (omega arith)
+greatest_reached f (x ∷ xs) some = elim (fold-int_max_reached (f x) (map f xs) _ refl) [
   | inl start ↦ (x, Contains-head x xs, sym start)
   | inr later ↦
       let within : later.0 < length xs = omega (arith, length-map xs f) in (
@@ -55,7 +55,7 @@ find_passes t (x ∷ xs) k has passes = elim (cases_Bool (t x)) [
   ]
 ]
 
--- what a search finds in ascending numbers is the lowest that passes
+-- a number of a range that passes is no lower than its start
 pub filter_low : (g : ℕ → Bool) (a n h : ℕ) → Contains (filter g (range_with_len a n)) h → a ≤ h
 filter_low g a zero h has = absurd (omega arith)
 filter_low g a (suc n) h has = elim (cases_Bool (g a)) [
@@ -68,7 +68,7 @@ filter_low g a (suc n) h has = elim (cases_Bool (g a)) [
   | inr dropped ↦ let low = filter_low g (a + 1) n h (rw dropped at has) in omega arith
 ]
 
--- the first that is found is the lowest that passes
+-- what a search finds in ascending numbers is the lowest that passes
 pub find_lowest : (t g : ℕ → Bool) (a n h : ℕ) → Contains (filter g (range_with_len a n)) h → t h ≡ true →
     unwrap_or (find t (filter g (range_with_len a n))) 0 ≤ h
 find_lowest t g a zero h has passes = omega arith
@@ -110,10 +110,6 @@ pub eq_no : (a b : ℤ) → a <ℤ b → int_eq a b ≡ false
 eq_no a b less = grind arith
 
 -- ==== Best play does not depend on the count of moves, once it is high enough
-
--- if no moves are left there are no seeds in houses
-none_left : (s m w : ℕ) → s * (m * s + 1) + w ≡ 0 → s ≡ 0
-none_left s m w none = omega arith
 
 -- a position with no moves left is over
 pub over_at_end : (p : Position) → moves_left p ≡ 0 → is_over p ≡ true
@@ -163,7 +159,7 @@ worth_same (suc n) (suc k) p even n_high k_high = elim (cases_Bool _) [
       _ (λ h is_legal.
       let fewer = after_fewer p h (legal_holds p h is_legal) even in
       let next_even = after_equal_sides p h in
-      let turned = swap_fewer _ next_even in
+      let turned = moves_left-swapped _ next_even in
       value_same (worth_within n) (worth_within k) p h
       (worth_same n k _ next_even (omega arith) (omega arith))
       (worth_same n k _ (omega arith) (omega arith) (omega arith))))
@@ -190,7 +186,7 @@ worth_of_going p even going =
     ∙ ap greatest (map_same (value_by (worth_within (moves_left p)) p) (value_of_move p) (legal_houses p) (λ h is_legal.
     let fewer = after_fewer p h (legal_holds p h is_legal) even in
     let next_even = after_equal_sides p h in
-    let turned = swap_fewer (after p h) next_even in
+    let turned = moves_left-swapped (after p h) next_even in
     value_same (worth_within (moves_left p)) worth p h
     (worth_same _ _ _ next_even (omega arith) (omega arith))
     (worth_same _ _ _ (swapped_equal_sides _ next_even)
@@ -250,9 +246,9 @@ pub turn_fewer : (p : Position) (h : ℕ) (e : Position) → HasEqualSides p →
     → board.Turn e ≡ step_of p h →
     moves_left e < moves_left p
 turn_fewer p h e even is_legal is =
-    grind (arith, turn_step, swap_fewer, after_equal_sides, after_fewer, legal_holds)
+    grind (arith, turn_step, moves_left-swapped, after_equal_sides, after_fewer, legal_holds)
 
--- a game that goes on has a move
+-- without a legal house the own row of a game that goes on would be empty
 row_empty : (p : Position) → is_over p ≡ false → length (legal_houses p) ≤ 0 → sum p.own ≡ 0
 row_empty p going none =
     let each = All-from_get_or (λ x. x ≤ 0) p.own 0 (λ i within. elim (cases_lt 0 _) [
@@ -297,7 +293,7 @@ value_passing p h turn = grind (arith, cases_Bool, worth_of_over, over_for_other
 pub best_found : (p : Position) → HasEqualSides p → is_over p ≡ false →
     Contains (legal_houses p) (best_house p) × (int_eq (value_of_move p (best_house p)) (worth p) ≡ true)
 best_found p even going =
-    let best = greatest_is_one _ (legal_houses p) (legal_some p going) in
+    let best = greatest_reached _ (legal_houses p) (legal_some p going) in
     let attains = best.2 ∙ sym (worth_of_going p even going) in
     find_passes _ (legal_houses p) _ best.1
     (eq_yes _ (worth p) attains)
@@ -390,12 +386,12 @@ unfolding worth
 worth_shift a b p = worth_with_more _ a b p
 
 -- the margin of best play is that of the houses, moved by the stores
-pub worth_of_rows : (p : Position) → worth p ≡ houses_worth (houses_in p) +ℤ (pos p.own_store -ℤ pos p.other_store)
-worth_of_rows p = ap worth (is_with_more p) ∙ worth_shift _ p.other_store _
+pub worth_of_houses : (p : Position) → worth p ≡ houses_worth (houses_in p) +ℤ (pos p.own_store -ℤ pos p.other_store)
+worth_of_houses p = ap worth (is_with_more p) ∙ worth_shift _ p.other_store _
 
--- the law on the worth
+-- the law on stores and worth
 pub worth_by_stores : (p : Position) → worth p ≡ pos p.own_store -ℤ pos p.other_store +ℤ houses_worth (houses_in p)
-worth_by_stores p = omega (arith, ints, worth_of_rows p)
+worth_by_stores p = omega (arith, ints, worth_of_houses p)
 
 -- the same search by tests that agree
 find_same : (p q : ℕ → Bool) (xs : List ℕ) → ((h : ℕ) → p h ≡ q h) → find p xs ≡ find q xs
@@ -413,13 +409,13 @@ best_with_more a b p = ap (λ o. unwrap_or o 0) (find_same _ _ (legal_houses p) 
     rw (value, worth_shift a b p) (int_eq_shift _ (worth p) _)))
 
 -- the best house is that of the houses
-pub best_of_rows : (p : Position) → best_house p ≡ best_house (storeless (houses_in p))
-best_of_rows p = ap best_house (is_with_more p) ∙ best_with_more p.own_store _ (storeless (houses_in p))
+pub best_of_houses : (p : Position) → best_house p ≡ best_house (storeless (houses_in p))
+best_of_houses p = ap best_house (is_with_more p) ∙ best_with_more p.own_store _ (storeless (houses_in p))
 
 -- the value of a move is that of the move of the houses, moved by the stores
-pub value_of_rows : (p : Position) (h : ℕ) → value_of_move p h ≡ value_of_move (storeless (houses_in p)) h +ℤ
+pub value_of_houses : (p : Position) (h : ℕ) → value_of_move p h ≡ value_of_move (storeless (houses_in p)) h +ℤ
     (pos p.own_store -ℤ pos p.other_store)
-value_of_rows p h =
+value_of_houses p h =
     let a = p.own_store in
     let b = p.other_store in
     let q = after _ h in
@@ -457,13 +453,14 @@ moves_after (Turn gained b) = moves_left (storeless b)
 -- ==== The result of a move on houses, and its worth
 
 -- ---- what a move is worth
+-- if the other store is empty, a position is worth the own store and its houses
 worth_again : (q : Position) → q.other_store ≡ 0 → worth q ≡ pos q.own_store +ℤ houses_worth (houses_in q)
-worth_again q none = worth_of_rows q ∙ omega (arith, ints)
+worth_again q none = worth_of_houses q ∙ omega (arith, ints)
 
 -- the same if the turn passes
 worth_turn : (q : Position) → q.other_store ≡ 0 → neg_ℤ (worth (swapped q)) ≡ pos q.own_store -ℤ houses_worth
     (houses_in (swapped q))
-worth_turn q none = ap neg_ℤ (worth_of_rows _) ∙ omega (arith, ints)
+worth_turn q none = ap neg_ℤ (worth_of_houses _) ∙ omega (arith, ints)
 
 -- what a position after a move is worth, by its step
 worth_by_step : (q : Position) (again : Bool) → q.other_store ≡ 0 →
@@ -477,7 +474,7 @@ pub value_is : (a : HousesState) (h : ℕ) → IsWithinHouses a → Contains (le
 value_is a h w has = worth_by_step (after _ h) _ (after_keeps a h w (legal_holds _ h has)).other_store
 
 -- ---- where it leads
--- each step leads to houses of the game with fewer moves left
+-- each step leads to houses of the same variant with fewer moves left
 pub leads_on : (a : HousesState) (h : ℕ) → IsWithinHouses a → Contains (legal_houses (storeless a)) h → LeadsOn a (houses_step a h)
 leads_on a h w has =
     let holds = legal_holds _ h has in
@@ -497,7 +494,7 @@ leads_on a h w has =
     })
     (λ turn. record {
       kept = omega arith;
-      fewer = omega (arith, swap_fewer q (omega arith));
+      fewer = omega (arith, moves_left-swapped q (omega arith));
       going = over_swapped q going;
       limits = swapped_within q within;
       same = omega arith;
@@ -510,6 +507,7 @@ pub leads_by : {a : HousesState} (h : ℕ) (s : HousesStep) → IsWithinHouses a
 leads_by {a} h s w has e = grind (arith, leads_on)
 
 -- ---- what the search needs of a step
+-- houses that go on from a are of its variant, within the limits
 goes_on_to : {a b : HousesState} {game gained : ℕ} → IsWithinHouses a → variant_of a ≡ game → LeadsTo a gained b
     → GoesOnAt game gained b
 goes_on_to w is leads = grind arith
@@ -520,19 +518,19 @@ goes_on_of a game (Over own other) w is leads = omega arith
 goes_on_of a game (Again gained b) w is leads = goes_on_to w is leads
 goes_on_of a game (Turn gained b) w is leads = goes_on_to w is leads
 
--- a step goes on in the game
+-- the step of a legal move goes on in the variant
 pub goes_on : (a : HousesState) (game h : ℕ) (s : HousesStep) → variant_of a ≡ game → IsWithinHouses a
     → Contains (legal_houses (storeless a)) h
     → s ≡ houses_step a h → GoesOn game s
 goes_on a game h s is w has e = goes_on_of _ _ _ w is (leads_by _ _ w has e)
 
--- each step leaves fewer moves
+-- a step that leads on leaves fewer moves
 falls_of : (a : HousesState) (s : HousesStep) → 0 < moves_left (storeless a) → LeadsOn a s → moves_after s < moves_left (storeless a)
 falls_of a (Over own other) some leads = some
 falls_of a (Again gained b) some leads = leads.fewer
 falls_of a (Turn gained b) some leads = leads.fewer
 
--- a step leaves fewer moves
+-- the step of a legal move leaves fewer moves
 pub step_falls : (a : HousesState) (h : ℕ) (s : HousesStep) → IsWithinHouses a → Contains (legal_houses (storeless a)) h
     → s ≡ houses_step a h →
     moves_after s < moves_left (storeless a)

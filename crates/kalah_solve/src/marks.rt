@@ -13,7 +13,7 @@ const ONE_EACH: u64 = 0x210_8421;
 const FIFTEEN_EACH: u64 = 15 * ONE_EACH;
 
 // The marks of all houses, by the number of houses a side.
-static ALL_MARKED: [u64; 7] = [0, 1, 0x21, 0x421, 0x8421, 0x10_8421, 0x210_8421];
+static ALL_MARKED: [u64; 7] = [0, 1, 0x21, 0x421, 0x8421, 0x10_8421, ONE_EACH];
 
 // The row whose houses all end in the store, by the number of houses a side.
 static ALL_END_IN_STORE: [u64; 7] = [0, 1, 0x22, 0x443, 0x8864, 0x11_0C85, 0x221_90A6];
@@ -35,16 +35,16 @@ fn all_end_in_store(m: u8) -> u64
     ALL_END_IN_STORE[m as usize]
 }
 
-/// Returns the houses of a row that have seeds, marked.
-pub(crate) fn filled(row: u64) -> u64
+// Returns the houses of a row that have seeds, marked.
+fn filled(row: u64) -> u64
     ensures cells { (i : ℕ) → i < 6 → cell result i ≡ min 1 (cell row i) }
     ensures small { result < 2 ^ 30 }
 {
     ((((row & FIFTEEN_EACH) + FIFTEEN_EACH) | row) >> 4) & ONE_EACH
 }
 
-/// Returns the houses of a row of `m` whose last seed would fall into the store without a lap, marked.
-pub(crate) fn ending_in_store(row: u64, m: u8) -> u64
+// Returns the houses of a row of `m` whose last seed would fall into the store without a lap, marked.
+fn ending_in_store(row: u64, m: u8) -> u64
     requires { m ≤ 6 }
     ensures inside { (i : ℕ) → i < m → (0 < cell result i) ↔ (cell row i + i ≡ m) }
     ensures past { (i : ℕ) → i < 6 → m ≤ i → cell row i ≡ 0 → cell result i ≡ 0 }
@@ -64,7 +64,7 @@ pub(crate) fn filled_houses(houses: &Houses) -> u64
 }
 
 /// Returns the mover's houses whose last seed would fall into the store without a lap, marked.
-pub(crate) fn again_houses(houses: &Houses) -> u64
+pub(crate) fn houses_into_store(houses: &Houses) -> u64
     ensures marked { (i : ℕ) → (0 < cell result i) ↔ ((i < length houses.now.own) × EndsInStore houses.now (i + 1)) }
     ensures marks { AreMarks result }
     ensures limits { IsWithinHouses houses.now }

@@ -21,7 +21,7 @@ mod tests;
 use crate::bounds::interval::Interval;
 use crate::bounds::seed_bounds::{SeedBounds, margin_of};
 use crate::bounds::window::Window;
-use crate::marks::{again_houses, remaining_houses, split_last};
+use crate::marks::{houses_into_store, remaining_houses, split_last};
 use crate::search::move_order::{MoveOrder, Priorities, highest};
 use crate::search::node_counts::{EndingLimit, NodeCounts, SEEDS_THAT_ALWAYS_PAY};
 use crate::table::Table;
@@ -60,8 +60,11 @@ macro_rules! in_its_variant {
 pub struct Search<A: Allocator + Clone = Global> {
     table: Table<A>,
     order: MoveOrder,
+    // Houses with at most this many seeds are kept in slots.
     most_slotted: u8,
+    // Answers that took fewer nodes get no entry.
     least_nodes: u64,
+    // Endings with at most this many seeds are looked up.
     ending_limit: EndingLimit,
     counts: NodeCounts,
 }
@@ -113,11 +116,13 @@ impl<A: Allocator + Clone> Search<A> {
         }
     }
 
+    /// Returns the entry of the houses.
     #[cfg(test)]
     pub fn entry(&mut self, houses: &Houses) -> Option<Interval> {
         self.table.look_up(houses)
     }
 
+    /// Returns how many nodes there were.
     #[cfg(test)]
     pub fn nodes(&self) -> u64 {
         self.counts.all_nodes()
@@ -141,7 +146,7 @@ impl<A: Allocator + Clone> Search<A> {
         let seeds = houses.seeds();
         if seeds > SEEDS_THAT_ALWAYS_PAY {
             self.counts.resume(houses);
-            self.grow_endings();
+            self.set_ending_limit();
         }
         if seeds <= self.ending_limit.seeds {
             let won = self.table.won::<VARIANT>(*houses);
@@ -270,9 +275,9 @@ impl<A: Allocator + Clone> Search<A> {
     {
         let houses = *houses;
         let seeds = houses.seeds();
-        let again = self.bound_again::<VARIANT>(&houses, beta);
-        if beta <= again {
-            return again;
+        let into_store = self.bound_into_store::<VARIANT>(&houses, beta);
+        if beta <= into_store {
+            return into_store;
         }
         let mut priorities = [0u16; 8];
         let mut turns = [houses.without_seeds(); 6]; // Of a known variant they are a constant.
@@ -280,7 +285,7 @@ impl<A: Allocator + Clone> Search<A> {
         if beta <= remaining {
             return remaining;
         }
-        let mut most = again.max(remaining);
+        let mut most = into_store.max(remaining);
         let waiting = &turns[..];
         let reply_beta = seeds.saturating_sub(beta) + 1; // If the other player wins less of the seeds, the turn is enough.
         let mut priority = highest(&priorities);
@@ -300,14 +305,14 @@ impl<A: Allocator + Clone> Search<A> {
     // Tries the moves that end in the store, the nearest to it first. Returns the most that they win, or a bound that is enough.
     #[inline(always)]
     #[cycle(search)]
-    fn bound_again<const VARIANT: u8>(&mut self, houses: &Houses, beta: u8) -> u8
+    fn bound_into_store<const VARIANT: u8>(&mut self, houses: &Houses, beta: u8) -> u8
         requires going { is_over (storeless houses.now) ≡ false }
         requires variant { variant_of houses.now ≡ VARIANT }
         ensures lower { beta ≤ result → result ≤ won houses.now }
         ensures upper { result < beta → (h : ℕ) → Contains (legal_houses (storeless houses.now)) h → EndsInStore houses.now h →
             WinsAtMost houses.now result h }
     {
-        let mut untried = again_houses(houses);
+        let mut untried = houses_into_store(houses);
         let mut most = 0;
         while untried > 0 {
             let (house, rest) = split_last(untried);

@@ -66,13 +66,13 @@ fn moves_lead_to_positions(rt: HostRuntime) {
     for ((m, own, other, rule), h, (next_m, next_own, next_other, next_rule), word) in MOVES {
         let start = board(&rt, m, own, other, rule);
         let next = board(&rt, next_m, next_own, next_other, next_rule);
-        assert!(rt; start.is_legal(h));
+        assert!(rt; start.is_legal(h), "{start:?} {h}");
         let step = match word {
             "over" => Step::Over(next),
             "again" => Step::Again(next),
             _ => Step::Turn(next),
         };
-        assert!(rt; start.apply(h) == step);
+        assert!(rt; start.apply(h) == step, "{start:?} {h}");
     }
 }
 
@@ -91,7 +91,7 @@ fn another_move_with_no_seeds_left_ends_the_game(rt: HostRuntime) {
 }
 
 #[test]
-fn legal_houses_rise(rt: HostRuntime) {
+fn legal_houses_are_ascending(rt: HostRuntime) {
     let own = [1, 0, 2, 0, 0, 3];
     let other = [0, 0, 0, 0, 0, 1];
     let board = Board::new(6, own, 0, other, 0, Rule::Classic).expect(&rt, "beyond the limits");
@@ -108,8 +108,8 @@ fn margins_count_houses_and_stores(rt: HostRuntime) {
         (1, [31, 0, 99], [0, 0, 0], 130),
     ] {
         let end = board(&rt, m, own, other, Rule::Classic);
-        assert!(rt; end.is_over());
-        assert!(rt; end.returns() == margin);
+        assert!(rt; end.is_over(), "{end:?}");
+        assert!(rt; end.returns() == margin, "{end:?}");
     }
 }
 
@@ -128,7 +128,10 @@ fn limits_are_kept(rt: HostRuntime) {
         (1, none, 99, none, 99, true),
     ] {
         let board = Board::new(m, own, own_store, other, other_store, Rule::Classic);
-        assert!(rt; board.is_some() == is_kept);
+        assert!(rt;
+            board.is_some() == is_kept,
+            "{m} {own:?} {own_store} {other:?} {other_store}"
+        );
     }
 }
 

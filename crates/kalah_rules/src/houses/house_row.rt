@@ -4,7 +4,7 @@ ghost use Rattle.kalah_rules.specs.Key.{number_of};
 ghost use Rattle.kalah_rules.specs.Limits.{most_houses, most_seeds};
 
 use crate::houses::house::House;
-use crate::houses::numbers::alone;
+use crate::houses::numbers::row_with;
 use crate::limits::{MOST_HOUSES, MOST_SEEDS};
 use std::marker::Model;
 
@@ -51,7 +51,7 @@ impl HouseRow {
         if self.count >= MOST_HOUSES || total > MOST_SEEDS as u64 {
             return false;
         }
-        self.number += alone(House::new(self.count + 1), seeds as u64);
+        self.number += row_with(House::new(self.count + 1), seeds as u64);
         self.seeds = total;
         self.count += 1;
         true

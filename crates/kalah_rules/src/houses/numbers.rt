@@ -97,14 +97,15 @@ pub(super) fn seeds_at(row: u64, house: House) -> u64
 // Returns a row with `seeds` seeds in this house, and none elsewhere.
 #[inline(always)]
 #[tactic(auto, using(crate::proofs::KeyLemmas::pow_five, crate::proofs::KeyLemmas::moved_small))]
-pub(super) fn alone(house: House, seeds: u64) -> u64
+pub(super) fn row_with(house: House, seeds: u64) -> u64
     requires { seeds < 32 }
     ensures { result ≡ 32 ^ (house - 1) * seeds }
 {
     seeds << house.bit()
 }
 
-static ONES: [u64; 7] = [0, 1, 33, 1057, 33825, 1082401, 34636833];
+// One seed in each of the first n houses, by n.
+static ONES: [u64; 7] = [0, 1, 0x21, 0x421, 0x8421, 0x10_8421, 0x210_8421];
 
 // Returns a row with one seed in each of the first `n` houses.
 pub(super) fn one_each(n: u8) -> u64

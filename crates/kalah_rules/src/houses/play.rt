@@ -20,13 +20,13 @@ pub(super) struct RowNumbers {
     store: u32,
 }
 
-// Returns what is captured of both rows, `seeds` and in all `count` seeds, or nothing. Seeds are captured if the last one is alone in an
-// own house, which `single` states, and the rule lets it capture the `across` seeds across. Which is hard to predict, so the seeds are
+// Returns what the last seed captures: seeds to take off both rows, and their number, or 0 and 0. It captures if it is alone in an own
+// house (`single`) and the rule lets it capture the `across` seeds of the house across. That is hard to predict, so both results are
 // masked, without a branch.
 #[inline(always)]
-fn caught(rule: Rule, single: bool, across: u64, seeds: u64) -> (u64, u64)
+fn captured_seeds(rule: Rule, single: bool, across: u64, seeds: u64) -> (u64, u64)
     requires { across < 32 }
-    ensures caught { MatchBool (single && captures rule across)
+    ensures captured { MatchBool (single && captures rule across)
         ((result.0 ≡ seeds) × (result.1 ≡ 1 + across)) ((result.0 ≡ 0) × (result.1 ≡ 0)) }
     ensures few { result.1 ≤ 32 }
 {
@@ -40,7 +40,7 @@ impl Houses {
     ghost use Rattle.kalah_rules.specs.Packed.{IsPackedPosition};
     ghost use Rattle.kalah_rules.specs.HousesStep.{houses_step};
 
-    // Sows this house.
+    // Returns the rows after this house is sown, before a capture.
     #[inline(always)]
     fn sow(&self, house: House, sowing: Sowing) -> RowNumbers
         requires holds { HoldsSeeds (storeless self.now) house }
@@ -63,10 +63,10 @@ impl Houses {
         ensures { IsPackedPosition result (after (storeless self.now) house) }
     {
         let sown = self.sow(house, sowing);
-        let single = sown.rows & sowing.last_house == sowing.last_seed;
-        let across = (sown.rows >> sowing.across) % 32;
-        let seeds = sowing.last_seed + (across << sowing.across);
-        let (seeds, count) = caught(self.rule(), single, across, seeds);
+        let single = sown.rows & sowing.last_mask == sowing.last_seed;
+        let across = (sown.rows >> sowing.across_bit) % 32;
+        let at_stake = sowing.last_seed + (across << sowing.across_bit);
+        let (seeds, count) = captured_seeds(self.rule(), single, across, at_stake);
         RowNumbers {
             rows: sown.rows - seeds,
             store: sown.store + count as u32,

@@ -4,11 +4,11 @@ ghost use Rattle.kalah_rules.specs.Sowings.{IsLastHouse, IsNoHouse, IsSowing, Is
 ghost use Rattle.kalah_rules.specs.declared.houses.sowings.TheConstants.{CELLS};
 
 use crate::houses::house::House;
-use crate::houses::numbers::{OTHER_ROW, alone, other_gains, own_gains};
+use crate::houses::numbers::{OTHER_ROW, other_gains, own_gains, row_with};
 use std::marker::Model;
 
-// The number of cells of the table. A house that begins at bit b has its 32 cells at row b + m - 1 on sides of m houses. Sides of 1 to 5
-// houses have the five rows from b on. Those of 6 have the next row, which sides of 1 house never use.
+// The cells of the table: 31 rows of 32, one cell for each number of seeds. The house at bit b of sides of m has row b + m - 1: sides of
+// 1 to 5 have rows b to b + 4. Sides of 6 have row b + 5, which would be that of a second or later house of sides of 1.
 const CELLS: usize = 31 * 32;
 
 /// How the seeds of one house are sown.
@@ -18,10 +18,10 @@ pub(super) struct Sowing {
     pub(super) loses: u64,
     // If the last seed falls into an own house, the five bits of that house, and the lowest of them. Otherwise 0 and 1, so that no row
     // has one seed there.
-    pub(super) last_house: u64,
+    pub(super) last_mask: u64,
     pub(super) last_seed: u64,
     // The bit at which the house across from it begins in a key.
-    pub(super) across: u8,
+    pub(super) across_bit: u8,
     // What the store gains.
     pub(super) store: u8,
     // Whether the last seed falls into the store.
@@ -39,7 +39,7 @@ fn last_cell(m: u8, place: u8) -> (u64, u64, u8)
     if place > m {
         return (0, 1, 0);
     }
-    let last_seed = alone(House::new(place), 1);
+    let last_seed = row_with(House::new(place), 1);
     (31 * last_seed, last_seed, 30 + 5 * (m - place))
 }
 
@@ -57,12 +57,12 @@ impl Sowing {
         let reach = h + count % lap;
         let gains = own_gains(m, h, laps, reach) + OTHER_ROW * other_gains(m, laps, reach);
         let place = (h - 1 + count) % lap + 1;
-        let (last_house, last_seed, across) = last_cell(m, place);
+        let (last_mask, last_seed, across_bit) = last_cell(m, place);
         Sowing {
-            loses: alone(House::new(h), count as u64).wrapping_sub(gains),
-            last_house,
+            loses: row_with(House::new(h), count as u64).wrapping_sub(gains),
+            last_mask,
             last_seed,
-            across,
+            across_bit,
             store: laps + if reach > m { 1 } else { 0 },
             again: place == m + 1,
         }
@@ -89,9 +89,9 @@ impl Model for Sowings {
 // Fills the cells of no house.
 const NO_SOWING: Sowing = Sowing {
     loses: 0,
-    last_house: 0,
+    last_mask: 0,
     last_seed: 1,
-    across: 0,
+    across_bit: 0,
     store: 0,
     again: false,
 };

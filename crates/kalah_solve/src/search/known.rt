@@ -65,10 +65,10 @@ impl<A: Allocator + Clone> Search<A> {
         }
     }
 
-    // Counts one more node, and returns how many of the variant there were before.
+    // Counts one more node, lets the search grow if that is due, and returns how many of the variant there were before.
     pub(super) fn count_node(&mut self) -> u64 {
         let before = self.counts.nodes();
-        if !self.counts.count_node() {
+        if !self.counts.try_count_node() {
             self.grow();
         }
         before
@@ -79,12 +79,12 @@ impl<A: Allocator + Clone> Search<A> {
     #[inline(never)]
     fn grow(&mut self) {
         self.counts.count_at_threshold();
-        self.grow_endings();
+        self.set_ending_limit();
         self.table.grow();
     }
 
     // Uses the endings that pay, if the search uses endings.
-    pub(super) fn grow_endings(&mut self) {
+    pub(super) fn set_ending_limit(&mut self) {
         if self.ending_limit.seeds > 0 {
             self.ending_limit = self.counts.ending_limit();
         }

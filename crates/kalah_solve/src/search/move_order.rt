@@ -4,20 +4,24 @@ ghost use Rattle.kalah_rules.specs.Limits.{most_seeds};
 
 mod weights;
 
-use crate::search::move_order::weights::{GAIN, HOUSES, TURNS};
+use crate::search::move_order::weights::{GAIN, HOUSES, PLACE_PRIORITIES};
 use kalah_rules::{House, Houses};
+
+// The cells of six pairs of houses, each with 32 numbers of seeds for either.
+const PAIRS: usize = 6 * 1024;
 
 /// What orders the turns: the weights of the houses, two neighbours at a time.
 #[derive(Drop)]
 pub(crate) struct MoveOrder {
-    // What two houses count, for each two of the twelve and each number of seeds of either. No two count more than 255.
-    pairs: [u8; 6144],
+    // What two neighbouring houses count together, for each of the six pairs and each number of seeds of either. No pair counts more
+    // than 255.
+    pairs: [u8; PAIRS],
 }
 
 impl MoveOrder {
     /// Computes the table.
     pub(crate) fn new() -> MoveOrder {
-        let mut pairs = [0u8; 6144];
+        let mut pairs = [0u8; PAIRS];
         for pair in 0..6usize {
             for second in 0..32usize {
                 for first in 0..32usize {
@@ -60,20 +64,20 @@ impl MoveOrder {
         ensures house { result % 8 + 1 ≡ house }
     {
         let estimate = GAIN * gained as u32 + self.weight(m, next);
-        (8 * estimate + turn_of(m, house) as u32) as u16
+        (8 * estimate + place_priority(m, house) as u32) as u16
     }
 }
 
 // Returns what this house of `m` adds to the priority of its turn.
 #[inline(always)]
-fn turn_of(m: u8, house: House) -> u16
+fn place_priority(m: u8, house: House) -> u16
     requires first { 1 ≤ m }
     requires last { m ≤ 6 }
     ensures house { result % 8 + 1 ≡ house }
     ensures some { 0 < result }
     ensures small { result ≤ 421 }
 {
-    TURNS[(m / 6) as usize][(m + house.bit() - 1) as usize]
+    PLACE_PRIORITIES[(m / 6) as usize][(m + house.bit() - 1) as usize]
 }
 
 /// As many priorities as the processor compares at once, house 1 first: those past the last house are 0.

@@ -42,8 +42,9 @@ impl EndingLimit {
 pub(super) struct NodeCounts {
     // The variant that is searched: houses a side and rule, as in the upper bits of a key.
     variant: usize,
-    // How many nodes of it there were, and of each variant before it was searched last.
+    // The nodes of that variant so far.
     nodes: u64,
+    // The nodes of each variant when it was last left, by its number.
     nodes_before: [u64; 16],
     // The number of its nodes from which on more may pay: up to it, a node is only counted.
     next_threshold: u64,
@@ -107,7 +108,7 @@ impl NodeCounts {
 
     /// Counts one more node, and returns true. If more endings or slots may pay by now, it counts none and returns false.
     #[inline(always)]
-    pub(super) fn count_node(&mut self) -> bool {
+    pub(super) fn try_count_node(&mut self) -> bool {
         if self.nodes >= self.next_threshold {
             return false;
         }
@@ -115,7 +116,7 @@ impl NodeCounts {
         true
     }
 
-    /// Counts the node that `count_node` did not count.
+    /// Counts the node that `try_count_node` did not count.
     pub(super) fn count_at_threshold(&mut self) {
         self.set_next_threshold();
         self.nodes = self.nodes.saturating_add(1);

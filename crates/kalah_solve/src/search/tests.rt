@@ -36,9 +36,9 @@ static SMALL: [Position; 8] = [
     (5, [1, 2, 0, 0, 2, 0], [2, 2, 2, 1, 0, 0], -2),
 ];
 
-// Prints the number of nodes that the positions take in order, which is within 5 % of this one. Returns the number of slots that are
-// laid out then.
-fn slots_after(
+// Searches the positions in order: each has its worth, and all take this number of nodes, within 5 %. Prints the nodes, and returns the
+// number of slots that are laid out then.
+fn search_all(
     rt: &(impl Abort + AllocGlobal + Print),
     positions: &[Position],
     expected: u64,
@@ -48,27 +48,33 @@ fn slots_after(
     for (m, own, other, worth) in positions {
         let houses = Houses::new(*m, *own, *other, Rule::Classic).expect(rt, "beyond the limits");
         assert!(rt; !houses.is_over());
-        assert!(rt; search.search(&houses, Window::whole()) == *worth);
+        assert!(rt;
+            search.search(&houses, Window::whole()) == *worth,
+            "{houses:?}"
+        );
     }
     let nodes = search.nodes();
     println!(rt; "{nodes} nodes").expect(rt, "no output");
-    assert!(rt; nodes.abs_diff(expected) < expected / 20);
+    assert!(rt;
+        nodes.abs_diff(expected) < expected / 20,
+        "{nodes} nodes, not {expected}"
+    );
     search.table.slots.len()
 }
 
 #[test]
 fn games_as_they_begin_take_few_nodes(rt: HostRuntime) {
-    slots_after(&rt, &VARIANTS, 58_977);
+    search_all(&rt, &VARIANTS, 58_977);
 }
 
 #[test]
 fn hard_positions_take_few_nodes(rt: HostRuntime) {
-    assert!(rt; slots_after(&rt, &HARD, 214_767) == 65_536);
+    assert!(rt; search_all(&rt, &HARD, 214_767) == 65_536);
 }
 
 #[test]
 fn small_positions_take_few_nodes(rt: HostRuntime) {
-    assert!(rt; slots_after(&rt, &SMALL, 428) == 8_192);
+    assert!(rt; search_all(&rt, &SMALL, 428) == 8_192);
 }
 
 // Houses with that many seeds get no slot. The second search finds nothing kept, and keeps nothing, either.

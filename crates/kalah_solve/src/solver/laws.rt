@@ -19,7 +19,7 @@ pub fn best_house_is_lowest()
 
 /// Stores do not influence play. The worth of a position is the difference of the stores plus the worth of its houses with empty stores.
 /// The best house is the same for any stores.
-#[tactic(auto, using(crate::proofs::WorthLemmas::worth_by_stores, crate::proofs::WorthLemmas::best_of_rows))]
+#[tactic(auto, using(crate::proofs::WorthLemmas::worth_by_stores, crate::proofs::WorthLemmas::best_of_houses))]
 pub fn stores_only_shift()
     ensures worth { StoresShiftWorth }
     ensures house { StoresKeepBestHouse }

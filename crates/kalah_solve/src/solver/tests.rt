@@ -18,7 +18,7 @@ pub(crate) fn solver_with(table: Table, keeps_all: bool) -> Solver {
 
 // A solver with a table of this size.
 fn solver_of(rt: &impl Abort, alloc: Global, entries: u32, keeps_all: bool) -> Solver {
-    assert!(rt; 1 <= entries && entries <= 1_048_576);
+    assert!(rt; 1 <= entries && entries <= MOST_ENTRIES);
     let table = Table::new(alloc, entries).expect(rt, "no memory for a table");
     solver_with(table, keeps_all)
 }
@@ -79,7 +79,7 @@ const WORKED: [Worked; 28] = [
 pub(crate) fn tells_worked_positions(rt: &impl Abort, solver: &mut Solver) {
     for (m, own, other, rule, margin, house) in WORKED {
         let board = board(rt, m, own, other, rule);
-        assert!(rt; solver.solve(&board) == verdict(margin, house));
+        assert!(rt; solver.solve(&board) == verdict(margin, house), "{board:?}");
     }
 }
 
@@ -105,7 +105,7 @@ fn the_plain_recursion_tells_worked_positions(rt: HostRuntime) {
             continue;
         }
         let board = board(&rt, m, own, other, rule);
-        assert!(rt; plain::solve(&board) == verdict(margin, house));
+        assert!(rt; plain::solve(&board) == verdict(margin, house), "{board:?}");
     }
 }
 
@@ -116,7 +116,7 @@ fn agrees_with_plain(rt: &impl Abort, solver: &mut Solver, rule: Rule) {
             for c in 0..5 - a - b {
                 for d in 0..5 - a - b - c {
                     let board = board(rt, 2, [a, b, 0, 0], [c, d, 0, 0], rule);
-                    assert!(rt; solver.solve(&board) == plain::solve(&board));
+                    assert!(rt; solver.solve(&board) == plain::solve(&board), "{board:?}");
                 }
             }
         }
@@ -142,8 +142,11 @@ fn windows_leave_intervals(rt: HostRuntime) {
         (Window { lo: 7, hi: 9 }, 7, 2, 7),
         (Window::whole(), 6, 6, 6),
     ] {
-        assert!(rt; search.search(&houses, window) == answer);
-        assert!(rt; search.entry(&houses) == Some(Interval { lo, hi }));
+        assert!(rt; search.search(&houses, window) == answer, "{lo} {hi}");
+        assert!(rt;
+            search.entry(&houses) == Some(Interval { lo, hi }),
+            "{lo} {hi}"
+        );
     }
 }
 
@@ -162,10 +165,10 @@ fn tells_values_of_worked_positions(rt: HostRuntime) {
     let mut solver = solver_of(&rt, rt.alloc(), 1, false);
     for (m, own, other, rule, want) in VALUES {
         let values = solver.values(&board(&rt, m, own, other, rule));
-        assert!(rt; usize::from(values.len()) == want.len());
+        assert!(rt; usize::from(values.len()) == want.len(), "{own:?} {other:?} {rule:?}");
         for (i, told) in values.iter().enumerate() {
-            assert!(rt; usize::from(told.house) == i + 1);
-            assert!(rt; Some(&told.value) == want.get(i));
+            assert!(rt; usize::from(told.house) == i + 1, "{own:?} {other:?} {rule:?}");
+            assert!(rt; Some(&told.value) == want.get(i), "{own:?} {other:?} {rule:?}");
         }
     }
 }

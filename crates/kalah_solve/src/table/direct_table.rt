@@ -14,6 +14,9 @@ use std::marker::Model;
 // The least number of slots: enough that a slot and a tag determine the key.
 const LEAST_SLOTS: u32 = 1024;
 
+// The factor of the tag in a slot: it begins at bit 10.
+const TAG: u64 = 1024;
+
 // The factor by which a key is mixed.
 const MIX: u64 = 0x9E37_79B9_7F4A_7C15;
 
@@ -37,7 +40,7 @@ impl Slot {
         ensures most { stored_most result ≡ bounds.most }
     {
         Slot {
-            stored: 1024 * tag + 32 * bounds.most as u64 + bounds.least as u64,
+            stored: TAG * tag + 32 * bounds.most as u64 + bounds.least as u64,
         }
     }
 
@@ -48,8 +51,8 @@ impl Slot {
         ensures least { IfSome result (λ s. s.least ≡ stored_least self) }
         ensures most { IfSome result (λ s. s.most ≡ stored_most self) }
     {
-        let bounds = self.stored.wrapping_sub(1024 * tag);
-        if bounds >= 1024 {
+        let bounds = self.stored.wrapping_sub(TAG * tag);
+        if bounds >= TAG {
             return None;
         }
         Some(SeedBounds {

@@ -1,5 +1,5 @@
 use Rattle.std.proofs.Common.{◌≡◌, ◌+◌, ◌*◌, ◌^◌, ℕ, arith, rules}
-use Rattle.kalah_rules.specs.Cells.{rows_from}
+use Rattle.kalah_rules.specs.Cells.{houses_from}
 use Rattle.kalah_rules.specs.Packed.{IsPacked, unpacked}
 use Rattle.kalah_rules.proofs.KeyLemmas.{packed_new}
 use Rattle.kalah_rules.proofs.houses.Houses.new.Goals.{After-variant_number}
@@ -10,7 +10,7 @@ abbrev rows_made : After-variant_number → ℕ
 rows_made c = c.number_of.result + 2 ^ 30 * c.number_of-2.result
 
 packed : (c : After-variant_number) → IsPacked (rows_made c) c.saturating_add-seeds.result c.variant_number.result
-    × (unpacked (rows_made c) c.variant_number.result ≡ rows_from c.args.m c.args.own c.args.other c.args.rule)
+    × (unpacked (rows_made c) c.variant_number.result ≡ houses_from c.args.m c.args.own c.args.other c.args.rule)
 packed c = packed_new _ (search rules) (search rules)
     (record {
       some_house = omega arith;

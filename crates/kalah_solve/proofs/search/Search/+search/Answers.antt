@@ -3,7 +3,7 @@ use Rattle.std.proofs.lemmas.List.Sums.{sum_by-set}
 use Rattle.kalah_rules.specs.declared.step.HousesStep.TheVariants.{Turn}
 use Rattle.kalah_solve.specs.Solver.GoingOn.{GoesOn}
 use Rattle.kalah_solve.specs.Search.{EndsInStore, WinsAtMost}
-use Rattle.kalah_solve.proofs.SearchLemmas.{cell_none, marks_fall, move_enough, turn_enough, turn_at_most, turn_of, turn_at, waits_there, reply_fits, bound_up_to, bound_left, low_more, played_none, played_more, played_bound, ending_legal, marked_legal, moves_fewer, last_legal, each_fewer, each_last, again_none, again_fewer, untried_first, untried_fewer, none_untried}
+use Rattle.kalah_solve.proofs.SearchLemmas.{cell_none, marks_fall, move_enough, turn_enough, turn_at_most, turn_of, turn_at, waits_there, reply_fits, bound_up_to, bound_left, low_more, played_none, played_more, played_bound, into_store_legal, marked_legal, moves_fewer, last_legal, each_fewer, each_last, unmarked_none, unmarked_more, untried_first, untried_fewer, none_untried}
 use Rattle.kalah_solve.proofs.WorthLemmas.{goes_on, leads_by, step_falls}
 use Rattle.kalah_solve.proofs.BoundsLemmas.{won_of_houses}
 use Rattle.kalah_solve.proofs.search.Search.+search.Goals as goal
@@ -133,44 +133,44 @@ try_move-returns-then-seeds-self g t c =
           (sym c.in-Turn.is ∙ c.play_by-step.ensures.step) priority.ensures.house,
     )
 
-pub bound_again-loop-untried-init : goal.bound_again-loop-untried-init
-bound_again-loop-untried-init g t c =
-    let marks = c.again_houses-untried.ensures in
+pub bound_into_store-loop-untried-init : goal.bound_into_store-loop-untried-init
+bound_into_store-loop-untried-init g t c =
+    let marks = c.houses_into_store-untried.ensures in
     record {
       low = λ enough. refl;
       may = record {
         are = marks.marks;
-        legal = λ i some. let both = (marks.marked i).0 some in ending_legal _ marks.limits c.requires.going both.0 both.1;
+        legal = λ i some. let both = (marks.marked i).0 some in into_store_legal _ marks.limits c.requires.going both.0 both.1;
       };
       ends = λ i some. ((marks.marked i).0 some).1;
-      tried = again_none _ _ _ marks.marked;
+      tried = unmarked_none _ _ _ marks.marked;
     }
 
-pub bound_again-play_into_store-requires-clause-legal : goal.bound_again-play_into_store-requires-clause-legal
-bound_again-play_into_store-requires-clause-legal g t c = last_legal c.loop-untried.invariant.may c.split_last-house.ensures.last
+pub bound_into_store-play_into_store-requires-clause-legal : goal.bound_into_store-play_into_store-requires-clause-legal
+bound_into_store-play_into_store-requires-clause-legal g t c = last_legal c.loop-untried.invariant.may c.split_last-house.ensures.last
 
-pub bound_again-play_into_store-requires-clause-ends : goal.bound_again-play_into_store-requires-clause-ends
-bound_again-play_into_store-requires-clause-ends g t c =
+pub bound_into_store-play_into_store-requires-clause-ends : goal.bound_into_store-play_into_store-requires-clause-ends
+bound_into_store-play_into_store-requires-clause-ends g t c =
     each_last (EndsInStore c.args.houses.now) c.split_last-house.ensures.last c.loop-untried.invariant.ends
 
-pub bound_again-bound_step-bound-requires : goal.bound_again-bound_step-bound-requires
-bound_again-bound_step-bound-requires g t c κs within =
+pub bound_into_store-bound_step-bound-requires : goal.bound_into_store-bound_step-bound-requires
+bound_into_store-bound_step-bound-requires g t c κs within =
     let a = c.args.houses.now in
     let h = c.split_last-house.result.0 in
-    let limits = c.again_houses-untried.ensures.limits in
+    let limits = c.houses_into_store-untried.ensures.limits in
     let has = last_legal c.loop-untried.invariant.may c.split_last-house.ensures.last in (
       omega (arith, step_falls a h c.play_into_store.result limits has c.play_into_store.ensures),
       (within, (search rules, goes_on _ _ _ _ c.requires.variant limits has c.play_into_store.ensures)),
     )
 
-pub bound_again-returns-then-beta-bound-clause-lower : goal.bound_again-returns-then-beta-bound-clause-lower
-bound_again-returns-then-beta-bound-clause-lower g t c =
+pub bound_into_store-returns-then-beta-bound-clause-lower : goal.bound_into_store-returns-then-beta-bound-clause-lower
+bound_into_store-returns-then-beta-bound-clause-lower g t c =
     let has = last_legal c.loop-untried.invariant.may c.split_last-house.ensures.last in
-    move_enough c.args.houses.now c.args.beta c.split_last-house.result.0 _ c.again_houses-untried.ensures.limits has
+    move_enough c.args.houses.now c.args.beta c.split_last-house.result.0 _ c.houses_into_store-untried.ensures.limits has
     (rw c.play_into_store.ensures at c.bound_step-bound.ensures)
 
-pub bound_again-loop-untried-preserved : goal.bound_again-loop-untried-preserved
-bound_again-loop-untried-preserved g t c =
+pub bound_into_store-loop-untried-preserved : goal.bound_into_store-loop-untried-preserved
+bound_into_store-loop-untried-preserved g t c =
     let a = c.args.houses.now in
     let last = c.split_last-house.ensures.last in
     let before = c.loop-untried.invariant in
@@ -181,16 +181,16 @@ bound_again-loop-untried-preserved g t c =
       low = low_more _ _ _ _ before.low c.if-beta-bound.false new_is;
       may = moves_fewer before.may last;
       ends = each_fewer (EndsInStore a) last before.ends;
-      tried = again_fewer _ _ c.bound_step-bound.result before.tried last takes new_is;
+      tried = unmarked_more _ _ c.bound_step-bound.result before.tried last takes new_is;
     })
 
-pub bound_again-loop-untried-smaller : goal.bound_again-loop-untried-smaller
-bound_again-loop-untried-smaller g t c =
+pub bound_into_store-loop-untried-smaller : goal.bound_into_store-loop-untried-smaller
+bound_into_store-loop-untried-smaller g t c =
     let split = c.split_last-house in
     rw split.ensures.rest (marks_fall split.ensures.last)
 
-pub bound_again-returns-clause-upper : goal.bound_again-returns-clause-upper
-bound_again-returns-clause-upper g t c = λ short h has ends.
+pub bound_into_store-returns-clause-upper : goal.bound_into_store-returns-clause-upper
+bound_into_store-returns-clause-upper g t c = λ short h has ends.
     let none : c.loop-untried.untried ≡ 0 = omega arith in
     c.loop-untried.invariant.tried h has ends (rw none (cell_none (h - 1)))
 
@@ -256,10 +256,10 @@ try_remaining-loop-untried-preserved-in-Waits g t c =
 pub explore-loop-priority-init : goal.explore-loop-priority-init
 explore-loop-priority-init g t c =
     let others = c.try_remaining-remaining.ensures in
-    let most_is : c.max-most.result ≡ max c.bound_again-again.result c.try_remaining-remaining.result =
+    let most_is : c.max-most.result ≡ max c.bound_into_store-into_store.result c.try_remaining-remaining.result =
     search (rules, c.max-most.ensures) in
     let untried = untried_first _ (search rules) others
-    (c.bound_again-again.ensures.upper c.if-beta-again.false) c.if-beta-remaining.false most_is in
+    (c.bound_into_store-into_store.ensures.upper c.if-beta-into_store.false) c.if-beta-remaining.false most_is in
     record {
       low = omega arith;
       highest = c.highest-priority.ensures.highest;

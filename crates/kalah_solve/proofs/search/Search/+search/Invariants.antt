@@ -4,7 +4,7 @@ use Rattle.kalah_rules.specs.Measure.{moves_left}
 use Rattle.kalah_solve.proofs.WorthLemmas.{moves_after}
 use Rattle.kalah_solve.specs.Marks.{cell}
 use Rattle.kalah_solve.specs.Search.{EndsInStore}
-use Rattle.kalah_solve.proofs.SearchLemmas.{AreAgain, ArePlayed, AreUntried, MayMove, WaitsWith}
+use Rattle.kalah_solve.proofs.SearchLemmas.{UnmarkedWinAtMost, ArePlayed, AreUntried, MayMove, WaitsWith}
 use Rattle.kalah_solve.proofs.search.Search.+search.Given as goal
 
 abbrev pub decreases-bound : goal.decreases-bound
@@ -16,8 +16,8 @@ decreases-bound_by_search g l = 9 * moves_left (storeless l.houses.now) + 5
 abbrev pub decreases-explore : goal.decreases-explore
 decreases-explore g l = 9 * moves_left (storeless l.houses.now) + 4
 
-abbrev pub decreases-bound_again : goal.decreases-bound_again
-decreases-bound_again g l = 9 * moves_left (storeless l.houses.now) + 3
+abbrev pub decreases-bound_into_store : goal.decreases-bound_into_store
+decreases-bound_into_store g l = 9 * moves_left (storeless l.houses.now) + 3
 
 abbrev pub decreases-try_remaining : goal.decreases-try_remaining
 decreases-try_remaining g l = 9 * moves_left (storeless l.houses.now) + 3
@@ -31,16 +31,16 @@ decreases-bound_step g l = 9 * moves_after l.step + 8
 abbrev pub decreases-bound_turn : goal.decreases-bound_turn
 decreases-bound_turn g l = 9 * moves_left (storeless l.next) + 7
 
-abbrev pub invariant-bound_again-loop-untried : goal.invariant-bound_again-loop-untried
-invariant-bound_again-loop-untried g l = record {
+abbrev pub invariant-bound_into_store-loop-untried : goal.invariant-bound_into_store-loop-untried
+invariant-bound_into_store-loop-untried g l = record {
   low : l.beta ≤ l.most → l.most ≡ 0;
   may : MayMove l.houses l.untried;
   ends : (i : ℕ) → 0 < cell l.untried i → EndsInStore l.houses (i + 1);
-  tried : AreAgain l.houses l.most l.untried;
+  tried : UnmarkedWinAtMost l.houses l.most l.untried;
 }
 
-abbrev pub decreases-bound_again-loop-untried : goal.decreases-bound_again-loop-untried
-decreases-bound_again-loop-untried g l = l.untried
+abbrev pub decreases-bound_into_store-loop-untried : goal.decreases-bound_into_store-loop-untried
+decreases-bound_into_store-loop-untried g l = l.untried
 
 abbrev pub invariant-try_remaining-loop-untried : goal.invariant-try_remaining-loop-untried
 invariant-try_remaining-loop-untried g l = record {

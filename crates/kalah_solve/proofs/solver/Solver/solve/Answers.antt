@@ -2,11 +2,11 @@ use Rattle.std.proofs.Common.{arith, rules, sym, ap, ◌∙◌, ◌≡◌, w32, 
 use Rattle.std.proofs.lemmas.Int.{ints, to_z-of_z}
 use Rattle.kalah_rules.specs.Play.{legal_houses}
 use Rattle.kalah_rules.specs.Position.{HousesState, houses_in, storeless}
-use Rattle.kalah_rules.proofs.PackedLemmas.{rows_within}
+use Rattle.kalah_rules.proofs.PackedLemmas.{houses_within}
 use Rattle.kalah_solve.specs.Solver.Worth.{houses_worth, best_house}
 use Rattle.kalah_solve.specs.declared.solver.Verdict.TheVariants.{Best, Over}
-use Rattle.kalah_solve.proofs.SolverLemmas.{verdict_by, verdict_of_over, small_best, stored, told_fits, told_small, told_worth, verdict_tells}
-use Rattle.kalah_solve.proofs.WorthLemmas.{best_of_rows, best_found, board_equal_sides}
+use Rattle.kalah_solve.proofs.SolverLemmas.{verdict_by, verdict_of_over, small_best, told_margin, told_fits, told_small, told_worth, verdict_tells}
+use Rattle.kalah_solve.proofs.WorthLemmas.{best_of_houses, best_found, board_equal_sides}
 use Rattle.kalah_solve.proofs.BoundsLemmas.{worth_low, worth_high, half_is}
 use Rattle.kalah_solve.proofs.solver.Solver.solve.Given as given
 use Rattle.kalah_solve.proofs.solver.Solver.solve.Goals as goal
@@ -19,7 +19,7 @@ returns-then-is_over-clause-best_play g c =
 
 -- ---- the game goes on
 pub houses_worth-best-requires-clause-limits : goal.houses_worth-best-requires-clause-limits
-houses_worth-best-requires-clause-limits g c = rw c.houses-houses.ensures (rows_within _ c.is_over.ensures.limits)
+houses_worth-best-requires-clause-limits g c = rw c.houses-houses.ensures (houses_within _ c.is_over.ensures.limits)
 
 pub first_house-house-requires-clause-moves : goal.first_house-house-requires-clause-moves
 first_house-house-requires-clause-moves g c = c.legal.ensures.moves ∙ sym (ap (λ (a : HousesState). legal_houses (storeless a)) c.houses-houses.ensures)
@@ -48,25 +48,25 @@ overflow_add-margin g c =
 -- the reported house
 house_is : (g : given.Over) (c : goal.After-other_store g) → c.first_house-house.result ≡ best_house c.args.board.now
 house_is g c = c.first_house-house.ensures ∙ ap (λ (a : HousesState). best_house (storeless a)) c.houses-houses.ensures
-    ∙ sym (best_of_rows c.args.board.now)
+    ∙ sym (best_of_houses c.args.board.now)
 
 pub returns-clause-verdict : goal.returns-clause-verdict
 returns-clause-verdict g c =
     let p = c.args.board.now in
-    verdict_by p (stored c.houses_worth-best.result c.own_store.result c.other_store.result) c.first_house-house.result
+    verdict_by p (told_margin c.houses_worth-best.result c.own_store.result c.other_store.result) c.first_house-house.result
     (sym c.if-is_over.ensures.over)
     (told_worth p c.houses_worth-best.result c.own_store.result c.other_store.result c.is_over.ensures.limits
     (found g c) c.own_store.ensures c.other_store.ensures) (house_is g c)
 
 pub returns-clause-best_play : goal.returns-clause-best_play
 returns-clause-best_play g c =
-    verdict_tells c.args.board.now (Best (stored c.houses_worth-best.result c.own_store.result c.other_store.result) c.first_house-house.result)
+    verdict_tells c.args.board.now (Best (told_margin c.houses_worth-best.result c.own_store.result c.other_store.result) c.first_house-house.result)
     (board_equal_sides c.args.board.now c.is_over.ensures.limits) (returns-clause-verdict g c)
 
 pub returns-clause-small : goal.returns-clause-small
 returns-clause-small g c =
     let p = c.args.board.now in
     let limits = c.is_over.ensures.limits in
-    small_best p (stored c.houses_worth-best.result c.own_store.result c.other_store.result) c.first_house-house.result limits
+    small_best p (told_margin c.houses_worth-best.result c.own_store.result c.other_store.result) c.first_house-house.result limits
     (rw (house_is g c) (best_found p (board_equal_sides p limits) (sym c.if-is_over.ensures.over)).0)
     (told_small p c.houses_worth-best.result c.own_store.result c.other_store.result limits (found g c) c.own_store.ensures c.other_store.ensures)

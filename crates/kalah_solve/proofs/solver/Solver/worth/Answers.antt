@@ -1,6 +1,6 @@
 use Rattle.std.proofs.Common.{rules, sym, ap, ◌∙◌, ◌≡◌, w32, SFits, to_z-of_z}
 use Rattle.kalah_rules.specs.Position.{houses_in}
-use Rattle.kalah_rules.proofs.PackedLemmas.{rows_within}
+use Rattle.kalah_rules.proofs.PackedLemmas.{houses_within}
 use Rattle.kalah_solve.specs.Solver.Worth.{houses_worth}
 use Rattle.kalah_solve.proofs.SolverLemmas.{told_fits, told_small, told_worth}
 use Rattle.kalah_solve.proofs.WorthLemmas.{worth_of_over}
@@ -13,7 +13,7 @@ returns-then-is_over-clause-worth g c =
     simp to_z-of_z (c.returns.ensures.margin ∙ sym (worth_of_over _ (sym c.if-is_over.ensures.over)))
 
 pub houses_worth-best-requires-clause-limits : goal.houses_worth-best-requires-clause-limits
-houses_worth-best-requires-clause-limits g c = rw c.houses.ensures (rows_within _ c.is_over.ensures.limits)
+houses_worth-best-requires-clause-limits g c = rw c.houses.ensures (houses_within _ c.is_over.ensures.limits)
 
 -- what the search finds is the worth of the houses
 found : (g : Over) (c : goal.After-other_store g) → c.houses_worth-best.result ≡ houses_worth (houses_in c.args.board.now)

@@ -5,13 +5,13 @@ use Rattle.kalah_rules.proofs.houses.house_row.HouseRow.push.Goals as goal
 pub overflow_add-self : goal.overflow_add-self
 overflow_add-self c = let more = row_is_small (row_pushed c.args.seeds c.self.invariant c.if-total.false c.if-self-ge-MOST_HOUSES.false) in
     let at : c.new.result - 1 ≡ c.self.inside.count = omega arith in
-    let gain = rw at at c.alone.ensures in
+    let gain = rw at at c.row_with.ensures in
     omega arith
 
 pub invariant_of-self : goal.invariant_of-self
 invariant_of-self c =
     let at : c.new.result - 1 ≡ c.self.inside.count = omega arith in
-    rw (c.alone.ensures, at) (row_pushed c.args.seeds c.self.invariant c.if-total.false c.if-self-ge-MOST_HOUSES.false)
+    rw (c.row_with.ensures, at) (row_pushed c.args.seeds c.self.invariant c.if-total.false c.if-self-ge-MOST_HOUSES.false)
 
 pub returns-clause-room : goal.returns-clause-room
 returns-clause-room c =
@@ -23,4 +23,4 @@ pub returns-clause-pushed : goal.returns-clause-pushed
 returns-clause-pushed c =
     let at : c.new.result - 1 ≡ c.self.inside.count = omega arith in
     let pushed = houses_pushed c.args.seeds c.self.invariant c.if-total.false in
-    rw (c.alone.ensures, at, pushed) (ap (λ houses. houses ++ c.args.seeds ∷ []) c.self.view_is)
+    rw (c.row_with.ensures, at, pushed) (ap (λ houses. houses ++ c.args.seeds ∷ []) c.self.view_is)

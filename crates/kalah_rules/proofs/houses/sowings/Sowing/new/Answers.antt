@@ -5,7 +5,7 @@ use Rattle.kalah_rules.proofs.houses.sowings.Sowing.new.Goals as goal
 use Rattle.kalah_rules.proofs.houses.sowings.Sowing.new.Goals.{then-reach-m, else-reach-m}
 
 pub overflow_add-result : goal.overflow_add-result
-overflow_add-result c = omega (arith, rw c.new.ensures at c.alone.ensures, placed_small (c.args.h - 1) c.args.count (omega arith) c.requires.few)
+overflow_add-result c = omega (arith, rw c.new.ensures at c.row_with.ensures, placed_small (c.args.h - 1) c.args.count (omega arith) c.requires.few)
 
 pub returns : goal.returns
 returns c =
@@ -21,11 +21,11 @@ returns c =
       | then-reach-m w ↦ rw (w.result-is, lt-ltb _ _ w.if-reach-m.true) refl
       | else-reach-m w ↦ rw (w.result-is, le-ltb _ _ w.if-reach-m.false) refl
     ] in
-    let lifted : c.alone.result ≡ 32 ^ (h - 1) * count = rw c.new.ensures at c.alone.ensures in
+    let lifted : c.row_with.result ≡ 32 ^ (h - 1) * count = rw c.new.ensures at c.row_with.ensures in
     record {
       loses = omega arith;
       store = omega (arith, store_gain m h count first last);
       again = refl;
-      own = c.last_cell-last_house.ensures.own;
-      elsewhere = c.last_cell-last_house.ensures.elsewhere;
+      own = c.last_cell-last_mask.ensures.own;
+      elsewhere = c.last_cell-last_mask.ensures.elsewhere;
     }

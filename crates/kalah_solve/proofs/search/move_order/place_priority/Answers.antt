@@ -1,13 +1,13 @@
 use Rattle.std.proofs.Common.{arith, refl, ◌≡◌, ◌<◌, ◌+◌, ◌-◌, ◌/◌, ◌%◌, ◌==◌, ◌&&◌, [], Bool, ℕ, zero, suc, true, nat_lt, get_or}
 use Rattle.std.proofs.lemmas.Bool.{agree_below_at}
 use Rattle.std.proofs.lemmas.Bool.Decides.{nat_tests}
-use Rattle.kalah_solve.specs.declared.search.move_order.weights.TheConstants.{TURNS}
-use Rattle.kalah_solve.proofs.search.move_order.turn_of.Goals as goal
+use Rattle.kalah_solve.specs.declared.search.move_order.weights.TheConstants.{PLACE_PRIORITIES}
+use Rattle.kalah_solve.proofs.search.move_order.place_priority.Goals as goal
 
 -- a cell names the house of its turn, is not 0, and is small
 abbrev is_right : ℕ → ℕ → Bool
-is_right row k = (get_or (get_or TURNS row []) k 0 % 8 == k / 5 - row) && nat_lt 0 (get_or (get_or TURNS row []) k 0)
-    && nat_lt (get_or (get_or TURNS row []) k 0) 422
+is_right row k = (get_or (get_or PLACE_PRIORITIES row []) k 0 % 8 == k / 5 - row) && nat_lt 0 (get_or (get_or PLACE_PRIORITIES row []) k 0)
+    && nat_lt (get_or (get_or PLACE_PRIORITIES row []) k 0) 422
 
 all_right : (row k : ℕ) → row < 2 → k < 31 → is_right row k ≡ true
 all_right zero k few within = agree_below_at (is_right 0) (λ k. true) 31 k refl within

@@ -1,7 +1,7 @@
 use Rattle.std.proofs.Common.{arith, ◌≡◌, ◌+◌, ◌<◌, ◌^◌, ◌&&◌, ℕ, Bool, true, false, MatchBool, cond, bit_and, refl, ◌≤◌, ◌-◌, ◌%◌}
 use Rattle.std.proofs.lemmas.Nat.{and_le_l, and_le_r, and_mask}
 use Rattle.kalah_rules.specs.Sowing.{captures}
-use Rattle.kalah_rules.proofs.houses.play.caught.Goals as goal
+use Rattle.kalah_rules.proofs.houses.play.captured_seeds.Goals as goal
 
 -- a number under a mask of all bits or none
 masked : (holds : Bool) (bit mask x y : ℕ) → bit ≡ cond holds 1 0 → mask ≡ (0 + (2 ^ 64 - bit)) % 2 ^ 64 → x < 2 ^ 64
@@ -21,6 +21,6 @@ few x mask small = omega (arith, and_le_l x mask)
 pub returns-clause-few : goal.returns-clause-few
 returns-clause-few c = few _ _ (omega arith)
 
-pub returns-clause-caught : goal.returns-clause-caught
-returns-clause-caught c =
+pub returns-clause-captured : goal.returns-clause-captured
+returns-clause-captured c =
     masked (c.args.single && captures c.args.rule c.args.across) c.from-mask.result _ _ _ (grind arith) refl (omega arith) (omega arith)
