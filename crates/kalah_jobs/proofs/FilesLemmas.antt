@@ -7,7 +7,7 @@ use Rattle.std.specs.List.{onto_first, flat_map}
 use Rattle.std.proofs.lemmas.List.{take_all, drop_all, drop_more, append-nil, take_more, take-take, take-append-le, get_or_append_left, get_or_default, length-map, map-append, get_or-map, length-take-le}
 use Rattle.std.proofs.lemmas.List.Elements.{All-head, All-tail, All-nil, All-cons}
 use Rattle.std.proofs.Math.Seq.{take-nil, get_or-append_seam}
-use Rattle.std.proofs.lemmas.List.Sums.{sum_by-cons, sum_by-append, sum_by_push, get_or-le-sum_by}
+use Rattle.std.proofs.lemmas.List.Sums.{sum_by-cons, sum_by-append, sum_by_push, sum_by-drop_more, get_or-le-sum_by, count_by-le-length}
 use Rattle.kalah_jobs.specs.Files.Lines.{line_feed, lines_of, HasNoLineFeed, with_line_feeds, EndsInOpenLine, AreLines, LinesAreOne}
 use Rattle.std.proofs.lemmas.Bool.{cases_eq}
 use Rattle.kalah_jobs.specs.declared.files.entry.Entry.{Entry}
@@ -366,6 +366,40 @@ starts_more {jobs} {starts} {start} own so_far is = record {
         so_far.before f,
       );
 }
+
+-- The first files are read: these are their jobs, with the number of jobs before each, the number of all and that of faults.
+pub record AreRead (question : Question) (files : List NamedBytes) (count : ℕ) (jobs : List (List Entry)) (starts : List ℕ)
+    (before faults : ℕ) : Type 0 where
+  pub read : jobs ≡ jobs_to question (take count files)
+  pub starts_are : AreStarts jobs starts
+  pub before_is : before ≡ job_count jobs
+  pub lines : before + lines_in_all (drop count files) ≡ lines_in_all files
+  pub faults_are : faults ≡ sum_by (count_by is_faulty_entry) jobs
+  pub fewer : faults ≤ before
+  pub many : length jobs ≡ count
+
+-- one file more is read
+pub one_read : {question : Question} {files : List NamedBytes} {count : ℕ} {jobs : List (List Entry)} {starts : List ℕ}
+    {before faults many found : ℕ} {own : List Entry} (file : NamedBytes) → AreRead question files count jobs starts before faults
+    → count < length files → file ≡ get_or files count file → own ≡ entries_to question file.bytes
+    → many ≡ length own → count_by is_faulty_entry own ≡ found
+    → AreRead question files (count + 1) (jobs ++ own ∷ []) (starts ++ before ∷ []) (before + many) (faults + found)
+one_read {question} {files} {count} {jobs} {own = own} file so_far low is own_is many_are found_are =
+    let all = sum_by_push length jobs own in
+    let next = sum_by-drop_more lines_in files count file low in
+    let lines = ap length own_is ∙ length-entries_to question file.bytes in
+    record {
+      read = ap (λ l. l ++ own ∷ []) so_far.read
+          ∙ ap (λ own. jobs_to question (take count files) ++ own ∷ []) (own_is ∙ ap (λ f. entries_to question f.bytes) is)
+          ∙ sym (map-append (λ f. entries_to question f.bytes) (take count files) (get_or files count file ∷ []))
+          ∙ ap (jobs_to question) (sym (take_more files count file low));
+      starts_are = starts_more own so_far.starts_are so_far.before_is;
+      before_is = omega (arith, all, so_far.before_is, many_are);
+      lines = omega (arith, so_far.lines, next, lines, ap lines_in is, many_are);
+      faults_are = omega (arith, so_far.faults_are, found_are, sum_by_push (count_by is_faulty_entry) jobs own);
+      fewer = omega (arith, so_far.fewer, found_are, many_are, count_by-le-length is_faulty_entry own);
+      many = omega (arith, so_far.many, length-append jobs (own ∷ []));
+    }
 
 -- a file has no more lines than all together
 pub file_low : (jobs : List (List Entry)) (f : ℕ) → f < length jobs → length (entries_of jobs f) ≤ job_count jobs
