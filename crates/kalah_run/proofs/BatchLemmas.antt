@@ -3,7 +3,7 @@ use Rattle.std.proofs.Common.{add-one, IfErr, ◌≡◌, ◌≤◌, ◌<◌, ◌
 use Rattle.std.proofs.lemmas.List.{nil_from_length, map-append, reverse-append, append-nil, take-append-drop, take_all, take_more, flat_map_more, get_or-map, length-append, length-map}
 use Rattle.kalah_jobs.specs.declared.files.entry.Entry.{Entry}
 use Rattle.kalah_jobs.specs.declared.files.job.Job.{Job}
-use Rattle.std.specs.Prelude.{max, min, vec_capacity, ◌⊎◌, All, Some, IfSome, fold, slice_get, Option, None, Result, Ok, Err, sum_by, OnOk, count_by, IfOk}
+use Rattle.std.specs.Prelude.{max, min, vec_capacity, ◌⊎◌, All, Some, IfSome, fold, slice_get, Option, None, Result, Ok, Err, sum_by, OnOk, count_by, IfOk, IfNone}
 use Rattle.std.proofs.lemmas.List.Sums.{fold-append, sum_by-cons}
 use Rattle.std.proofs.lemmas.Option.{get_or_from_slice_get, slice_get_within}
 use Rattle.kalah_jobs.specs.Files.JobList.{job_list, jobs_from, file_jobs, line_job, entries_of, entry_at}
@@ -17,8 +17,8 @@ use Rattle.std.proofs.Math.Seq.{take-nil}
 use Rattle.std.proofs.KnownBytes.{Appends-kept, Appends-nil, Appends-trans, Keeps-refl}
 use Rattle.kalah_jobs.specs.Writing.Given.{AppendsPrefix, SinkState, WasGiven}
 use Rattle.kalah_jobs.proofs.WritingLemmas.{start_none, start_then, start_longer, start_kept, files_are_their_jobs}
-use Rattle.kalah_run.specs.Batch.OrderedOutput.{WasGivenSince, text_of_job, written_upto, IsUnderWay, text_of, IsNew, HasWritten, whole_output, Waits}
-use Rattle.kalah_run.specs.Batch.Leaving.{rest_of, pass_in, HasDrawnNothing, IsLeft, DrawsOnlyTheRest}
+use Rattle.kalah_run.specs.Batch.OrderedOutput.{WasGivenSince, text_of_job, written_upto, IsUnderWay, text_of, IsNew, HasWritten, whole_output, Waits, WritesReady}
+use Rattle.kalah_run.specs.Batch.Leaving.{rest_of, pass_in, HasDrawnNothing, IsLeft, NothingIsLeft, DrawsOnlyTheRest}
 use Rattle.std.specs.List.{flat_map, enumerate_from}
 use Rattle.std.proofs.lemmas.Bool.{cases_eq, cases_lt, lt-ltb}
 use Rattle.std.proofs.lemmas.Grind.{flat_map-append}
@@ -34,11 +34,12 @@ use Rattle.kalah_jobs.specs.Files.Lines.{line_feed}
 use Rattle.kalah_jobs.specs.Files.NamedBytes.{NamedBytes}
 use Rattle.kalah_run.specs.declared.batch.ordered_output.OrderedOutput.{OrderedOutput}
 use Rattle.std.proofs.lemmas.List.Elements.{All-cons, All-map, All-push, All-tail}
-use Rattle.kalah_run.specs.Queue.States.{GetState, PutState, ArePassesFrom, sent_by, Accounts, outcomes_in}
+use Rattle.kalah_run.specs.Queue.States.{GetState, HasGot, MayGet, PutState, ArePassesFrom, sent_by, Accounts, outcomes_in}
 use Rattle.kalah_run.specs.Desk.States.{DeskState, PassState, IsPassAt, AreNewPasses, new_pass, drawn_rows}
 use Rattle.kalah_run.specs.declared.batch.worker.Worker.{Worker}
-use Rattle.kalah_run.specs.Batch.Running.{HasOwnTable, HaveOwnTables, IsReadyToRun, HasCollected}
+use Rattle.kalah_run.specs.Batch.Running.{HasOwnTable, HaveOwnTables, IsReadyToRun, MayHaveGot, HasCollected}
 use Rattle.kalah_run.specs.declared.batch.open_batch.OpenBatch.{OpenBatch}
+use Rattle.kalah_run.specs.declared.batch.receiver.CallerPasses.{CallerPasses}
 use Rattle.kalah_jobs.specs.Files.Jobs.{MakesJobs, job_count, jobs_to, lines_in_all}
 use Rattle.kalah_jobs.proofs.FilesLemmas.{length-job_list, job_count-jobs_to, lines_between, slice_get-job_list}
 use Rattle.kalah_jobs.specs.Collecting.Shares.{AreShared, times_in}
@@ -568,6 +569,36 @@ draws_on {failed = failed} {first} {second} {third} one two = record {
   ];
 }
 
+-- an outcome, or none, was got through the queue, after what was drawn of the rest
+pub got_by : {desk : DeskState} {Ended : Type 0} {before between after : CallerPasses} {old new : SinkState} {result : Option Job}
+    → between.get_pass ≡ before.get_pass → DrawsOnlyTheRest desk new.has_failed before.rest_pass between.rest_pass
+    → after.rest_pass ≡ between.rest_pass → MayGet between.get_pass result after.get_pass
+    → IfNone result (IsLeft (rest_of before.rest_pass) new.has_failed × NothingIsLeft between.rest_pass) → IfNone result Ended
+    → Keeps old.written new.written → (new.has_failed ≡ false → old.has_failed ≡ false)
+    → MayHaveGot desk Ended before after old new result
+got_by same draws same_rest got left ended keeps sound = record {
+  got = rw (← same) got;
+  draws = rw same_rest draws;
+  left = rw same_rest left;
+  ended = ended;
+  keeps = keeps;
+  sound = sound;
+}
+
+-- what was got after more of the rest was drawn
+pub got_after : {desk : DeskState} {Ended : Type 0} {before between after : CallerPasses} {rest_pass : Option PassState}
+    {old new : SinkState} {result : Option Job} → between.get_pass ≡ before.get_pass
+    → DrawsOnlyTheRest desk old.has_failed before.rest_pass rest_pass → between.rest_pass ≡ rest_pass
+    → MayHaveGot desk Ended between after old new result → MayHaveGot desk Ended before after old new result
+got_after same draws same_rest got = record {
+  got = rw (← same) got.got;
+  draws = draws_on (draws_still _ got.sound draws) (rw same_rest at got.draws);
+  left = rw (← draws.rest, ← same_rest) got.left;
+  ended = got.ended;
+  keeps = got.keeps;
+  sound = got.sound;
+}
+
 -- if it is new, it is a pass of the desk, and has drawn nothing
 new_left : (desk : DeskState) (number : ℕ) (left : Option PassState) → IfSome left (λ p. p ≡ new_pass desk number)
     → IfSome left (IsPassAt desk) × HasDrawnNothing left
@@ -578,10 +609,12 @@ new_left desk number (Some p) new = rw new ((refl, refl), refl)
 pub ready_to_run : {G : Type 0} {knows : G → ℕ → Bool} (b : OpenBatch G) {count places room puts_room : ℕ} {passes : List PassState}
     (fewer : ℕ) (puts : List PutState) → count ≡ max fewer 1 → passes_of b.workers.items ≡ passes → AreNewPasses b.shared.desk count passes
     → puts_of b.workers.items ≡ puts → (places ≡ count) × ArePassesFrom b.shared.queue.id 0 puts × All (λ p. p.sent ≡ []) puts
-    → (places ≡ length puts) × (places ≤ puts_room) → IfSome b.left (λ left. left ≡ new_pass b.shared.desk count)
-    → count + length (pass_in b.left) ≡ b.shared.desk.passes → b.get ≡ record { queue = b.shared.queue.id; workers = count; got = [] }
+    → (places ≡ length puts) × (places ≤ puts_room) → IfSome b.caller.rest_pass (λ pass. pass ≡ new_pass b.shared.desk count)
+    → count + length (pass_in b.caller.rest_pass) ≡ b.shared.desk.passes
+    → b.caller.get_pass ≡ record { queue = b.shared.queue.id; workers = count; got = [] }
     → IsNew b.output → b.output.jobs.now ≡ b.shared.jobs.now → (b.passes.items ≡ []) × (b.puts.items ≡ [])
-    → (vec_capacity b.passes ≡ room) × (vec_capacity b.puts ≡ puts_room) → count + length (pass_in b.left) ≤ room → IsReadyToRun knows b
+    → (vec_capacity b.passes ≡ room) × (vec_capacity b.puts ≡ puts_room) → count + length (pass_in b.caller.rest_pass) ≤ room
+    → IsReadyToRun knows b
 ready_to_run b {count} fewer puts some are new are_puts opened fits left all get output jobs empty same room =
     let many = as_many_workers b.workers.items _ count are new.0 in
     let queue = b.shared.queue.id in
@@ -589,8 +622,8 @@ ready_to_run b {count} fewer puts some are new are_puts opened fits left all get
     record {
       some = omega (arith, many, some);
       passes = omega (arith, many, all);
-      own = (new_left b.shared.desk count b.left left).0;
-      left = (new_left b.shared.desk count b.left left).1;
+      own = (new_left b.shared.desk count b.caller.rest_pass left).0;
+      drawn = (new_left b.shared.desk count b.caller.rest_pass left).1;
       at_work = new_at_work b.shared b.workers.items count (rw are new) from (rw are_puts opened.2);
       puts = from;
       get = get ∙ ap (λ n. let p : GetState = record { queue = queue; workers = n; got = [] } in p) (sym many);
@@ -665,18 +698,79 @@ given_whole {rest} output {r} {past} {begun} {later = later} keeps sound written
     (λ (left : IsLeft rest later.has_failed). progress_failed so_far.progress left.1)
     known)
 
--- what is known of a collection that has ended with `got`, and was flushed then
-pub has_collected : {rest : Rest} (output : OrderedOutput) {r : OrderedOutput} {begun out later : SinkState} {before got after : GetState}
-    → after ≡ got → got.queue ≡ before.queue → got.workers ≡ before.workers
-    → (length got.got ≡ job_count output.jobs.now) ⊎ IsLeft rest later.has_failed
+-- What was got so far is written as far as it is ready, and the calling thread keeps its passes of the queue and of the desk.
+pub record AreCollected (desk : DeskState) (output : OrderedOutput) (begun out : SinkState) (before now : CallerPasses)
+    (r : OrderedOutput) : Type 0 where
+  pub queue : now.get_pass.queue ≡ before.get_pass.queue
+  pub workers : now.get_pass.workers ≡ before.get_pass.workers
+  pub draws : DrawsOnlyTheRest desk out.has_failed before.rest_pass now.rest_pass
+  pub progress : HasWritten output.files.now output.jobs.now (outcomes_in now.get_pass.got) begun out r × Waits r
+
+pub none_collected : {desk : DeskState} {output r : OrderedOutput} {begun out : SinkState} {before : CallerPasses}
+    → before.get_pass.got ≡ [] → IfSome before.rest_pass (IsPassAt desk) → IsNew output → WritesReady output begun r out
+    → AreCollected desk output begun out before before r
+none_collected {output = output} {begun = begun} none own new writes = record {
+  queue = refl;
+  workers = refl;
+  draws = record { own = own; rest = refl; same = inl refl };
+  progress = rw none (writes output.files.now output.jobs.now [] begun (new_written begun output new));
+}
+
+pub one_longer : (before : GetState) {after : GetState} (outcome : Job) → HasGot before outcome after
+    → length after.got ≡ length before.got + 1
+one_longer before outcome has_got =
+    ap (λ (p : GetState). length p.got) has_got.2 ∙ length-append before.got ((has_got.0, outcome) ∷ [])
+
+-- what was collected before an outcome was got, or none
+module _ {desk : DeskState} {Ended : Type 0} {output r : OrderedOutput} {begun out later : SinkState} {before now next : CallerPasses}
+    (so_far : AreCollected desk output begun out before now r) where
+  -- one outcome more was got and offered, and what is ready was written
+  pub one_collected : {outcome : Job} (gave : Result ℕ Refusal) {more : SinkState} {offered written : OrderedOutput}
+      → MayHaveGot desk Ended now next out later (Some outcome) → offered.files.now ≡ r.files.now → offered.jobs.now ≡ r.jobs.now
+      → offered.current ≡ r.current → Offers r.jobs.now r.collector outcome gave offered.collector
+      → (more.has_failed ≡ false → later.has_failed ≡ false) → WritesReady offered later written more
+      → AreCollected desk output begun more before next written
+  one_collected {outcome} gave {more} {offered} {written} got files jobs current offers sound writes =
+      let is = got.got.2 in
+      let was = still_written got.keeps got.sound so_far.progress.0 in
+      let more_got : outcomes_in next.get_pass.got ≡ outcomes_in now.get_pass.got ++ outcome ∷ [] =
+      ap (λ (p : GetState). outcomes_in p.got) is ∙ map-append (λ (p : ℕ × Job). p.1) now.get_pass.got ((got.got.0, outcome) ∷ []) in
+      record {
+        queue = ap (λ (p : GetState). p.queue) is ∙ so_far.queue;
+        workers = ap (λ (p : GetState). p.workers) is ∙ so_far.workers;
+        draws = draws_still _ sound (draws_on (draws_still _ got.sound so_far.draws) got.draws);
+        progress = rw more_got (writes _ _ _ _ (record {
+          of_files = files ∙ was.of_files;
+          of_jobs = jobs ∙ was.of_jobs;
+          progress = rw (jobs, current) (progress_offered was.progress outcome offered.collector gave offers);
+        }));
+      }
+
+  -- none was got, as the rest is left
+  pub rest_left : MayHaveGot desk Ended now next out later None
+      → AreCollected desk output begun later before next r × IsLeft (rest_of before.rest_pass) later.has_failed
+  rest_left got = (
+    record {
+      queue = ap (λ (p : GetState). p.queue) got.got ∙ so_far.queue;
+      workers = ap (λ (p : GetState). p.workers) got.got ∙ so_far.workers;
+      draws = draws_on (draws_still _ got.sound so_far.draws) got.draws;
+      progress = (rw got.got (still_written got.keeps got.sound so_far.progress.0), so_far.progress.1);
+    },
+    (sym so_far.draws.rest ∙ got.left.0.0, got.left.0.1),
+  )
+
+-- the collection has ended, and what was written is flushed
+pub has_collected : {desk : DeskState} {output r : OrderedOutput} {begun out later : SinkState} {before now after : CallerPasses}
+    → AreCollected desk output begun out before now r → after ≡ now
+    → (length now.get_pass.got ≡ job_count output.jobs.now) ⊎ IsLeft (rest_of before.rest_pass) later.has_failed
     → Keeps out.written later.written → (later.has_failed ≡ false → out.has_failed ≡ false)
-    → HasWritten output.files.now output.jobs.now (outcomes_in got.got) begun out r × Waits r
-    → HasCollected rest output begun later before after
-has_collected output is queue workers all_got keeps sound written = rw is (record {
-  queue = queue;
-  workers = workers;
+    → HasCollected desk output begun later before after
+has_collected {output = output} so_far is all_got keeps sound = rw is (record {
+  queue = so_far.queue;
+  workers = so_far.workers;
   all_got = all_got;
-  given = given_whole output keeps sound written;
+  given = given_whole output keeps sound so_far.progress;
+  draws = draws_still _ sound so_far.draws;
 })
 
 -- the output of the jobs of the files is that of the files

@@ -2,7 +2,7 @@
 ghost use Rattle.std.specs.Prelude.{◌≡◌, ◌≤◌, ◌<◌, ℕ, true, false, List, [], ◌∷◌, ◌++◌, length, All, IfNone, IfOk, MatchOption, vec_len};
 ghost use Rattle.kalah_jobs.specs.declared.files.job.Job.{Job};
 ghost use Rattle.kalah_run.specs.Limits.{IsQueueCapacity, AreWorkers};
-ghost use Rattle.kalah_run.specs.Queue.States.{ArePassesFrom, HasGot, sent_by, Accounts};
+ghost use Rattle.kalah_run.specs.Queue.States.{ArePassesFrom, HasGot, MayGet, sent_by, Accounts};
 
 pub(crate) mod laws;
 pub(crate) mod passes;
@@ -164,12 +164,12 @@ impl ResultsQueue {
     }
 
     // Says that the workers have ended, so that no further outcome is waited for, and returns what they leave.
-    pub(crate) fn end<E: Rule, T>(&self, ended: &AtomicIn<E>, left: T) -> AfterEnd<T>
+    pub(crate) fn end<E: Rule, T>(&self, ended: &AtomicIn<E>, inner: T) -> AfterEnd<T>
         requires { E.invariant 1 }
-        ensures { result.left ≡ left }
+        ensures { result.inner ≡ inner }
     {
         let sent = self.tell_end(ended).send();
-        AfterEnd { left, _sent: sent }
+        AfterEnd { inner, _sent: sent }
     }
 
     // Like `get`, but returns `None`, with nothing got, once the workers have ended and no outcome is left, if there is a word for that.
@@ -180,7 +180,7 @@ impl ResultsQueue {
         ended: Option<&AtomicIn<E>>,
     ) -> Option<Outcome>
         requires { pass.old.queue ≡ self.now.id }
-        ensures got { MatchOption result (pass.new ≡ pass.old) (λ outcome. HasGot pass.old outcome pass.new) }
+        ensures got { MayGet pass.old result pass.new }
         ensures ended { IfNone result (E.invariant 1) }
     {
         let mut waiting = Waiting::new(&self.getters);
@@ -207,7 +207,7 @@ impl ResultsQueue {
     #[inline(always)]
     pub(crate) fn get_soon(&self, pass: &mut GetPass, tries: &mut u32) -> Option<Outcome>
         requires { pass.old.queue ≡ self.now.id }
-        ensures pass { MatchOption result (pass.new ≡ pass.old) (λ outcome. HasGot pass.old outcome pass.new) }
+        ensures pass { MayGet pass.old result pass.new }
         ensures spent { MatchOption result (tries.new ≡ 0) (λ _. tries.new ≤ tries.old) }
     {
         let backoff = Backoff::new();
@@ -253,17 +253,17 @@ impl ResultsQueue {
 /// makes it.
 #[derive(Drop)]
 pub(crate) struct AfterEnd<T> {
-    left: T,
+    inner: T,
     _sent: Sent,
 }
 
 impl<T> AfterEnd<T> {
     /// Returns what they leave.
     pub(crate) fn into_inner(self) -> T
-        ensures { result ≡ self.left }
+        ensures { result ≡ self.inner }
     {
-        let AfterEnd { left, .. } = self;
-        left
+        let AfterEnd { inner, .. } = self;
+        inner
     }
 }
 

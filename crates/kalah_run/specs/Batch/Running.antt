@@ -1,5 +1,5 @@
 -- What is known of a batch: once it is open, while it is run, and when it has ended.
-use Rattle.std.specs.Prelude.{◌≡◌, ℕ, ◌+◌, ◌<◌, ◌≤◌, Bool, max, min, List, [], length, vec_capacity, ◌⊎◌, Option, MatchOption, IfSome, IfNone, false}
+use Rattle.std.specs.Prelude.{◌≡◌, ℕ, ◌+◌, ◌<◌, ◌≤◌, Bool, max, min, List, [], length, vec_capacity, ◌⊎◌, Option, IfSome, IfNone, false}
 use Rattle.std.specs.List.{All}
 use Rattle.std.specs.Io.KnownBytes.{Keeps}
 use Rattle.std.specs.declared.alloc.Global.{Global}
@@ -10,17 +10,17 @@ use Rattle.kalah_jobs.specs.declared.files.job.Job.{Job}
 use Rattle.kalah_jobs.specs.Files.Jobs.{job_count}
 use Rattle.kalah_jobs.specs.Writing.Given.{SinkState}
 use Rattle.kalah_solve.specs.Table.Entries.{empty_table}
-use Rattle.kalah_run.specs.Desk.States.{PassState, IsPassAt}
-use Rattle.kalah_run.specs.Queue.States.{ArePassesFrom, GetState, HasGot, outcomes_in}
-use Rattle.kalah_run.specs.Batch.AtWork.{puts_of, AreAtWork, HaveRun}
+use Rattle.kalah_run.specs.Desk.States.{DeskState, IsPassAt}
+use Rattle.kalah_run.specs.Queue.States.{ArePassesFrom, MayGet, outcomes_in}
+use Rattle.kalah_run.specs.Batch.AtWork.{puts_of, AreAtWork}
 use Rattle.kalah_run.specs.Batch.OrderedOutput.{IsNew, whole_output, WasGivenSince}
 use Rattle.kalah_run.specs.declared.batch.request.BatchRequest.{BatchRequest}
 use Rattle.kalah_run.specs.declared.limits.TheConstants.{QUEUE_CAPACITY}
 use Rattle.kalah_run.specs.declared.batch.worker.Worker.{Worker}
 use Rattle.kalah_run.specs.declared.batch.open_batch.OpenBatch.{OpenBatch}
+use Rattle.kalah_run.specs.declared.batch.receiver.CallerPasses.{CallerPasses}
 use Rattle.kalah_jobs.specs.Collecting.Batch.{AreJobsInSomeOrder}
-use Rattle.kalah_run.specs.Batch.Leaving.{rest_of, pass_in, HasDrawnNothing, IsLeft, DrawsOnlyTheRest}
-use Rattle.kalah_run.specs.declared.batch.request.Rest.{Rest}
+use Rattle.kalah_run.specs.Batch.Leaving.{rest_of, pass_in, HasDrawnNothing, IsLeft, NothingIsLeft, DrawsOnlyTheRest}
 use Rattle.kalah_run.specs.declared.batch.ordered_output.OrderedOutput.{OrderedOutput}
 use Rattle.kalah_run.specs.declared.batch.shared_work.SharedWork.{SharedWork}
 
@@ -35,7 +35,7 @@ module _ {G : Type 0} where
   -- the two lists for the passes' return are empty, and have room for them
   pub record HasRoom (b : OpenBatch G) : Type 0 where
     pub empty : (b.passes.items ≡ []) × (b.puts.items ≡ [])
-    pub passes : length b.workers.items + length (pass_in b.left) ≤ vec_capacity b.passes
+    pub passes : length b.workers.items + length (pass_in b.caller.rest_pass) ≤ vec_capacity b.passes
     pub puts : length b.workers.items ≤ vec_capacity b.puts
 
   -- for this request, with these jobs and this gate: there are the workers asked for, but at most one for each job, and one for no job;
@@ -45,55 +45,49 @@ module _ {G : Type 0} where
     pub tables : HaveOwnTables request.table b.workers.items
     pub of_files : b.output.files.now ≡ request.files.now
     pub of_jobs : b.shared.jobs.now ≡ jobs
-    pub of_rest : rest_of b.left ≡ request.rest
+    pub of_rest : rest_of b.caller.rest_pass ≡ request.rest
     pub of_gate : b.shared.gate.now ≡ gate
     pub queue : b.shared.queue.capacity ≡ QUEUE_CAPACITY
 
   -- there is a worker; each is at work and has its place, nothing was got, and nothing is written
   pub record IsReadyToRun (knows : G → ℕ → Bool) (b : OpenBatch G) : Type 0 where
     pub some : 0 < length b.workers.items
-    pub passes : length b.workers.items + length (pass_in b.left) ≡ b.shared.desk.passes
-    pub own : IfSome b.left (IsPassAt b.shared.desk)
-    pub left : HasDrawnNothing b.left
+    pub passes : length b.workers.items + length (pass_in b.caller.rest_pass) ≡ b.shared.desk.passes
+    pub own : IfSome b.caller.rest_pass (IsPassAt b.shared.desk)
+    pub drawn : HasDrawnNothing b.caller.rest_pass
     pub at_work : AreAtWork knows b.shared b.workers.items
     pub puts : ArePassesFrom b.shared.queue.id 0 (puts_of b.workers.items)
-    pub get : b.get ≡ record { queue = b.shared.queue.id; workers = length b.workers.items; got = [] }
+    pub get : b.caller.get_pass ≡ record { queue = b.shared.queue.id; workers = length b.workers.items; got = [] }
     pub output : IsNew b.output
     pub jobs : b.output.jobs.now ≡ b.shared.jobs.now
     pub room : HasRoom b
 
--- The outcome was got, or none if the rest is left and the workers have ended. What was written stays, and a failure isn't undone.
-pub record MayHaveGot (rest : Rest) (Ended : Type 0) (before after : GetState) (old new : SinkState) (result : Option Job) : Type 0 where
-  pub got : MatchOption result (after ≡ before) (λ outcome. HasGot before outcome after)
-  pub left : IfNone result (IsLeft rest new.has_failed)
-  pub ended : IfNone result Ended
-  pub keeps : Keeps old.written new.written
-  pub sound : new.has_failed ≡ false → old.has_failed ≡ false
+-- The outcome was got, or none if the rest is left and the workers have ended. The calling thread has drawn only the rest. What was
+-- written stays, and a failure isn't undone.
+pub record MayHaveGot (desk : DeskState) (Ended : Type 0) (before after : CallerPasses) (old new : SinkState) (result : Option Job) : Type 0
+  where
+    pub got : MayGet before.get_pass result after.get_pass
+    pub draws : DrawsOnlyTheRest desk new.has_failed before.rest_pass after.rest_pass
+    pub left : IfNone result (IsLeft (rest_of before.rest_pass) new.has_failed × NothingIsLeft after.rest_pass)
+    pub ended : IfNone result Ended
+    pub keeps : Keeps old.written new.written
+    pub sound : new.has_failed ≡ false → old.has_failed ≡ false
 
 -- One outcome was got for each job, unless the rest is left. If they are those of all jobs, or the rest is left, the sink was given
--- what is to be written.
-pub record HasCollected (rest : Rest) (output : OrderedOutput) (begun out : SinkState) (before after : GetState)
-    : Type 0 where
-  pub queue : after.queue ≡ before.queue
-  pub workers : after.workers ≡ before.workers
-  pub all_got : (length after.got ≡ job_count output.jobs.now) ⊎ IsLeft rest out.has_failed
-  pub given : AreJobsInSomeOrder output.jobs.now (outcomes_in after.got) ⊎ IsLeft rest out.has_failed
+-- what is to be written. The calling thread has drawn only the rest.
+pub record HasCollected (desk : DeskState) (output : OrderedOutput) (begun out : SinkState) (before after : CallerPasses) : Type 0 where
+  pub queue : after.get_pass.queue ≡ before.get_pass.queue
+  pub workers : after.get_pass.workers ≡ before.get_pass.workers
+  pub all_got : (length after.get_pass.got ≡ job_count output.jobs.now) ⊎ IsLeft (rest_of before.rest_pass) out.has_failed
+  pub given : AreJobsInSomeOrder output.jobs.now (outcomes_in after.get_pass.got) ⊎ IsLeft (rest_of before.rest_pass) out.has_failed
       → WasGivenSince begun out (whole_output output)
+  pub draws : DrawsOnlyTheRest desk out.has_failed before.rest_pass after.rest_pass
 
-module _ {G : Type 0} (knows : G → ℕ → Bool) where
-  -- the workers are at work, nothing was got of what they send, and nothing is written
-  pub record CanRun (shared : SharedWork G) (workers : List Worker) (get : GetState) (left : Option PassState) (output : OrderedOutput)
-      : Type 0 where
-    pub at_work : AreAtWork knows shared workers
-    pub queue : get.queue ≡ shared.queue.id
-    pub nothing_got : get.got ≡ []
-    pub own : IfSome left (IsPassAt shared.desk)
-    pub nothing_written : IsNew output
-
-  -- each worker has run, and what they sent was collected, if a sink was `old` and is `new`
-  pub record RunHasEnded (shared : SharedWork G) (workers : List Worker) (get : GetState) (left : Option PassState)
-      (output : OrderedOutput) (old new : SinkState) (workers' : List Worker) (get' : GetState) (left' : Option PassState)
-      : Type 0 where
-    pub all_ran : HaveRun knows shared workers workers'
-    pub collected : HasCollected (rest_of left) output old new get get'
-    pub draws : DrawsOnlyTheRest shared.desk new.has_failed left left'
+-- the workers are at work, nothing was got of what they send, and nothing is written
+pub record CanRun {G : Type 0} (knows : G → ℕ → Bool) (shared : SharedWork G) (workers : List Worker) (passes : CallerPasses)
+    (output : OrderedOutput) : Type 0 where
+  pub at_work : AreAtWork knows shared workers
+  pub queue : passes.get_pass.queue ≡ shared.queue.id
+  pub nothing_got : passes.get_pass.got ≡ []
+  pub own : IfSome passes.rest_pass (IsPassAt shared.desk)
+  pub nothing_written : IsNew output

@@ -1,5 +1,5 @@
 -- The results queue, its passes and a closed queue, as contracts see them, and what was sent through it.
-use Rattle.std.specs.Prelude.{◌≡◌, ℕ, suc, ◌<◌, List, [], ◌∷◌, ◌++◌, map, length, slice_index_or, All}
+use Rattle.std.specs.Prelude.{◌≡◌, ℕ, suc, ◌<◌, List, [], ◌∷◌, ◌++◌, map, length, slice_index_or, All, Option, MatchOption}
 use Rattle.atomic_table.specs.Seated.{TableId}
 use Rattle.kalah_jobs.specs.declared.files.job.Job.{Job}
 use Rattle.kalah_jobs.specs.Collecting.Shares.{sent_by_worker}
@@ -25,6 +25,10 @@ pub record GetState : Type 0 where
 abbrev pub HasGot : GetState → Job → GetState → Type 0
 HasGot before outcome after = (worker : ℕ) × (worker < before.workers)
     × (after ≡ record before { got = before.got ++ (worker, outcome) ∷ [] })
+
+-- an outcome was got, or none and the pass is as it was
+abbrev pub MayGet : GetState → Option Job → GetState → Type 0
+MayGet before result after = MatchOption result (after ≡ before) (λ outcome. HasGot before outcome after)
 
 -- how many pairs were put and not got
 pub record ClosedQueueState : Type 0 where

@@ -41,7 +41,7 @@ impl<'a, 'b, G: Gate, E: Rule> Crew<'a, 'b, G, E> {
         requires at_work { AreAtWork G.knows self.shared.now self.workers.items }
         // That they have ended is known only once each has run.
         requires ends { OnceRun G.knows self.shared.now self.workers.items (E.invariant 1) }
-        ensures { HaveRun G.knows self.entry.shared.now self.entry.workers.items result.left.items }
+        ensures { HaveRun G.knows self.entry.shared.now self.entry.workers.items result.inner.items }
     {
         let Crew {
             shared,

@@ -13,7 +13,7 @@ ghost use Rattle.kalah_run.specs.declared.batch.request.Rest.TheVariants.{Solve}
 use crate::batch::crew::Crew;
 use crate::batch::gate::Gate;
 use crate::batch::ordered_output::OrderedOutput;
-use crate::batch::receiver::Receiver;
+use crate::batch::receiver::{CallerPasses, Receiver};
 use crate::batch::request::{BatchRequest, Rest};
 use crate::batch::run_fault::RunFault;
 use crate::batch::running::run_and_write;
@@ -24,38 +24,49 @@ use crate::desk::Desk;
 use crate::desk::pass::Pass;
 use crate::limits::QUEUE_CAPACITY;
 use crate::queue::ResultsQueue;
-use crate::queue::passes::{GetPass, PutPass};
+use crate::queue::passes::PutPass;
 use kalah_jobs::{Jobs, Sink};
 use std::alloc::{AllocError, Global};
 use std::sync::Wait;
 use std::sync::atomic::{AtomicIn, Rule};
 use std::thread::Threads;
 
+// A desk that is open, the passes of the workers, and that of the calling thread, if the rest is to be left.
+#[derive(Drop)]
+struct OpenDesk {
+    desk: Desk,
+    passes: Vec<Pass>,
+    rest_pass: Option<Pass>,
+}
+
 // Opens a desk with a pass for each worker, and with one more if the rest is to be left: that of the calling thread.
-fn open_desk(
-    alloc: Global,
-    total: u32,
-    workers: u32,
-    rest: Rest,
-) -> Result<(Desk, Vec<Pass>, Option<Pass>), AllocError>
+fn open_desk(alloc: Global, total: u32, workers: u32, rest: Rest) -> Result<OpenDesk, AllocError>
     requires total { total ≤ most_lines }
     requires workers { AreWorkers workers }
-    ensures total { IfOk result (λ r. r.0.total ≡ total) }
-    ensures passes { IfOk result (λ r. AreNewPasses r.0 workers r.1.items) }
-    ensures left { IfOk result (λ r. IfSome r.2 (λ left. left ≡ new_pass r.0 workers)) }
-    ensures rest { IfOk result (λ r. rest_of r.2 ≡ rest) }
-    ensures all { IfOk result (λ r. workers + length (pass_in r.2) ≡ r.0.passes) }
-    ensures room { IfOk result (λ r. workers + length (pass_in r.2) ≤ vec_capacity r.1) }
+    ensures total { IfOk result (λ made. made.desk.total ≡ total) }
+    ensures passes { IfOk result (λ made. AreNewPasses made.desk workers made.passes.items) }
+    ensures rest_pass { IfOk result (λ made. IfSome made.rest_pass (λ pass. pass ≡ new_pass made.desk workers)) }
+    ensures rest { IfOk result (λ made. rest_of made.rest_pass ≡ rest) }
+    ensures all { IfOk result (λ made. workers + length (pass_in made.rest_pass) ≡ made.desk.passes) }
+    ensures room { IfOk result (λ made. workers + length (pass_in made.rest_pass) ≤ vec_capacity made.passes) }
 {
     match rest {
         Rest::Solve => {
             let (desk, passes) = Desk::open(alloc, total, workers)?;
-            Ok((desk, passes, None))
+            Ok(OpenDesk {
+                desk,
+                passes,
+                rest_pass: None,
+            })
         }
         Rest::Leave => {
             let (desk, mut passes) = Desk::open_for(alloc, total, workers + 1)?;
-            let left = passes.pop();
-            Ok((desk, passes, left))
+            let rest_pass = passes.pop();
+            Ok(OpenDesk {
+                desk,
+                passes,
+                rest_pass,
+            })
         }
     }
 }
@@ -90,34 +101,32 @@ fn put_together(
 // Moves the passes of the workers, in their order, and then that of the calling thread, into two lists that have room for them.
 fn take_apart(
     workers: Vec<Worker>,
-    left: Option<Pass>,
+    rest_pass: Option<Pass>,
     passes: &mut Vec<Pass>,
     puts: &mut Vec<PutPass>,
 )
     requires empty { (passes.old.items ≡ []) × (puts.old.items ≡ []) }
-    requires passes_room { vec_len workers + length (pass_in left) ≤ vec_capacity passes.old }
+    requires passes_room { vec_len workers + length (pass_in rest_pass) ≤ vec_capacity passes.old }
     requires puts_room { vec_len workers ≤ vec_capacity puts.old }
-    ensures passes { passes.new.items ≡ passes_of workers.items ++ pass_in left }
+    ensures passes { passes.new.items ≡ passes_of workers.items ++ pass_in rest_pass }
     ensures puts { puts.new.items ≡ puts_of workers.items }
 {
     for worker in workers {
         passes.push_reserved(worker.pass);
         puts.push_reserved(worker.put);
     }
-    if let Some(left) = left {
-        passes.push_reserved(left);
+    if let Some(pass) = rest_pass {
+        passes.push_reserved(pass);
     }
 }
 
-/// A batch that is open: what its workers share, the workers, the pass to get what they send, that to draw what is left after a failed
-/// write, if the rest is to be left, and what is written of it. The two lists from which the workers took their passes have room for
-/// the return of all passes.
+/// A batch that is open: what its workers share, the workers, the passes of the calling thread, and what is written of it. The two lists
+/// from which the workers took their passes have room for the return of all passes.
 #[derive(Drop)]
 pub(crate) struct OpenBatch<'a, G> {
     shared: SharedWork<'a, G>,
     workers: Vec<Worker>,
-    get: GetPass,
-    left: Option<Pass>,
+    caller: CallerPasses,
     output: OrderedOutput<'a>,
     passes: Vec<Pass>,
     puts: Vec<PutPass>,
@@ -139,8 +148,12 @@ impl<'a, G: Gate> OpenBatch<'a, G> {
         let output = OrderedOutput::new(alloc, request.files, jobs)?;
         let total = jobs.total();
         let count = request.workers.min(total).max(1);
-        let (desk, mut passes, left) = open_desk(alloc, total, count, request.rest)?;
-        let (queue, mut puts, get) = ResultsQueue::open(alloc, QUEUE_CAPACITY, count)?;
+        let OpenDesk {
+            desk,
+            mut passes,
+            rest_pass,
+        } = open_desk(alloc, total, count, request.rest)?;
+        let (queue, mut puts, get_pass) = ResultsQueue::open(alloc, QUEUE_CAPACITY, count)?;
         let workers = put_together(alloc, &mut passes, &mut puts, request.table)?;
         Ok(OpenBatch {
             shared: SharedWork {
@@ -150,8 +163,10 @@ impl<'a, G: Gate> OpenBatch<'a, G> {
                 gate,
             },
             workers,
-            get,
-            left,
+            caller: CallerPasses {
+                get_pass,
+                rest_pass,
+            },
             output,
             passes,
             puts,
@@ -173,14 +188,13 @@ impl<'a, G: Gate> OpenBatch<'a, G> {
         ensures given { OnOk result (WasGivenSince (W.state out.old) (W.state out.new) (whole_output self.entry.output)) }
         ensures fault { IfErr result (λ e. e ≡ RunFault.NoWorker) }
         ensures untouched { OnErr result (out.new ≡ out.old) }
-        ensures gate_hears_all { (rest_of self.entry.left ≡ Solve) ⊎ ((W.state out.new).has_failed ≡ false)
+        ensures gate_hears_all { (rest_of self.entry.caller.rest_pass ≡ Solve) ⊎ ((W.state out.new).has_failed ≡ false)
             → OnOk result ((job : ℕ) → job < job_count self.entry.shared.jobs.now → G.knows self.entry.shared.gate.now job ≡ true) }
     {
         let OpenBatch {
             shared,
             workers,
-            get,
-            left,
+            caller,
             output,
             mut passes,
             mut puts,
@@ -191,12 +205,12 @@ impl<'a, G: Gate> OpenBatch<'a, G> {
             workers,
             ended: &ended,
         };
-        let receiver = Receiver::new(get, left, &ended);
-        let (workers, get, left) = run_and_write(rt, crew, receiver, output, watch, out)?;
-        take_apart(workers, left, &mut passes, &mut puts);
+        let receiver = Receiver::new(caller, &ended);
+        let (workers, caller) = run_and_write(rt, crew, receiver, output, watch, out)?;
+        take_apart(workers, caller.rest_pass, &mut passes, &mut puts);
         let SharedWork { desk, queue, .. } = shared;
         desk.close(passes);
-        queue.close(rt, puts, get);
+        queue.close(rt, puts, caller.get_pass);
         Ok(())
     }
 }

@@ -6,22 +6,20 @@ ghost use Rattle.kalah_jobs.specs.Files.Jobs.{job_count};
 ghost use Rattle.kalah_jobs.specs.Writing.Given.{IsReady};
 ghost use Rattle.kalah_run.specs.Batch.AtWork.{AreAtWork, HaveRun, OnceRun};
 ghost use Rattle.kalah_run.specs.Batch.OrderedOutput.{IsNew};
-ghost use Rattle.kalah_run.specs.Batch.Running.{CanRun, HasCollected, MayHaveGot, RunHasEnded};
-ghost use Rattle.kalah_run.specs.Batch.Leaving.{rest_of, NothingIsLeft, DrawsOnlyTheRest};
+ghost use Rattle.kalah_run.specs.Batch.Running.{CanRun, HasCollected, MayHaveGot};
+ghost use Rattle.kalah_run.specs.Batch.Leaving.{NothingIsLeft};
 ghost use Rattle.kalah_run.specs.Desk.States.{IsPassAt};
 
 use crate::batch::crew::Crew;
 use crate::batch::gate::Gate;
 use crate::batch::ordered_output::OrderedOutput;
-use crate::batch::receiver::Receiver;
+use crate::batch::receiver::{CallerPasses, Receiver};
 use crate::batch::run_fault::RunFault;
 use crate::batch::shared_work::SharedWork;
 use crate::batch::watch::Watch;
 use crate::batch::worker::Worker;
-use crate::desk::pass::Pass;
 use crate::limits::MOST_TRIES;
 use crate::queue::AfterEnd;
-use crate::queue::passes::GetPass;
 use kalah_jobs::{Outcome, Sink};
 use std::snapshot::Snapshot;
 use std::sync::Wait;
@@ -39,7 +37,7 @@ struct AllHaveRun<'a, 'b, G> {
 impl<'a, 'b, G: Gate> Promise<AfterEnd<Vec<Worker>>> for AllHaveRun<'a, 'b, G> {
     ghost use Rattle.kalah_run.specs.Batch.AtWork.{HaveRun};
 
-    ghost kept_by = { λ p r. HaveRun G.knows p.shared.now p.workers.value.items r.left.items };
+    ghost kept_by = { λ p r. HaveRun G.knows p.shared.now p.workers.value.items r.inner.items };
 }
 
 // Lets the output flush what it buffers, as its caller may wait then.
@@ -64,11 +62,9 @@ fn flush_and_get<R: Wait, G: Gate, V: Watch, W: Sink, E: Rule>(
     watch: &mut V,
     out: &mut W,
 ) -> Option<Outcome>
-    requires queue { receiver.old.pass.queue ≡ shared.now.queue.id }
-    requires own { IfSome receiver.old.left (IsPassAt shared.now.desk) }
-    ensures draws { DrawsOnlyTheRest shared.now.desk (W.state out.new).has_failed receiver.old.left receiver.new.left }
-    ensures spent { IfNone result (NothingIsLeft receiver.new.left) }
-    ensures got { MayHaveGot (rest_of receiver.old.left) (E.invariant 1) receiver.old.pass receiver.new.pass
+    requires queue { receiver.old.passes.get_pass.queue ≡ shared.now.queue.id }
+    requires own { IfSome receiver.old.passes.rest_pass (IsPassAt shared.now.desk) }
+    ensures { MayHaveGot shared.now.desk (E.invariant 1) receiver.old.passes receiver.new.passes
         (W.state out.old) (W.state out.new) result }
 {
     flush_to_wait(out);
@@ -89,16 +85,14 @@ fn collect<R: Wait, G: Gate, V: Watch, W: Sink, E: Rule>(
     mut output: OrderedOutput<'_>,
     watch: &mut V,
     out: &mut W,
-) -> (GetPass, Option<Pass>)
-    requires own { IfSome receiver.left (IsPassAt shared.now.desk) }
-    requires queue { receiver.pass.queue ≡ shared.now.queue.id }
-    requires first { receiver.pass.got ≡ [] }
+) -> CallerPasses
+    requires own { IfSome receiver.passes.rest_pass (IsPassAt shared.now.desk) }
+    requires queue { receiver.passes.get_pass.queue ≡ shared.now.queue.id }
+    requires first { receiver.passes.get_pass.got ≡ [] }
     requires new { IsNew output }
-    ensures collected { HasCollected (rest_of receiver.entry.left) output.entry (W.state out.old) (W.state out.new)
-        receiver.entry.pass result.0 }
-    ensures draws { DrawsOnlyTheRest shared.now.desk (W.state out.new).has_failed receiver.entry.left result.1 }
+    ensures collected { HasCollected shared.now.desk output.entry (W.state out.old) (W.state out.new) receiver.entry.passes result }
     // It ends early only once no job is left, and the workers have ended.
-    ensures ended { (length result.0.got ≡ job_count output.entry.jobs.now) ⊎ (NothingIsLeft result.1 × E.invariant 1) }
+    ensures ended { (length result.get_pass.got ≡ job_count output.entry.jobs.now) ⊎ (NothingIsLeft result.rest_pass × E.invariant 1) }
     // The thread may wait for the workers to end.
     ensures ready { IsReady (W.state out.new) }
 {
@@ -135,11 +129,12 @@ pub(crate) fn run_and_write<R: Threads + Wait + Sync, G: Gate, V: Watch, W: Sink
     output: OrderedOutput<'_>,
     watch: &mut V,
     out: &mut W,
-) -> Result<(Vec<Worker>, GetPass, Option<Pass>), RunFault>
-    requires { CanRun G.knows crew.shared.now crew.workers.items receiver.pass receiver.left output
+) -> Result<(Vec<Worker>, CallerPasses), RunFault>
+    requires { CanRun G.knows crew.shared.now crew.workers.items receiver.passes output
         × OnceRun G.knows crew.shared.now crew.workers.items (E.invariant 1) }
-    ensures ended { IfOk result (λ r. RunHasEnded G.knows crew.entry.shared.now crew.entry.workers.items
-        receiver.entry.pass receiver.entry.left output.entry (W.state out.old) (W.state out.new) r.0.items r.1 r.2) }
+    ensures ran { IfOk result (λ r. HaveRun G.knows crew.entry.shared.now crew.entry.workers.items r.0.items) }
+    ensures collected { IfOk result (λ r. HasCollected crew.entry.shared.now.desk output.entry (W.state out.old) (W.state out.new)
+        receiver.entry.passes r.1) }
     ensures fault { IfErr result (λ e. e ≡ RunFault.NoWorker) }
     ensures untouched { OnErr result (out.new ≡ out.old) }
 {
@@ -147,15 +142,16 @@ pub(crate) fn run_and_write<R: Threads + Wait + Sync, G: Gate, V: Watch, W: Sink
         thread::scope_env(),
         rt,
         move |scope| -> (
-            Result<(Vec<Worker>, GetPass, Option<Pass>), RunFault>,
+            Result<(Vec<Worker>, CallerPasses), RunFault>,
             &mut V,
             &mut W,
         )
-            requires { IsSync R.row × IsSync G.row × CanRun G.knows crew.shared.now crew.workers.items receiver.pass receiver.left output
+            requires { IsSync R.row × IsSync G.row × CanRun G.knows crew.shared.now crew.workers.items receiver.passes output
                 × OnceRun G.knows crew.shared.now crew.workers.items (E.invariant 1) }
             ensures names { (result.1.ghost_name ≡ watch.entry.ghost_name) × (result.2.ghost_name ≡ out.entry.ghost_name) }
-            ensures ended { IfOk result.0 (λ r. RunHasEnded G.knows crew.entry.shared.now crew.entry.workers.items receiver.entry.pass
-                receiver.entry.left output.entry (W.state out.entry.now) (W.state result.2.now) r.0.items r.1 r.2) }
+            ensures ran { IfOk result.0 (λ r. HaveRun G.knows crew.entry.shared.now crew.entry.workers.items r.0.items) }
+            ensures collected { IfOk result.0 (λ r. HasCollected crew.entry.shared.now.desk output.entry
+                (W.state out.entry.now) (W.state result.2.now) receiver.entry.passes r.1) }
             ensures fault { IfErr result.0 (λ e. e ≡ RunFault.NoWorker) }
             ensures untouched { OnErr result.0 (result.2.now ≡ out.entry.now) }
         {
@@ -169,15 +165,15 @@ pub(crate) fn run_and_write<R: Threads + Wait + Sync, G: Gate, V: Watch, W: Sink
                 move || -> AfterEnd<Vec<Worker>>
                     requires { IsSync R.row × IsSync G.row × AreAtWork G.knows crew.shared.now crew.workers.items
                         × OnceRun G.knows crew.shared.now crew.workers.items (E.invariant 1) }
-                    ensures { HaveRun G.knows crew.entry.shared.now crew.entry.workers.items result.left.items }
+                    ensures { HaveRun G.knows crew.entry.shared.now crew.entry.workers.items result.inner.items }
                 { crew.run(rt) },
             );
             let Ok(child) = started else {
                 return (Err(RunFault::NoWorker), watch, out);
             };
-            let (get, left) = collect(rt, shared, receiver, output, watch, out);
+            let passes = collect(rt, shared, receiver, output, watch, out);
             let workers = child.join(rt).into_inner();
-            (Ok((workers, get, left)), watch, out)
+            (Ok((workers, passes)), watch, out)
         },
     );
     ran

@@ -9,6 +9,6 @@ abbrev pub invariant-loop-worker : goal.invariant-loop-worker
 invariant-loop-worker l = record {
   passes : l.passes.items ≡ passes_of l.yielded;
   puts : l.puts.items ≡ puts_of l.yielded;
-  passes_room : length (into_iter_items l.worker-iterator) + (vec_len l.passes + length (pass_in l.left)) ≤ vec_capacity l.passes;
+  passes_room : length (into_iter_items l.worker-iterator) + (vec_len l.passes + length (pass_in l.rest_pass)) ≤ vec_capacity l.passes;
   puts_room : length (into_iter_items l.worker-iterator) + (vec_len l.puts + 0) ≤ vec_capacity l.puts;
 }

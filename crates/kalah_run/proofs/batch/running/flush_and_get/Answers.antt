@@ -1,16 +1,6 @@
-use Rattle.std.proofs.Common.{arith}
-use Rattle.std.proofs.lemmas.Grind.{common_steps}
+use Rattle.kalah_run.proofs.BatchLemmas.{got_by}
 use Rattle.kalah_run.proofs.batch.running.flush_and_get.Goals as goal
 
 pub returns : goal.returns
-returns g c = record { draws = grind (arith, common_steps); spent = tt; got = grind (arith, common_steps) }
-
-pub returns-then-leave_after : goal.returns-then-leave_after
-returns-then-leave_after g c = record {
-  draws = grind (arith, common_steps);
-  spent = grind (arith, common_steps);
-  got = grind (arith, common_steps);
-}
-
-pub get_last-requires-clause-spent : goal.get_last-requires-clause-spent
-get_last-requires-clause-spent g c = grind (arith, common_steps)
+returns g c = got_by c.leave_after.ensures.get_pass (rw c.failed.ensures at c.leave_after.ensures.draws) c.get.ensures.rest_pass
+    c.get.ensures.got tt tt c.flush_to_wait.ensures.keeps c.flush_to_wait.ensures.sound

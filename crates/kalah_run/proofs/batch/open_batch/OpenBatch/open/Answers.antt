@@ -17,6 +17,6 @@ returns-clause-asked g c = record {
 pub returns-clause-ready : goal.returns-clause-ready
 returns-clause-ready g c =
     ready_to_run _ _ _ c.max-count.ensures c.in_ok-workers.ensures.passes c.in_ok-desk.ensures.passes c.in_ok-workers.ensures.puts
-    c.in_ok-queue.ensures.puts c.in_ok-queue.puts.ok c.in_ok-desk.ensures.left c.in_ok-desk.ensures.all c.in_ok-queue.ensures.get
+    c.in_ok-queue.ensures.puts c.in_ok-queue.puts.ok c.in_ok-desk.ensures.rest_pass c.in_ok-desk.ensures.all c.in_ok-queue.ensures.get
     c.in_ok-output.ensures.new c.in_ok-output.ensures.of.1 c.in_ok-workers.ensures.empty c.in_ok-workers.ensures.room
     c.in_ok-desk.ensures.room

@@ -14,12 +14,12 @@ use Rattle.kalah_run.proofs.batch.open_batch.OpenBatch.run.Goals as goal
 pub run_and_write-requires-after_bounds : goal.run_and_write-requires-after_bounds
 run_and_write-requires-after_bounds g c κs within =
     let ready = c.requires.ready in
-    let get = c.new-receiver.ensures.0 ∙ ready.get in (
+    let get = ap (λ p. p.get_pass) c.new-receiver.ensures ∙ ready.get in (
       record {
         at_work = ready.at_work;
         queue = ap (λ (p : GetState). p.queue) get;
         nothing_got = ap (λ (p : GetState). p.got) get;
-        own = rw c.new-receiver.ensures.1 ready.own;
+        own = rw c.new-receiver.ensures ready.own;
         nothing_written = ready.output;
       },
       c.requires.ends,
@@ -28,53 +28,55 @@ run_and_write-requires-after_bounds g c κs within =
 -- ---- the passes come back
 
 pub take_apart-requires-clause-passes_room : goal.take_apart-requires-clause-passes_room
-take_apart-requires-clause-passes_room g c = passes_fit c.in_ok-workers.ensures.ended.all_ran _ _
-    (c.in_ok-workers.ensures.ended.draws.rest ∙ ap rest_of c.new-receiver.ensures.1) c.in_ok-workers.workers.ok.0 c.requires.ready.room.passes
+take_apart-requires-clause-passes_room g c = passes_fit c.in_ok-workers.ensures.ran _ _
+    (c.in_ok-workers.ensures.collected.draws.rest ∙ ap (λ p. rest_of p.rest_pass) c.new-receiver.ensures) c.in_ok-workers.workers.ok.0
+    c.requires.ready.room.passes
 
 pub take_apart-requires-clause-puts_room : goal.take_apart-requires-clause-puts_room
 take_apart-requires-clause-puts_room g c =
-    rw (c.in_ok-workers.workers.ok.0 ∙ c.in_ok-workers.ensures.ended.all_ran.as_many) c.requires.ready.room.puts
+    rw (c.in_ok-workers.workers.ok.0 ∙ c.in_ok-workers.ensures.ran.as_many) c.requires.ready.room.puts
 
 pub close-requires-clause-all : goal.close-requires-clause-all
-close-requires-clause-all g c = all_back c.in_ok-workers.ensures.ended.all_ran _ _
-    (c.in_ok-workers.ensures.ended.draws.rest ∙ ap rest_of c.new-receiver.ensures.1) c.take_apart.ensures.passes c.requires.ready.passes
+close-requires-clause-all g c = all_back c.in_ok-workers.ensures.ran _ _
+    (c.in_ok-workers.ensures.collected.draws.rest ∙ ap (λ p. rest_of p.rest_pass) c.new-receiver.ensures) c.take_apart.ensures.passes
+    c.requires.ready.passes
 
 pub close-requires-clause-own : goal.close-requires-clause-own
 close-requires-clause-own g c =
-    own_back c.in_ok-workers.ensures.ended.all_ran _ c.in_ok-workers.ensures.ended.draws.own c.take_apart.ensures.passes
+    own_back c.in_ok-workers.ensures.ran _ c.in_ok-workers.ensures.collected.draws.own c.take_apart.ensures.passes
 
 pub close-requires-2-clause-puts : goal.close-requires-2-clause-puts
 close-requires-2-clause-puts g c =
-    puts_back c.in_ok-workers.ensures.ended.all_ran c.take_apart.new.puts.ok.0 c.take_apart.ensures.puts
-    (c.in_ok-workers.ensures.ended.collected.workers ∙ ap (λ (p : GetState). p.workers) (c.new-receiver.ensures.0 ∙ c.requires.ready.get))
+    puts_back c.in_ok-workers.ensures.ran c.take_apart.new.puts.ok.0 c.take_apart.ensures.puts
+    (c.in_ok-workers.ensures.collected.workers ∙ ap (λ p. p.get_pass.workers) c.new-receiver.ensures
+    ∙ ap (λ p. p.workers) c.requires.ready.get)
     c.requires.ready.puts
 
 -- ---- what has come is written
 
 -- each job was drawn once, by a worker if the calling thread has drawn nothing
-dealt : (g : Over) (c : goal.After-drop-ended-2 g) → HasDrawnNothing c.in_ok-workers.left
+dealt : (g : Over) (c : goal.After-drop-ended-2 g) → HasDrawnNothing c.in_ok-workers.caller.rest_pass
     → DealsEachOnce (job_count c.args.self.shared.jobs.now) c.close.result.drawn (drawn_rows (passes_of c.in_ok-workers.workers.items))
-dealt g c nothing = deals_to_others (passes_of c.in_ok-workers.workers.items) c.in_ok-workers.left nothing
+dealt g c nothing = deals_to_others (passes_of c.in_ok-workers.workers.items) c.in_ok-workers.caller.rest_pass nothing
     (rw c.args.self.shared.each_job at (rw c.take_apart.ensures.passes at c.close.ensures.deals))
 
 -- each job's outcome was got once, if as many were got as there are jobs
-each_got : (g : Over) (c : goal.After-drop-ended-2 g) → HasDrawnNothing c.in_ok-workers.left
-    → length c.in_ok-workers.get.got ≡ job_count c.args.self.output.jobs.now
-    → AreJobsInSomeOrder c.args.self.output.jobs.now (outcomes_in c.in_ok-workers.get.got)
+each_got : (g : Over) (c : goal.After-drop-ended-2 g) → HasDrawnNothing c.in_ok-workers.caller.rest_pass
+    → length c.in_ok-workers.caller.get_pass.got ≡ job_count c.args.self.output.jobs.now
+    → AreJobsInSomeOrder c.args.self.output.jobs.now (outcomes_in c.in_ok-workers.caller.get_pass.got)
 each_got g c nothing all =
-    let run = c.in_ok-workers.ensures.ended in
-    let workers = run.collected.workers ∙ ap (λ (p : GetState). p.workers) (c.new-receiver.ensures.0 ∙ c.requires.ready.get) in
-    each_job_got run.all_ran c.in_ok-workers.get.got workers (dealt g c nothing) c.take_apart.ensures.puts c.close-2.ensures.whole
-    c.requires.ready.jobs all
+    let workers = c.in_ok-workers.ensures.collected.workers ∙ ap (λ p. p.get_pass.workers) c.new-receiver.ensures
+    ∙ ap (λ p. p.workers) c.requires.ready.get in
+    each_job_got c.in_ok-workers.ensures.ran c.in_ok-workers.caller.get_pass.got workers (dealt g c nothing)
+    c.take_apart.ensures.puts c.close-2.ensures.whole c.requires.ready.jobs all
 
 pub returns-clause-given : goal.returns-clause-given
 returns-clause-given g c =
-    let collected = c.in_ok-workers.ensures.ended.collected in
+    let collected = c.in_ok-workers.ensures.collected in
     collected.given (⊎_elim (λ nothing. ⊎_elim (λ all. inl (each_got g c nothing all)) inr collected.all_got) inr
-    (nothing_drawn (rw c.new-receiver.ensures.1 c.requires.ready.left) c.in_ok-workers.ensures.ended.draws))
+    (nothing_drawn (rw c.new-receiver.ensures c.requires.ready.drawn) collected.draws))
 
 pub returns-clause-gate_hears_all : goal.returns-clause-gate_hears_all
 returns-clause-gate_hears_all g c = λ unless job low.
-    let ended = c.in_ok-workers.ensures.ended in
-    let drawn = nothing_drawn c.requires.ready.left (rw c.new-receiver.ensures.1 at ended.draws) in
-    each_job_known ended.all_ran c.requires.ready.some (dealt g c (unless_left drawn unless)) job low
+    let drawn = nothing_drawn c.requires.ready.drawn (rw c.new-receiver.ensures at c.in_ok-workers.ensures.collected.draws) in
+    each_job_known c.in_ok-workers.ensures.ran c.requires.ready.some (dealt g c (unless_left drawn unless)) job low
