@@ -106,9 +106,8 @@ too_long : (question : Question) (line : List ℕ) → kept_bytes ≤ length lin
 unfolding entry_to
 too_long question line long = ap (entry_of_reading question) (long_is_read line (omega (arith, cr_is_one line, long)))
 
--- the bytes that are kept determine the entry of the line
-pub kept_says : (question : Question) (line : List ℕ) → entry_to question (take kept_bytes line) ≡ entry_to question line
-kept_says question line = elim (cases_lt kept_bytes (length line)) [
+pub kept_bytes_have_the_entry : (question : Question) (line : List ℕ) → entry_to question (take kept_bytes line) ≡ entry_to question line
+kept_bytes_have_the_entry question line = elim (cases_lt kept_bytes (length line)) [
   | inl long ↦
       too_long question (take kept_bytes line) (omega (arith, length-take-le kept_bytes line (omega (arith, long))))
       ∙ sym (too_long question line (omega (arith, long)))
@@ -117,10 +116,10 @@ kept_says question line = elim (cases_lt kept_bytes (length line)) [
 
 -- the bytes that are kept are answered as the line is
 pub kept_reply : (question : Question) (line : List ℕ) → reply question (take kept_bytes line) ≡ reply question line
-kept_reply question line = ap (λ entry. joined_text (answer_of entry) ++ line_feed ∷ []) (kept_says question line)
+kept_reply question line = ap (λ entry. joined_text (answer_of entry) ++ line_feed ∷ []) (kept_bytes_have_the_entry question line)
 
 pub kept_faulty : (line : List ℕ) → is_faulty (take kept_bytes line) ≡ is_faulty line
-kept_faulty line = ap (λ entry. is_fault (answer_of entry)) (kept_says BestMove line)
+kept_faulty line = ap (λ entry. is_fault (answer_of entry)) (kept_bytes_have_the_entry BestMove line)
 
 -- one byte more of those that are kept
 pub kept_more : (line : List ℕ) (byte : ℕ) → take kept_bytes (take kept_bytes line ++ byte ∷ []) ≡ take kept_bytes
@@ -191,7 +190,7 @@ answers_are_those_of_a_file = record {
   parts = answers_split;
 }
 
--- ==== How far lines that come one after another are answered
+-- ==== How far the lines of a stream are answered
 
 -- Lines were read, and a part of the next one, whose first bytes are kept. The lines were answered.
 pub record Underway (question : Question) (before now old new : Option (List ℕ)) (line : List ℕ) (all_read : Bool) : Type 0 where

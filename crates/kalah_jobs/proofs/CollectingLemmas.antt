@@ -3,7 +3,7 @@ use Rattle.std.proofs.Common.{◌≡◌, ◌⊎◌, ℕ, zero, suc, ◌+◌, ◌
 use Rattle.std.specs.Prelude.{Option, Some, None, is_some, sum_by, count_by, nat_lt, IsSome, Contains, Result, Ok, Err, sum, not, slice_get, IsOk}
 use Rattle.std.proofs.lemmas.Bool.{false≢true, lt-ltb, cases_eq, cases_Bool}
 use Rattle.kalah_jobs.specs.declared.writing.answer.Answer.{Answer}
-use Rattle.kalah_jobs.specs.Collecting.CollectorState.{front_of, FileState, no_file, state_of, line_count, came_for, HasLinesOf, with_answer, with_one_taken, after_offer, after_take, new_files, front, IsNext, HasEnded}
+use Rattle.kalah_jobs.specs.Collecting.CollectorState.{front_of, ArrivalsState, no_file, state_of, line_count, came_for, HasLinesOf, with_answer, with_one_taken, after_offer, after_take, new_files, front, IsNext, HasEnded}
 use Rattle.std.specs.Coded.{Coded, codes}
 use base.Stored.{Gv, gnil, gnum, gcons}
 use Rattle.kalah_jobs.specs.declared.files.job.Job.{Job}
@@ -27,7 +27,7 @@ use Rattle.kalah_jobs.specs.Collecting.CollectorEvents.{Event, Offered, Took, Of
 use Rattle.kalah_jobs.specs.Collecting.CollectorLaw.{Runs, KeepsItsLaw}
 use Rattle.kalah_jobs.specs.declared.files.entry.Entry.TheVariants.{Bad}
 use Rattle.kalah_jobs.specs.declared.line.line_fault.LineFault.TheVariants.{Empty}
-use Rattle.kalah_jobs.specs.Collecting.Batch.{job, AreJobsInSomeOrder, GetsEachJobOnce, AcceptsEachJob, MakesEveryLineReady}
+use Rattle.kalah_jobs.specs.Collecting.AnyOrder.{job, AreJobsInSomeOrder, GetsEachJobOnce, AcceptsEachJob, MakesEveryLineReady}
 
 -- ==== How many of the first lines of a file have come without a gap
 
@@ -219,15 +219,15 @@ as_many_as_numbers {X} n f rows got s =
 -- ---- one file is changed
 
 -- a file of a list after a change of one
-pub state_same : (files : List FileState) (f : ℕ) (s : FileState) → f < length files → state_of (set files f s) f ≡ s
+pub state_same : (files : List ArrivalsState) (f : ℕ) (s : ArrivalsState) → f < length files → state_of (set files f s) f ≡ s
 state_same files f s low = get_or-set_same files f s no_file low
 
 -- after a change of one file any other is as it was
-pub state_other : (files : List FileState) (f g : ℕ) (s : FileState) → g ≢ f → state_of (set files f s) g ≡ state_of files g
+pub state_other : (files : List ArrivalsState) (f g : ℕ) (s : ArrivalsState) → g ≢ f → state_of (set files f s) g ≡ state_of files g
 state_other files f g s ne = get_or-set_other files f g s no_file ne
 
 -- what holds of the changed file, and of each other as it was, holds of each
-pub each_file : (files : List FileState) (f : ℕ) (s : FileState) → f < length files → (P : ℕ → FileState → Type 0) → P f s →
+pub each_file : (files : List ArrivalsState) (f : ℕ) (s : ArrivalsState) → f < length files → (P : ℕ → ArrivalsState → Type 0) → P f s →
     ((g : ℕ) → g ≢ f → P g (state_of files g)) → (g : ℕ) → P g (state_of (set files f s) g)
 each_file files f s low P here others g = elim (cases_eq g f) [
   | inl same ↦ rw (same, state_same files f s low) here
@@ -235,12 +235,12 @@ each_file files f s low P here others g = elim (cases_eq g f) [
 ]
 
 -- after an answer for one line, what holds of that line, and of each other as it was, holds of each
-each_line : (files : List FileState) (o : Job) (a : Answer) → o.file < length files → o.line < line_count (state_of files o.file) →
+each_line : (files : List ArrivalsState) (o : Job) (a : Answer) → o.file < length files → o.line < line_count (state_of files o.file) →
     (P : ℕ → ℕ → Option Answer → Type 0) → P o.file o.line (Some a) →
     ((f k : ℕ) → ((f ≡ o.file) × (k ≡ o.line) → ⊥) → P f k (came_for (state_of files f) k)) → (f k : ℕ)
     → P f k (came_for (state_of (after_offer files o.file o.line a) f) k)
 each_line files o a file_low line_low P here others =
-    let s : FileState = state_of files o.file in
+    let s : ArrivalsState = state_of files o.file in
     each_file files o.file (with_answer s o.line a) file_low (λ f new. (k : ℕ) → P f k (came_for new k))
     (λ k. elim (cases_eq k o.line) [
       | inl same ↦ rw (same, get_or-set_same s.arrived o.line (Some a) None line_low) here
@@ -251,19 +251,19 @@ each_line files o a file_low line_low P here others =
 -- ---- counts of lines
 
 -- the counts of lines, file by file
-pub files_many : (jobs : List (List Entry)) (files : List FileState) → HasLinesOf jobs files → length files ≡ length jobs
+pub files_many : (jobs : List (List Entry)) (files : List ArrivalsState) → HasLinesOf jobs files → length files ≡ length jobs
 files_many jobs files h = sym (length-map files line_count) ∙ ap (λ (l : List ℕ). length l) h
     ∙ length-map jobs (λ (entries : List Entry). length entries)
 
 -- each file has as many lines as its jobs, also if there is no such file
-pub lines_are : (jobs : List (List Entry)) (files : List FileState) → HasLinesOf jobs files → (f : ℕ) →
+pub lines_are : (jobs : List (List Entry)) (files : List ArrivalsState) → HasLinesOf jobs files → (f : ℕ) →
     line_count (state_of files f) ≡ length (entries_of jobs f)
 lines_are [] [] h f = refl
 lines_are (entries ∷ jobs) (s ∷ files) h (suc f) = lines_are jobs files (cc) f
 lines_are jobs files h f = cc
 
 -- a change that keeps a file's number of lines keeps all counts
-pub counts_set : (files : List FileState) (f : ℕ) (s : FileState) → line_count s ≡ line_count (state_of files f) →
+pub counts_set : (files : List ArrivalsState) (f : ℕ) (s : ArrivalsState) → line_count s ≡ line_count (state_of files f) →
     map line_count (set files f s) ≡ map line_count files
 counts_set [] f s same = refl
 counts_set (x ∷ files) zero s same = ap (λ n. n ∷ map line_count files) same
@@ -287,7 +287,7 @@ still_answered {jobs} {past} {f} {k} o old = record {
 }
 
 -- an accepted offer keeps what holds
-pub holds_accepted : (jobs : List (List Entry)) (past : List Job) (files : List FileState) (o : Job) → HoldsOffered jobs past files →
+pub holds_accepted : (jobs : List (List Entry)) (past : List Job) (files : List ArrivalsState) (o : Job) → HoldsOffered jobs past files →
     IsWanted jobs files o
     → HoldsOffered jobs (past ++ o ∷ []) (after_offer files o.file o.line (answer_of o.entry))
 holds_accepted jobs past files o holds wanted =
@@ -308,11 +308,11 @@ holds_accepted jobs past files o holds wanted =
     }
 
 -- a file with a line is there
-file_there : (files : List FileState) (f k : ℕ) → k < line_count (state_of files f) → f < length files
+file_there : (files : List ArrivalsState) (f k : ℕ) → k < line_count (state_of files f) → f < length files
 file_there files f k low = grind (arith, get_or_past files f no_file)
 
 -- if a line is offered with its entry and refused, it had come before
-pub refused_came : (jobs : List (List Entry)) (files : List FileState) (f k : ℕ) (e : Entry) (r : Refusal) → HasLinesOf jobs files →
+pub refused_came : (jobs : List (List Entry)) (files : List ArrivalsState) (f k : ℕ) (e : Entry) (r : Refusal) → HasLinesOf jobs files →
     entry_at jobs f k ≡ Some e
     → IsRefusedFor jobs files (line_job f k e) r → IsSome (came_for (state_of files f) k)
 refused_came jobs files f k e r h is refused =
@@ -325,7 +325,7 @@ refused_came jobs files f k e r h is refused =
     )
 
 -- a refused offer changes nothing, and what holds stays true with one more offer
-pub holds_refused : (jobs : List (List Entry)) (past : List Job) (files : List FileState) (o : Job) (r : Refusal) →
+pub holds_refused : (jobs : List (List Entry)) (past : List Job) (files : List ArrivalsState) (o : Job) (r : Refusal) →
     HoldsOffered jobs past files →
     IsRefusedFor jobs files o r
     → HoldsOffered jobs (past ++ o ∷ []) files
@@ -343,10 +343,10 @@ holds_refused jobs past files o r holds refused = record {
 }
 
 -- a take changes nothing of what came, so what holds stays true
-pub holds_take : (jobs : List (List Entry)) (past : List Job) (files : List FileState) (f : ℕ) → f < length files →
+pub holds_take : (jobs : List (List Entry)) (past : List Job) (files : List ArrivalsState) (f : ℕ) → f < length files →
     HoldsOffered jobs past files → HoldsOffered jobs past (after_take files f)
 holds_take jobs past files f low holds =
-    let taken : FileState = with_one_taken (state_of files f) in
+    let taken : ArrivalsState = with_one_taken (state_of files f) in
     record {
       counts = counts_set files f taken refl ∙ holds.counts;
       came = each_file files f taken low
@@ -363,12 +363,12 @@ pub ruleset counts = (counts_set, get_or_default, length-set, lines_are)
 -- ==== An offer is accepted or meets one refusal, and never both
 
 -- an offer that is wanted meets no refusal
-wanted_or_refused : (jobs : List (List Entry)) (files : List FileState) (o : Job) (r : Refusal) → IsWanted jobs files o →
+wanted_or_refused : (jobs : List (List Entry)) (files : List ArrivalsState) (o : Job) (r : Refusal) → IsWanted jobs files o →
     IsRefusedFor jobs files o r → ⊥
 wanted_or_refused jobs files o r wanted refused = grind arith
 
 -- no offer meets two refusals
-refused_for_one : (jobs : List (List Entry)) (files : List FileState) (o : Job) (q r : Refusal) → IsRefusedFor jobs files o q →
+refused_for_one : (jobs : List (List Entry)) (files : List ArrivalsState) (o : Job) (q r : Refusal) → IsRefusedFor jobs files o q →
     IsRefusedFor jobs files o r → q ≡ r
 refused_for_one jobs files o q r a b = grind arith
 
@@ -388,7 +388,7 @@ abbrev lines_of : List (List Entry) → ℕ → List Taken
 lines_of jobs f = answered_lines (entries_of jobs f)
 
 -- the list of the first lines grows by the line that is taken
-first_lines_more : (jobs : List (List Entry)) (past : List Job) (files : List FileState) (f : ℕ) (t : Taken) →
+first_lines_more : (jobs : List (List Entry)) (past : List Job) (files : List ArrivalsState) (f : ℕ) (t : Taken) →
     HoldsOffered jobs past files → IsNext (state_of files f) t
     → take (state_of files f).taken (lines_of jobs f) ++ t ∷ [] ≡ take ((state_of files f).taken + 1) (lines_of jobs f)
 first_lines_more jobs past files f t holds is_next =
@@ -410,18 +410,18 @@ first_lines_more jobs past files f t holds is_next =
 -- ---- any list of events
 
 -- from one state to the other, these were taken of each file: its next lines
-abbrev WereTaken : List (List Entry) → List FileState → (ℕ → List Taken) → List FileState → Type 0
+abbrev WereTaken : List (List Entry) → List ArrivalsState → (ℕ → List Taken) → List ArrivalsState → Type 0
 WereTaken jobs files took after = (f : ℕ) →
     take (state_of files f).taken (lines_of jobs f) ++ took f ≡ take (state_of after f).taken (lines_of jobs f)
 
 -- the state is kept by each event
-module _ {jobs : List (List Entry)} {past : List Job} {files after : List FileState} (kept : Kept jobs past files) where
+module _ {jobs : List (List Entry)} {past : List Job} {files after : List ArrivalsState} (kept : Kept jobs past files) where
   -- by an offer, accepted or refused, which takes nothing
   pub kept_by_offer : (o : Job) (gave : Result ℕ Refusal) → Offers jobs files o gave after
       → Kept jobs (past ++ o ∷ []) after × ((f : ℕ) → (state_of after f).taken ≡ (state_of files f).taken)
   kept_by_offer o (Ok ready) step =
       let low : o.file < length files = step.wanted.0.0.0.0 in
-      let new : FileState = with_answer (state_of files o.file) o.line (answer_of o.entry) in
+      let new : ArrivalsState = with_answer (state_of files o.file) o.line (answer_of o.entry) in
       let taken = each_file files o.file new low (λ f s. s.taken ≡ (state_of files f).taken) refl (λ f other. refl) in
       let ahead = each_file files o.file new low (λ f s. front (state_of files f) ≤ front s)
       (front_set (state_of files o.file).arrived o.line (answer_of o.entry)) (λ f other. omega arith) in
@@ -439,7 +439,7 @@ module _ {jobs : List (List Entry)} {past : List Job} {files after : List FileSt
   -- by a take of a line
   pub kept_by_take : (g : ℕ) (t : Taken) → Gives files g t after → Kept jobs past after
   kept_by_take g t step =
-      let taken : FileState = with_one_taken (state_of files g) in
+      let taken : ArrivalsState = with_one_taken (state_of files g) in
       rw step.kept (record {
         offered = holds_take jobs past files g step.file_there kept.offered;
         within = each_file files g taken step.file_there (λ f new. new.taken ≤ front new) (omega (arith, step.next_line.ready))
@@ -455,7 +455,7 @@ module _ {jobs : List (List Entry)} {past : List Job} {files after : List FileSt
       (λ f other. rw (ne_eqb g f (λ same. other (sym same))) (append-nil (take (state_of files f).taken (lines_of jobs f)))))
 
 -- any list of events
-runs : (jobs : List (List Entry)) (past : List Job) (events : List Event) (files after : List FileState)
+runs : (jobs : List (List Entry)) (past : List Job) (events : List Event) (files after : List ArrivalsState)
     → Runs jobs files events after → Kept jobs past files →
     Kept jobs (past ++ offers events) after × WereTaken jobs files (λ f. takes f events) after
 runs jobs past [] files after run kept =
@@ -468,7 +468,7 @@ runs jobs past (Offered o gave ∷ events) files after run kept =
     )
 runs jobs past (Took g None ∷ events) files after run kept =
     let step = run.1 in
-    runs jobs past events files after (subst (λ (s : List FileState). Runs jobs s events after) step.unchanged run.2) kept
+    runs jobs past events files after (subst (λ (s : List ArrivalsState). Runs jobs s events after) step.unchanged run.2) kept
 runs jobs past (Took g (Some t) ∷ events) files after run kept =
     let rest = runs jobs past events run.0 after run.2 (kept_by_take kept g t run.1) in
     (rest.0, λ f. grind (arith, append_assoc, taken_next kept g t run.1 f, rest.1 f))
@@ -506,7 +506,7 @@ start jobs = record {
 -- ---- the law
 
 -- after these events the offers have come
-pub offers_held : (jobs : List (List Entry)) (events : List Event) (files : List FileState) → Runs jobs (new_files jobs) events files
+pub offers_held : (jobs : List (List Entry)) (events : List Event) (files : List ArrivalsState) → Runs jobs (new_files jobs) events files
     → HoldsOffered jobs (offers events) files
 offers_held jobs events files run = (runs jobs [] events (new_files jobs) files run (start jobs)).0.offered
 
@@ -594,7 +594,7 @@ each_came jobs got h f k e is =
     contains_from_times o got (grind (arith, h.same_counts (same_job o), job_times o jobs, same_itself e, is))
 
 -- an offer among the jobs that was not offered before
-module _ {jobs : List (List Entry)} {past : List Job} {files : List FileState} (o : Job) (rest : List Job)
+module _ {jobs : List (List Entry)} {past : List Job} {files : List ArrivalsState} (o : Job) (rest : List Job)
     (h : AreJobsInSomeOrder jobs (past ++ o ∷ rest)) (holds : HoldsOffered jobs past files) where
   -- it is refused for nothing
   not_refused : (r : Refusal) → IsRefusedFor jobs files o r → ⊥
@@ -617,12 +617,12 @@ module _ {jobs : List (List Entry)} {past : List Job} {files : List FileState} (
       omega (arith, once, is.1, times_from_contains o past (rw same at w.offered))
 
   -- an offer that is refused for nothing is accepted
-  each_accepted : (after : List FileState) (gave : Result ℕ Refusal) → Offers jobs files o gave after → IsOk gave
+  each_accepted : (after : List ArrivalsState) (gave : Result ℕ Refusal) → Offers jobs files o gave after → IsOk gave
   each_accepted after (Ok ready) step = refl
   each_accepted after (Err r) step = absurd (not_refused r step.cause)
 
 -- if each job was offered, each file has ended
-pub fronts_full : (jobs : List (List Entry)) (past : List Job) (files : List FileState) → AreJobsInSomeOrder jobs past
+pub fronts_full : (jobs : List (List Entry)) (past : List Job) (files : List ArrivalsState) → AreJobsInSomeOrder jobs past
     → HoldsOffered jobs past files → (f : ℕ) → HasEnded (state_of files f)
 fronts_full jobs past files h holds f =
     let arrived = (state_of files f).arrived in

@@ -41,7 +41,7 @@ use Rattle.kalah_jobs.specs.Files.Entry.{entry_to}
 use Rattle.kalah_jobs.specs.declared.files.question.Question.{Question}
 use Rattle.kalah_jobs.specs.Files.JobList.{job_list}
 use Rattle.kalah_jobs.specs.Files.Jobs.{entries_to, jobs_to}
-use Rattle.kalah_jobs.specs.Writing.Output.{line_output, file_output, output_to, is_faulty, tally_of, text_of_line, text_of_file, answer_text_of, output_of_jobs, names_of, is_faulty_job, FilesAreTheirJobs, TallyState}
+use Rattle.kalah_jobs.specs.Writing.Output.{line_output, file_output, output_to, is_faulty, tally_of, text_of_line, text_of_file, taken_output, output_of_jobs, names_of, is_faulty_job, FilesAreTheirJobs, TallyState}
 use Rattle.kalah_jobs.proofs.FilesLemmas.{asked_fault, faulty_jobs, all_entries, count_map, length-job_list, job_count-jobs_to, lines_of-feed, lines_of-byte, length-lines_of}
 use Rattle.kalah_jobs.specs.declared.files.question.Question.TheVariants.{BestMove}
 use Rattle.kalah_jobs.specs.Writing.Splitting.{counted_together, OutputSplitsByFiles, EndsWithItsLine, output_from, tally_in, FilesSplitBetweenLines}
@@ -157,12 +157,11 @@ module _ (old now next : Option (List ℕ)) (bytes rest : List ℕ) (left : IsLe
 -- what writing bytes in parts needs
 pub ruleset parts_written = (left_all, left_whole, left_kept, left_part)
 
--- ==== The lines of moves, one after another
+-- ==== The lines of several moves
 
--- one move more
-pub one_more : (one : ℕ → List ℕ) (moves : List ℕ) (i house : ℕ) → i < length moves → house ≡ get_or moves i 0
+pub one_move_more : (one : ℕ → List ℕ) (moves : List ℕ) (i house : ℕ) → i < length moves → house ≡ get_or moves i 0
     → flat_map one (take (i + 1) moves) ≡ flat_map one (take i moves) ++ one house
-one_more one moves i house within is =
+one_move_more one moves i house within is =
     ap (flat_map one) (take_more moves i 0 within ∙ ap (λ h. take i moves ++ h ∷ []) (sym is))
     ∙ sym (flat_map_more one [] (take i moves) house)
 
@@ -181,25 +180,23 @@ module _ (place : List ℕ) (text : ℕ → List ℕ) where
   abbrev pub joined_lines : List ℕ → List ℕ
   joined_lines moves = join_with_byte line_feed (map (λ t. place ++ t) (map text moves))
 
-  -- where there are some, each with a line feed
-  pub lines_end : (moves : List ℕ) → 0 < length moves →
+  pub lines_end_in_feeds : (moves : List ℕ) → 0 < length moves →
       joined_lines moves ++ line_feed ∷ [] ≡ flat_map (λ h. (place ++ text h) ++ line_feed ∷ []) moves
-  lines_end [] some = absurd (omega (arith, some))
-  lines_end (h ∷ []) some = sym (append-nil ((place ++ text h) ++ line_feed ∷ []))
-  lines_end (h ∷ k ∷ moves) some = simp (append_assoc, lines_end (k ∷ moves) (omega arith))
+  lines_end_in_feeds [] some = absurd (omega (arith, some))
+  lines_end_in_feeds (h ∷ []) some = sym (append-nil ((place ++ text h) ++ line_feed ∷ []))
+  lines_end_in_feeds (h ∷ k ∷ moves) some = simp (append_assoc, lines_end_in_feeds (k ∷ moves) (omega arith))
 
-  -- one line more
-  pub line_more : (moves : List ℕ) (i : ℕ) → i < length moves →
+  pub one_line_more : (moves : List ℕ) (i : ℕ) → i < length moves →
       joined_lines (take (i + 1) moves) ≡ joined_lines (take i moves) ++
       (cond (i == 0) [] (line_feed ∷ []) ++ (place ++ text (get_or moves i 0)))
-  line_more [] i within = absurd (omega (arith, within))
-  line_more (h ∷ moves) zero within = refl
-  line_more (h ∷ []) (suc i) within = absurd (omega (arith, within))
-  line_more (h ∷ k ∷ moves) (suc zero) within = refl
-  line_more (h ∷ k ∷ moves) (suc (suc i)) within =
-      let rest = rw add-one at (line_more (k ∷ moves) (suc i) (omega (arith, within))) in rw add-one (simp (rest, later, append_assoc))
+  one_line_more [] i within = absurd (omega (arith, within))
+  one_line_more (h ∷ moves) zero within = refl
+  one_line_more (h ∷ []) (suc i) within = absurd (omega (arith, within))
+  one_line_more (h ∷ k ∷ moves) (suc zero) within = refl
+  one_line_more (h ∷ k ∷ moves) (suc (suc i)) within =
+      let rest = rw add-one at (one_line_more (k ∷ moves) (suc i) (omega (arith, within))) in rw add-one (simp (rest, later, append_assoc))
 
--- ==== Texts that are given to a sink, one after another
+-- ==== Texts that are given to a sink in sequence
 
 module _ {O : Type 0} (state : O → SinkState) where
   -- no text
@@ -271,7 +268,7 @@ module _ {O : Type 0} (state : O → SinkState) where
     -- the text of one more element was given
     pub given_more : (new : O) (element : ℕ) → i < length elements → element ≡ get_or elements i 0
         → WasGiven state between new (one element) → WasGiven state old new (flat_map one (take (i + 1) elements))
-    given_more new element within is more = subst (WasGiven state old new) (sym (one_more one elements i element within is))
+    given_more new element within is more = subst (WasGiven state old new) (sym (one_move_more one elements i element within is))
         (given_then old between new (flat_map one (take i elements)) (one element) so_far more)
 
     -- a call had failed, so the sink was given all
@@ -291,15 +288,14 @@ module _ (text : ℕ → List ℕ) where
   abbrev pub texts_in_line : List ℕ → List ℕ
   texts_in_line moves = in_one_line (map text moves)
 
-  -- one text more
-  pub text_more : (moves : List ℕ) (i : ℕ) → i < length moves →
+  pub one_text_more : (moves : List ℕ) (i : ℕ) → i < length moves →
       texts_in_line (take (i + 1) moves) ≡ texts_in_line (take i moves) ++ (cond (i == 0) [] (codes "; ") ++ text (get_or moves i 0))
-  text_more [] i within = absurd (omega (arith, within))
-  text_more (h ∷ moves) zero within = refl
-  text_more (h ∷ []) (suc i) within = absurd (omega (arith, within))
-  text_more (h ∷ k ∷ moves) (suc zero) within = refl
-  text_more (h ∷ k ∷ moves) (suc (suc i)) within =
-      let rest = rw add-one at (text_more (k ∷ moves) (suc i) (omega (arith, within))) in rw add-one (simp (rest, later, append_assoc))
+  one_text_more [] i within = absurd (omega (arith, within))
+  one_text_more (h ∷ moves) zero within = refl
+  one_text_more (h ∷ []) (suc i) within = absurd (omega (arith, within))
+  one_text_more (h ∷ k ∷ moves) (suc zero) within = refl
+  one_text_more (h ∷ k ∷ moves) (suc (suc i)) within =
+      let rest = rw add-one at (one_text_more (k ∷ moves) (suc i) (omega (arith, within))) in rw add-one (simp (rest, later, append_assoc))
 
 -- ==== Texts with a byte between any two, put together from the last on
 
@@ -474,34 +470,34 @@ abbrev IsUnder : (ℕ → Taken → List ℕ) → ℕ → List ℕ → Type 0
 IsUnder text n name = (taken : Taken) → text n taken ≡ answer_line name taken ++ line_feed ∷ []
 
 -- the lines of a file from number k on
-lines_told : (question : Question) (text : ℕ → Taken → List ℕ) (n : ℕ) (name : List ℕ) (k : ℕ) (lines : List (List ℕ))
+lines_by_entries : (question : Question) (text : ℕ → Taken → List ℕ) (n : ℕ) (name : List ℕ) (k : ℕ) (lines : List (List ℕ))
     → IsUnder text n name
     → flat_map (line_output question name) (enumerate_from k lines) ≡ flat_map (text_of_line text n)
     (enumerate_from k (map (entry_to question) lines))
-lines_told question text n name k [] under = refl
-lines_told question text n name k (line ∷ lines) under =
+lines_by_entries question text n name k [] under = refl
+lines_by_entries question text n name k (line ∷ lines) under =
     ap₂ (λ (l m : List ℕ). l ++ m) (sym (under (record { line = k; answer = answer_of (entry_to question line) })))
-    (lines_told question text n name (k + 1) lines under)
+    (lines_by_entries question text n name (k + 1) lines under)
 
-file_told : (question : Question) (text : ℕ → Taken → List ℕ) (n : ℕ) (file : NamedBytes) → IsUnder text n file.name
+file_by_entries : (question : Question) (text : ℕ → Taken → List ℕ) (n : ℕ) (file : NamedBytes) → IsUnder text n file.name
     → file_output question file ≡ text_of_file text (n, entries_to question file.bytes)
 unfolding entries_to
-file_told question text n file under = lines_told question text n file.name 0 (lines_of file.bytes) under
+file_by_entries question text n file under = lines_by_entries question text n file.name 0 (lines_of file.bytes) under
 
 -- the files from number n on
-files_told : (question : Question) (text : ℕ → Taken → List ℕ) (n : ℕ) (files : List NamedBytes)
+files_by_entries : (question : Question) (text : ℕ → Taken → List ℕ) (n : ℕ) (files : List NamedBytes)
     → ((m i : ℕ) → m ≡ n + i → i < length files → IsUnder text m (get_or (names_of files) i []))
     → flat_map (file_output question) files ≡ flat_map (text_of_file text) (enumerate_from n (jobs_to question files))
-files_told question text n [] under = refl
-files_told question text n (file ∷ files) under =
-    ap₂ (λ (l m : List ℕ). l ++ m) (file_told question text n file (under n 0 (omega arith) (omega arith)))
-    (files_told question text (n + 1) files (λ m i is low. under m (suc i) (omega arith) (omega arith)))
+files_by_entries question text n [] under = refl
+files_by_entries question text n (file ∷ files) under =
+    ap₂ (λ (l m : List ℕ). l ++ m) (file_by_entries question text n file (under n 0 (omega arith) (omega arith)))
+    (files_by_entries question text (n + 1) files (λ m i is low. under m (suc i) (omega arith) (omega arith)))
 
 same_output : (question : Question) (files : List NamedBytes) →
     output_to question files ≡ output_of_jobs (names_of files) (jobs_to question files)
 unfolding output_to
 same_output question files =
-    files_told question (answer_text_of (names_of files)) 0 files
+    files_by_entries question (taken_output (names_of files)) 0 files
     (λ m i is low taken. ap (λ j. answer_line (get_or (names_of files) j []) taken ++ line_feed ∷ [])
     (let e : m ≡ i = omega arith in e))
 
@@ -538,7 +534,7 @@ same_faults question files = faults_of_files question files ∙ sym (faulty_jobs
 pub files_are_their_jobs : FilesAreTheirJobs
 files_are_their_jobs = record { output = same_output; lines = same_lines; faults = same_faults }
 
--- ==== Files and parts of files, one after another
+-- ==== Files and parts of files in sequence
 
 zero-add : (n : ℕ) → 0 + n ≡ n
 zero-add n = omega arith

@@ -1,4 +1,4 @@
--- What is written if lines come one after another, and each is answered. A reader is seen as the bytes that it has left, and a
+-- What is written if lines come as a stream, and each is answered. A reader is seen as the bytes that it has left, and a
 -- sink as those that were written to it, before and after, if these are known.
 use Rattle.std.specs.Prelude.{◌≡◌, ◌≢◌, ℕ, ◌+◌, ◌<◌, ◌≤◌, List, [], ◌∷◌, ◌++◌, Bool, true, not, IfSome, Option, None, Some, length, take, map}
 use Rattle.std.specs.List.{flat_map, enumerate_from, join_with_byte, list_any}

@@ -4,5 +4,5 @@ pub mod Refusals
 pub mod CollectorEvents
 pub mod CollectorLaw
 pub mod Shares
-pub mod Batch
+pub mod AnyOrder
 pub mod Held

@@ -9,7 +9,7 @@ use Rattle.std.proofs.lemmas.Option.{get_or_from_slice_get, slice_get_within}
 use Rattle.kalah_jobs.specs.Files.JobList.{job_list, jobs_from, file_jobs, line_job, entries_of, entry_at}
 use Rattle.kalah_jobs.specs.declared.files.entry.Entry.TheVariants.{Bad}
 use Rattle.kalah_jobs.specs.declared.line.line_fault.LineFault.TheVariants.{Empty}
-use Rattle.kalah_jobs.specs.Collecting.Batch.{job, AreJobsInSomeOrder}
+use Rattle.kalah_jobs.specs.Collecting.AnyOrder.{job, AreJobsInSomeOrder}
 use Rattle.kalah_run.specs.declared.desk.rule.DrawnRow.{DrawnRow}
 use Rattle.kalah_run.specs.Batch.AtWork.{drawn_jobs, passes_of, puts_of, AreAtWork, HasRun, HaveRun}
 use Rattle.std.specs.Io.KnownBytes.{Appends, Keeps}
@@ -25,16 +25,16 @@ use Rattle.std.proofs.lemmas.Grind.{flat_map-append}
 use Rattle.kalah_jobs.specs.declared.writing.answer.Taken.{Taken}
 use Rattle.kalah_jobs.specs.declared.collecting.refusal.Refusal.{Refusal}
 use Rattle.kalah_jobs.specs.Writing.Answer.{answer_line}
-use Rattle.kalah_jobs.specs.Collecting.CollectorState.{FileState, state_of, front, HasEnded, with_one_taken, new_files, after_take}
+use Rattle.kalah_jobs.specs.Collecting.CollectorState.{ArrivalsState, state_of, front, HasEnded, with_one_taken, new_files, after_take}
 use Rattle.kalah_jobs.specs.Collecting.CollectorEvents.{Offers, Takes, answered_line}
-use Rattle.kalah_jobs.specs.Writing.Output.{text_of_line, text_of_file, text_of_jobs, answer_text_of, output_to, output_of_jobs, names_of, tally_of, TallyState, is_faulty_job}
+use Rattle.kalah_jobs.specs.Writing.Output.{text_of_line, text_of_file, text_of_jobs, taken_output, output_to, output_of_jobs, names_of, tally_of, TallyState, is_faulty_job}
 use Rattle.kalah_jobs.proofs.CollectingLemmas.{state_same, state_other, files_many, lines_are, start, taken_is, new_taken, fronts_full, gets_each_job_once, as_many_as_numbers, kept_by_offer, kept_by_take}
 use Rattle.kalah_jobs.specs.Collecting.Held.{Kept}
 use Rattle.kalah_jobs.specs.Files.Lines.{line_feed}
 use Rattle.kalah_jobs.specs.Files.NamedBytes.{NamedBytes}
 use Rattle.kalah_run.specs.declared.batch.ordered_output.OrderedOutput.{OrderedOutput}
 use Rattle.std.proofs.lemmas.List.Elements.{All-cons, All-map, All-push, All-tail}
-use Rattle.kalah_run.specs.Queue.States.{GetState, HasGot, MayGet, PutState, ArePassesFrom, sent_by, Accounts, outcomes_in}
+use Rattle.kalah_run.specs.Queue.States.{GetPassState, HasGot, MayGet, PutPassState, ArePassesFrom, sent_by, Accounts, outcomes_in}
 use Rattle.kalah_run.specs.Desk.States.{DeskState, PassState, IsPassAt, AreNewPasses, new_pass, drawn_rows}
 use Rattle.kalah_run.specs.declared.batch.worker.Worker.{Worker}
 use Rattle.kalah_run.specs.Batch.Running.{HasOwnTable, HaveOwnTables, IsReadyToRun, MayHaveGot, HasCollected}
@@ -194,37 +194,37 @@ module _ (text : ℕ → Taken → List ℕ) (jobs : List (List Entry)) where
       }
 
 -- a step of a batch that is under way
-module _ {text : ℕ → Taken → List ℕ} {jobs : List (List Entry)} {past : List Job} {files : List FileState} {f : ℕ}
+module _ {text : ℕ → Taken → List ℕ} {jobs : List (List Entry)} {past : List Job} {files : List ArrivalsState} {f : ℕ}
     {begun out : SinkState} (progress : IsUnderWay text jobs past files f begun out) where
   -- A line is taken, and its text passed to the sink.
-  pub wrote_line : (after : List FileState) (t : Taken) (more : SinkState) → Takes files f (Some t) after
+  pub wrote_line : (after : List ArrivalsState) (t : Taken) (more : SinkState) → Takes files f (Some t) after
       → ((given : List ℕ) → WasGivenSince begun out given → WasGivenSince begun more (given ++ text f t))
       → IsUnderWay text jobs past after f begun more
   wrote_line after t more step gives =
       let n : ℕ = (state_of files f).taken in
-      let now : List FileState = after_take files f in
+      let now : List ArrivalsState = after_take files f in
       let other : (g : ℕ) → (g ≡ f → ⊥) → state_of now g ≡ state_of files g =
       λ g np. state_other files f g (with_one_taken (state_of files f)) np in
       let w = progress.kept.offered.only f t.line t.answer step.next_line.came in
       let line : t.line ≡ n = step.next_line.first in
       let at : entry_at jobs f n ≡ Some w.entry = ap (λ k. entry_at jobs f k) (sym line) ∙ w.at in
       let taken : (state_of now f).taken ≡ n + 1 =
-      ap (λ (s : FileState). s.taken) (state_same files f (with_one_taken (state_of files f)) step.file_there) in
+      ap (λ (s : ArrivalsState). s.taken) (state_same files f (with_one_taken (state_of files f)) step.file_there) in
       let text_is : written_upto text jobs f n ++ text f t ≡ written_upto text jobs f (state_of now f).taken =
       ap (λ x. written_upto text jobs f n ++ text f x) (taken_is t n w.entry line w.is)
       ∙ written_line text jobs f n w.entry at
       ∙ ap (λ m. written_upto text jobs f m) (sym taken) in
       let new : IsUnderWay text jobs past now f begun more = record {
-        kept = subst (λ (s : List FileState). Kept jobs past s) step.kept (kept_by_take progress.kept f t step);
-        before = λ g g_low. ap (λ (s : FileState). s.taken) (other g (λ q. omega arith)) ∙ progress.before g g_low;
-        later = λ g g_high. ap (λ (s : FileState). s.taken) (other g (λ q. omega arith)) ∙ progress.later g g_high;
+        kept = subst (λ (s : List ArrivalsState). Kept jobs past s) step.kept (kept_by_take progress.kept f t step);
+        before = λ g g_low. ap (λ (s : ArrivalsState). s.taken) (other g (λ q. omega arith)) ∙ progress.before g g_low;
+        later = λ g g_high. ap (λ (s : ArrivalsState). s.taken) (other g (λ q. omega arith)) ∙ progress.later g g_high;
         written = subst (λ (l : List ℕ). WasGivenSince begun more l) text_is (gives (written_upto text jobs f n) progress.written);
       } in
-      subst (λ (s : List FileState). IsUnderWay text jobs past s f begun more) (sym step.kept) new
+      subst (λ (s : List ArrivalsState). IsUnderWay text jobs past s f begun more) (sym step.kept) new
 
   -- no line is taken
-  pub wrote_nothing : (after : List FileState) → Takes files f None after → IsUnderWay text jobs past after f begun out
-  wrote_nothing after step = subst (λ (s : List FileState). IsUnderWay text jobs past s f begun out) (sym step.unchanged) progress
+  pub wrote_nothing : (after : List ArrivalsState) → Takes files f None after → IsUnderWay text jobs past after f begun out
+  wrote_nothing after step = subst (λ (s : List ArrivalsState). IsUnderWay text jobs past s f begun out) (sym step.unchanged) progress
 
   -- a file is completely written, and the next becomes the current one
   pub wrote_file : f < length files → HasEnded (state_of files f) → front (state_of files f) ≤ (state_of files f).taken
@@ -251,7 +251,7 @@ module _ {text : ℕ → Taken → List ℕ} {jobs : List (List Entry)} {past : 
       }
 
   -- an outcome is offered, and accepted or refused: what was written stays
-  pub progress_offered : (o : Job) (after : List FileState) (gave : Result ℕ Refusal) → Offers jobs files o gave after
+  pub progress_offered : (o : Job) (after : List ArrivalsState) (gave : Result ℕ Refusal) → Offers jobs files o gave after
       → IsUnderWay text jobs (past ++ o ∷ []) after f begun out
   progress_offered o after gave step =
       let now = kept_by_offer progress.kept o gave step in
@@ -334,8 +334,8 @@ new_written begun r new = record {
 }
 
 -- how many lines are ready and were not taken, of all files
-abbrev pub ready_lines : List FileState → ℕ
-ready_lines files = sum_by (λ (s : FileState). front s - s.taken) files
+abbrev pub ready_lines : List ArrivalsState → ℕ
+ready_lines files = sum_by (λ (s : ArrivalsState). front s - s.taken) files
 
 -- ==== Workers put together from their passes, the last one first, and taken apart, the first one first
 
@@ -400,15 +400,15 @@ pub new_at_work : {G : Type 0} {knows : G → ℕ → Bool} (shared : SharedWork
 new_at_work {knows = knows} shared workers count new from unsent = λ k d within.
     let w = get_or workers k d in
     let low : k < count = omega (arith, new.0, length-map workers (λ (x : Worker). x.pass)) in
-    let put_low : k < length (puts_of workers) = omega (arith, length-map workers (λ (x : Worker). x.put)) in
+    let put_low : k < length (puts_of workers) = omega (arith, length-map workers (λ (x : Worker). x.put_pass)) in
     let pass : w.pass ≡ new_pass shared.desk k = sym (get_or-map (λ (x : Worker). x.pass) workers k d w.pass within)
     ∙ new.1 k w.pass low in
-    let put : get_or (puts_of workers) k w.put ≡ w.put = get_or-map (λ (x : Worker). x.put) workers k d w.put within in
+    let put : get_or (puts_of workers) k w.put_pass ≡ w.put_pass = get_or-map (λ (x : Worker). x.put_pass) workers k d w.put_pass within in
     record {
       draws = (ap (λ (p : PassState). p.desk) pass, ap (λ (p : PassState). p.total) pass);
       known = rw pass (λ j e low. absurd (omega arith));
-      sends = ap (λ (p : PutState). p.queue) (sym put) ∙ all_are_of shared.queue.id 0 (puts_of workers) from k w.put put_low;
-      sent = ap (λ (p : PutState). p.sent) (sym put) ∙ unsent k w.put put_low
+      sends = ap (λ (p : PutPassState). p.queue) (sym put) ∙ all_are_of shared.queue.id 0 (puts_of workers) from k w.put_pass put_low;
+      sent = ap (λ (p : PutPassState). p.sent) (sym put) ∙ unsent k w.put_pass put_low
           ∙ sym (ap (λ (p : PassState). drawn_jobs shared.jobs.now p.row.numbers) pass);
     }
 
@@ -456,7 +456,7 @@ sent_in_order shared (x ∷ xs) (suc w) at_work within = sent_in_order shared xs
 -- Each number below the count of those drawn stands in the rows once, the pairs that were got and those left inside account for what was
 -- sent, and as many were got as there are jobs: so each job was got once.
 pub each_job_got : {G : Type 0} {knows : G → ℕ → Bool} {shared : SharedWork G} {before after : List Worker}
-    {count drawn left : ℕ} {puts : List PutState} {jobs : List (List Entry)} (run : HaveRun knows shared before after) (got : List (ℕ × Job))
+    {count drawn left : ℕ} {puts : List PutPassState} {jobs : List (List Entry)} (run : HaveRun knows shared before after) (got : List (ℕ × Job))
     → count ≡ length before → DealsEachOnce (job_count shared.jobs.now) drawn (drawn_rows (passes_of after)) → puts ≡ puts_of after
     → (rest : List (ℕ × Job)) × (length rest ≡ left) × Accounts count (sent_by puts) (got ++ rest)
     → jobs ≡ shared.jobs.now → length got ≡ job_count jobs → AreJobsInSomeOrder jobs (outcomes_in got)
@@ -469,7 +469,7 @@ each_job_got {shared = shared} {before} {after = workers} {count} {drawn} run go
     let row_count : length rows ≡ length workers = length-drawn_numbers (passes_of workers)
     ∙ length-map workers (λ (w : Worker). w.pass) in
     let sent_count : length (sent_by (puts_of workers)) ≡ length workers =
-    length-map (puts_of workers) (λ (p : PutState). p.sent) ∙ length-map workers (λ (w : Worker). w.put) in
+    length-map (puts_of workers) (λ (p : PutPassState). p.sent) ∙ length-map workers (λ (w : Worker). w.put_pass) in
     let row_workers : count ≡ length rows = each ∙ sym run.as_many ∙ sym row_count in
     let are_shared : AreShared drawn (job jobs) rows (got ++ rest) = record {
       each_once = deals.each_once;
@@ -607,7 +607,7 @@ new_left desk number (Some p) new = rw new ((refl, refl), refl)
 
 -- A new batch is ready to run: `count` workers with the new passes, and with room in the two lists from which these were taken.
 pub ready_to_run : {G : Type 0} {knows : G → ℕ → Bool} (b : OpenBatch G) {count places room puts_room : ℕ} {passes : List PassState}
-    (fewer : ℕ) (puts : List PutState) → count ≡ max fewer 1 → passes_of b.workers.items ≡ passes → AreNewPasses b.shared.desk count passes
+    (fewer : ℕ) (puts : List PutPassState) → count ≡ max fewer 1 → passes_of b.workers.items ≡ passes → AreNewPasses b.shared.desk count passes
     → puts_of b.workers.items ≡ puts → (places ≡ count) × ArePassesFrom b.shared.queue.id 0 puts × All (λ p. p.sent ≡ []) puts
     → (places ≡ length puts) × (places ≤ puts_room) → IfSome b.caller.rest_pass (λ pass. pass ≡ new_pass b.shared.desk count)
     → count + length (pass_in b.caller.rest_pass) ≡ b.shared.desk.passes
@@ -626,7 +626,7 @@ ready_to_run b {count} fewer puts some are new are_puts opened fits left all get
       drawn = (new_left b.shared.desk count b.caller.rest_pass left).1;
       at_work = new_at_work b.shared b.workers.items count (rw are new) from (rw are_puts opened.2);
       puts = from;
-      get = get ∙ ap (λ n. let p : GetState = record { queue = queue; workers = n; got = [] } in p) (sym many);
+      get = get ∙ ap (λ n. let p : GetPassState = record { queue = queue; workers = n; got = [] } in p) (sym many);
       output = output;
       jobs = jobs;
       room = record { empty = empty; passes = omega (arith, many, same, room); puts = omega (arith, many, same, opened.0, fits) };
@@ -661,10 +661,10 @@ module _ {G : Type 0} {knows : G → ℕ → Bool} {shared : SharedWork G} {befo
   own_back (Some p) own is = rw is (All-push (IsPassAt shared.desk) (passes_of after) p (run_passes shared before after run) own)
 
   -- all passes to put are back, each in its place
-  pub puts_back : {len count : ℕ} {puts : List PutState} → len ≡ length puts → puts ≡ puts_of after → count ≡ length before
+  pub puts_back : {len count : ℕ} {puts : List PutPassState} → len ≡ length puts → puts ≡ puts_of after → count ≡ length before
       → ArePassesFrom shared.queue.id 0 (puts_of before) → (len ≡ count) × ArePassesFrom shared.queue.id 0 puts
   puts_back many is count from = (
-    omega (arith, many, ap (λ (l : List PutState). length l) is, length-map after (λ (w : Worker). w.put), run.as_many, count),
+    omega (arith, many, ap (λ (l : List PutPassState). length l) is, length-map after (λ (w : Worker). w.put_pass), run.as_many, count),
     rw is (puts_after shared before after 0 run from),
   )
 
@@ -716,10 +716,10 @@ none_collected {output = output} {begun = begun} none own new writes = record {
   progress = rw none (writes output.files.now output.jobs.now [] begun (new_written begun output new));
 }
 
-pub one_longer : (before : GetState) {after : GetState} (outcome : Job) → HasGot before outcome after
+pub one_longer : (before : GetPassState) {after : GetPassState} (outcome : Job) → HasGot before outcome after
     → length after.got ≡ length before.got + 1
 one_longer before outcome has_got =
-    ap (λ (p : GetState). length p.got) has_got.2 ∙ length-append before.got ((has_got.0, outcome) ∷ [])
+    ap (λ (p : GetPassState). length p.got) has_got.2 ∙ length-append before.got ((has_got.0, outcome) ∷ [])
 
 -- what was collected before an outcome was got, or none
 module _ {desk : DeskState} {Ended : Type 0} {output r : OrderedOutput} {begun out later : SinkState} {before now next : CallerPasses}
@@ -734,10 +734,10 @@ module _ {desk : DeskState} {Ended : Type 0} {output r : OrderedOutput} {begun o
       let is = got.got.2 in
       let was = still_written got.keeps got.sound so_far.progress.0 in
       let more_got : outcomes_in next.get_pass.got ≡ outcomes_in now.get_pass.got ++ outcome ∷ [] =
-      ap (λ (p : GetState). outcomes_in p.got) is ∙ map-append (λ (p : ℕ × Job). p.1) now.get_pass.got ((got.got.0, outcome) ∷ []) in
+      ap (λ (p : GetPassState). outcomes_in p.got) is ∙ map-append (λ (p : ℕ × Job). p.1) now.get_pass.got ((got.got.0, outcome) ∷ []) in
       record {
-        queue = ap (λ (p : GetState). p.queue) is ∙ so_far.queue;
-        workers = ap (λ (p : GetState). p.workers) is ∙ so_far.workers;
+        queue = ap (λ (p : GetPassState). p.queue) is ∙ so_far.queue;
+        workers = ap (λ (p : GetPassState). p.workers) is ∙ so_far.workers;
         draws = draws_still _ sound (draws_on (draws_still _ got.sound so_far.draws) got.draws);
         progress = rw more_got (writes _ _ _ _ (record {
           of_files = files ∙ was.of_files;
@@ -751,8 +751,8 @@ module _ {desk : DeskState} {Ended : Type 0} {output r : OrderedOutput} {begun o
       → AreCollected desk output begun later before next r × IsLeft (rest_of before.rest_pass) later.has_failed
   rest_left got = (
     record {
-      queue = ap (λ (p : GetState). p.queue) got.got ∙ so_far.queue;
-      workers = ap (λ (p : GetState). p.workers) got.got ∙ so_far.workers;
+      queue = ap (λ (p : GetPassState). p.queue) got.got ∙ so_far.queue;
+      workers = ap (λ (p : GetPassState). p.workers) got.got ∙ so_far.workers;
       draws = draws_on (draws_still _ got.sound so_far.draws) got.draws;
       progress = (rw got.got (still_written got.keeps got.sound so_far.progress.0), so_far.progress.1);
     },
@@ -833,8 +833,8 @@ module _ (question : Question) (files : List NamedBytes) (none : lines_in_all fi
   no_output : output_to question files ≡ []
   no_output =
       files_are_their_jobs.output question files
-      ∙ sym (texts_from (answer_text_of (names_of files)) (jobs_to question files) 0 (jobs_to question files))
-      ∙ ap (flat_map (text_of_job (answer_text_of (names_of files)))) no_jobs
+      ∙ sym (texts_from (taken_output (names_of files)) (jobs_to question files) 0 (jobs_to question files))
+      ∙ ap (flat_map (text_of_job (taken_output (names_of files)))) no_jobs
 
   -- if there is no line, nothing was written
   pub given_no_output : (begun : SinkState) → WasGivenSince begun begun (output_to question files)

@@ -11,7 +11,7 @@ use Rattle.kalah_run.proofs.ViewLemmas.{Each, each_more, each_set, in_views, was
 use Rattle.kalah_run.specs.declared.queue.rule.QueueView.{QueueView}
 use Rattle.kalah_run.specs.declared.queue.rule.QueueView.TheVariants.{Getting, Putting, Ended}
 use Rattle.atomic_table.specs.Seated.{TableId}
-use Rattle.kalah_run.specs.Queue.States.{PutState, ArePassesFrom, Accounts, outcomes_in}
+use Rattle.kalah_run.specs.Queue.States.{PutPassState, ArePassesFrom, Accounts, outcomes_in}
 use Rattle.crossbeam_queue.specs.Fifo.{Pushes, Pops, Forks, Held, Merges, Learns}
 use Rattle.kalah_run.specs.Queue.Rule.{Fits, FitsPut, FitsGet, IsLawful, IsWholeAndInOrder, first_view, after_making_one, one_made, after_put, after_reclaiming_sent, IsGot, Tells}
 
@@ -21,11 +21,10 @@ joined : (b : Bool) (x : Job) (xs ys : List Job) → (if b then x ∷ (xs ++ ys)
 joined true x xs ys = refl
 joined false x xs ys = refl
 
--- lists of pairs are joined worker by worker
-pub of_append : (w : ℕ) (xs ys : List (ℕ × Job)) → sent_by_worker w (xs ++ ys) ≡ sent_by_worker w xs ++ sent_by_worker w ys
-of_append w [] ys = refl
-of_append w (t ∷ ts) ys =
-    ap (λ (l : List Job). if t.0 == w then t.1 ∷ l else l) (of_append w ts ys)
+pub sent_by_worker-append : (w : ℕ) (xs ys : List (ℕ × Job)) → sent_by_worker w (xs ++ ys) ≡ sent_by_worker w xs ++ sent_by_worker w ys
+sent_by_worker-append w [] ys = refl
+sent_by_worker-append w (t ∷ ts) ys =
+    ap (λ (l : List Job). if t.0 == w then t.1 ∷ l else l) (sent_by_worker-append w ts ys)
     ∙ joined (t.0 == w) t.1 (sent_by_worker w ts) (sent_by_worker w ys)
 
 own_pair : (w : ℕ) (t : ℕ × Job) → t.0 ≡ w → sent_by_worker w (t ∷ []) ≡ t.1 ∷ []
@@ -34,25 +33,22 @@ own_pair w t e = ap (λ (b : Bool). if b then t.1 ∷ [] else []) (eq-eqb t.0 w 
 other_pair : (w : ℕ) (t : ℕ × Job) (l : List Job) → t.0 ≢ w → (if t.0 == w then t.1 ∷ l else l) ≡ l
 other_pair w t l e = ap (λ (b : Bool). if b then t.1 ∷ l else l) (ne_eqb t.0 w e)
 
--- the worker's own pair goes after what it sent
-pub of_more : (w : ℕ) (xs : List (ℕ × Job)) (t : ℕ × Job) → t.0 ≡ w
+pub own_pair_goes_last : (w : ℕ) (xs : List (ℕ × Job)) (t : ℕ × Job) → t.0 ≡ w
     → sent_by_worker w (xs ++ t ∷ []) ≡ sent_by_worker w xs ++ t.1 ∷ []
-of_more w xs t e = of_append w xs (t ∷ []) ∙ ap (λ (l : List Job). sent_by_worker w xs ++ l) (own_pair w t e)
+own_pair_goes_last w xs t e = sent_by_worker-append w xs (t ∷ []) ∙ ap (λ (l : List Job). sent_by_worker w xs ++ l) (own_pair w t e)
 
--- another worker's pair changes nothing
-pub of_same : (w : ℕ) (xs : List (ℕ × Job)) (t : ℕ × Job) → t.0 ≢ w
+pub other_pair_changes_nothing : (w : ℕ) (xs : List (ℕ × Job)) (t : ℕ × Job) → t.0 ≢ w
     → sent_by_worker w (xs ++ t ∷ []) ≡ sent_by_worker w xs
-of_same w xs t e =
-    of_append w xs (t ∷ [])
+other_pair_changes_nothing w xs t e =
+    sent_by_worker-append w xs (t ∷ [])
     ∙ (ap (λ (l : List Job). sent_by_worker w xs ++ l) (other_pair w t [] e) ∙ append-nil (sent_by_worker w xs))
 
--- a worker beyond all has no pair
-pub of_none : (workers w : ℕ) (xs : List (ℕ × Job)) → All (λ (t : ℕ × Job). t.0 < workers) xs → workers ≤ w
+pub no_pair_beyond_workers : (workers w : ℕ) (xs : List (ℕ × Job)) → All (λ (t : ℕ × Job). t.0 < workers) xs → workers ≤ w
     → sent_by_worker w xs ≡ []
-of_none workers w [] below le = refl
-of_none workers w (t ∷ ts) below le =
+no_pair_beyond_workers workers w [] below le = refl
+no_pair_beyond_workers workers w (t ∷ ts) below le =
     let h : t.0 < workers = below 0 t (omega arith) in
-    other_pair w t (sent_by_worker w ts) (λ e. omega arith) ∙ of_none workers w ts (λ k d lt. below (suc k) d (omega arith)) le
+    other_pair w t (sent_by_worker w ts) (λ e. omega arith) ∙ no_pair_beyond_workers workers w ts (λ k d lt. below (suc k) d (omega arith)) le
 
 -- of pairs that are all of workers, the one that comes next is
 pub next_below : (workers : ℕ) (taken : List (ℕ × Job)) (t : ℕ × Job) (rest : List (ℕ × Job))
@@ -82,7 +78,7 @@ pub accounts_pair : (workers : ℕ) (known : List (List Job)) (pairs : List (ℕ
 accounts_pair workers known pairs x lt le h =
     record {
       below = All-push (λ (t : ℕ × Job). t.0 < workers) pairs x h.below lt;
-      whole = λ w b. let ne : x.0 ≢ w = (λ q. omega arith) in of_same w pairs x ne ∙ h.whole w b;
+      whole = λ w b. let ne : x.0 ≢ w = (λ q. omega arith) in other_pair_changes_nothing w pairs x ne ∙ h.whole w b;
     }
 
 -- a worker more
@@ -109,14 +105,14 @@ known_in (Getting made got known) = known
 known_in _ = []
 
 -- the pass of the next worker goes last
-pub one_pass_more : (id : TableId) (n : ℕ) (ps : List PutState) (p : PutState) → ArePassesFrom id n ps → p.queue ≡ id
+pub one_pass_more : (id : TableId) (n : ℕ) (ps : List PutPassState) (p : PutPassState) → ArePassesFrom id n ps → p.queue ≡ id
     → p.number ≡ n + length ps
     → ArePassesFrom id n (ps ++ p ∷ [])
 one_pass_more id n [] p h q is = (q, omega arith, tt)
 one_pass_more id n (x ∷ xs) p h q is = (h.0, h.1, one_pass_more id (suc n) xs p h.2 q (omega arith))
 
 -- the passes to put to one queue are all of that queue
-pub all_are_of : (id : TableId) (n : ℕ) (ps : List PutState) → ArePassesFrom id n ps → All (λ p. p.queue ≡ id) ps
+pub all_are_of : (id : TableId) (n : ℕ) (ps : List PutPassState) → ArePassesFrom id n ps → All (λ p. p.queue ≡ id) ps
 all_are_of id n [] h k d lt = absurd (omega arith)
 all_are_of id n (x ∷ xs) h zero d lt = h.0
 all_are_of id n (x ∷ xs) h (suc k) d lt = all_are_of id (suc n) xs h.2 k d (omega arith)
@@ -177,7 +173,7 @@ module _ {items : List Job} {views : List QueueView} (h : IsLawful items views) 
   fits_more x place_is within running j (Putting number sent) other at =
       let fit : FitsPut pairs h.closed j number sent = h.fits j _ at in
       let ne : x.0 ≢ number = (λ q. other (fit.place_is ∙ (ap suc (sym q) ∙ sym place_is))) in
-      record { place_is = fit.place_is; running = fit.running; all_sent = fit.all_sent ∙ sym (of_same number pairs x ne) }
+      record { place_is = fit.place_is; running = fit.running; all_sent = fit.all_sent ∙ sym (other_pair_changes_nothing number pairs x ne) }
   fits_more x place_is within running j (Getting made got known) other at =
       let fit : FitsGet pairs h.taken h.closed (length views) j made got known = h.fits j _ at in
       record {
@@ -219,7 +215,7 @@ puts n place x {number} {sent} e = rw e (λ items views room h at.
     record {
       place_is = mine.place_is;
       running = mine.running;
-      all_sent = ap (λ (l : List Job). l ++ x ∷ []) mine.all_sent ∙ sym (of_more number (pairs h) pair refl);
+      all_sent = ap (λ (l : List Job). l ++ x ∷ []) mine.all_sent ∙ sym (own_pair_goes_last number (pairs h) pair refl);
     } in
     let within : place < length views = in_views views place (Putting number sent) at in
     let all = each_set (Fits (pairs h ++ pair ∷ []) h.taken h.closed (length views)) views place w fits
@@ -290,7 +286,7 @@ forks place {made = made} {got} e = rw e (λ items views h at.
     } in
     let old = each_set F views place left fits (fits_others h h.taken (made + 2) mine.foremost) in
     let fresh : FitsPut (pairs h) h.closed (length vs) made [] =
-    record { place_is = omega arith; running = omega arith; all_sent = sym (of_none made made _ mine.accounts.below (omega arith)) } in
+    record { place_is = omega arith; running = omega arith; all_sent = sym (no_pair_beyond_workers made made _ mine.accounts.below (omega arith)) } in
     let longer : length (vs ++ Putting made [] ∷ []) ≡ length vs + 1 = length_push vs (Putting made []) in
     let got_now : left ≡ Getting (made + 1) h.taken [] = ap (λ (l : List (ℕ × Job)). Getting (made + 1) l []) mine.all_got in
     let first = at_longer vs (Putting made [] ∷ []) 0 _

@@ -7,38 +7,38 @@ use Rattle.kalah_jobs.specs.declared.collecting.refusal.Refusal.{Refusal}
 use Rattle.kalah_jobs.specs.Writing.Answer.{answer_of}
 use Rattle.kalah_jobs.specs.declared.files.job.Job.{Job}
 use Rattle.kalah_jobs.specs.Files.JobList.{entries_of, entry_at, line_job}
-use Rattle.kalah_jobs.specs.Collecting.CollectorState.{FileState, state_of, front, IsNext, HasNoNext, after_offer, after_take}
+use Rattle.kalah_jobs.specs.Collecting.CollectorState.{ArrivalsState, state_of, front, IsNext, HasNoNext, after_offer, after_take}
 use Rattle.kalah_jobs.specs.Collecting.Refusals.{IsWanted, IsRefusedFor}
 
 -- an offer is accepted: the answer of its entry is kept, and `ready` lines of its file became ready
-pub record Accepts (jobs : List (List Entry)) (files : List FileState) (o : Job) (ready : ℕ) (after : List FileState) : Type 0 where
+pub record Accepts (jobs : List (List Entry)) (files : List ArrivalsState) (o : Job) (ready : ℕ) (after : List ArrivalsState) : Type 0 where
   pub wanted : IsWanted jobs files o
   pub kept : after ≡ after_offer files o.file o.line (answer_of o.entry)
   pub more_ready : front (state_of after o.file) ≡ front (state_of files o.file) + ready
 
 -- an offer is refused: for the first refusal that holds, and nothing is changed
-pub record Refuses (jobs : List (List Entry)) (files : List FileState) (o : Job) (refusal : Refusal) (after : List FileState) : Type 0 where
+pub record Refuses (jobs : List (List Entry)) (files : List ArrivalsState) (o : Job) (refusal : Refusal) (after : List ArrivalsState) : Type 0 where
   pub cause : IsRefusedFor jobs files o refusal
   pub unchanged : after ≡ files
 
 -- the result of an offer, and the files after it
-abbrev pub Offers : List (List Entry) → List FileState → Job → Result ℕ Refusal → List FileState → Type 0
+abbrev pub Offers : List (List Entry) → List ArrivalsState → Job → Result ℕ Refusal → List ArrivalsState → Type 0
 Offers jobs files o gave after = MatchResult gave (λ ready. Accepts jobs files o ready after)
     (λ refusal. Refuses jobs files o refusal after)
 
 -- a take returns the next line of the file
-pub record Gives (files : List FileState) (f : ℕ) (gave : Taken) (after : List FileState) : Type 0 where
+pub record Gives (files : List ArrivalsState) (f : ℕ) (gave : Taken) (after : List ArrivalsState) : Type 0 where
   pub file_there : f < length files
   pub next_line : IsNext (state_of files f) gave
   pub kept : after ≡ after_take files f
 
 -- a take returns nothing, and nothing is changed
-pub record GivesNothing (files : List FileState) (f : ℕ) (after : List FileState) : Type 0 where
+pub record GivesNothing (files : List ArrivalsState) (f : ℕ) (after : List ArrivalsState) : Type 0 where
   pub none_ready : HasNoNext (state_of files f)
   pub unchanged : after ≡ files
 
 -- the result of a take of file f, and the files after it
-abbrev pub Takes : List FileState → ℕ → Option Taken → List FileState → Type 0
+abbrev pub Takes : List ArrivalsState → ℕ → Option Taken → List ArrivalsState → Type 0
 Takes files f gave after = MatchOption gave (GivesNothing files f after) (λ taken. Gives files f taken after)
 
 -- an offer with the answer to it, or a take of a file with its result

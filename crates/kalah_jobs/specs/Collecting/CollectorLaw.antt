@@ -2,22 +2,22 @@
 use Rattle.std.specs.Prelude.{◌≡◌, ℕ, ◌≤◌, ◌↔◌, List, [], ◌∷◌, take, IsSome}
 use Rattle.kalah_jobs.specs.declared.files.entry.Entry.{Entry}
 use Rattle.kalah_jobs.specs.Files.JobList.{entries_of}
-use Rattle.kalah_jobs.specs.Collecting.CollectorState.{FileState, state_of, new_files, front, came_for, HasLinesOf}
+use Rattle.kalah_jobs.specs.Collecting.CollectorState.{ArrivalsState, state_of, new_files, front, came_for, HasLinesOf}
 use Rattle.kalah_jobs.specs.Collecting.CollectorEvents.{Event, Offered, Took, Offers, Takes, takes, Came, IsFront, answered_lines}
 
 -- the files after an event
-abbrev pub Happens : List (List Entry) → List FileState → Event → List FileState → Type 0
+abbrev pub Happens : List (List Entry) → List ArrivalsState → Event → List ArrivalsState → Type 0
 Happens jobs files (Offered o gave) after = Offers jobs files o gave after
 Happens jobs files (Took f gave) after = Takes files f gave after
 
 -- one event after the other
-abbrev pub Runs : List (List Entry) → List FileState → List Event → List FileState → Type 0
+abbrev pub Runs : List (List Entry) → List ArrivalsState → List Event → List ArrivalsState → Type 0
 Runs jobs files [] after = files ≡ after
-Runs jobs files (e ∷ events) after = (between : List FileState) × Happens jobs files e between × Runs jobs between events after
+Runs jobs files (e ∷ events) after = (between : List ArrivalsState) × Happens jobs files e between × Runs jobs between events after
 
 -- The files are as the events determine: they have the jobs' lines, those came that were offered with their entry, each file is ready
 -- as far as they came without a gap, and what was taken are its first lines, each with the answer of its entry.
-pub record Meets (jobs : List (List Entry)) (events : List Event) (files : List FileState) : Type 0 where
+pub record Meets (jobs : List (List Entry)) (events : List Event) (files : List ArrivalsState) : Type 0 where
   pub counts : HasLinesOf jobs files
   pub came : (f k : ℕ) → IsSome (came_for (state_of files f) k) ↔ Came jobs events f k
   pub furthest : (f : ℕ) → IsFront jobs events f (front (state_of files f))
@@ -26,5 +26,5 @@ pub record Meets (jobs : List (List Entry)) (events : List Event) (files : List 
 
 -- the law, over every list of offers and takes
 abbrev pub KeepsItsLaw : Type 0
-KeepsItsLaw = (jobs : List (List Entry)) (events : List Event) (files : List FileState) → Runs jobs (new_files jobs) events files
+KeepsItsLaw = (jobs : List (List Entry)) (events : List Event) (files : List ArrivalsState) → Runs jobs (new_files jobs) events files
     → Meets jobs events files

@@ -5,16 +5,16 @@ use Rattle.kalah_jobs.specs.declared.writing.answer.Taken.{Taken}
 use Rattle.kalah_jobs.specs.declared.files.entry.Entry.{Entry}
 
 -- Of a file: for each of its lines the answer that came for it, if one came; and how many answers were taken, from the first line on.
-pub record FileState : Type 0 where
+pub record ArrivalsState : Type 0 where
   pub arrived : List (Option Answer)
   pub taken : ℕ
 
 -- the number of lines of the file
-abbrev pub line_count : FileState → ℕ
+abbrev pub line_count : ArrivalsState → ℕ
 line_count s = length s.arrived
 
 -- the answer that came for line k, if one came
-abbrev pub came_for : FileState → ℕ → Option Answer
+abbrev pub came_for : ArrivalsState → ℕ → Option Answer
 came_for s k = slice_index_or s.arrived k None
 
 -- the number of lines before the first that is missing
@@ -24,55 +24,55 @@ front_of (None ∷ rest) = 0
 front_of (Some answer ∷ rest) = front_of rest + 1
 
 -- the number of lines that are ready or taken
-abbrev pub front : FileState → ℕ
+abbrev pub front : ArrivalsState → ℕ
 front s = front_of s.arrived
 
 -- every line is ready or taken; a file with no lines has ended from the start
-abbrev pub HasEnded : FileState → Type 0
+abbrev pub HasEnded : ArrivalsState → Type 0
 HasEnded s = front s ≡ line_count s
 
 -- a file of n lines with no answer yet
-abbrev pub new_file : ℕ → FileState
+abbrev pub new_file : ℕ → ArrivalsState
 new_file n = record { arrived = replicate n None; taken = 0 }
 
 -- the state of a file that is not there
-abbrev pub no_file : FileState
+abbrev pub no_file : ArrivalsState
 no_file = record { arrived = []; taken = 0 }
 
 -- the state of file f
-abbrev pub state_of : List FileState → ℕ → FileState
+abbrev pub state_of : List ArrivalsState → ℕ → ArrivalsState
 state_of files f = slice_index_or files f no_file
 
 -- files to which nothing has come, with a line for each entry
-abbrev pub new_files : List (List Entry) → List FileState
+abbrev pub new_files : List (List Entry) → List ArrivalsState
 new_files jobs = map (λ entries. new_file (length entries)) jobs
 
 -- the files have as many lines as the jobs
-abbrev pub HasLinesOf : List (List Entry) → List FileState → Type 0
+abbrev pub HasLinesOf : List (List Entry) → List ArrivalsState → Type 0
 HasLinesOf jobs files = map line_count files ≡ map length jobs
 
 -- the file with an answer for line k
-abbrev pub with_answer : FileState → ℕ → Answer → FileState
+abbrev pub with_answer : ArrivalsState → ℕ → Answer → ArrivalsState
 with_answer s k a = record { arrived = slice_set s.arrived k (Some a); taken = s.taken }
 
 -- the file with one line more taken
-abbrev pub with_one_taken : FileState → FileState
+abbrev pub with_one_taken : ArrivalsState → ArrivalsState
 with_one_taken s = record { arrived = s.arrived; taken = s.taken + 1 }
 
 -- the line is the first of the file that was not taken, it is ready, and it has the answer that came for it
-pub record IsNext (s : FileState) (gave : Taken) : Type 0 where
+pub record IsNext (s : ArrivalsState) (gave : Taken) : Type 0 where
   pub ready : s.taken < front s
   pub first : gave.line ≡ s.taken
   pub came : came_for s gave.line ≡ Some gave.answer
 
 -- no line of the file is ready that was not taken
-abbrev pub HasNoNext : FileState → Type 0
+abbrev pub HasNoNext : ArrivalsState → Type 0
 HasNoNext s = front s ≤ s.taken
 
 -- the files with an answer for line k of file f
-abbrev pub after_offer : List FileState → ℕ → ℕ → Answer → List FileState
+abbrev pub after_offer : List ArrivalsState → ℕ → ℕ → Answer → List ArrivalsState
 after_offer files f k a = slice_set files f (with_answer (state_of files f) k a)
 
 -- the files with one line more taken of file f
-abbrev pub after_take : List FileState → ℕ → List FileState
+abbrev pub after_take : List ArrivalsState → ℕ → List ArrivalsState
 after_take files f = slice_set files f (with_one_taken (state_of files f))

@@ -5,30 +5,30 @@ use Rattle.kalah_jobs.specs.declared.collecting.refusal.Refusal.{Refusal}
 use Rattle.kalah_jobs.specs.declared.collecting.refusal.Refusal.TheVariants.{NoSuchFile, FileEnded, NoSuchLine, WrongPosition, Double}
 use Rattle.kalah_jobs.specs.declared.files.job.Job.{Job}
 use Rattle.kalah_jobs.specs.Files.JobList.{entry_at}
-use Rattle.kalah_jobs.specs.Collecting.CollectorState.{FileState, state_of, line_count, came_for, HasEnded}
+use Rattle.kalah_jobs.specs.Collecting.CollectorState.{ArrivalsState, state_of, line_count, came_for, HasEnded}
 
 -- the offer is of a file that is there
-abbrev pub HasFile : List FileState → Job → Type 0
+abbrev pub HasFile : List ArrivalsState → Job → Type 0
 HasFile files o = o.file < length files
 
 -- the offer is of a file that is there and has not ended
-abbrev pub HasOpenFile : List FileState → Job → Type 0
+abbrev pub HasOpenFile : List ArrivalsState → Job → Type 0
 HasOpenFile files o = HasFile files o × ¬ HasEnded (state_of files o.file)
 
 -- the offer is of a file that has not ended, and of a line of it
-abbrev pub HasLine : List FileState → Job → Type 0
+abbrev pub HasLine : List ArrivalsState → Job → Type 0
 HasLine files o = HasOpenFile files o × (o.line < line_count (state_of files o.file))
 
 -- the offer is of such a line, and has its entry
-abbrev pub HasEntry : List (List Entry) → List FileState → Job → Type 0
+abbrev pub HasEntry : List (List Entry) → List ArrivalsState → Job → Type 0
 HasEntry jobs files o = HasLine files o × (entry_at jobs o.file o.line ≡ Some o.entry)
 
 -- the offer has its line's entry, and is the first of it: none of the refusals holds
-abbrev pub IsWanted : List (List Entry) → List FileState → Job → Type 0
+abbrev pub IsWanted : List (List Entry) → List ArrivalsState → Job → Type 0
 IsWanted jobs files o = HasEntry jobs files o × (came_for (state_of files o.file) o.line ≡ None)
 
 -- the refusal holds, and none of those before it
-abbrev pub IsRefusedFor : List (List Entry) → List FileState → Job → Refusal → Type 0
+abbrev pub IsRefusedFor : List (List Entry) → List ArrivalsState → Job → Refusal → Type 0
 IsRefusedFor jobs files o NoSuchFile = length files ≤ o.file
 IsRefusedFor jobs files o FileEnded = HasFile files o × HasEnded (state_of files o.file)
 IsRefusedFor jobs files o NoSuchLine = HasOpenFile files o × (line_count (state_of files o.file) ≤ o.line)
@@ -37,7 +37,7 @@ IsRefusedFor jobs files o Double = HasEntry jobs files o × IsSome (came_for (st
 
 -- An offer that is wanted meets no refusal, and no offer meets two: so each is answered in one way only.
 pub record AnswersInOneWay : Type 0 where
-  pub wanted : (jobs : List (List Entry)) (files : List FileState) (o : Job) (r : Refusal) → IsWanted jobs files o
+  pub wanted : (jobs : List (List Entry)) (files : List ArrivalsState) (o : Job) (r : Refusal) → IsWanted jobs files o
       → IsRefusedFor jobs files o r → ⊥
-  pub one : (jobs : List (List Entry)) (files : List FileState) (o : Job) (q r : Refusal) → IsRefusedFor jobs files o q →
+  pub one : (jobs : List (List Entry)) (files : List ArrivalsState) (o : Job) (q r : Refusal) → IsRefusedFor jobs files o q →
       IsRefusedFor jobs files o r → q ≡ r

@@ -8,7 +8,7 @@ line_feed = 10
 abbrev pub HasNoLineFeed : List ℕ → Type 0
 HasNoLineFeed piece = All (λ byte. byte ≢ line_feed) piece
 
--- the pieces one after another, each followed by a line feed
+-- the pieces in order, each followed by a line feed
 abbrev pub with_line_feeds : List (List ℕ) → List ℕ
 with_line_feeds pieces = flat_map (λ piece. piece ++ line_feed ∷ []) pieces
 

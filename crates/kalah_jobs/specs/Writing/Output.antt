@@ -63,12 +63,12 @@ abbrev pub text_of_jobs : (ℕ → Taken → List ℕ) → List (List Entry) →
 text_of_jobs text jobs = flat_map (text_of_file text) (enumerate_from 0 jobs)
 
 -- the answer line of what is taken of file f, followed by a line feed
-abbrev pub answer_text_of : List (List ℕ) → ℕ → Taken → List ℕ
-answer_text_of names f taken = answer_line (slice_index_or names f []) taken ++ line_feed ∷ []
+abbrev pub taken_output : List (List ℕ) → ℕ → Taken → List ℕ
+taken_output names f taken = answer_line (slice_index_or names f []) taken ++ line_feed ∷ []
 
 -- for each job in order its answer line, if the files have these names
 abbrev pub output_of_jobs : List (List ℕ) → List (List Entry) → List ℕ
-output_of_jobs names jobs = text_of_jobs (answer_text_of names) jobs
+output_of_jobs names jobs = text_of_jobs (taken_output names) jobs
 
 -- the names of files
 abbrev pub names_of : List NamedBytes → List (List ℕ)

@@ -17,10 +17,10 @@ pub(crate) struct Arrivals {
 
 impl Model for Arrivals {
     ghost use Rattle.std.specs.Prelude.{◌≡◌, ◌≤◌, length};
-    ghost use Rattle.kalah_jobs.specs.Collecting.CollectorState.{FileState, front_of};
+    ghost use Rattle.kalah_jobs.specs.Collecting.CollectorState.{ArrivalsState, front_of};
     ghost use Rattle.kalah_jobs.specs.Limits.{most_lines};
 
-    ghost Value = { FileState };
+    ghost Value = { ArrivalsState };
 
     ghost view = { λ a. record { arrived = a.slots.items; taken = a.taken } };
 

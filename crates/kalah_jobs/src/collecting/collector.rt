@@ -24,9 +24,9 @@ pub struct Collector {
 
 impl Model for Collector {
     ghost use Rattle.std.specs.Prelude.{List};
-    ghost use Rattle.kalah_jobs.specs.Collecting.CollectorState.{FileState};
+    ghost use Rattle.kalah_jobs.specs.Collecting.CollectorState.{ArrivalsState};
 
-    ghost Value = { List FileState };
+    ghost Value = { List ArrivalsState };
 
     ghost view = { λ c. c.files.items };
 }

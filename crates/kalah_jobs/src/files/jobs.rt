@@ -121,7 +121,7 @@ impl Jobs {
 
     /// Returns the number of files, at most 256.
     pub fn files(&self) -> u32
-        ensures is { result ≡ length self.now }
+        ensures count { result ≡ length self.now }
         ensures few { result ≤ most_files }
     {
         self.files.len() as u32
@@ -131,7 +131,7 @@ impl Jobs {
     #[tactic(auto, using(crate::proofs::FilesLemmas::counts_of_jobs))]
     pub fn lines(&self, f: u32) -> u32
         requires { f < length self.now }
-        ensures is { result ≡ length (entries_of self.now f) }
+        ensures count { result ≡ length (entries_of self.now f) }
         ensures few { result ≤ most_lines }
     {
         self.files[f as usize].len() as u32

@@ -3,9 +3,9 @@ use Rattle.std.specs.Prelude.{◌≡◌, ℕ, ◌<◌, Bool, true, List, length,
 use Rattle.std.specs.List.{All}
 use Rattle.kalah_jobs.specs.declared.files.entry.Entry.{Entry}
 use Rattle.kalah_jobs.specs.declared.files.job.Job.{Job}
-use Rattle.kalah_jobs.specs.Collecting.Batch.{job}
+use Rattle.kalah_jobs.specs.Collecting.AnyOrder.{job}
 use Rattle.kalah_run.specs.Desk.States.{PassState, IsPassAt}
-use Rattle.kalah_run.specs.Queue.States.{PutState}
+use Rattle.kalah_run.specs.Queue.States.{PutPassState}
 use Rattle.kalah_run.specs.declared.batch.shared_work.SharedWork.{SharedWork}
 use Rattle.kalah_run.specs.declared.batch.worker.Worker.{Worker}
 
@@ -17,17 +17,17 @@ drawn_jobs jobs numbers = map (job jobs) numbers
 abbrev pub passes_of : List Worker → List PassState
 passes_of workers = map (λ w. w.pass) workers
 
-abbrev pub puts_of : List Worker → List PutState
-puts_of workers = map (λ w. w.put) workers
+abbrev pub puts_of : List Worker → List PutPassState
+puts_of workers = map (λ w. w.put_pass) workers
 
 -- with what a gate knows
 module _ {G : Type 0} (knows : G → ℕ → Bool) where
   -- the worker draws at the desk and sends through the queue; the gate knows the jobs of its row, and it has sent their outcomes, in order
   pub record IsAtWork (shared : SharedWork G) (w : Worker) : Type 0 where
     pub draws : IsPassAt shared.desk w.pass
-    pub sends : w.put.queue ≡ shared.queue.id
+    pub sends : w.put_pass.queue ≡ shared.queue.id
     pub known : All (λ n. knows shared.gate.now n ≡ true) w.pass.row.numbers
-    pub sent : w.put.sent ≡ drawn_jobs shared.jobs.now w.pass.row.numbers
+    pub sent : w.put_pass.sent ≡ drawn_jobs shared.jobs.now w.pass.row.numbers
 
   abbrev pub AreAtWork : SharedWork G → List Worker → Type 0
   AreAtWork shared workers = All (IsAtWork shared) workers
@@ -35,7 +35,7 @@ module _ {G : Type 0} (knows : G → ℕ → Bool) where
   -- the worker has run: it keeps its number, and there is nothing left to draw
   pub record HasRun (shared : SharedWork G) (before after : Worker) : Type 0 where
     pub at_work : IsAtWork shared after
-    pub number : after.put.number ≡ before.put.number
+    pub number : after.put_pass.number ≡ before.put_pass.number
     pub spent : after.pass.row.spent ≡ true
 
   -- each worker has run, and stands in its place

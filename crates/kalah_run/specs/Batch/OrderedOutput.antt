@@ -7,9 +7,9 @@ use Rattle.kalah_jobs.specs.declared.writing.answer.Taken.{Taken}
 use Rattle.kalah_jobs.specs.declared.files.job.Job.{Job}
 use Rattle.kalah_jobs.specs.Files.JobList.{entries_of, job_list}
 use Rattle.kalah_jobs.specs.Files.Jobs.{job_count}
-use Rattle.kalah_jobs.specs.Collecting.CollectorState.{FileState, state_of, new_files, HasEnded}
+use Rattle.kalah_jobs.specs.Collecting.CollectorState.{ArrivalsState, state_of, new_files, HasEnded}
 use Rattle.kalah_jobs.specs.Collecting.Held.{Kept}
-use Rattle.kalah_jobs.specs.Writing.Output.{text_of_line, names_of, output_of_jobs, answer_text_of}
+use Rattle.kalah_jobs.specs.Writing.Output.{text_of_line, names_of, output_of_jobs, taken_output}
 use Rattle.kalah_jobs.specs.Writing.Given.{AppendsPrefix, SinkState}
 use Rattle.kalah_jobs.specs.Files.NamedBytes.{NamedBytes}
 use Rattle.kalah_run.specs.declared.batch.ordered_output.OrderedOutput.{OrderedOutput}
@@ -30,7 +30,7 @@ written_upto text jobs f n = flat_map (text_of_job text) (take (job_count (take 
 
 -- With these offers made, the files before f are completely taken and those after it not at all. The sink was given the text of each
 -- line that was taken, in order.
-pub record IsUnderWay (text : ℕ → Taken → List ℕ) (jobs : List (List Entry)) (past : List Job) (files : List FileState) (f : ℕ)
+pub record IsUnderWay (text : ℕ → Taken → List ℕ) (jobs : List (List Entry)) (past : List Job) (files : List ArrivalsState) (f : ℕ)
     (begun out : SinkState) : Type 0 where
   pub kept : Kept jobs past files
   pub before : (g : ℕ) → g < f → (state_of files g).taken ≡ length (entries_of jobs g)
@@ -41,7 +41,7 @@ pub record IsUnderWay (text : ℕ → Taken → List ℕ) (jobs : List (List Ent
 
 -- the answer line of what is taken of file f, followed by a line feed
 unfoldable pub text_of : List NamedBytes → ℕ → Taken → List ℕ
-text_of files = answer_text_of (names_of files)
+text_of files = taken_output (names_of files)
 
 -- nothing has come, and nothing is written
 abbrev pub IsNew : OrderedOutput → Type 0

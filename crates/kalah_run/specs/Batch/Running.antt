@@ -19,7 +19,7 @@ use Rattle.kalah_run.specs.declared.limits.TheConstants.{QUEUE_CAPACITY}
 use Rattle.kalah_run.specs.declared.batch.worker.Worker.{Worker}
 use Rattle.kalah_run.specs.declared.batch.open_batch.OpenBatch.{OpenBatch}
 use Rattle.kalah_run.specs.declared.batch.receiver.CallerPasses.{CallerPasses}
-use Rattle.kalah_jobs.specs.Collecting.Batch.{AreJobsInSomeOrder}
+use Rattle.kalah_jobs.specs.Collecting.AnyOrder.{AreJobsInSomeOrder}
 use Rattle.kalah_run.specs.Batch.Leaving.{rest_of, pass_in, HasDrawnNothing, IsLeft, NothingIsLeft, DrawsOnlyTheRest}
 use Rattle.kalah_run.specs.declared.batch.ordered_output.OrderedOutput.{OrderedOutput}
 use Rattle.kalah_run.specs.declared.batch.shared_work.SharedWork.{SharedWork}

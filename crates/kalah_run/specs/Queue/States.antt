@@ -10,24 +10,24 @@ pub record QueueState : Type 0 where
   pub capacity : ℕ
 
 -- the queue that the pass puts to, its worker's number, and all that was put through it, in order
-pub record PutState : Type 0 where
+pub record PutPassState : Type 0 where
   pub queue : TableId
   pub number : ℕ
   pub sent : List Job
 
 -- the queue that the pass gets from, the number of workers, and all pairs that were got, in order: a worker's number and its outcome
-pub record GetState : Type 0 where
+pub record GetPassState : Type 0 where
   pub queue : TableId
   pub workers : ℕ
   pub got : List (ℕ × Job)
 
 -- the outcome of one of the workers stands after what was got
-abbrev pub HasGot : GetState → Job → GetState → Type 0
+abbrev pub HasGot : GetPassState → Job → GetPassState → Type 0
 HasGot before outcome after = (worker : ℕ) × (worker < before.workers)
     × (after ≡ record before { got = before.got ++ (worker, outcome) ∷ [] })
 
 -- an outcome was got, or none and the pass is as it was
-abbrev pub MayGet : GetState → Option Job → GetState → Type 0
+abbrev pub MayGet : GetPassState → Option Job → GetPassState → Type 0
 MayGet before result after = MatchOption result (after ≡ before) (λ outcome. HasGot before outcome after)
 
 -- how many pairs were put and not got
@@ -35,12 +35,12 @@ pub record ClosedQueueState : Type 0 where
   pub left : ℕ
 
 -- the passes to put to one queue of worker n, worker n + 1 and so on
-abbrev pub ArePassesFrom : TableId → ℕ → List PutState → Type 0
+abbrev pub ArePassesFrom : TableId → ℕ → List PutPassState → Type 0
 ArePassesFrom id n [] = Unit {0}
 ArePassesFrom id n (p ∷ ps) = (p.queue ≡ id) × (p.number ≡ n) × ArePassesFrom id (suc n) ps
 
 -- what each pass has sent
-abbrev pub sent_by : List PutState → List (List Job)
+abbrev pub sent_by : List PutPassState → List (List Job)
 sent_by passes = map (λ p. p.sent) passes
 
 -- the outcomes of pairs of a worker and its outcome

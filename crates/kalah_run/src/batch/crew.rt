@@ -19,7 +19,7 @@ fn work<R: Wait, G: Gate>(rt: &R, shared: &SharedWork<'_, G>, worker: &mut Worke
     while let Some(job) = shared.desk.draw(&mut worker.pass) {
         shared.gate.before(job);
         let outcome = worker.answer(shared.jobs, job, shared.gate);
-        shared.queue.put(rt, &mut worker.put, outcome);
+        shared.queue.put(rt, &mut worker.put_pass, outcome);
         shared.gate.after(job);
     }
 }

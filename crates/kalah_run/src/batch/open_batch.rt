@@ -113,7 +113,7 @@ fn take_apart(
 {
     for worker in workers {
         passes.push_reserved(worker.pass);
-        puts.push_reserved(worker.put);
+        puts.push_reserved(worker.put_pass);
     }
     if let Some(pass) = rest_pass {
         passes.push_reserved(pass);

@@ -17,7 +17,7 @@ use std::alloc::{AllocError, Global};
 #[derive(Drop)]
 pub(crate) struct Worker {
     pub(crate) pass: Pass,
-    pub(crate) put: PutPass,
+    pub(crate) put_pass: PutPass,
     // Workers are adjacent in one list, and each thread changes its own solver all the time.
     solver: CachePadded<Solver>,
 }
@@ -28,12 +28,12 @@ impl Worker {
     pub(crate) fn new(
         alloc: Global,
         pass: Pass,
-        put: PutPass,
+        put_pass: PutPass,
         entries: u32,
         other: Option<&Worker>,
     ) -> Result<Worker, AllocError>
         requires { IsTableSize entries }
-        ensures passes { IfOk result (λ w. (w.pass ≡ pass) × (w.put ≡ put)) }
+        ensures passes { IfOk result (λ w. (w.pass ≡ pass) × (w.put_pass ≡ put_pass)) }
         ensures table { IfOk result (HasOwnTable entries) }
     {
         let solver = match other {
@@ -42,7 +42,7 @@ impl Worker {
         };
         Ok(Worker {
             pass,
-            put,
+            put_pass,
             solver: CachePadded::new(solver),
         })
     }
@@ -53,7 +53,7 @@ impl Worker {
         requires there { job < job_count jobs.now }
         requires known { G.knows _gate.now job ≡ true }
         ensures answer { slice_get (job_list jobs.now) job ≡ Some result }
-        ensures same { (self.new.pass ≡ self.old.pass) × (self.new.put ≡ self.old.put) }
+        ensures same { (self.new.pass ≡ self.old.pass) × (self.new.put_pass ≡ self.old.put_pass) }
     {
         Outcome::of_job(jobs, job, &mut self.solver)
     }

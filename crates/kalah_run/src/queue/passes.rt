@@ -13,10 +13,10 @@ impl Model for PutPass {
     ghost use Rattle.std.specs.Prelude.{◌≡◌, []};
     ghost use Rattle.crossbeam_queue.specs.Passes.{view as view_of};
     ghost use Rattle.kalah_run.specs.declared.queue.rule.QueueView.TheVariants.{Putting};
-    ghost use Rattle.kalah_run.specs.Queue.States.{PutState};
+    ghost use Rattle.kalah_run.specs.Queue.States.{PutPassState};
     ghost use Rattle.kalah_run.specs.Queue.Rule.{sent_in, worker_in};
 
-    ghost Value = { PutState };
+    ghost Value = { PutPassState };
 
     ghost view = { λ p. record { queue = p.ruled.table_id; number = worker_in (view_of p.ruled); sent = sent_in (view_of p.ruled) } };
 
@@ -34,10 +34,10 @@ impl Model for GetPass {
     ghost use Rattle.std.specs.Prelude.{◌≡◌, []};
     ghost use Rattle.crossbeam_queue.specs.Passes.{view as view_of};
     ghost use Rattle.kalah_run.specs.declared.queue.rule.QueueView.TheVariants.{Getting};
-    ghost use Rattle.kalah_run.specs.Queue.States.{GetState};
+    ghost use Rattle.kalah_run.specs.Queue.States.{GetPassState};
     ghost use Rattle.kalah_run.specs.Queue.Rule.{got_in, made_in};
 
-    ghost Value = { GetState };
+    ghost Value = { GetPassState };
 
     ghost view = { λ p. record { queue = p.ruled.table_id; workers = made_in (view_of p.ruled); got = got_in (view_of p.ruled) } };
 

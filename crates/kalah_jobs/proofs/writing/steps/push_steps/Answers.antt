@@ -3,7 +3,7 @@ use Rattle.std.specs.Prelude.{string_bytes}
 use Rattle.std.proofs.lemmas.Grind.{common_steps}
 use Rattle.kalah_rules.specs.Play.{step_of}
 use Rattle.kalah_jobs.specs.Line.Line.{step_text_of}
-use Rattle.kalah_jobs.proofs.WritingLemmas.{joined_lines, line_more}
+use Rattle.kalah_jobs.proofs.WritingLemmas.{joined_lines, one_line_more}
 use Rattle.kalah_jobs.proofs.writing.steps.push_steps.Goals as goal
 
 -- four pieces after what is there
@@ -24,7 +24,7 @@ loop-i-preserved c =
     c.in_ok-push_str-2.ensures.bytes c.in_ok-push_str-3.ensures.bytes c.in_ok-push_str-4.ensures.bytes
     ∙ (λ j. c.loop-i.invariant j ++ (c.before_line.ensures j ++ (place ++ step j)))
     ∙ append_assoc old (joined_lines place text (take c.loop-i.i moves)) _
-    ∙ ap (λ l. old ++ l) (sym (line_more place text moves c.loop-i.i low))
+    ∙ ap (λ l. old ++ l) (sym (one_line_more place text moves c.loop-i.i low))
 
 pub returns : goal.returns
 returns c = grind (arith, common_steps)

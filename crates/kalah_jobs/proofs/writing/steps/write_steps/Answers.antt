@@ -4,7 +4,7 @@ use Rattle.kalah_rules.specs.Play.{step_of}
 use Rattle.kalah_jobs.specs.Files.Lines.{line_feed}
 use Rattle.kalah_jobs.specs.Line.Line.{step_text_of}
 use Rattle.kalah_jobs.specs.Writing.Given.{WasGiven}
-use Rattle.kalah_jobs.proofs.WritingLemmas.{given_all, given_more, lines_end}
+use Rattle.kalah_jobs.proofs.WritingLemmas.{given_all, given_more, lines_end_in_feeds}
 use Rattle.kalah_jobs.proofs.writing.steps.write_steps.Goals as goal
 
 pub loop-i-preserved : goal.loop-i-preserved
@@ -23,7 +23,7 @@ returns g c =
     let moves = c.legal-moves.result in
     let some : 0 < length moves = omega (arith, c.if-len-eq0.false, c.len.ensures) in
     subst (WasGiven g.W.Sink.state c.args.out.now c.loop-i.out)
-    (sym (lines_end place text moves some)
+    (sym (lines_end_in_feeds place text moves some)
     ∙ ap (λ ms. join_with_byte line_feed (map (λ t. place ++ t) (map text ms)) ++ line_feed ∷ []) c.legal-moves.ensures.moves)
     (given_all _ (λ h. (place ++ text h) ++ line_feed ∷ []) (let same : moves ≡ moves = λ _. moves in same) c.loop-i.i _ _
     c.loop-i.invariant (omega (arith, c.loop-i-test.false, c.len-i-end.ensures)))

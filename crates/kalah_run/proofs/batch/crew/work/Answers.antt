@@ -1,7 +1,7 @@
 use Rattle.std.proofs.Common.{◌≡◌, ℕ, ◌∷◌, ◌++◌, [], true, rules, sym, ap, ◌∙◌}
 use Rattle.kalah_run.specs.declared.desk.rule.DrawnRow.{DrawnRow}
 use Rattle.kalah_run.specs.Desk.States.{PassState}
-use Rattle.kalah_run.specs.Queue.States.{PutState}
+use Rattle.kalah_run.specs.Queue.States.{PutPassState}
 use Rattle.std.proofs.lemmas.List.Elements.{All-push}
 use Rattle.kalah_run.proofs.BatchLemmas.{drawn_jobs-more, less_left}
 use Rattle.kalah_run.proofs.batch.crew.work.Goals as goal
@@ -16,14 +16,14 @@ loop-job-preserved g c =
     record {
       at_work = record {
         draws = rw same.0 c.draw.ensures.own;
-        sends = ap (λ (p : PutState). p.queue) (c.put.ensures) ∙ ap (λ (p : PutState). p.queue) same.1 ∙ before.sends;
+        sends = ap (λ (p : PutPassState). p.queue) (c.put.ensures) ∙ ap (λ (p : PutPassState). p.queue) same.1 ∙ before.sends;
         known = rw drawn (All-push Known c.loop-job.worker.pass.row.numbers c.in-Some.job before.known (search rules));
-        sent = ap (λ (p : PutState). p.sent) c.put.ensures
-            ∙ ap (λ (p : PutState). p.sent ++ c.answer-outcome.result ∷ []) same.1
+        sent = ap (λ (p : PutPassState). p.sent) c.put.ensures
+            ∙ ap (λ (p : PutPassState). p.sent ++ c.answer-outcome.result ∷ []) same.1
             ∙ rw before.sent (rw drawn (sym (drawn_jobs-more c.args.shared.now.jobs.now c.loop-job.worker.pass.row.numbers _ _
             c.answer-outcome.ensures.answer)));
       };
-      number = ap (λ (p : PutState). p.number) c.put.ensures ∙ ap (λ (p : PutState). p.number) same.1 ∙ c.loop-job.invariant.number;
+      number = ap (λ (p : PutPassState). p.number) c.put.ensures ∙ ap (λ (p : PutPassState). p.number) same.1 ∙ c.loop-job.invariant.number;
     }
 
 pub loop-job-smaller : goal.loop-job-smaller

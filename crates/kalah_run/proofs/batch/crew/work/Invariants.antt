@@ -6,7 +6,7 @@ use Rattle.kalah_run.proofs.batch.crew.work.Given as goal
 abbrev pub invariant-loop-job : goal.invariant-loop-job
 invariant-loop-job g l = record {
   at_work : IsAtWork g.G.Gate.knows l.shared l.worker;
-  number : l.worker.put.number ≡ l.fn.worker.put.number;
+  number : l.worker.put_pass.number ≡ l.fn.worker.put_pass.number;
 }
 
 abbrev pub decreases-loop-job : goal.decreases-loop-job

@@ -12,7 +12,7 @@ loop-pass-preserved c =
     record {
       as_many = omega (arith, c.in-Some.ensures.len, c.in-Some-pop.ensures.len);
       passes = one_given (λ (w : Worker). w.pass) _ _ is of.passes.0 c.in-Some.ensures.items so_far.passes;
-      puts = one_given (λ (w : Worker). w.put) _ _ is of.passes.1 c.in-Some-pop.ensures.items so_far.puts;
+      puts = one_given (λ (w : Worker). w.put_pass) _ _ is of.passes.1 c.in-Some-pop.ensures.items so_far.puts;
       tables = tables_more _ _ _ _ is of.table so_far.tables;
       passes_room = c.in-Some.ensures.capacity ∙ so_far.passes_room;
       puts_room = c.in-Some-pop.ensures.capacity ∙ so_far.puts_room;

@@ -4,7 +4,7 @@ use Rattle.std.proofs.lemmas.List.{length-map, length_push}
 use Rattle.std.specs.Vec.Iter.{into_iter_deque, into_iter_items}
 use Rattle.crossbeam_queue.specs.Passes.{view}
 use Rattle.kalah_run.specs.declared.queue.rule.QueueView.TheVariants.{Getting, Putting}
-use Rattle.kalah_run.specs.Queue.States.{ArePassesFrom, PutState, sent_by}
+use Rattle.kalah_run.specs.Queue.States.{ArePassesFrom, PutPassState, sent_by}
 use Rattle.kalah_run.proofs.QueueLemmas.{merges, tells, reclaimed, whole_when_reclaimed, known_in}
 use Rattle.kalah_run.proofs.queue.ResultsQueue.close.Goals as goal
 
@@ -22,7 +22,7 @@ returns-clause-whole g c =
     let so_far = c.loop-put.invariant in
     let rest = c.loop-put.put-iterator in
     whole_when_reclaimed (sent_by (into_iter_items rest)) so_far.getting
-    (omega (arith, c.in-None.ensures.steps.0, (into_iter_deque rest).ok.0, length-map (into_iter_items rest) (λ (p : PutState). p.sent)))
+    (omega (arith, c.in-None.ensures.steps.0, (into_iter_deque rest).ok.0, length-map (into_iter_items rest) (λ (p : PutPassState). p.sent)))
     so_far.known c.len_as-left.ensures.rule.1
 
 pub loop-put-preserved : goal.loop-put-preserved

@@ -1,9 +1,9 @@
 use Rattle.std.proofs.Common.{◌≡◌, ⊎_elim, inl, inr, length, ap, ◌∙◌}
-use Rattle.kalah_jobs.specs.Collecting.Batch.{AreJobsInSomeOrder}
+use Rattle.kalah_jobs.specs.Collecting.AnyOrder.{AreJobsInSomeOrder}
 use Rattle.kalah_jobs.specs.Files.Jobs.{job_count}
 use Rattle.kalah_run.specs.Desk.Rows.{DealsEachOnce}
 use Rattle.kalah_run.specs.Desk.States.{drawn_rows}
-use Rattle.kalah_run.specs.Queue.States.{GetState, outcomes_in}
+use Rattle.kalah_run.specs.Queue.States.{GetPassState, outcomes_in}
 use Rattle.kalah_run.specs.Batch.AtWork.{passes_of}
 use Rattle.kalah_run.specs.Batch.Leaving.{rest_of, HasDrawnNothing}
 use Rattle.kalah_run.proofs.BatchLemmas.{all_back, each_job_known, each_job_got, nothing_drawn, own_back, passes_fit, puts_back, unless_left}
@@ -17,8 +17,8 @@ run_and_write-requires-after_bounds g c κs within =
     let get = ap (λ p. p.get_pass) c.new-receiver.ensures ∙ ready.get in (
       record {
         at_work = ready.at_work;
-        queue = ap (λ (p : GetState). p.queue) get;
-        nothing_got = ap (λ (p : GetState). p.got) get;
+        queue = ap (λ (p : GetPassState). p.queue) get;
+        nothing_got = ap (λ (p : GetPassState). p.got) get;
         own = rw c.new-receiver.ensures ready.own;
         nothing_written = ready.output;
       },

@@ -6,7 +6,7 @@ use Rattle.kalah_jobs.specs.declared.line.line_fault.LineFault.TheVariants.{Empt
 use Rattle.kalah_jobs.specs.declared.collecting.refusal.Refusal.{Refusal}
 use Rattle.kalah_jobs.specs.declared.files.job.Job.{Job}
 use Rattle.kalah_jobs.specs.Files.JobList.{line_job, job_list}
-use Rattle.kalah_jobs.specs.Collecting.CollectorState.{FileState, state_of, HasEnded, new_files}
+use Rattle.kalah_jobs.specs.Collecting.CollectorState.{ArrivalsState, state_of, HasEnded, new_files}
 use Rattle.kalah_jobs.specs.Collecting.CollectorEvents.{Event, offers, Offers}
 use Rattle.kalah_jobs.specs.Collecting.CollectorLaw.{Runs}
 use Rattle.kalah_jobs.specs.Collecting.Shares.{AreShared}
@@ -27,12 +27,12 @@ GetsEachJobOnce = (jobs : List (List Entry)) (rows : List (List ℕ)) (got rest 
 
 -- If each job is offered once, in any order and with any takes between, each offer is accepted.
 abbrev pub AcceptsEachJob : Type 0
-AcceptsEachJob = (jobs : List (List Entry)) (past : List Event) (o : Job) (rest : List Job) (files after : List FileState)
+AcceptsEachJob = (jobs : List (List Entry)) (past : List Event) (o : Job) (rest : List Job) (files after : List ArrivalsState)
     (gave : Result ℕ Refusal)
     → AreJobsInSomeOrder jobs (offers past ++ o ∷ rest) → Runs jobs (new_files jobs) past files → Offers jobs files o gave after
     → IsOk gave
 
 -- And in the end every line of every file is ready.
 abbrev pub MakesEveryLineReady : Type 0
-MakesEveryLineReady = (jobs : List (List Entry)) (events : List Event) (files : List FileState) → AreJobsInSomeOrder jobs (offers events)
+MakesEveryLineReady = (jobs : List (List Entry)) (events : List Event) (files : List ArrivalsState) → AreJobsInSomeOrder jobs (offers events)
     → Runs jobs (new_files jobs) events files → (f : ℕ) → HasEnded (state_of files f)
