@@ -1,22 +1,18 @@
 -- What the rows of a subcommand have of its arguments, if a parse by clap fails by no kind. Nothing here is of Kalah.
-use Rattle.std.proofs.Common.{◌≡◌, ◌||◌, ◌⊎◌, Bool, cond, true, false, inl, inr, refl, List, [], ◌∷◌, Option, None, Some, is_some, ◌++◌, ℕ, zero, suc, ◌<◌, ap, arith, drop, length, nat_lt, ◌&&◌, ◌∙◌, not, subst, sym}
-use Rattle.std.specs.Prelude.{IfSome, find, encode_utf8, slice_get, option_and_then, option_map}
-use Rattle.std.specs.List.{AllByRecursion as AllOf, list_any, fold}
-use Rattle.std.proofs.lemmas.Bool.{cond_both, or_parts, cases_Bool, ltb-true, ne_eqb, or_cases, not-false}
+use Rattle.std.proofs.Common.{IfSome, find, encode_utf8, slice_get, option_and_then, option_map, bytes_eq, chars, fold, ◌≡◌, ◌||◌, ◌⊎◌, Bool, cond, true, false, inl, inr, refl, List, [], ◌∷◌, Option, None, Some, is_some, ◌++◌, ℕ, zero, suc, ◌<◌, ap, arith, drop, length, nat_lt, ◌&&◌, ◌∙◌, not, subst}
+use Rattle.std.specs.List.{AllByRecursion as AllOf, list_any}
+use Rattle.std.proofs.lemmas.Bool.{true_from_ne_false, cases_Bool, cond_both, or_parts, ne_eqb}
 use Rattle.std.proofs.lemmas.Option.{IfSome_then}
 use Rattle.std.specs.Option.{option_map_or}
-use Rattle.std.specs.Str.{bytes_eq, chars}
 use Rattle.clap.specs.Lexer.{long_of, short_of}
 use Rattle.clap.specs.Facts.{parser_of_value, unwrap_or_range, explicit_source}
 use Rattle.clap.specs.Kinds.{Kinds, or_else, range_kinds, request_kinds, check_kinds}
 use Rattle.clap.specs.Values.{Accepts, refused_kind}
-use Rattle.clap.specs.ValueTests.{accepts}
-use Rattle.clap.specs.Walk.{Held, Outcome, Row, Rule, Step, Text, Waiting, Walk, action_of, after_flag, after_step, arg_by_id, arg_by_index, arg_by_long, arg_by_short, at_row, attached_value, bundle_met, bundle_step, default_rows, done, flag_met, has_row, idle, is_empty, is_pending, long_met, long_or_other, more_values, most_values, nothing_held, option, option_met, option_word, plain, plain_word, positional, reacted, reading_by, rows_after, settled, settled_rows, short_met, short_or_plain, subcommand_met, subcommand_or_other, takes_several, takes_values, to_positional, used, used_as, used_by_id, value, values_or_missing, waits, walk, walk_from, walked, walked_from, with_default, with_values, without, word_met, all_of, answers_to, first_of, one_of, row_text}
+use Rattle.clap.specs.Walk.{Held, Outcome, Row, Rule, Step, Text, Waiting, Walk, action_of, after_flag, after_step, arg_by_id, arg_by_index, arg_by_long, arg_by_short, at_row, attached_value, bundle_met, bundle_step, default_rows, done, has_row, is_empty, is_pending, long_met, long_or_other, more_values, most_values, nothing_held, option, option_met, option_word, plain, reacted, reading_by, rows_after, settled, settled_rows, short_met, short_or_plain, subcommand_met, subcommand_or_other, takes_several, takes_values, to_positional, used_as, used_by_id, value, values_or_missing, waits, walk, walk_from, walked, walked_from, with_default, with_values, without, word_met, answers_to, row_text}
 use Rattle.clap.specs.Simple.{Shape, App, argument_words, built, entered, label_of, names_of, rows_at, subcommand_of}
-use Rattle.clap.specs.Faults.{action_fault, bundle_fault, bundle_step_fault, check_fault, defaults_fault, flag_word_fault, flags_fault, given_default_fault, level_fault, long_fault, option_fault, other_fault, positional_fault, react_fault, settle_fault, short_fault, step_fault, stray_fault, use_fault, values_fault, walk_fault, word_fault, entered_fault, fault_of}
+use Rattle.clap.specs.Faults.{action_fault, bundle_fault, bundle_step_fault, defaults_fault, flag_word_fault, flags_fault, given_default_fault, level_fault, long_fault, option_fault, other_fault, positional_fault, react_fault, settle_fault, short_fault, step_fault, stray_fault, turn_fault, use_fault, values_fault, walk_fault, word_fault, entered_fault, fault_of}
 use Rattle.clap.specs.declared.builder.action.ArgAction.{ArgAction}
 use Rattle.clap.specs.declared.builder.action.ArgAction.TheVariants.{Append, Help, Set, SetTrue}
-use Rattle.clap.specs.declared.error.kind.ErrorKind.TheVariants.{InvalidValue, TooManyValues}
 use Rattle.clap.specs.declared.parser.matches.ValueSource.{ValueSource}
 use Rattle.clap.specs.declared.parser.matches.ValueSource.TheVariants.{CommandLine, DefaultValue}
 use Rattle.clap.proofs.ValueTestLemmas.{accepts-Accepts}
@@ -44,13 +40,9 @@ found_passes t (x ∷ xs) =
     cond_both (t x) (Some x) (find t xs) (λ o. IfSome o (λ y. t y ≡ true)) (λ is. is) (λ _. found_passes t xs)
 
 -- an item is found if any passes
-pub any_is_found : {X : Type 0} (t : X → Bool) (xs : List X) → list_any t xs ≡ is_some (find t xs)
-any_is_found t [] = refl
-any_is_found t (x ∷ xs) = go (t x) (any_is_found t xs)
-  where
-    go : (b : Bool) → list_any t xs ≡ is_some (find t xs) → (b || list_any t xs) ≡ is_some (cond b (Some x) (find t xs))
-    go true rest = refl
-    go false rest = rest
+pub any_is_found : {X : Type 0} (t : X → Bool) (xs : List X) → list_any t xs ≡ true → is_some (find t xs) ≡ true
+any_is_found t [] e = e
+any_is_found t (x ∷ xs) e = grind (arith, any_is_found t xs)
 
 -- a test that no item passes
 pub none_pass : {X : Type 0} (t : X → Bool) (xs : List X) → list_any t xs ≡ false → AllOf (λ x. t x ≡ false) xs
@@ -97,19 +89,15 @@ IsUsable rules a = (arg_by_id rules a.id ≡ Some a) × (is_usable (action_of a)
 -- the first of values of no fault is accepted
 first_accepted : (a : Rule) (v : Text) (vs : List Text) → values_fault a (v ∷ vs) ≡ []
     → Accepts a.ignore_case (parser_of_value a.parser) v
-first_accepted a v vs e = elim (cases_Bool (accepts a.ignore_case (parser_of_value a.parser) v)) [
-  | inl is ↦ accepts-Accepts a.ignore_case (parser_of_value a.parser) v is
-  | inr not ↦ absurd (let bad : refused_kind (parser_of_value a.parser) ∷ [] ≡ [] = rw not at e in cc)
-]
+first_accepted a v vs e = accepts-Accepts a.ignore_case (parser_of_value a.parser) v (true_from_ne_false _ (λ not.
+    let bad : refused_kind (parser_of_value a.parser) ∷ [] ≡ [] = rw not at e in
+    cc))
 
 -- a use that needs a value has one
 use_has_value : (a : Rule) (values : List Text) → has_value a ≡ true
     → range_kinds (unwrap_or_range a.range).start_inclusive (most_values a) (length values) ≡ []
     → 0 < length (values_or_missing a values)
-use_has_value a [] has range = elim (or_cases (nat_lt 0 (unwrap_or_range a.range).start_inclusive) _ has) [
-  | inl least ↦ let bad : InvalidValue ∷ [] ≡ [] = rw least at range in cc
-  | inr some ↦ ltb-true _ _ some
-]
+use_has_value a [] has range = grind arith
 use_has_value a (v ∷ vs) has range = omega arith
 
 -- ---- the walk over the arguments of a command without subcommands
@@ -131,6 +119,12 @@ module _ (s : Shape) (usable : AllOf (IsUsable s.rules) s.rules) where
   -- two steps, one after the other, keep it, too
   in_turn : (k l : Kinds) (x y z : List Row) → Keeps k x y → Keeps l y z → Keeps (or_else k l) x z
   in_turn k l x y z one other e fit = let none = both_none k l e in other none.1 (one none.0 fit)
+
+  -- each branch at a test keeps it
+  at_test : {X : Type 0} (b : Bool) {k l : Kinds} (x : List Row) (y z : Held × X)
+      → Keeps k x y.0.rows → Keeps l x z.0.rows → Keeps (cond b k l) x (cond b y z).0.rows
+  at_test true x y z one other = one
+  at_test false x y z one other = other
 
   -- an argument that is looked up
   of_rules : (t : Rule → Bool) → IfSome (find t rules) (IsUsable rules)
@@ -162,65 +156,49 @@ module _ (s : Shape) (usable : AllOf (IsUsable s.rules) s.rules) where
       ))
       (rw is.0 (record { value = v; more = vs; values = refl; reading = refl; accepted = first_accepted a v vs e }), tt) rows fit
 
-  -- a use of an argument
-  kept_used : (a : Rule) → IsUsable rules a → (values : List Text) (rows : List Row)
-      → Keeps (use_fault again a values rows) rows (used a values rows)
-  kept_used a is values rows e fit =
+  -- a use of an argument, if there is one
+  kept_used : (o : Option Rule) → IfSome o (IsUsable rules) → (values : List Text) (rows : List Row)
+      → Keeps (option_map_or (λ a. use_fault again a values rows) o []) rows (used_by_id o values rows)
+  kept_used None is values rows = λ e fit. fit
+  kept_used (Some a) is values rows = λ e fit.
       let none = both_none _ (action_fault (action_of a) again a vs rows) e in
-      go (action_of a) is.1 (λ has. use_has_value a values has none.0) none.1
+      let others : Fit (without a.id rows) = kept_at a.id (λ _. []) [] (λ r rs own rest. rest) tt rows fit in
+      go (action_of a) is.1 (λ has. use_has_value a values has none.0) none.1 others fit
     where
       vs : List Text
       vs = values_or_missing a values
 
-      others : Fit (without a.id rows)
-      others = kept_at a.id (λ _. []) [] (λ r rs own rest. rest) tt rows fit
-
       go : (x : ArgAction) → is_usable x a ≡ true → (has_value a ≡ true → 0 < length vs)
-          → action_fault x again a vs rows ≡ [] → Fit (used_as x a.id (reading_by a) vs rows)
-      go Set has some f = kept_values a is CommandLine vs (some has) _ (both_none _ _ f).1 others
-      go Append has some f = kept_values a is CommandLine vs (some has) rows f fit
-      go SetTrue has some f = kept_values a is CommandLine vs (some has) _ (both_none _ _ f).1 others
-      go Help has some f = fit
-      go x has some f = cc
+          → action_fault x again a vs rows ≡ [] → Fit (without a.id rows) → Fit rows → Fit (used_as x a.id (reading_by a) vs rows)
+      go Set has some f others fit = kept_values a is CommandLine vs (some has) _ (both_none _ _ f).1 others
+      go Append has some f others fit = kept_values a is CommandLine vs (some has) rows f fit
+      go SetTrue has some f others fit = kept_values a is CommandLine vs (some has) _ (both_none _ _ f).1 others
+      go Help has some f others fit = fit
+      go x has some f others fit = cc
 
-  -- settling the argument that still takes values
-  kept_settled : (h : Held) → Keeps (settle_fault rules again h) h.rows (settled rules h).rows
-  kept_settled h = go h.pending
-    where
-      by_rule : (o : Option Rule) → IfSome o (IsUsable rules) → (values : List Text)
-          → Keeps (option_map_or (λ a. use_fault again a values h.rows) o []) h.rows (used_by_id o values h.rows)
-      by_rule None is values = λ e fit. fit
-      by_rule (Some a) is values = kept_used a is values h.rows
-
-      go : (o : Option (Text × List Text)) → Keeps (option_map_or (λ p. option_map_or (λ a. use_fault again a p.1 h.rows)
-          (arg_by_id rules p.0) []) o []) h.rows (settled_rows rules o h.rows)
-      go None = λ e fit. fit
-      go (Some p) = by_rule (arg_by_id rules p.0) (of_rules _) p.1
+  -- settling the argument that still takes values, if there is one
+  kept_settled : (o : Option (Text × List Text)) (h : Held)
+      → Keeps (settle_fault rules again (record h { pending = o })) h.rows (settled_rows rules o h.rows)
+  kept_settled None h = λ e fit. fit
+  kept_settled (Some p) h = kept_used (arg_by_id rules p.0) (of_rules _) p.1 h.rows
 
   -- an argument that is met, with its values
   kept_reacted : (a : Rule) → IsUsable rules a → (values : List Text) (h : Held)
       → Keeps (react_fault rules again a values h) h.rows (reacted rules a values h).rows
-  kept_reacted a is values h = in_turn _ _ _ _ _ (kept_settled h) (kept_used a is values (settled rules h).rows)
+  kept_reacted a is values h = in_turn _ _ _ _ _ (kept_settled h.pending h) (kept_used (Some a) is values (settled rules h).rows)
 
   -- an option, with its value attached or to come
   kept_option : (a : Rule) → IsUsable rules a → (o : Option Text) (h : Held)
       → Keeps (option_fault rules again a o h) h.rows (option_met rules a o h).0.rows
   kept_option a is (Some v) h = kept_reacted a is (v ∷ []) h
-  kept_option a is None h = kept_settled h
+  kept_option a is None h = kept_settled h.pending h
 
   -- a long name, of an option or a flag
   kept_long : (o : Option Rule) → IfSome o (IsUsable rules) → (v : Option Text) (h : Held)
       → Keeps (long_fault rules again o v h) h.rows (long_met rules o v h).0.rows
   kept_long None is v h = λ e fit. fit
-  kept_long (Some a) is v h = elim (cases_Bool (takes_values a)) [
-    | inl takes ↦ rw takes (kept_option a is v h)
-    | inr not ↦ rw not (go v)
-  ]
-    where
-      go : (v : Option Text) → Keeps (cond (is_some v) (TooManyValues ∷ []) (react_fault rules again a [] h)) h.rows
-          (flag_met rules a v h).0.rows
-      go (Some v) = λ e fit. fit
-      go None = kept_reacted a is [] h
+  kept_long (Some a) is (Some v) h = at_test (takes_values a) _ _ _ (kept_option a is (Some v) h) (λ e fit. fit)
+  kept_long (Some a) is None h = at_test (takes_values a) _ _ _ (kept_option a is None h) (kept_reacted a is [] h)
 
   -- an argument of short names, from one on
   abbrev KeepsFlags : ℕ → Type 0
@@ -236,10 +214,8 @@ module _ (s : Shape) (usable : AllOf (IsUsable s.rules) s.rules) where
           → Keeps (short_fault rules again o rest h (flags_fault rules again k rest 0)) h.rows
           (short_met rules o rest h (bundle_met rules k rest 0 done)).0.rows
       short keeps None is rest = λ e fit. fit
-      short keeps (Some a) is rest = elim (cases_Bool (takes_values a)) [
-        | inl takes ↦ rw takes (kept_option a is (attached_value rest) h)
-        | inr not ↦ rw not (in_turn _ _ _ _ _ (kept_reacted a is [] h) (keeps rest 0 done (reacted rules a [] h)))
-      ]
+      short keeps (Some a) is rest = at_test (takes_values a) _ _ _ (kept_option a is (attached_value rest) h)
+          (in_turn _ _ _ _ _ (kept_reacted a is [] h) (keeps rest 0 done (reacted rules a [] h)))
 
       go : KeepsFlags k → (o : Option ℕ) (skip : ℕ)
           → Keeps (bundle_step_fault rules again o flags skip h (flags_fault rules again k)) h.rows
@@ -253,16 +229,9 @@ module _ (s : Shape) (usable : AllOf (IsUsable s.rules) s.rules) where
       → Fit (after_flag rules waiting word h o).0.rows
   kept_after waiting word h done fit = fit
   kept_after waiting word h (waits id) fit = fit
-  kept_after waiting word h o fit = go waiting
-    where
-      pushed : (a : Option Rule) (id : Text) → Fit (option_word a id word h).0.rows
-      pushed None id = fit
-      pushed (Some a) id = fit
-
-      go : (waiting : Waiting) → Fit (plain_word rules waiting word h).0.rows
-      go (option id) = pushed (arg_by_id rules id) id
-      go idle = fit
-      go positional = fit
+  kept_after (option id) word h o fit =
+      elim (arg_by_id rules id) as (λ a. Fit (option_word a id word h).0.rows) [ None ↦ fit | Some a ↦ fit ]
+  kept_after waiting word h o fit = fit
 
   -- an argument that looks like a flag
   kept_flag_word : (waiting : Waiting) (word : Text) (long : Option (Text × Option Text)) (h : Held)
@@ -279,16 +248,13 @@ module _ (s : Shape) (usable : AllOf (IsUsable s.rules) s.rules) where
   -- an argument, before or after `--`
   kept_word : (w : Walk) (word : Text) → Keeps (word_fault s [] w.is_trailing w.waiting word w.held) w.held.rows
       (word_met rules [] w.is_trailing w.waiting w.position word w.held).0.rows
-  kept_word w word = go w.is_trailing (subcommand_met [] w.waiting word)
+  kept_word w word = at_test w.is_trailing _ _ _ (λ e fit. fit) (go (subcommand_met [] w.waiting word))
     where
-      go : (is_trailing : Bool) (met : Option Text) → Keeps (cond is_trailing [] (other_fault s met word w.held)) w.held.rows
-          (cond is_trailing (w.held, value) (subcommand_or_other rules met w.waiting w.position word w.held)).0.rows
-      go true met = λ e fit. fit
-      go false (Some name) = λ e fit. fit
-      go false None = elim (cases_Bool (bytes_eq word (45 ∷ 45 ∷ []))) [
-        | inl dashes ↦ rw dashes (λ e fit. fit)
-        | inr not ↦ rw not (kept_flag_word w.waiting word (long_of word) w.held)
-      ]
+      go : (met : Option Text) → Keeps (other_fault s met word w.held) w.held.rows
+          (subcommand_or_other rules met w.waiting w.position word w.held).0.rows
+      go (Some name) = λ e fit. fit
+      go None =
+          at_test (bytes_eq word (45 ∷ 45 ∷ [])) _ _ _ (λ e fit. fit) (kept_flag_word w.waiting word (long_of word) w.held)
 
   -- what it leaves to be done
   kept_step : (word : Text) (w : Walk) (h : Held) (step : Step)
@@ -300,7 +266,7 @@ module _ (s : Shape) (usable : AllOf (IsUsable s.rules) s.rules) where
       go None = λ e fit. fit
       go (Some a) = elim (cases_Bool (is_pending a h.pending && takes_several a)) [
         | inl more ↦ rw more (λ e fit. fit)
-        | inr not ↦ rw not (kept_settled h)
+        | inr not ↦ rw not (kept_settled h.pending h)
       ]
   kept_step word w h step = λ e fit. fit
 
@@ -310,15 +276,12 @@ module _ (s : Shape) (usable : AllOf (IsUsable s.rules) s.rules) where
   kept_walk w [] = λ e fit. fit
   kept_walk w (word ∷ rest) = in_turn _ _ _ _ _ (go w.stopped) (kept_walk (walked rules [] w word) rest)
     where
-      met : Held × Step
-      met = word_met rules [] w.is_trailing w.waiting w.position word w.held
-
       go : (o : Option (Text × List Text))
-          → Keeps (cond (is_some o) []
-          (or_else (word_fault s [] w.is_trailing w.waiting word w.held) (step_fault s w.position met.0 met.1)))
-          w.held.rows (walked_from rules [] o w word).held.rows
+          → Keeps (turn_fault s [] (record w { stopped = o }) word) w.held.rows (walked_from rules [] o w word).held.rows
       go (Some p) = λ e fit. fit
-      go None = in_turn _ _ _ _ _ (kept_word w word) (kept_step word w met.0 met.1)
+      go None =
+          let met = word_met rules [] w.is_trailing w.waiting w.position word w.held in
+          in_turn _ _ _ _ _ (kept_word w word) (kept_step word w met.0 met.1)
 
   -- the defaults of arguments that were not given
   kept_defaults : (some : List Rule) → AllOf (IsUsable rules) some → (rows : List Row)
@@ -335,24 +298,6 @@ module _ (s : Shape) (usable : AllOf (IsUsable s.rules) s.rules) where
       go false (d ∷ ds) e fit =
           let given : is_empty (d ∷ ds) ≡ false = ne_eqb _ _ (λ none. omega arith) in
           kept_values a is.0 DefaultValue (d ∷ ds) (omega arith) rows (both_none (request_kinds (action_of a)) _ (rw given at e)).1 fit
-
--- the rows of arguments that fail by no kind fit, and pass the last checks
-pub record Passes (s : Shape) (words : List Text) : Type 0 where
-  pub fit : AllOf (FitsIn s.rules) (rows_after s.rules [] words)
-  pub checked : check_fault s (rows_after s.rules [] words) false ≡ []
-
-pub passes : (s : Shape) → AllOf (IsUsable s.rules) s.rules → (words : List Text)
-    → level_fault s [] nothing_held words false [] ≡ [] → Passes s words
-passes s usable words e =
-    let end = (walk s.rules [] nothing_held words).held in
-    let walking = both_none (walk_fault s [] (walk_from nothing_held) words) _ e in
-    let settling = both_none (settle_fault s.rules s.args_override_self end) _ walking.1 in
-    let defaulting = both_none (defaults_fault (settled s.rules end).rows s.rules) _ settling.1 in
-    let walked = kept_walk s usable (walk_from nothing_held) words walking.0 tt in
-    record {
-      fit = kept_defaults s usable s.rules usable _ defaulting.0 (kept_settled s usable end settling.0 walked);
-      checked = defaulting.1;
-    }
 
 -- ---- an argument that has a default has a row
 
@@ -403,83 +348,73 @@ defaults_made (a ∷ rest) rows =
 abbrev pub is_wanted : Rule → Bool
 is_wanted a = a.required || not (is_empty a.defaults)
 
--- the row of an argument fits it, and is there if the argument is wanted
-pub record Has (rows : List Row) (id : Text) (a : Rule) : Type 0 where
-  pub fits : IfSome (find (λ r. bytes_eq r.id id) rows) (λ r. Fits a r)
-  pub there : is_wanted a ≡ true → is_some (find (λ r. bytes_eq r.id id) rows) ≡ true
+-- a row that fits it, or none if it isn't wanted
+abbrev pub Has : Rule → Option Row → Type 0
+Has a None = is_wanted a ≡ false
+Has a (Some r) = Fits a r
 
--- the rows fit after arguments that fail by no kind, of a command without subcommands
+-- the row of the id
+abbrev pub row_by_id : Text → List Row → Option Row
+row_by_id id rows = find (λ r. bytes_eq r.id id) rows
+
+-- arguments that fail by no kind, of a command without subcommands, have what its rules ask for
 level_has : (s : Shape) (words : List Text) → AllOf (IsUsable s.rules) s.rules → level_fault s [] nothing_held words false [] ≡ []
-    → (id : Text) (a : Rule) → arg_by_id s.rules id ≡ Some a → Has (rows_after s.rules [] words) id a
+    → (id : Text) (a : Rule) → arg_by_id s.rules id ≡ Some a → Has a (row_by_id id (rows_after s.rules [] words))
 level_has s words usable e id a found =
-    let pass = passes s usable words e in
-    let start = (settled s.rules (walk s.rules [] nothing_held words).held).rows in
-    let own : a.id ≡ id = (bytes_eq-Decides a.id id).0 (rw found at (found_passes {X = Rule} (λ b. bytes_eq b.id id) s.rules)) in
-    let missing = none_pass (λ b. b.required && not (is_given b.id rows)) s.rules
-    (none_lacks _ _ s.subcommand_negates_reqs _ pass.checked) in
-    record {
-      fits = fits (find (λ r. bytes_eq r.id id) rows) (found_all (FitsIn s.rules) _ rows pass.fit) (found_passes _ rows);
-      there = λ wanted. elim (or_cases a.required _ wanted) [
-        | inl required ↦ given (find (λ r. bytes_eq r.id id) rows) (not-false _ (rw (required, own) at (rw found at
-            (found_all {X = Rule} _ (λ b. bytes_eq b.id id) s.rules missing))))
-        | inr default ↦ sym (any_is_found (λ r. bytes_eq r.id id) rows) ∙ subst (λ i. has_row i rows ≡ true) own
-            ((rw found at (found_all {X = Rule} _ (λ b. bytes_eq b.id id) s.rules (defaults_made s.rules start))) default)
-      ];
-    }
+    let end = (walk s.rules [] nothing_held words).held in
+    let walking = both_none (walk_fault s [] (walk_from nothing_held) words) _ e in
+    let settling = both_none (settle_fault s.rules s.args_override_self end) _ walking.1 in
+    let defaulting = both_none (defaults_fault (settled s.rules end).rows s.rules) _ settling.1 in
+    let walked = kept_walk s usable (walk_from nothing_held) words walking.0 tt in
+    let fit = kept_defaults s usable s.rules usable _ defaulting.0 (kept_settled s usable end.pending end settling.0 walked) in
+    let lacks = none_pass (λ b. b.required && not (is_given b.id rows)) s.rules
+    (none_lacks _ _ s.subcommand_negates_reqs _ defaulting.1) in
+    let named : a.id ≡ id = (bytes_eq-Decides a.id id).0 (rw found at (found_passes {X = Rule} (λ b. bytes_eq b.id id) s.rules)) in
+    go (row_by_id id rows) (found_all (FitsIn s.rules) _ rows fit) (found_passes _ rows)
+    (rw named at (rw found at (found_all {X = Rule} _ (λ b. bytes_eq b.id id) s.rules lacks)))
+    (λ default. any_is_found _ rows (subst (λ i. has_row i rows ≡ true) named
+    ((rw found at (found_all {X = Rule} _ (λ b. bytes_eq b.id id) s.rules (defaults_made s.rules (settled s.rules end).rows))) default)))
   where
     rows : List Row
     rows = rows_after s.rules [] words
 
     none_lacks : (help sub negates lacks : Bool) → check_kinds help sub (not (negates && false) && lacks) ≡ [] → lacks ≡ false
-    none_lacks false false false false f = refl
-    none_lacks false false true false f = refl
-    none_lacks help sub negates lacks f = cc
+    none_lacks help sub negates lacks f = grind arith
 
-    fits : (o : Option Row) → IfSome o (FitsIn s.rules) → IfSome o (λ r. bytes_eq r.id id ≡ true) → IfSome o (λ r. Fits a r)
-    fits None fit named = tt
-    fits (Some r) fit named = rw (ap (arg_by_id s.rules) ((bytes_eq-Decides r.id id).0 named) ∙ found) at fit
-
-    given : (o : Option Row) → option_map_or (λ r. explicit_source r.source) o false ≡ true → is_some o ≡ true
-    given None e = e
-    given (Some r) e = refl
+    go : (o : Option Row) → IfSome o (FitsIn s.rules) → IfSome o (λ r. bytes_eq r.id id ≡ true)
+        → (a.required && not (option_map_or (λ r. explicit_source r.source) o false)) ≡ false
+        → (not (is_empty a.defaults) ≡ true → is_some o ≡ true) → Has a o
+    go None fit named lacks made = grind arith
+    go (Some r) fit named lacks made = rw (ap (arg_by_id s.rules) ((bytes_eq-Decides r.id id).0 named) ∙ found) at fit
 
 -- ---- values
 
 -- the first value of an argument, and all of them
-pub record Given (rows : List Row) (id : Text) (a : Rule) : Type 0 where
+pub record Given (a : Rule) (o : Option Row) : Type 0 where
   pub value : Text
   pub more : List Text
-  pub first : first_of id rows ≡ Some value
-  pub all : all_of id rows ≡ Some (value ∷ more)
-  pub one : reading_by a ≡ AsWritten → one_of id rows ≡ Some value
+  pub first : option_and_then (λ r. slice_get r.values 0) o ≡ Some value
+  pub all : option_map (λ r. r.values) o ≡ Some (value ∷ more)
+  pub one : reading_by a ≡ AsWritten → option_and_then row_text o ≡ Some value
 
 -- an argument that is wanted has one
-pub given_in : (rows : List Row) (id : Text) (a : Rule) → Has rows id a → is_wanted a ≡ true → Given rows id a
-given_in rows id a has wanted = go (find (λ r. bytes_eq r.id id) rows) refl has.fits (has.there wanted)
-  where
-    go : (o : Option Row) → find (λ r. bytes_eq r.id id) rows ≡ o → IfSome o (λ r. Fits a r) → is_some o ≡ true
-        → Given rows id a
-    go None is fit there = cc
-    go (Some r) is fit there = record {
-      value = fit.value;
-      more = fit.more;
-      first = rw (is, fit.values) refl;
-      all = rw (is, fit.values) refl;
-      one = λ written. rw (is, fit.values, fit.reading, written) refl;
-    }
+pub given_in : (a : Rule) (o : Option Row) → Has a o → is_wanted a ≡ true → Given a o
+given_in a None none wanted = cc
+given_in a (Some r) fit wanted = record {
+  value = fit.value;
+  more = fit.more;
+  first = rw fit.values refl;
+  all = rw fit.values refl;
+  one = λ written. rw (fit.values, fit.reading, written) refl;
+}
 
 -- what a typed getter reads is accepted
-pub accepted_in : (rows : List Row) (id : Text) (a : Rule) → Has rows id a → reading_by a ≡ AsWritten → (t : Text)
-    → one_of id rows ≡ Some t
-    → Accepts a.ignore_case (parser_of_value a.parser) t
-accepted_in rows id a has written t = go (find (λ r. bytes_eq r.id id) rows) has.fits
-  where
-    go : (o : Option Row) → IfSome o (λ r. Fits a r) → option_and_then row_text o ≡ Some t
-        → Accepts a.ignore_case (parser_of_value a.parser) t
-    go None fit e = cc
-    go (Some r) fit e =
-        let same : fit.value ≡ t = (let read = rw (fit.values, fit.reading, written) at e in cc) in
-        subst (Accepts a.ignore_case (parser_of_value a.parser)) same fit.accepted
+pub accepted_in : (a : Rule) (o : Option Row) → Has a o → reading_by a ≡ AsWritten → (t : Text)
+    → option_and_then row_text o ≡ Some t → Accepts a.ignore_case (parser_of_value a.parser) t
+accepted_in a None none written t e = cc
+accepted_in a (Some r) fit written t e =
+    let same : fit.value ≡ t = (let read = rw (fit.values, fit.reading, written) at e in cc) in
+    subst (Accepts a.ignore_case (parser_of_value a.parser)) same fit.accepted
 
 -- ---- the subcommand
 
@@ -493,7 +428,7 @@ arg_in subs name id = option_and_then (λ s. arg_by_id s.rules id) (find (λ s. 
 
 -- what the rows have of all arguments of the subcommand of the name
 abbrev pub HasOf : List Shape → Text → List Row → Type 0
-HasOf subs name rows = (id : Text) (a : Rule) → arg_in subs name id ≡ Some a → Has rows id a
+HasOf subs name rows = (id : Text) (a : Rule) → arg_in subs name id ≡ Some a → Has a (row_by_id id rows)
 
 -- a subcommand that was entered
 abbrev pub Enters : App → Option (Text × List Row) → Type 0
@@ -523,6 +458,4 @@ taken_has a words usable required e =
     entered_has (built a) end.stopped usable (go _ (is_some (entered (built a) end.stopped)) _ _ required checking.1) below.0
   where
     go : (help some needs lacks : Bool) → needs ≡ true → check_kinds help (not some && needs) lacks ≡ [] → some ≡ true
-    go help true needs lacks required f = refl
-    go false false true lacks required f = cc
-    go help false needs lacks required f = cc
+    go help some needs lacks required f = grind arith

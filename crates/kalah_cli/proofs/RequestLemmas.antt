@@ -1,9 +1,9 @@
 -- What arguments are accepted, and the request that they make.
-use Rattle.std.proofs.Common.{◌≡◌, ◌⊎◌, ◌≤◌, ℕ, true, refl, ap, subst, inl, inr, List, Some, is_some, codes, arith, ◌∙◌, ◌<◌, ◌^◌, Bool, false, Option, None, map, sym, [], ◌∷◌, Result, Ok, Err}
+use Rattle.std.proofs.Common.{◌≡◌, ◌⊎◌, ◌≤◌, ℕ, true, refl, ap, subst, inl, inr, List, Some, is_some, codes, arith, ◌∙◌, ◌<◌, ◌^◌, Bool, false, Option, None, map, sym, [], ◌∷◌}
 use Rattle.std.specs.List.{AllByRecursion as AllOf}
-use Rattle.std.specs.Prelude.{option_map, unwrap_or, IfErr, IsErrAnd, MatchResult}
+use Rattle.std.specs.Prelude.{option_map, unwrap_or}
 use Rattle.clap.specs.Facts.{parser_of_value}
-use Rattle.clap.specs.Words.{Accepts, Row, Rule, Text, reading_of, IsUnsignedIn, ReadsOne, all_of, matched_of, one_of, one_text, raw_values, rows_of, App, HasKind, fault_of, is_simple, is_simple_and_free, kind_of, subcommand_of, FailsBy, Kinds}
+use Rattle.clap.specs.Words.{Accepts, Row, Rule, Text, reading_of, IsUnsignedIn, ReadsOne, all_of, matched_of, one_of, one_text, raw_values, rows_of, App, HasKind, fault_of, is_simple, is_simple_and_free, subcommand_of}
 use Rattle.clap.specs.Simple.{Shape, built, filled, with_index}
 use Rattle.clap.specs.declared.builder.value_parser.ValueParser.TheVariants.{Unsigned}
 use Rattle.clap.proofs.OnLiterals.{clap_on_literals}
@@ -12,7 +12,7 @@ use Rattle.kalah_jobs.specs.declared.files.question.Question.TheVariants.{BestMo
 use Rattle.kalah_cli.specs.Command.{file_rule, kalah_app, table_rule, workers_rule}
 use Rattle.kalah_cli.specs.Request.{AreMatches, HasNumber, MayHaveNumber, command_of, number_written, is_set, number_given, Asked, IsPlainWord, IsTakenAs, about_line}
 use Rattle.kalah_cli.specs.declared.request.LineCommand.TheVariants.{Moves}
-use Rattle.kalah_cli.proofs.ClapLemmas.{Given, HasOf, IsUsableIn, accepted_in, arg_in, given_in, is_wanted, taken_has, cases_Option}
+use Rattle.kalah_cli.proofs.ClapLemmas.{Given, HasOf, IsUsableIn, accepted_in, arg_in, given_in, is_wanted, row_by_id, taken_has, cases_Option}
 use Rattle.std.specs.Str.{bytes_eq}
 use Rattle.std.proofs.lemmas.Bool.{false_from_ne_true, ne_eqb}
 use Rattle.std.proofs.lemmas.Slice.Eq.{bytes_eq-Decides}
@@ -21,7 +21,6 @@ use Rattle.std.specs.Borrow.{Bor}
 use Rattle.clap.specs.declared.parser.matches.Found.{Found}
 use Rattle.clap.proofs.WalkLemmas.{one_text-rows, raw_values-rows}
 use Rattle.clap.specs.declared.error.Error.{Error}
-use Rattle.clap.specs.declared.error.kind.ErrorKind.TheVariants.{OutOfMemory}
 use Rattle.kalah_rules.specs.Position.{Position}
 use Rattle.kalah_jobs.specs.Line.Line.{Reads, without_cr}
 use Rattle.kalah_jobs.specs.Line.Reading.{side_at, written_of}
@@ -56,13 +55,13 @@ pub may_have_number : {name : Text} {rows : List Row} (id : Text) {a : Rule} {lo
 may_have_number {name} {rows} id {a} least most m takes parser lower higher t e =
     let written = ap (λ p. reading_of (parser_of_value p)) parser in
     let range = subst (λ p. Accepts a.ignore_case (parser_of_value p) t) parser
-    (accepted_in rows id a (has_of name rows m id a takes) written t e) in
+    (accepted_in a (row_by_id id rows) (has_of name rows m id a takes) written t e) in
     (range.0, range.1, omega (arith, range.2, lower), omega (arith, range.3, higher))
 
 -- an argument that is required or has a default has a value
 pub given : {name : Text} {rows : List Row} (id : Text) {a : Rule} → AreMatches name rows → Takes name id a → is_wanted a ≡ true
-    → Given rows id a
-given {name} {rows} id {a} m takes wanted = given_in rows id a (has_of name rows m id a takes) wanted
+    → Given a (row_by_id id rows)
+given {name} {rows} id {a} m takes wanted = given_in a (row_by_id id rows) (has_of name rows m id a takes) wanted
 
 -- the number of such an argument is there, in its range
 pub has_number : {name : Text} {rows : List Row} (id : Text) {a : Rule} {low high : ℕ} (least most : ℕ) → AreMatches name rows
@@ -207,18 +206,6 @@ pub faulty : (a : App) (words : List Text) (e : Error) → a ≡ kalah_app →
     (is_simple_and_free a ≡ true → HasKind (fault_of a words) e)
     → HasKind (fault_of kalah_app words) e
 faulty a words e is has = subst (λ b. HasKind (fault_of b words) e) is (has (ap is_simple_and_free is ∙ app_is_simple))
-
--- without a fault it is out of memory
-pub fails_by_memory : {T : Type 0} {kinds : Kinds} (r : Result T Error) → kinds ≡ [] → IfErr r (λ e. kind_of e ≡ OutOfMemory)
-    → FailsBy kinds r
-fails_by_memory (Ok x) none memory = none
-fails_by_memory (Err e) none memory = inl memory
-
--- what holds of each error that a call may return holds of its result
-pub on_error : {T E : Type 0} (r : Result T E) (P : T → Type 0) (S Q : E → Type 0) → IsErrAnd r S → ((e : E) → S e → Q e)
-    → MatchResult r P Q
-on_error (Ok x) P S Q is all = absurd is
-on_error (Err e) P S Q is all = all e is
 
 -- ---- a line that is read is no flag, as no number begins with a dash
 
