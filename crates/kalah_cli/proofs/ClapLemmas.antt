@@ -1,5 +1,5 @@
 -- What the rows of a subcommand have of its arguments, if a parse by clap fails by no kind. Nothing here is of Kalah.
-use Rattle.std.proofs.Common.{IfSome, find, encode_utf8, slice_get, option_and_then, option_map, bytes_eq, chars, fold, ◌≡◌, ◌||◌, ◌⊎◌, Bool, cond, true, false, inl, inr, refl, List, [], ◌∷◌, Option, None, Some, is_some, ◌++◌, ℕ, zero, suc, ◌<◌, ap, arith, drop, length, nat_lt, ◌&&◌, ◌∙◌, not, subst}
+use Rattle.std.proofs.Common.{IfSome, find, encode_utf8, slice_get, option_and_then, option_map, bytes_eq, chars, fold, ◌≡◌, ◌||◌, ◌⊎◌, Bool, cond, true, false, inl, inr, refl, List, [], ◌∷◌, Option, None, Some, is_some, ◌++◌, ℕ, zero, suc, ◌<◌, ap, arith, drop, length, nat_lt, ◌&&◌, ◌∙◌, not}
 use Rattle.std.specs.List.{AllByRecursion as AllOf, list_any}
 use Rattle.std.proofs.lemmas.Bool.{true_from_ne_false, cases_Bool, cond_both, or_parts, ne_eqb}
 use Rattle.std.proofs.lemmas.Option.{IfSome_then}
@@ -16,7 +16,6 @@ use Rattle.clap.specs.declared.builder.action.ArgAction.TheVariants.{Append, Hel
 use Rattle.clap.specs.declared.parser.matches.ValueSource.{ValueSource}
 use Rattle.clap.specs.declared.parser.matches.ValueSource.TheVariants.{CommandLine, DefaultValue}
 use Rattle.clap.proofs.ValueTestLemmas.{accepts-Accepts}
-use Rattle.std.proofs.lemmas.List.Folds.{list_any-append}
 use Rattle.std.proofs.lemmas.Slice.Eq.{bytes_eq-Decides}
 use Rattle.clap.specs.Takes.{is_given}
 use Rattle.clap.specs.declared.builder.value_parser.Reading.TheVariants.{AsWritten}
@@ -38,11 +37,6 @@ pub found_passes : {X : Type 0} (t : X → Bool) (xs : List X) → IfSome (find 
 found_passes t [] = tt
 found_passes t (x ∷ xs) =
     cond_both (t x) (Some x) (find t xs) (λ o. IfSome o (λ y. t y ≡ true)) (λ is. is) (λ _. found_passes t xs)
-
--- an item is found if any passes
-pub any_is_found : {X : Type 0} (t : X → Bool) (xs : List X) → list_any t xs ≡ true → is_some (find t xs) ≡ true
-any_is_found t [] e = e
-any_is_found t (x ∷ xs) e = grind (arith, any_is_found t xs)
 
 -- a test that no item passes
 pub none_pass : {X : Type 0} (t : X → Bool) (xs : List X) → list_any t xs ≡ false → AllOf (λ x. t x ≡ false) xs
@@ -299,58 +293,11 @@ module _ (s : Shape) (usable : AllOf (IsUsable s.rules) s.rules) where
           let given : is_empty (d ∷ ds) ≡ false = ne_eqb _ _ (λ none. omega arith) in
           kept_values a is.0 DefaultValue (d ∷ ds) (omega arith) rows (both_none (request_kinds (action_of a)) _ (rw given at e)).1 fit
 
--- ---- an argument that has a default has a row
-
--- the first row of an id goes last
-added_last : (id : Text) (change : Row → List Row) (missing rows : List Row) → has_row id rows ≡ false
-    → at_row id change missing rows ≡ rows ++ missing
-added_last id change missing [] gone = refl
-added_last id change missing (r ∷ rs) gone =
-    let parts = or_parts (bytes_eq r.id id) (has_row id rs) gone in
-    rw parts.0 (ap (λ l. r ∷ l) (added_last id change missing rs parts.1))
-
--- a default keeps the rows that there are
-default_stays : (id : Text) (rows : List Row) (a : Rule) → has_row id rows ≡ true → has_row id (with_default rows a) ≡ true
-default_stays id rows a e =
-    cond_both (has_row a.id rows) rows (default_rows a.id (reading_by a) a.defaults rows) (λ l. has_row id l ≡ true) (λ _. e)
-    (λ gone. go gone a.defaults)
-  where
-    go : has_row a.id rows ≡ false → (ds : List Text) → has_row id (default_rows a.id (reading_by a) ds rows) ≡ true
-    go gone [] = e
-    go gone (d ∷ ds) = rw (added_last a.id _ _ rows gone, list_any-append, e) refl
-
--- a default makes the row of its argument
-default_made : (rows : List Row) (a : Rule) → not (is_empty a.defaults) ≡ true → has_row a.id (with_default rows a) ≡ true
-default_made rows a some =
-    cond_both (has_row a.id rows) rows (default_rows a.id (reading_by a) a.defaults rows) (λ l. has_row a.id l ≡ true)
-    (λ there. there) (λ gone. go gone a.defaults some)
-  where
-    go : has_row a.id rows ≡ false → (ds : List Text) → not (is_empty ds) ≡ true
-        → has_row a.id (default_rows a.id (reading_by a) ds rows) ≡ true
-    go gone [] bad = cc
-    go gone (d ∷ ds) some = rw (added_last a.id _ _ rows gone, list_any-append, gone, (bytes_eq-Decides a.id a.id).1 refl) refl
-
--- all defaults keep the rows that there are
-defaults_stay : (id : Text) (rules : List Rule) (rows : List Row) → has_row id rows ≡ true
-    → has_row id (fold with_default rows rules) ≡ true
-defaults_stay id [] rows e = e
-defaults_stay id (a ∷ rest) rows e = defaults_stay id rest (with_default rows a) (default_stays id rows a e)
-
-defaults_made : (rules : List Rule) (rows : List Row)
-    → AllOf (λ a. not (is_empty a.defaults) ≡ true → has_row a.id (fold with_default rows rules) ≡ true) rules
-defaults_made [] rows = tt
-defaults_made (a ∷ rest) rows =
-    (λ some. defaults_stay a.id rest (with_default rows a) (default_made rows a some), defaults_made rest (with_default rows a))
-
 -- ---- what there is of an argument
 
--- the argument is required or has a default
-abbrev pub is_wanted : Rule → Bool
-is_wanted a = a.required || not (is_empty a.defaults)
-
--- a row that fits it, or none if it isn't wanted
+-- a row that fits it, or none if it isn't required
 abbrev pub Has : Rule → Option Row → Type 0
-Has a None = is_wanted a ≡ false
+Has a None = a.required ≡ false
 Has a (Some r) = Fits a r
 
 -- the row of the id
@@ -372,8 +319,6 @@ level_has s words usable e id a found =
     let named : a.id ≡ id = (bytes_eq-Decides a.id id).0 (rw found at (found_passes {X = Rule} (λ b. bytes_eq b.id id) s.rules)) in
     go (row_by_id id rows) (found_all (FitsIn s.rules) _ rows fit) (found_passes _ rows)
     (rw named at (rw found at (found_all {X = Rule} _ (λ b. bytes_eq b.id id) s.rules lacks)))
-    (λ default. any_is_found _ rows (subst (λ i. has_row i rows ≡ true) named
-    ((rw found at (found_all {X = Rule} _ (λ b. bytes_eq b.id id) s.rules (defaults_made s.rules (settled s.rules end).rows))) default)))
   where
     rows : List Row
     rows = rows_after s.rules [] words
@@ -382,10 +327,9 @@ level_has s words usable e id a found =
     none_lacks help sub negates lacks f = grind arith
 
     go : (o : Option Row) → IfSome o (FitsIn s.rules) → IfSome o (λ r. bytes_eq r.id id ≡ true)
-        → (a.required && not (option_map_or (λ r. explicit_source r.source) o false)) ≡ false
-        → (not (is_empty a.defaults) ≡ true → is_some o ≡ true) → Has a o
-    go None fit named lacks made = grind arith
-    go (Some r) fit named lacks made = rw (ap (arg_by_id s.rules) ((bytes_eq-Decides r.id id).0 named) ∙ found) at fit
+        → (a.required && not (option_map_or (λ r. explicit_source r.source) o false)) ≡ false → Has a o
+    go None fit named lacks = grind arith
+    go (Some r) fit named lacks = rw (ap (arg_by_id s.rules) ((bytes_eq-Decides r.id id).0 named) ∙ found) at fit
 
 -- ---- values
 
@@ -397,10 +341,10 @@ pub record Given (a : Rule) (o : Option Row) : Type 0 where
   pub all : option_map (λ r. r.values) o ≡ Some (value ∷ more)
   pub one : reading_by a ≡ AsWritten → option_and_then row_text o ≡ Some value
 
--- an argument that is wanted has one
-pub given_in : (a : Rule) (o : Option Row) → Has a o → is_wanted a ≡ true → Given a o
-given_in a None none wanted = cc
-given_in a (Some r) fit wanted = record {
+-- an argument that is required has one
+pub given_in : (a : Rule) (o : Option Row) → Has a o → a.required ≡ true → Given a o
+given_in a None none required = cc
+given_in a (Some r) fit required = record {
   value = fit.value;
   more = fit.more;
   first = rw fit.values refl;
@@ -409,12 +353,10 @@ given_in a (Some r) fit wanted = record {
 }
 
 -- what a typed getter reads is accepted
-pub accepted_in : (a : Rule) (o : Option Row) → Has a o → reading_by a ≡ AsWritten → (t : Text)
-    → option_and_then row_text o ≡ Some t → Accepts a.ignore_case (parser_of_value a.parser) t
-accepted_in a None none written t e = cc
-accepted_in a (Some r) fit written t e =
-    let same : fit.value ≡ t = (let read = rw (fit.values, fit.reading, written) at e in cc) in
-    subst (Accepts a.ignore_case (parser_of_value a.parser)) same fit.accepted
+pub accepted_in : (a : Rule) (o : Option Row) → Has a o → reading_by a ≡ AsWritten
+    → IfSome (option_and_then row_text o) (Accepts a.ignore_case (parser_of_value a.parser))
+accepted_in a None none written = tt
+accepted_in a (Some r) fit written = rw (fit.values, fit.reading, written) fit.accepted
 
 -- ---- the subcommand
 

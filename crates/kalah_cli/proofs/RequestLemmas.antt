@@ -1,7 +1,8 @@
 -- What arguments are accepted, and the request that they make.
-use Rattle.std.proofs.Common.{◌≡◌, ◌⊎◌, ◌≤◌, ℕ, true, refl, ap, subst, inl, inr, List, Some, is_some, codes, arith, ◌∙◌, ◌<◌, ◌^◌, Bool, false, Option, None, map, sym, [], ◌∷◌}
+use Rattle.std.proofs.Common.{◌≡◌, ◌⊎◌, ◌≤◌, ℕ, true, refl, ap, subst, inl, inr, List, Some, codes, arith, ◌∙◌, ◌<◌, ◌^◌, Bool, false, Option, None, map, sym, [], ◌∷◌}
 use Rattle.std.specs.List.{AllByRecursion as AllOf}
-use Rattle.std.specs.Prelude.{option_map, unwrap_or}
+use Rattle.std.specs.Prelude.{IfSome, option_map, unwrap_or}
+use Rattle.std.proofs.lemmas.Option.{IfSome_then}
 use Rattle.clap.specs.Facts.{parser_of_value}
 use Rattle.clap.specs.Words.{Accepts, Row, Rule, Text, reading_of, IsUnsignedIn, ReadsOne, all_of, matched_of, one_of, one_text, raw_values, rows_of, App, HasKind, fault_of, is_simple, is_simple_and_free, subcommand_of}
 use Rattle.clap.specs.Simple.{Shape, built, filled, with_index}
@@ -10,13 +11,13 @@ use Rattle.clap.proofs.OnLiterals.{clap_on_literals}
 use Rattle.kalah_jobs.specs.declared.files.question.Question.{Question}
 use Rattle.kalah_jobs.specs.declared.files.question.Question.TheVariants.{BestMove, Steps, Values}
 use Rattle.kalah_cli.specs.Command.{file_rule, kalah_app, table_rule, workers_rule}
-use Rattle.kalah_cli.specs.Request.{AreMatches, HasNumber, MayHaveNumber, command_of, number_written, is_set, number_given, Asked, IsPlainWord, IsTakenAs, about_line}
+use Rattle.kalah_cli.specs.Request.{AreMatches, MayHaveNumber, command_of, number_written, is_set, number_given, Asked, IsPlainWord, IsTakenAs, about_line}
 use Rattle.kalah_cli.specs.declared.request.LineCommand.TheVariants.{Moves}
-use Rattle.kalah_cli.proofs.ClapLemmas.{Given, HasOf, IsUsableIn, accepted_in, arg_in, given_in, is_wanted, row_by_id, taken_has, cases_Option}
+use Rattle.kalah_cli.proofs.ClapLemmas.{Given, HasOf, IsUsableIn, accepted_in, arg_in, given_in, row_by_id, taken_has, cases_Option}
 use Rattle.std.specs.Str.{bytes_eq}
 use Rattle.std.proofs.lemmas.Bool.{false_from_ne_true, ne_eqb}
 use Rattle.std.proofs.lemmas.Slice.Eq.{bytes_eq-Decides}
-use Rattle.std.specs.Str.Parse.{ExplainsUnsignedError, HasUnsignedDigitsIfOk, ParsesBool, ParsesUnsigned, digits_value, without_leading_plus}
+use Rattle.std.specs.Str.Parse.{ExplainsUnsignedError, HasUnsignedDigitsIfOk, ParsesBool, ParsesUnsigned}
 use Rattle.std.specs.Borrow.{Bor}
 use Rattle.clap.specs.declared.parser.matches.Found.{Found}
 use Rattle.clap.proofs.WalkLemmas.{one_text-rows, raw_values-rows}
@@ -52,25 +53,16 @@ Takes name id a = arg_in subs name id ≡ Some a
 pub may_have_number : {name : Text} {rows : List Row} (id : Text) {a : Rule} {low high : ℕ} (least most : ℕ) → AreMatches name rows
     → Takes name id a
     → a.parser ≡ Some (Unsigned low high) → least ≤ low → high ≤ most → MayHaveNumber id least most rows
-may_have_number {name} {rows} id {a} least most m takes parser lower higher t e =
+may_have_number {name} {rows} id {a} least most m takes parser lower higher =
     let written = ap (λ p. reading_of (parser_of_value p)) parser in
-    let range = subst (λ p. Accepts a.ignore_case (parser_of_value p) t) parser
-    (accepted_in a (row_by_id id rows) (has_of name rows m id a takes) written t e) in
-    (range.0, range.1, omega (arith, range.2, lower), omega (arith, range.3, higher))
+    let read = subst (λ p. IfSome (one_of id rows) (Accepts a.ignore_case (parser_of_value p))) parser
+    (accepted_in a (row_by_id id rows) (has_of name rows m id a takes) written) in
+    IfSome_then (one_of id rows) read (λ t range. (range.0, range.1, omega (arith, range.2, lower), omega (arith, range.3, higher)))
 
--- an argument that is required or has a default has a value
-pub given : {name : Text} {rows : List Row} (id : Text) {a : Rule} → AreMatches name rows → Takes name id a → is_wanted a ≡ true
+-- an argument that is required has a value
+pub given : {name : Text} {rows : List Row} (id : Text) {a : Rule} → AreMatches name rows → Takes name id a → a.required ≡ true
     → Given a (row_by_id id rows)
-given {name} {rows} id {a} m takes wanted = given_in a (row_by_id id rows) (has_of name rows m id a takes) wanted
-
--- the number of such an argument is there, in its range
-pub has_number : {name : Text} {rows : List Row} (id : Text) {a : Rule} {low high : ℕ} (least most : ℕ) → AreMatches name rows
-    → Takes name id a
-    → a.parser ≡ Some (Unsigned low high) → least ≤ low → high ≤ most → is_wanted a ≡ true → HasNumber id least most rows
-has_number id least most m takes parser lower higher wanted = (
-  may_have_number id least most m takes parser lower higher,
-  ap (λ o. is_some (option_map number_written o)) ((given id m takes wanted).one (ap (λ p. reading_of (parser_of_value p)) parser)),
-)
+given {name} {rows} id {a} m takes required = given_in a (row_by_id id rows) (has_of name rows m id a takes) required
 
 -- an argument of a subcommand with files, as it is built
 abbrev pub built_rule : Rule → Rule
@@ -118,7 +110,7 @@ pub number_read : (width low high : ℕ) (f : Found) (id : Text) (r : Option ℕ
     → high < 2 ^ width → MayHaveNumber id low high (rows_of f) → r ≡ number_given id (rows_of f)
 number_read width low high f id r absent value fits may = elim (cases_Option (one_of id (rows_of f))) [
   | inl none ↦ rw none (absent (one_text-rows f id ∙ none))
-  | inr some ↦ rw some.1 (go r some.0 (may some.0 some.1) (value some.0 (one_text-rows f id ∙ some.1)))
+  | inr some ↦ rw some.1 (go r some.0 (rw some.1 at may) (value some.0 (one_text-rows f id ∙ some.1)))
 ]
   where
     go : (r : Option ℕ) (t : Text) → IsUnsignedIn low high t
@@ -127,17 +119,16 @@ number_read width low high f id r absent value fits may = elim (cases_Option (on
     go (Some n) t range read = ap (λ n. Some n) read.0.1
     go None t range read = absurd (read.1.0 (range.0, omega (arith, range.3, fits)))
 
--- the number is in the range of those that may be there
-pub number_in_range : (id : Text) (low high : ℕ) (rows : List Row) (n : ℕ) → MayHaveNumber id low high rows
-    → number_given id rows ≡ Some n
-    → (low ≤ n) × (n ≤ high)
-number_in_range id low high rows n may is = elim (cases_Option (one_of id rows)) [
-  | inl none ↦ absurd (let bad : None ≡ Some n = rw none at is in cc)
-  | inr some ↦
-      let same : n ≡ digits_value 10 (without_leading_plus some.0) = (let read = rw some.1 at is in cc) in
-      let range = may some.0 some.1 in
-      (rw same range.2, rw same range.3)
-]
+-- a number that is there is in the range
+pub in_range : (low high : ℕ) (o : Option Text) → IfSome o (IsUnsignedIn low high)
+    → IfSome (option_map number_written o) (λ n. (low ≤ n) × (n ≤ high))
+in_range low high None may = tt
+in_range low high (Some t) may = (may.2, may.3)
+
+-- what holds of a number that is there and of the default holds of either
+pub or_default : (P : ℕ → Type 0) (o : Option ℕ) (default : ℕ) → IfSome o P → P default → P (unwrap_or o default)
+or_default P None default some none = none
+or_default P (Some n) default some none = some
 
 -- the getter of a flag returns whether it is set
 pub flag_read : (E : Type 0) (f : Found) (id : Text) (r : Option Bool) → (one_text f id ≡ None → r ≡ None)

@@ -1,5 +1,5 @@
 -- The command line of the program, as data that a parse reads.
-use Rattle.std.specs.Prelude.{◌≡◌, ℕ, false, true, List, [], ◌∷◌, Some, codes, map}
+use Rattle.std.specs.Prelude.{◌≡◌, ℕ, false, true, List, [], ◌∷◌, Some, codes}
 use Rattle.std.specs.List.{fold}
 use Rattle.clap.specs.Words.{App, Rule, Text, new_app, new_rule, rule_of, with_rule, with_subcommand}
 use Rattle.clap.specs.Simple.{on_top}
@@ -34,25 +34,17 @@ ranged_rule name least most = record (value_rule name) { parser = Some (Unsigned
 abbrev pub limited_rule : Text → ℕ → Rule
 limited_rule name most = record (ranged_rule name 1 most) { long = Some name }
 
--- `--NAME N`: a number from 1 to the most, and the default if it isn't given
-abbrev pub number_rule : Text → ℕ → Text → Rule
-number_rule name most default = record (limited_rule name most) { defaults = default ∷ [] }
-
 -- DEPTH: a number up to the most, which is required
 abbrev pub depth_rule : Rule
 depth_rule = record (ranged_rule (codes "depth") 0 most_depth) { required = true }
 
--- `--workers N`: 1 to the most workers, and 4 if it isn't given
+-- `--workers N`: 1 to the most workers
 abbrev pub workers_rule : Rule
-workers_rule = number_rule (codes "workers") most_workers (codes "4")
+workers_rule = limited_rule (codes "workers") most_workers
 
--- how many entries a table has if no argument says so
-abbrev pub default_entries : ℕ
-default_entries = 65536
-
--- `--table N`: 1 to the most entries, and the default if it isn't given
+-- `--table N`: 1 to the most entries
 abbrev pub table_rule : Rule
-table_rule = number_rule (codes "table") most_entries (codes "65536")
+table_rule = limited_rule (codes "table") most_entries
 
 -- `--first H`: the number of a house, or nothing
 abbrev pub first_rule : Rule
@@ -87,9 +79,9 @@ play_app =
 abbrev pub moves_app : App
 moves_app = app_with (codes "moves") (flag_rule (codes "boards") ∷ line_rule ∷ [])
 
--- `ask [--values] [--steps] [--table N]`, whose table has no default, as `--steps` excludes it
+-- `ask [--values] [--steps] [--table N]`
 abbrev pub ask_app : App
-ask_app = app_with (codes "ask") (flag_rule (codes "values") ∷ flag_rule (codes "steps") ∷ limited_rule (codes "table") most_entries ∷ [])
+ask_app = app_with (codes "ask") (flag_rule (codes "values") ∷ flag_rule (codes "steps") ∷ table_rule ∷ [])
 
 -- `steps [--workers N] [--progress] FILE..`
 abbrev pub steps_app : App
@@ -118,8 +110,7 @@ kalah_app = with_all program_app (answers_app (codes "solve") ∷ answers_app (c
 -- the rule by which an argument of this name and kind is read
 abbrev pub kind_rule : Text → Kind → Rule
 kind_rule name Flag = flag_rule name
-kind_rule name (NumberOption value_name most defaults long_help) =
-    record (limited_rule name most) { defaults = map (λ text. text.now) defaults.now }
+kind_rule name (NumberOption value_name most long_help) = limited_rule name most
 kind_rule name (PositionalNumber value_name most) = record (ranged_rule name 0 most) { required = true }
 kind_rule name (PositionalText value_name action) = record (value_rule name) { required = true; action = Some action }
 

@@ -1,5 +1,5 @@
 -- What the arguments of a command line ask the program to do.
-use Rattle.std.specs.Prelude.{ℕ, Bool, false, List, [], ◌∷◌, Option, None, Some, codes, ◌<◌, ◌≤◌, ◌≡◌, ◌≢◌, length, map, option_map, string_bytes, option_and_then, if◌then◌else◌, is_some, true, unwrap_or, ⊤}
+use Rattle.std.specs.Prelude.{IfSome, ℕ, Bool, false, List, [], ◌∷◌, Option, None, Some, codes, ◌<◌, ◌≤◌, ◌≡◌, ◌≢◌, length, map, option_map, string_bytes, option_and_then, if◌then◌else◌, true, unwrap_or, ⊤}
 use Rattle.std.specs.declared.string.String.{String}
 use Rattle.std.specs.Option.{option_map_or}
 use Rattle.std.specs.Str.{bytes_eq}
@@ -13,7 +13,7 @@ use Rattle.kalah_solve.specs.Table.Entries.{empty_table}
 use Rattle.kalah_solve.specs.declared.solver.Solver.{Solver}
 use Rattle.std.specs.declared.alloc.Global.{Global}
 use Rattle.kalah_run.specs.Limits.{AreWorkers, IsTableSize}
-use Rattle.kalah_cli.specs.Command.{default_entries, kalah_app}
+use Rattle.kalah_cli.specs.Command.{kalah_app}
 use Rattle.kalah_cli.specs.declared.request.Request.{Request}
 use Rattle.kalah_cli.specs.declared.request.Request.TheVariants.{Line, Files, Ask, Conflict}
 use Rattle.kalah_cli.specs.declared.request.LineCommand.{LineCommand}
@@ -42,11 +42,12 @@ command_of BestMove = codes "solve"
 command_of Values = codes "values"
 command_of Steps = codes "steps"
 
--- how many entries the tables have if no argument says so: steps need none, and the least is one
-abbrev pub table_of : Question → ℕ
-table_of BestMove = default_entries
-table_of Values = default_entries
-table_of Steps = 1
+-- how many workers there are, and how many entries a table has, if no argument says so
+abbrev pub default_workers : ℕ
+default_workers = 4
+
+abbrev pub default_entries : ℕ
+default_entries = 65536
 
 -- ---- what arguments ask for: their matches are rows of values, each under the name of an argument
 
@@ -58,48 +59,48 @@ number_written text = digits_value 10 (without_leading_plus text)
 abbrev pub number_given : Text → List Row → Option ℕ
 number_given id rows = option_map number_written (one_of id rows)
 
+-- this number, or the default
+abbrev pub number_or : ℕ → Text → List Row → ℕ
+number_or default id rows = unwrap_or (number_given id rows) default
+
 -- whether the matches have the flag
 abbrev pub is_set : Text → List Row → Bool
 is_set id rows = option_map_or (λ t. bytes_eq t (codes "true")) (one_of id rows) false
 
 -- what the matches ask for of their line
-abbrev pub line_asks : Option LineCommand → List Row → Option Asked
-line_asks command rows = option_and_then (λ c. option_map (about_line c) (first_of (codes "line") rows)) command
+abbrev pub line_asks : LineCommand → List Row → Option Asked
+line_asks command rows = option_map (about_line command) (first_of (codes "line") rows)
 
 -- what the matches of `moves`, `play`, `show` and `count` ask for
 abbrev pub moves_asks : List Row → Option Asked
-moves_asks rows = line_asks (Some (Moves (is_set (codes "boards") rows))) rows
+moves_asks rows = line_asks (Moves (is_set (codes "boards") rows)) rows
 
 abbrev pub play_asks : List Row → Option Asked
-play_asks rows = line_asks (option_map (λ table.
-    Play table (is_set (codes "boards") rows) (is_set (codes "values") rows) (number_given (codes "first") rows))
-    (number_given (codes "table") rows)) rows
+play_asks rows = line_asks (Play (number_or default_entries (codes "table") rows) (is_set (codes "boards") rows)
+    (is_set (codes "values") rows) (number_given (codes "first") rows)) rows
 
 abbrev pub show_asks : List Row → Option Asked
-show_asks rows = line_asks (option_map (λ table. Show table (is_set (codes "plain") rows) (is_set (codes "lines") rows))
-    (number_given (codes "table") rows)) rows
+show_asks rows = line_asks (Show (number_or default_entries (codes "table") rows) (is_set (codes "plain") rows)
+    (is_set (codes "lines") rows)) rows
 
 abbrev pub count_asks : List Row → Option Asked
-count_asks rows = line_asks (option_map Count (number_given (codes "depth") rows)) rows
+count_asks rows = option_and_then (λ depth. line_asks (Count depth) rows) (number_given (codes "depth") rows)
 
--- the size of the tables that the matches of a subcommand with files ask for
-abbrev pub table_asked : Question → List Row → Option ℕ
-table_asked BestMove rows = number_given (codes "table") rows
-table_asked Values rows = number_given (codes "table") rows
-table_asked Steps rows = Some (table_of Steps)
+-- the size of the tables that the matches of a subcommand with files ask for: steps need none, and the least is one
+abbrev pub table_asked : Question → List Row → ℕ
+table_asked Steps rows = 1
+table_asked question rows = number_or default_entries (codes "table") rows
 
 -- what these matches ask for
 abbrev pub files_ask : Question → List Row → Option Asked
-files_ask question rows = option_and_then (λ table. option_and_then (λ workers.
-    option_map (answers question workers table (is_set (codes "progress") rows)) (all_of (codes "file") rows))
-    (number_given (codes "workers") rows))
-    (table_asked question rows)
+files_ask question rows = option_map (answers question (number_or default_workers (codes "workers") rows) (table_asked question rows)
+    (is_set (codes "progress") rows)) (all_of (codes "file") rows)
 
 -- what `ask` asks for, with `--values` and `--steps` set or not, and with this table, if one is given: steps exclude the other two
 abbrev pub flags_ask : Bool → Bool → Option ℕ → Asked
 flags_ask false false table = ask BestMove (unwrap_or table default_entries)
 flags_ask true false table = ask Values (unwrap_or table default_entries)
-flags_ask false true None = ask Steps (table_of Steps)
+flags_ask false true None = ask Steps 1
 flags_ask false true (Some table) = conflict
 flags_ask true true table = conflict
 
@@ -176,10 +177,6 @@ IsPlainWord (x ∷ xs) = x ≢ 45
 abbrev pub AreMatches : Text → List Row → Type 0
 AreMatches name rows = (words : List Text) × (fault_of kalah_app words ≡ []) × (subcommand_of kalah_app words ≡ Some (name, rows))
 
--- the matches have a number from `low` to `high` under the name, or nothing
+-- what the matches have under the name, if anything, is a number from `low` to `high`
 abbrev pub MayHaveNumber : Text → ℕ → ℕ → List Row → Type 0
-MayHaveNumber id low high rows = (t : Text) → one_of id rows ≡ Some t → IsUnsignedIn low high t
-
--- the matches have a number from `low` to `high` under the name
-abbrev pub HasNumber : Text → ℕ → ℕ → List Row → Type 0
-HasNumber id low high rows = MayHaveNumber id low high rows × (is_some (number_given id rows) ≡ true)
+MayHaveNumber id low high rows = IfSome (one_of id rows) (IsUnsignedIn low high)

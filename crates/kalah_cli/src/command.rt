@@ -21,14 +21,12 @@ fn arg_of<'a>(alloc: Global, argument: &Argument) -> Arg<'a>
         Kind::NumberOption {
             value_name,
             most,
-            defaults,
             long_help,
         } => {
             arg.long(argument.name)
                 .value_name(value_name)
                 .action(ArgAction::Set)
                 .value_parser(ValueParser::unsigned(1, most as u64))
-                .default_values(defaults)
                 .long_help(long_help.unwrap_or(argument.help))
         }
         Kind::PositionalNumber { value_name, most } => arg

@@ -5,7 +5,7 @@ ghost use Rattle.clap.specs.declared.error.kind.ErrorKind.TheVariants.{OutOfMemo
 ghost use Rattle.kalah_solve.specs.Table.Entries.{most_entries};
 ghost use Rattle.kalah_run.specs.Limits.{IsTableSize};
 ghost use Rattle.kalah_cli.specs.Command.{kalah_app};
-ghost use Rattle.kalah_cli.specs.Request.{AreMatches, HasNumber, IsInRange, IsTakenAs, MayHaveNumber, command_of, files_ask, flags_ask, is_set, matches_ask, number_given, request_asks};
+ghost use Rattle.kalah_cli.specs.Request.{AreMatches, IsInRange, IsTakenAs, MayHaveNumber, command_of, files_ask, flags_ask, is_set, matches_ask, number_given, number_or, request_asks};
 
 use crate::command::command;
 use clap::{ArgMatches, Error};
@@ -13,7 +13,10 @@ use kalah_jobs::Question;
 use std::alloc::Global;
 use std::convert::AsStr;
 
-// The entries of the table of `ask`, if `--table` is not given.
+// How many workers there are if no argument says so.
+const DEFAULT_WORKERS: u32 = 4;
+
+// How many entries a table has if no argument says so.
 const DEFAULT_ENTRIES: u32 = 65_536;
 
 /// What the arguments ask the program to do.
@@ -81,13 +84,14 @@ fn given_number(found: &ArgMatches<'_>, id: &str) -> Option<u32>
     found.get_one::<u32>(id)
 }
 
-// Returns the number of an option that has one.
-fn number_of(found: &ArgMatches<'_>, id: &str) -> u32
-    requires { HasNumber id.now 1 most_entries (rows_of (found_of found.now)) }
-    ensures given { number_given id.now (rows_of (found_of found.now)) ≡ Some result }
+// Returns the number of an option, or the default if it isn't given.
+fn number_or(found: &ArgMatches<'_>, id: &str, default: u32) -> u32
+    requires given { MayHaveNumber id.now 1 most_entries (rows_of (found_of found.now)) }
+    requires default { IsTableSize default }
+    ensures number { result ≡ number_or default id.now (rows_of (found_of found.now)) }
     ensures range { IsTableSize result }
 {
-    given_number(found, id).unwrap()
+    given_number(found, id).unwrap_or(default)
 }
 
 // Returns the small number of an argument, if it has one.
@@ -127,9 +131,9 @@ fn files_request<'a>(
 {
     Ok(Request::Files(FilesRequest {
         question,
-        workers: number_of(found, "workers"),
+        workers: number_or(found, "workers", DEFAULT_WORKERS),
         table: match question {
-            Question::BestMove | Question::Values => number_of(found, "table"),
+            Question::BestMove | Question::Values => number_or(found, "table", DEFAULT_ENTRIES),
             Question::Steps => 1,
         },
         progress: is_set(found, "progress"),
@@ -171,13 +175,13 @@ fn requested<'a>(alloc: Global, name: &str, found: &ArgMatches<'a>) -> Result<Re
             boards: is_set(found, "boards"),
         },
         "play" => LineCommand::Play {
-            table: number_of(found, "table"),
+            table: number_or(found, "table", DEFAULT_ENTRIES),
             boards: is_set(found, "boards"),
             values: is_set(found, "values"),
             first: given_byte(found, "first"),
         },
         "show" => LineCommand::Show {
-            table: number_of(found, "table"),
+            table: number_or(found, "table", DEFAULT_ENTRIES),
             plain: is_set(found, "plain"),
             lines: is_set(found, "lines"),
         },

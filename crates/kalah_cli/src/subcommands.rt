@@ -27,11 +27,10 @@ pub(crate) struct Argument {
 pub(crate) enum Kind {
     /// `--NAME`.
     Flag,
-    /// `--NAME N`, with a number from 1 to the most. If it isn't given, the defaults, one or none, are taken.
+    /// `--NAME N`, with a number from 1 to the most.
     NumberOption {
         value_name: &'static str,
         most: u32,
-        defaults: &'static [&'static str],
         long_help: Option<&'static str>,
     },
     /// A number from 0 to the most. It is required.
@@ -46,28 +45,30 @@ pub(crate) enum Kind {
     },
 }
 
+const HELP_OF_TABLE: &str = "Use tables of N entries, 1 to 1048576 [default: 65536]";
+
 const LONG_HELP_OF_TABLE: &str =
     "Use tables of N entries, 1 to 1048576.\nLeave it at the default, 65536, unless memory is short";
 
 const WORKERS: Argument = Argument {
     name: "workers",
-    help: "Answer up to N lines in parallel, 1 to 64",
+    help: "Answer up to N lines in parallel, 1 to 64 [default: 4]",
     kind: Kind::NumberOption {
         value_name: "N",
         most: MOST_WORKERS,
-        defaults: &["4"],
-        long_help: None,
+        long_help: Some("Answer up to N lines in parallel, 1 to 64\n\n[default: 4]"),
     },
 };
 
 const TABLE: Argument = Argument {
     name: "table",
-    help: "Use tables of N entries, 1 to 1048576",
+    help: HELP_OF_TABLE,
     kind: Kind::NumberOption {
         value_name: "N",
         most: MOST_ENTRIES,
-        defaults: &["65536"],
-        long_help: Some(LONG_HELP_OF_TABLE),
+        long_help: Some(
+            "Use tables of N entries, 1 to 1048576.\nLeave it at the default, 65536, unless memory is short\n\n[default: 65536]",
+        ),
     },
 };
 
@@ -153,7 +154,6 @@ pub(crate) const PLAY: &Subcommand = &Subcommand {
             kind: Kind::NumberOption {
                 value_name: "H",
                 most: MOST_HOUSES as u32,
-                defaults: &[],
                 long_help: None,
             },
         },
@@ -185,11 +185,10 @@ pub(crate) const ASK: &Subcommand = &Subcommand {
         },
         Argument {
             name: "table",
-            help: "Use tables of N entries, 1 to 1048576 [default: 65536]",
+            help: HELP_OF_TABLE,
             kind: Kind::NumberOption {
                 value_name: "N",
                 most: MOST_ENTRIES,
-                defaults: &[],
                 long_help: Some(LONG_HELP_OF_TABLE),
             },
         },

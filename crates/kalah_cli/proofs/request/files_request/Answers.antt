@@ -1,23 +1,27 @@
-use Rattle.std.proofs.Common.{◌∙◌, ◌≡◌, ◌∷◌, Some, ap, arith, codes, inl, inr, is_some, length, map, refl}
+use Rattle.std.proofs.Common.{◌∙◌, ◌≡◌, ◌∷◌, ap, arith, codes, inl, inr, is_some, length, map, refl}
 use Rattle.std.proofs.lemmas.List.{length-map}
-use Rattle.clap.specs.Words.{found_of, rows_of}
+use Rattle.clap.specs.Words.{found_of, one_of, rows_of}
 use Rattle.clap.proofs.CallerLemmas.{some_of_text}
 use Rattle.clap.proofs.WalkLemmas.{raw_values-rows}
 use Rattle.kalah_solve.specs.Table.Entries.{most_entries}
-use Rattle.kalah_run.specs.Limits.{IsTableSize, most_workers}
-use Rattle.kalah_cli.specs.Request.{table_asked}
-use Rattle.kalah_cli.proofs.RequestLemmas.{number_in_range, values_are, given, has_number, may_have_number, takes_files, takes_table}
+use Rattle.kalah_run.specs.Limits.{AreWorkers, IsTableSize, most_workers}
+use Rattle.kalah_cli.specs.Request.{default_workers, number_given, table_asked}
+use Rattle.kalah_cli.proofs.RequestLemmas.{in_range, or_default, values_are, given, may_have_number, takes_files, takes_table}
 use Rattle.kalah_cli.proofs.request.files_request.Goals.{in-BestMove, in-Steps}
 use Rattle.kalah_cli.proofs.request.files_request.Goals as goal
 
-pub number_of-requires : goal.number_of-requires
-number_of-requires c =
-    has_number (codes "workers") 1 most_entries c.requires (takes_files c.args.question).0 refl (omega arith) (omega arith) refl
+pub number_or-requires : goal.number_or-requires
+number_or-requires c = record {
+  given = may_have_number (codes "workers") 1 most_entries c.requires (takes_files c.args.question).0 refl (omega arith) (omega arith);
+  default = (omega arith, omega arith);
+}
 
-pub number_of-requires-in-BestMove : goal.number_of-requires-in-BestMove
-number_of-requires-in-BestMove c =
-    has_number (codes "table") 1 most_entries c.requires (takes_table c.args.question c.in-BestMove.is) refl (omega arith)
-    (omega arith) refl
+pub number_or-requires-in-BestMove : goal.number_or-requires-in-BestMove
+number_or-requires-in-BestMove c = record {
+  given = may_have_number (codes "table") 1 most_entries c.requires (takes_table c.args.question c.in-BestMove.is) refl (omega arith)
+      (omega arith);
+  default = (omega arith, omega arith);
+}
 
 pub unwrap-requires : goal.unwrap-requires
 unwrap-requires c =
@@ -28,29 +32,30 @@ pub returns-clause-asked : goal.returns-clause-asked
 returns-clause-asked c =
     let files = values_are (found_of c.args.found.now) (codes "file") c.get_strs.result c.unwrap.result _ c.get_strs.ensures
     c.unwrap.ensures (c.in_ok-to_vec.ensures.items_if_clones_equal (λ x y h. h)) in
-    let table : table_asked c.args.question (rows_of (found_of c.args.found.now)) ≡ Some c.match-question.result =
+    let table : c.match-question.result ≡ table_asked c.args.question (rows_of (found_of c.args.found.now)) =
     elim c.match-question.branch [
       | in-BestMove w ↦ elim w.in-BestMove.is [
-        | inl best ↦ rw (best, w.result-is) w.number_of-in-BestMove.ensures.given
-        | inr values ↦ rw (values, w.result-is) w.number_of-in-BestMove.ensures.given
+        | inl best ↦ rw (best, w.result-is) w.number_or-in-BestMove.ensures.number
+        | inr values ↦ rw (values, w.result-is) w.number_or-in-BestMove.ensures.number
       ]
       | in-Steps w ↦ rw (w.in-Steps.is, w.result-is) refl
     ] in
-    rw (table, c.number_of.ensures.given, files, c.is_set.ensures) refl
+    rw (table, c.number_or.ensures.number, files, c.is_set.ensures) refl
 
 pub returns-clause-range : goal.returns-clause-range
 returns-clause-range c =
     let workers = may_have_number (codes "workers") 1 most_workers c.requires (takes_files c.args.question).0 refl (omega arith)
     (omega arith) in
-    let few = number_in_range (codes "workers") 1 most_workers (rows_of (found_of c.args.found.now)) c.number_of.result workers
-    c.number_of.ensures.given in
+    let few : AreWorkers c.number_or.result = rw c.number_or.ensures.number
+    (or_default AreWorkers (number_given (codes "workers") (rows_of (found_of c.args.found.now))) default_workers
+    (in_range 1 most_workers (one_of (codes "workers") (rows_of (found_of c.args.found.now))) workers) (omega arith, omega arith)) in
     let names = values_are (found_of c.args.found.now) (codes "file") c.get_strs.result c.unwrap.result _ c.get_strs.ensures
     c.unwrap.ensures (c.in_ok-to_vec.ensures.items_if_clones_equal (λ x y h. h)) in
     let file = given (codes "file") c.requires (takes_files c.args.question).1 refl in
     let same : map (λ f. f.now) c.in_ok-to_vec.field-0.items ≡ file.value ∷ file.more = (let all = file.all in cc) in
     let count : length (map (λ f. f.now) c.in_ok-to_vec.field-0.items) ≡ length c.in_ok-to_vec.field-0.items = simp length-map in
     let table : IsTableSize c.match-question.result = elim c.match-question.branch [
-      | in-BestMove w ↦ rw w.result-is w.number_of-in-BestMove.ensures.range
+      | in-BestMove w ↦ rw w.result-is w.number_or-in-BestMove.ensures.range
       | in-Steps w ↦ rw w.result-is (omega arith, omega arith)
     ] in
-    ((omega (arith, few.0), few.1), table, omega (arith, ap length same))
+    (few, table, omega (arith, ap length same))

@@ -1,14 +1,18 @@
 use Rattle.std.proofs.lemmas.Grind.{common_steps}
-use Rattle.std.proofs.Common.{◌∙◌, ap, arith, codes, is_some, refl, sym}
-use Rattle.clap.specs.Words.{found_of, rows_of}
+use Rattle.std.proofs.Common.{◌≤◌, ◌∙◌, IfSome, Some, ap, arith, codes, is_some, option_map, refl, subst, sym}
+use Rattle.clap.specs.Words.{found_of, one_of, rows_of}
 use Rattle.kalah_rules.specs.Limits.{most_depth}
 use Rattle.kalah_solve.specs.Table.Entries.{most_entries}
-use Rattle.kalah_cli.proofs.RequestLemmas.{number_in_range, given, has_number, may_have_number}
+use Rattle.kalah_cli.proofs.RequestLemmas.{in_range, given, may_have_number}
+use Rattle.kalah_cli.specs.Request.{number_written}
 use Rattle.kalah_cli.proofs.request.requested.Goals.{in-count, in-moves, in-play, in-show}
 use Rattle.kalah_cli.proofs.request.requested.Goals as goal
 
-pub number_of-requires : goal.number_of-requires
-number_of-requires c = has_number (codes "table") 1 most_entries (rw c.in-play.is at c.requires) refl refl (omega arith) (omega arith) refl
+pub number_or-requires : goal.number_or-requires
+number_or-requires c = record {
+  given = may_have_number (codes "table") 1 most_entries (rw c.in-play.is at c.requires) refl refl (omega arith) (omega arith);
+  default = (omega arith, omega arith);
+}
 
 pub given_byte-requires : goal.given_byte-requires
 given_byte-requires c = may_have_number (codes "first") 0 255 (rw c.in-play.is at c.requires) refl refl (omega arith) (omega arith)
@@ -17,9 +21,11 @@ pub given_number-requires : goal.given_number-requires
 given_number-requires c = may_have_number (codes "table") 1 most_entries (rw c.in-ask.is at c.requires) refl refl (omega arith)
     (omega arith)
 
-pub number_of-requires-in-show : goal.number_of-requires-in-show
-number_of-requires-in-show c =
-    has_number (codes "table") 1 most_entries (rw c.in-show.is at c.requires) refl refl (omega arith) (omega arith) refl
+pub number_or-requires-in-show : goal.number_or-requires-in-show
+number_or-requires-in-show c = record {
+  given = may_have_number (codes "table") 1 most_entries (rw c.in-show.is at c.requires) refl refl (omega arith) (omega arith);
+  default = (omega arith, omega arith);
+}
 
 pub given_byte-requires-in-count : goal.given_byte-requires-in-count
 given_byte-requires-in-count c = may_have_number (codes "depth") 0 255 (rw c.in-count.is at c.requires) refl refl (omega arith)
@@ -27,7 +33,7 @@ given_byte-requires-in-count c = may_have_number (codes "depth") 0 255 (rw c.in-
 
 pub unwrap-requires : goal.unwrap-requires
 unwrap-requires c = ap is_some c.given_byte-in-count.ensures
-    ∙ (has_number (codes "depth") 0 most_depth (rw c.in-count.is at c.requires) refl refl (omega arith) (omega arith) refl).1
+    ∙ ap (λ o. is_some (option_map number_written o)) ((given (codes "depth") (rw c.in-count.is at c.requires) refl refl).one refl)
 
 pub line_of-requires : goal.line_of-requires
 line_of-requires c = elim c.match-name.branch [
@@ -43,12 +49,13 @@ returns-in-values-clause-asked c = rw c.in-values.is c.files_request-in-values.e
 pub returns-clause-range : goal.returns-clause-range
 returns-clause-range c = elim c.match-name.branch [
   | in-moves w ↦ rw w.command-is tt
-  | in-play w ↦ rw w.command-is w.number_of.ensures.range
-  | in-show w ↦ rw w.command-is w.number_of-in-show.ensures.range
+  | in-play w ↦ rw w.command-is w.number_or.ensures.range
+  | in-show w ↦ rw w.command-is w.number_or-in-show.ensures.range
   | in-count w ↦
-      let depth = number_in_range (codes "depth") 0 most_depth (rows_of (found_of c.args.found.now)) w.unwrap.result
-      (may_have_number (codes "depth") 0 most_depth (rw w.in-count.is at c.requires) refl refl (omega arith) (omega arith))
-      (sym w.given_byte-in-count.ensures ∙ w.unwrap.ensures) in
+      let depth : IfSome (Some w.unwrap.result) (λ n. (0 ≤ n) × (n ≤ most_depth)) =
+      subst (λ o. IfSome o (λ n. (0 ≤ n) × (n ≤ most_depth))) (sym w.given_byte-in-count.ensures ∙ w.unwrap.ensures)
+      (in_range 0 most_depth (one_of (codes "depth") (rows_of (found_of c.args.found.now)))
+      (may_have_number (codes "depth") 0 most_depth (rw w.in-count.is at c.requires) refl refl (omega arith) (omega arith))) in
       rw w.command-is depth.1
 ]
 
