@@ -372,20 +372,21 @@ arg_in subs name id = option_and_then (λ s. arg_by_id s.rules id) (find (λ s. 
 abbrev pub HasOf : List Shape → Text → List Row → Type 0
 HasOf subs name rows = (id : Text) (a : Rule) → arg_in subs name id ≡ Some a → Has a (row_by_id id rows)
 
--- a subcommand that was entered
+-- a subcommand was entered, and its rows have what its arguments ask for
 abbrev pub Enters : App → Option (Text × List Row) → Type 0
-Enters a o = (name : Text) × (rows : List Row) × (o ≡ Some (name, rows)) × HasOf a.subs name rows
+Enters a o = (is_some o ≡ true) × IfSome o (λ e. HasOf a.subs e.0 e.1)
 
-entered_has : (a : App) (stop : Option (Text × List Text)) → AllOf (IsUsableIn a.subs) a.subs → is_some (entered a stop) ≡ true
-    → entered_fault a stop ≡ [] → Enters a (entered a stop)
-entered_has a None usable = λ some e. cc
-entered_has a (Some p) usable = go (find (λ s. answers_to p.0 (label_of s)) a.subs) (found_all (IsUsableIn a.subs) _ a.subs usable)
+entered_has : (a : App) (stop : Option (Text × List Text)) → AllOf (IsUsableIn a.subs) a.subs → entered_fault a stop ≡ []
+    → IfSome (entered a stop) (λ e. HasOf a.subs e.0 e.1)
+entered_has a None usable none = tt
+entered_has a (Some p) usable none =
+    go (find (λ s. answers_to p.0 (label_of s)) a.subs) (found_all (IsUsableIn a.subs) _ a.subs usable) none
   where
-    go : (o : Option Shape) → IfSome o (IsUsableIn a.subs) → is_some (option_map (λ s. rows_at s p.1) o) ≡ true
-        → option_map_or (λ s. level_fault s [] nothing_held p.1 false []) o [] ≡ [] → Enters a (option_map (λ s. rows_at s p.1) o)
-    go None usable some e = cc
-    go (Some s) usable some e =
-        (s.name, rows_after s.rules [] p.1, refl, λ id b found. level_has s p.1 usable.1 e id b (rw usable.0 at found))
+    go : (o : Option Shape) → IfSome o (IsUsableIn a.subs)
+        → option_map_or (λ s. level_fault s [] nothing_held p.1 false []) o [] ≡ []
+        → IfSome (option_map (λ s. rows_at s p.1) o) (λ e. HasOf a.subs e.0 e.1)
+    go None usable none = tt
+    go (Some s) usable none = λ id b found. level_has s p.1 usable.1 none id b (rw usable.0 at found)
 
 -- arguments that fail by no kind enter one, if one is required
 pub taken_has : (a : App) (words : List Text) → AllOf (IsUsableIn (built a).subs) (built a).subs
@@ -397,7 +398,7 @@ taken_has a words usable required e =
     let below = both_none (entered_fault (built a) end.stopped) _ walking.1 in
     let settling = both_none (settle_fault top.rules top.args_override_self end.held) _ below.1 in
     let checking = both_none (defaults_fault (settled top.rules end.held).rows top.rules) _ settling.1 in
-    entered_has (built a) end.stopped usable (go _ (is_some (entered (built a) end.stopped)) _ _ required checking.1) below.0
+    (go _ _ _ _ required checking.1, entered_has (built a) end.stopped usable below.0)
   where
     go : (help some needs lacks : Bool) → needs ≡ true → check_kinds help (not some && needs) lacks ≡ [] → some ≡ true
     go help some needs lacks required f = grind arith

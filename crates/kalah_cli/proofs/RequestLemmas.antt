@@ -1,5 +1,5 @@
 -- What arguments are accepted, and the request that they make.
-use Rattle.std.proofs.Common.{◌≡◌, ◌⊎◌, ◌≤◌, ℕ, true, refl, ap, subst, inl, inr, List, Some, codes, arith, ◌∙◌, ◌<◌, ◌^◌, Bool, false, Option, None, map, sym, [], ◌∷◌}
+use Rattle.std.proofs.Common.{is_some, ◌≡◌, ◌⊎◌, ◌≤◌, ℕ, true, refl, ap, subst, inl, inr, List, Some, codes, arith, ◌∙◌, ◌<◌, ◌^◌, Bool, false, Option, None, map, sym, [], ◌∷◌}
 use Rattle.std.specs.List.{AllByRecursion as AllOf}
 use Rattle.std.specs.Prelude.{IfSome, option_map, unwrap_or}
 use Rattle.std.proofs.lemmas.Option.{IfSome_then}
@@ -15,7 +15,7 @@ use Rattle.kalah_cli.specs.Request.{AreMatches, MayHaveNumber, command_of, numbe
 use Rattle.kalah_cli.specs.declared.request.LineCommand.TheVariants.{Moves}
 use Rattle.kalah_cli.proofs.ClapLemmas.{Given, HasOf, IsUsableIn, accepted_in, arg_in, given_in, row_by_id, taken_has, cases_Option}
 use Rattle.std.specs.Str.{bytes_eq}
-use Rattle.std.proofs.lemmas.Bool.{false_from_ne_true, ne_eqb}
+use Rattle.std.proofs.lemmas.Bool.{and_parts, false_from_ne_true, ne_eqb}
 use Rattle.std.proofs.lemmas.Slice.Eq.{bytes_eq-Decides}
 use Rattle.std.specs.Str.Parse.{ExplainsUnsignedError, HasUnsignedDigitsIfOk, ParsesBool, ParsesUnsigned}
 use Rattle.std.specs.Borrow.{Bor}
@@ -40,10 +40,7 @@ usable = assumption
 
 -- the matches of a subcommand have what its arguments promise
 has_of : (name : Text) (rows : List Row) → AreMatches name rows → HasOf subs name rows
-has_of name rows m =
-    let met = taken_has kalah_app m.0 usable refl m.1 in
-    let same : (met.0, met.1) ≡ (name, rows) = (let other = m.2 in let one = met.2 in cc) in
-    subst (λ (p : Text × List Row). HasOf subs p.0 p.1) same met.3
+has_of name rows m = subst (λ o. IfSome o (λ e. HasOf subs e.0 e.1)) m.2 (taken_has kalah_app m.0 usable refl m.1).1
 
 -- the argument of the id, of the subcommand of the name
 abbrev pub Takes : Text → Text → Rule → Type 0
@@ -167,30 +164,25 @@ moves_taken name (x ∷ xs) plain =
 
 -- ---- what a parse of the program's arguments makes of them
 
--- the parse of the program is exact, in both outcomes
+-- the parse of the program is exact
 app_is_simple : is_simple_and_free kalah_app ≡ true
 unfolding clap_on_literals
 app_is_simple = refl
-
-kalah_is_simple : is_simple kalah_app ≡ true
-unfolding clap_on_literals
-kalah_is_simple = refl
 
 -- what is known of a parse that succeeds: the arguments have no fault, the matches are theirs, and they have a subcommand
 pub record IsParsed (words : List Text) (o : Option (Text × List Row)) : Type 0 where
   pub none : fault_of kalah_app words ≡ []
   pub same : o ≡ subcommand_of kalah_app words
-  pub taken : (name : Text) × (rows : List Row) × (o ≡ Some (name, rows)) × AreMatches name rows
+  pub some : is_some o ≡ true
 
 pub parsed : (a : App) (words : List Text) (o : Option (Text × List Row)) → a ≡ kalah_app →
     (is_simple_and_free a ≡ true → fault_of a words ≡ [])
     → (is_simple a ≡ true → o ≡ subcommand_of a words) → IsParsed words o
 parsed a words o is none rows =
-    let none : fault_of kalah_app words ≡ [] = subst (λ b. fault_of b words ≡ []) is
-    (none (ap is_simple_and_free is ∙ app_is_simple)) in
-    let same : o ≡ subcommand_of kalah_app words = rows (ap is_simple is ∙ kalah_is_simple) ∙ ap (λ b. subcommand_of b words) is in
-    let met = taken_has kalah_app words usable refl none in
-    record { none = none; same = same; taken = (met.0, met.1, same ∙ met.2, (words, none, met.2)) }
+    let simple = ap is_simple_and_free is ∙ app_is_simple in
+    let none : fault_of kalah_app words ≡ [] = subst (λ b. fault_of b words ≡ []) is (none simple) in
+    let same = rows (and_parts (is_simple a) _ simple).0 ∙ ap (λ b. subcommand_of b words) is in
+    record { none = none; same = same; some = ap is_some same ∙ (taken_has kalah_app words usable refl none).0 }
 
 -- if it fails, the error has a kind of the arguments' fault
 pub faulty : (a : App) (words : List Text) (e : Error) → a ≡ kalah_app →

@@ -1,5 +1,5 @@
 use Rattle.std.proofs.lemmas.Grind.{common_steps}
-use Rattle.std.proofs.Common.{◌∙◌, ap, arith, is_some, map, refl, sym}
+use Rattle.std.proofs.Common.{◌∙◌, ap, arith, map, refl, sym}
 use Rattle.std.specs.Prelude.{option_and_then}
 use Rattle.std.proofs.lemmas.Result.{IfOk-weaker}
 use Rattle.clap.proofs.CallerLemmas.{some_of_text}
@@ -13,7 +13,7 @@ unwrap-requires g c =
     let words = map g.S.AsStr.text c.args.words.now in
     let read = parsed _ words _ c.in_ok-command.ensures c.in_ok-matches.ensures.kinds
     (λ simple. (c.in_ok-matches.ensures.matches simple).1) in
-    c.subcommand.ensures.variant ∙ some_of_text _ _ _ refl (ap is_some read.taken.2)
+    c.subcommand.ensures.variant ∙ some_of_text _ _ _ refl read.some
 
 pub requested-requires : goal.requested-requires
 requested-requires g c =
