@@ -107,6 +107,3 @@ impl From<RunFault> for Failure<'_> {
         }
     }
 }
-
-#[cfg(test)]
-mod tests;

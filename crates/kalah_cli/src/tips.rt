@@ -1,15 +1,13 @@
 //! The tips that follow a refusal if standard error is a terminal.
 use crate::failure::Failure;
 use crate::files::ReadFault;
-use kalah_jobs::read_line;
+use kalah_jobs::{FileText, read_line};
 use std::io::Write;
 
 mod arguments;
-mod files;
 mod line;
 
 pub(crate) use arguments::report_refused;
-pub(crate) use files::advise_on_files;
 pub(crate) use line::report_fault;
 
 // Returns whether a text has the form of one side of a position, as `1,1/0`.
@@ -58,5 +56,18 @@ pub(crate) fn write_tip<E: Write>(failure: Failure<'_>, err: &mut E) {
     let _ = writeln!(err, "  tip: {tip}");
 }
 
-#[cfg(test)]
-mod tests;
+/// Writes a tip for the first of these files that begins with a byte order mark, so that its first line, or all of them, can't be read.
+pub(crate) fn advise_on_files<E: Write>(files: &[FileText], err: &mut E) {
+    for file in files {
+        let bytes = file.bytes.as_slice();
+        let tip = if bytes.starts_with(b"\xFF\xFE") || bytes.starts_with(b"\xFE\xFF") {
+            "a file is UTF-16; convert it, as in `iconv -f UTF-16 -t UTF-8 FILE | kalah ask`"
+        } else if bytes.starts_with(b"\xEF\xBB\xBF") {
+            "a file begins with a byte order mark, which is no part of a position"
+        } else {
+            continue;
+        };
+        let _ = writeln!(err, "  tip: {tip}");
+        return;
+    }
+}

@@ -10,20 +10,18 @@ use std::sync::atomic::AtomicU64;
 use std::sync::atomic::Ordering::SeqCst;
 use std::time::Duration;
 
-/// A clock, which is not set to the time of day, and terminals for the answers and for the errors or not.
+/// A clock, which is not set to the time of day, and a terminal for the errors or not.
 #[derive(Drop)]
 struct Machine {
     seconds: AtomicU64,
-    shows_answers: bool,
     shows_errors: bool,
 }
 
 impl Machine {
     // It is 7 seconds past.
-    fn new(shows_answers: bool, shows_errors: bool) -> Machine {
+    fn new(shows_errors: bool) -> Machine {
         Machine {
             seconds: AtomicU64::new(7),
-            shows_answers,
             shows_errors,
         }
     }
@@ -45,7 +43,7 @@ impl Terminal for Machine {
     }
 
     fn shows_answers(&self) -> bool {
-        self.shows_answers
+        false
     }
 
     fn shows_errors(&self) -> bool {
@@ -96,7 +94,7 @@ fn the_time_that_is_left_stands_in_its_unit(rt: HostRuntime) {
             "kalah: 0 of 2 lines, 0 %\nkalah: 1 of 2 lines, 50 %{left}\n"
         );
         let text = text.expect(&rt, "no memory");
-        let machine = Machine::new(false, false);
+        let machine = Machine::new(false);
         let said = shown(&rt, &machine, (2, 1), *seconds);
         assert!(rt; said.as_slice() == text.as_bytes(), "{seconds}");
     }
@@ -106,40 +104,14 @@ fn the_time_that_is_left_stands_in_its_unit(rt: HostRuntime) {
 fn the_other_lines_take_as_long_as_those_so_far(rt: HostRuntime) {
     let text =
         "kalah: 0 of 5 lines, 0 %\nkalah: 1 of 5 lines, 20 %, 40 s left\nkalah: 2 of 5 lines, 40 %, 15 s left\n";
-    let said = shown(&rt, &Machine::new(true, false), (5, 2), 10);
+    let said = shown(&rt, &Machine::new(false), (5, 2), 10);
     assert!(rt; said.as_slice() == text.as_bytes());
 }
 
-// Terminals for the answers and for the errors, the lines, how many of them are answered, and what is shown.
-const PLACES: &[((bool, bool), (usize, u32), &str)] = &[
-    // A terminal that doesn't get the answers has one line. It shows each thousandth, and what is answered before the thread waits,
-    // and is ended.
-    (
-        (false, true),
-        (2000, 3),
-        "\rkalah: 0 of 2000 lines, 0 %\x1b[K\rkalah: 2 of 2000 lines, 0 %\x1b[K\rkalah: 3 of 2000 lines, 0 %\x1b[K\n",
-    ),
-    ((false, true), (1, 0), "\rkalah: 0 of 1 lines, 0 %\x1b[K\n"),
-    (
-        (false, true),
-        (1, 1),
-        "\rkalah: 0 of 1 lines, 0 %\x1b[K\rkalah: 1 of 1 lines, 100 %\x1b[K\n",
-    ),
-    // Elsewhere each share has a line of its own.
-    ((true, true), (2000, 19), "kalah: 0 of 2000 lines, 0 %\n"),
-    (
-        (false, false),
-        (2000, 20),
-        "kalah: 0 of 2000 lines, 0 %\nkalah: 20 of 2000 lines, 1 %\n",
-    ),
-    ((true, false), (0, 0), "kalah: 0 of 0 lines, 100 %\n"),
-];
-
 #[test]
-fn one_line_is_rewritten_on_a_terminal_without_the_answers(rt: HostRuntime) {
-    for ((shows_answers, shows_errors), lines, text) in PLACES {
-        let machine = Machine::new(*shows_answers, *shows_errors);
-        let said = shown(&rt, &machine, *lines, 0);
-        assert!(rt; said.as_slice() == text.as_bytes(), "{text}");
-    }
+fn a_terminal_shows_each_thousandth_and_what_is_answered_before_a_wait(rt: HostRuntime) {
+    let text =
+        "\rkalah: 0 of 2000 lines, 0 %\x1b[K\rkalah: 2 of 2000 lines, 0 %\x1b[K\rkalah: 3 of 2000 lines, 0 %\x1b[K\n";
+    let said = shown(&rt, &Machine::new(true), (2000, 3), 0);
+    assert!(rt; said.as_slice() == text.as_bytes());
 }

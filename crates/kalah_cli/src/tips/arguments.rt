@@ -16,7 +16,7 @@ macro_rules! tips {
     ($($one:literal, $other:literal => $tip:expr;)*) => { &[$(($one, $other, $tip)),*] };
 }
 
-// Two parts of what the command line says to refuse arguments, and the tip if it has both.
+// Two parts of what the command line says to refuse arguments, and the tip if it has both. In a tip `{}` stands for the first argument.
 const TIPS: &[(&str, &str, &str)] = tips! {
     "not provided", "<FILE>" => "for standard input, use /dev/stdin, as in `kalah solve /dev/stdin`";
     "not provided", " count <DEPTH>" => COUNT;
@@ -42,94 +42,64 @@ const TIPS: &[(&str, &str, &str)] = tips! {
     "'help'", "<COMMAND>" => "use `kalah --help`";
     "'perft'", "<COMMAND>" => "use `kalah count DEPTH LINE`";
     "'best'", "<COMMAND>" => "use `kalah show LINE`, or `kalah solve FILE`";
+    "not provided", "" => "as in `kalah {} '1,1/0 1,1/0'`";
 };
 
-// A tip that may name an argument.
-#[derive(Clone, Copy)]
-struct Tip<'a> {
-    before: &'a str,
-    word: &'a str,
-    after: &'a str,
-}
-
-impl<'a> Tip<'a> {
-    fn new(text: &'a str) -> Tip<'a> {
-        Tip::about(text, "", "")
-    }
-
-    fn about(before: &'a str, word: &'a str, after: &'a str) -> Tip<'a> {
-        Tip {
-            before,
-            word,
-            after,
-        }
-    }
-}
-
 // Returns the tip for a first argument that is no subcommand.
-fn tip_for_name<'a>(name: &'a str, next: Option<&'a String>) -> Option<Tip<'a>> {
+fn tip_for_name(name: &str) -> Option<&'static str> {
     if read_line(name.as_bytes()).is_ok() {
-        Some(Tip::about(
-            "for a position, use `kalah show '",
-            name,
-            "'`, or `kalah ask`",
-        ))
+        Some("for a position, use `kalah show '{}'`, or `kalah ask`")
     } else if is_side(name) {
-        Some(Tip::new(QUOTES))
+        Some(QUOTES)
     } else if name.contains('.') {
-        Some(Tip::about("for a file of positions, use `kalah solve ", name, "`"))
-    } else if name == "help" {
-        next.map(|next| Tip::about("use `kalah ", next.as_str(), " --help`"))
+        Some("for a file of positions, use `kalah solve {}`")
     } else {
         None
     }
 }
 
 // Returns the tip for an argument of this subcommand that is one too many.
-fn tip_for_excess<'a>(subcommand: &str, word: &'a str) -> Option<Tip<'a>> {
+fn tip_for_excess(subcommand: &str, word: &str) -> Option<&'static str> {
     match subcommand {
-        "ask" if is_side(word) || read_line(word.as_bytes()).is_ok() => Some(Tip::new(
+        "ask" if is_side(word) || read_line(word.as_bytes()).is_ok() => Some(
             "`kalah ask` reads standard input; for one position, use `kalah show '1,1/0 1,1/0'`",
-        )),
-        "ask" if !word.starts_with('-') => Some(Tip::about(
-            "`kalah ask` reads standard input: use `kalah ask < ",
-            word,
-            "`",
-        )),
-        "play" if matches!(word, "1" | "2" | "3" | "4" | "5" | "6") => Some(Tip::about(
-            "for the first move, use `--first ",
-            word,
-            "`",
-        )),
+        ),
+        "ask" if !word.starts_with('-') => Some(
+            "`kalah ask` reads standard input: use `kalah ask < {}`",
+        ),
+        "play" if matches!(word.as_bytes(), [b'1'..=b'6']) => Some(
+            "for the first move, use `--first {}`",
+        ),
         _ => None,
     }
 }
 
-// Returns the tip for arguments that the command line refuses with this text, if there is one.
-fn tip_for<'a>(words: &'a [String], text: &str) -> Option<Tip<'a>> {
+// Returns the tip for arguments that the command line refuses with this text, if there is one, with the argument that stands for `{}`.
+fn tip_for<'a>(words: &'a [String], text: &str) -> Option<(&'static str, &'a str)> {
     let [_, name, rest @ ..] = words else {
         return None;
     };
+    let name = name.as_str();
     if text.contains("unrecognized subcommand") {
-        if let Some(tip) = tip_for_name(name.as_str(), rest.first()) {
-            return Some(tip);
+        if let Some(tip) = tip_for_name(name) {
+            return Some((tip, name));
         }
-    } else if WITH_LINE.contains(&name.as_str()) && has_parts(rest) {
-        return Some(Tip::new(QUOTES));
+        if let ("help", Some(next)) = (name, rest.first()) {
+            return Some(("use `kalah {} --help`", next.as_str()));
+        }
+    } else if WITH_LINE.contains(&name) && has_parts(rest) {
+        return Some((QUOTES, name));
     } else if text.contains("unexpected argument") {
         if let Some(word) = rest.last() {
-            if let Some(tip) = tip_for_excess(name.as_str(), word.as_str()) {
-                return Some(tip);
+            if let Some(tip) = tip_for_excess(name, word.as_str()) {
+                return Some((tip, word.as_str()));
             }
         }
     }
     for (one, other, tip) in TIPS {
         if text.contains(*one) && text.contains(*other) {
-            return Some(Tip::new(*tip));
+            return Some((*tip, name));
         }
-    }
-    if text.contains("not provided") {
-        return Some(Tip::about("as in `kalah ", name.as_str(), " '1,1/0 1,1/0'`"));
     }
     None
 }
@@ -161,9 +131,15 @@ pub(crate) fn report_refused<E: Write>(
     if !on_terminal {
         return;
     }
-    if let Some(tip) = tip_for(words, text) {
-        let _ = write!(err, "\n  tip: {}", tip.before);
-        write_escaped(tip.word, true, err);
-        let _ = writeln!(err, "{}", tip.after);
-    }
+    let Some((tip, word)) = tip_for(words, text) else {
+        return;
+    };
+    let _ = match tip.split_once("{}") {
+        Some((before, after)) => {
+            let _ = write!(err, "\n  tip: {before}");
+            write_escaped(word, true, err);
+            writeln!(err, "{after}")
+        }
+        None => writeln!(err, "\n  tip: {tip}"),
+    };
 }
