@@ -1,8 +1,6 @@
 ghost use Rattle.std.specs.Prelude.{◌<◌, vec_len};
 
-mod hostile;
 mod known;
-mod solving;
 
 use super::run_words;
 use crate::sources::Sources;
@@ -122,15 +120,6 @@ const WRITTEN: &[(&[&str], &str)] = &[
         &["moves", "1,1/0 1,1/0"],
         "1 1,1/0 0,2/0 turn\n2 1,0/1 1,1/0 again\n",
     ),
-    (&["moves", "3/0 3/0"], "1 0/6 0/0 over\n"),
-    (&["moves", "1/99 1/99"], "1 0/100 0/100 over\n"),
-    (&["moves", "8/0 8/0"], "1 11/0 2/3 turn\n"),
-    (&["moves", "1,0/0 0,2/0 e"], "1 0,0/1 0,0/2 e over\n"),
-    (&["moves", "0/0 1/0"], ""),
-    (
-        &["play", "--first", "1", "1,1/0 1,1/0"],
-        "1 1,1/0 0,2/0 turn\n1 0,2/0 0,2/0 turn\n2 0,0/1 0,0/3 over\n",
-    ),
     (
         &["play", "--values", "--first", "1", "1,1/0 1,1/0"],
         "1 1,1/0 0,2/0 turn 2\n1 0,2/0 0,2/0 turn 2\n2 0,0/1 0,0/3 over -2\n",
@@ -138,14 +127,6 @@ const WRITTEN: &[(&[&str], &str)] = &[
     (
         &["show", "--lines", "1,1/0 1,1/0"],
         "       1   1\n   0           0\n       1   1\n      -2   2\n2  2  2 1\n1  -2  1 1 2\n",
-    ),
-    (
-        &["show", "--lines", "0/3 2/4"],
-        "       2\n   4       3\n       0\nover, margin -3\n",
-    ),
-    (
-        &["show", "0,1,1/0 1,1,3/99"],
-        "       3   1   1\n  99               0\n       0   1   1\n        -104-100\n",
     ),
     (
         &["count", "3", "1,0,0,1/0 0,1,0,1/0 e"],
@@ -162,12 +143,7 @@ fn prints_what_is_asked(rt: HostRuntime) {
 // Arguments with a line that can't be read, and the message.
 const UNREAD: &[(&[&str], &str)] = &[
     (&["moves", "1/0"], "fault shape\n"),
-    (&["moves", ""], "fault empty\n"),
-    (&["moves", "1,1/0 1/0"], "fault houses\n"),
-    (&["moves", "16/0 16/0"], "fault seeds\n"),
-    (&["play", "--first=3", "01/0 1/0"], "fault shape\n"),
-    (&["show", "01/0 1/0"], "fault shape\n"),
-    (&["count", "20", "01/0 1/0"], "fault shape\n"),
+    (&["play", "--first=3", "16/0 16/0"], "fault seeds\n"),
 ];
 
 #[test]
@@ -176,15 +152,7 @@ fn a_line_that_is_not_read_is_answered_by_its_fault(rt: HostRuntime) {
 }
 
 // Arguments that the program refuses.
-const MISTAKES: &[&[&str]] = &[
-    &[],
-    &["stop"],
-    &["solve"],
-    &["solve", "--workers", "0", "a.txt"],
-    &["solve", "--workers", "65", "a.txt"],
-    &["solve", "--table", "0", "a.txt"],
-    &["solve", "--table", "1048577", "a.txt"],
-];
+const MISTAKES: &[&[&str]] = &[&[], &["stop"], &["solve", "--workers", "65", "a.txt"]];
 
 #[test]
 fn mistakes_in_the_words(rt: HostRuntime) {
@@ -195,6 +163,26 @@ fn mistakes_in_the_words(rt: HostRuntime) {
             && run.err.starts_with(b"error: ");
         assert!(rt; is_usage, "{words:?}");
     }
+}
+
+// The files that are read have any lines, and the last may lack its line feed. A name may be given again.
+const BATCH_ANSWERS: &str = "\
+b.txt:1 0 house 1
+b.txt:2 -2 house 1
+c.txt:1 6 house 1
+c.txt:2 fault empty
+c.txt:3 fault shape
+b.txt:1 0 house 1
+b.txt:2 -2 house 1
+";
+
+#[test]
+fn answers_each_line_of_each_file(rt: HostRuntime) {
+    write_file(&rt, "a.txt", b"");
+    write_file(&rt, "b.txt", b"1/0 1/0\n2/0 2/0");
+    write_file(&rt, "c.txt", b"3/0 3/0\r\n\r\n01/0 1/0\r\n");
+    let words = ["solve", "--workers=2", "a.txt", "b.txt", "c.txt", "b.txt"];
+    assert_answers(&rt, &words, ExitStatus::LineFaults, (BATCH_ANSWERS, ""));
 }
 
 // Arguments with a file that can't be read, and the message.
@@ -208,6 +196,7 @@ const NOT_READ: &[(&[&str], &str)] = &[
         &["solve", "kalah_run_none.txt", "x\ny"],
         "kalah: line feed in a file name\n",
     ),
+    (&["solve", "odd\0name"], "kalah: cannot read odd\0name\n"),
 ];
 
 #[test]
