@@ -1,6 +1,6 @@
 -- What the program has done for a request.
-use Rattle.std.proofs.Common.{◌≡◌, ◌≢◌, ◌∙◌, ℕ, List, Bool, true, false, Option, refl, sym, subst, [], ◌∷◌, ap, map, inl, ◌≤◌, ◌-◌, ◌^◌, arith, flat_map, suc, zero, inr, append-nil}
-use Rattle.std.specs.Prelude.{◌↔◌, IfOk, IsErr, IsErrOf, Result, Ok, Err, None, Some, ◌==◌, if◌then◌else◌, sum_by}
+use Rattle.std.proofs.Common.{◌≡◌, ◌≢◌, ◌∙◌, ℕ, List, Bool, true, false, Option, refl, sym, subst, [], ◌∷◌, ap, map, inl, ◌≤◌, ◌-◌, ◌^◌, arith, inr, append-nil}
+use Rattle.std.specs.Prelude.{◌↔◌, IfOk, IsErr, IsErrOf, Result, Ok, Err, None, Some, ◌==◌, if◌then◌else◌}
 use Rattle.std.specs.Io.KnownBytes.{Appends}
 use Rattle.std.proofs.lemmas.Bool.{false_from_ne_true}
 use Rattle.kalah_rules.specs.Position.{Position}
@@ -33,10 +33,8 @@ use Rattle.kalah_jobs.proofs.AskingLemmas.{begun_so_far, cut_off, nothing_read}
 use Rattle.kalah_cli.specs.Ask.{AnswersInput, StopsBetweenLines}
 use Rattle.std.proofs.Math.Nat.{le_trans, pow-le-pow_right}
 use Rattle.kalah_rules.specs.Limits.{most_depth, most_houses}
-use Rattle.kalah_rules.specs.Play.{legal_houses}
-use Rattle.kalah_rules.specs.Ways.{ways, ways_by}
+use Rattle.kalah_rules.specs.Ways.{ways_by}
 use Rattle.kalah_jobs.specs.Writing.Counts.{ways_line}
-use Rattle.kalah_cli.specs.Count.{ways_lines}
 use Rattle.clap.specs.Words.{HasKind, IsAmong, Text, fault_of, kind_of}
 use Rattle.clap.specs.declared.error.Error.{Error}
 use Rattle.clap.specs.declared.error.kind.ErrorKind.{ErrorKind}
@@ -226,24 +224,9 @@ module _ {O : Type 0} (state : O → SinkState) {status : ExitStatus} {question 
 
 -- ---- the lines of `count`, and the sum below them
 
--- the line of a house, for ways of that many moves in all
+-- the line of a house, which that many moves follow
 abbrev pub line_of : ℕ → Position → ℕ → List ℕ
-line_of depth p h = ways_line h (ways_by (depth - 1) p h)
-
--- if there is a move, there is a line for each legal one
-pub lines_are : (depth : ℕ) (p : Position) → 1 ≤ depth → ways_lines depth p ≡ flat_map (line_of depth p) (legal_houses p)
-lines_are zero p low = absurd (omega arith)
-lines_are (suc n) p low =
-    let same : n ≡ suc n - 1 = omega arith in
-    ap (λ k. flat_map (λ h. ways_line h (ways_by k p h)) (legal_houses p)) same
-
--- all ways begin with a legal move
-pub sum_is : (depth : ℕ) (p : Position) → 1 ≤ depth → ways depth p ≡ sum_by (ways_by (depth - 1) p) (legal_houses p)
-unfolding ways
-sum_is zero p low = absurd (omega arith)
-sum_is (suc n) p low =
-    let same : n ≡ suc n - 1 = omega arith in
-    ap (λ k. sum_by (ways_by k p) (legal_houses p)) same
+line_of n p h = ways_line h (ways_by n p h)
 
 -- no house begins more ways than its line can have
 pub few_ways : (n depth : ℕ) → n ≤ most_houses ^ (depth - 1) → depth ≤ most_depth → n ≤ 6 ^ 19

@@ -9,7 +9,7 @@ use Rattle.kalah_cli.proofs.count.write_houses.Given as goal
 abbrev pub invariant-loop-i : goal.invariant-loop-i
 invariant-loop-i g l = record {
   same : l.moves ≡ legal_houses l.board;
-  sum : l.total ≡ sum_by (ways_by (l.fn.depth - 1) l.board) (take l.i l.moves);
+  sum : l.total ≡ sum_by (ways_by (l.depth - 1) l.board) (take l.i l.moves);
   few : l.total ≤ l.i * 6 ^ 19;
-  given : WasGiven g.O.Sink.state l.initial.out l.out (flat_map (line_of l.fn.depth l.board) (take l.i l.moves));
+  given : WasGiven g.O.Sink.state l.initial.out l.out (flat_map (line_of (l.depth - 1) l.board) (take l.i l.moves));
 }
