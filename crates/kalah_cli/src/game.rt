@@ -5,7 +5,7 @@ ghost use Rattle.kalah_cli.specs.Ends.{IsPrinted};
 ghost use Rattle.kalah_cli.specs.Game.{best_game, game_text, move_text, value_shown};
 ghost use Rattle.kalah_cli.specs.Solver.{IsShown, begun};
 
-use crate::moves::write_move;
+use crate::moves::{board_after, write_move};
 use crate::solver::GameSolver;
 use kalah_jobs::{Sink, flush_unless_failed, write_next_house};
 use kalah_rules::{Board, Step};
@@ -62,9 +62,5 @@ pub(crate) fn write_game<O: Sink>(
     };
     let step = board.apply(house);
     write_in_form(form, margin, house, &step, out);
-    match step {
-        Step::Again(next) | Step::Turn(next) | Step::Over(next) => {
-            write_game(solver, &next, form, out);
-        }
-    }
+    write_game(solver, board_after(&step), form, out);
 }

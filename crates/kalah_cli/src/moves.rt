@@ -1,5 +1,6 @@
 //! `kalah moves LINE`.
-ghost use Rattle.std.specs.Prelude.{[], ◌∷◌, ◌++◌};
+ghost use Rattle.std.specs.Prelude.{◌≡◌, [], ◌∷◌, ◌++◌};
+ghost use Rattle.kalah_rules.specs.Play.{position_after};
 ghost use Rattle.kalah_jobs.specs.Files.Lines.{line_feed};
 ghost use Rattle.kalah_jobs.specs.Line.Line.{step_text_of};
 ghost use Rattle.kalah_jobs.specs.Writing.Given.{WasGiven};
@@ -8,6 +9,16 @@ ghost use Rattle.kalah_cli.specs.Moves.{board_lines, move_lines, moves_output, v
 
 use kalah_jobs::{Sink, flush_unless_failed, write_picture, write_step, write_valued_step};
 use kalah_rules::{Board, Step};
+
+// Returns the board that a step leads to.
+#[tactic(auto, using(crate::proofs::GameLemmas::after_step))]
+pub(crate) fn board_after(step: &Step) -> &Board
+    ensures { result.now ≡ position_after step.now }
+{
+    match step {
+        Step::Again(board) | Step::Turn(board) | Step::Over(board) => board,
+    }
+}
 
 // Draws the board, if boards are drawn.
 #[tactic(auto, using(kalah_jobs::proofs::WritingLemmas::given_none))]
@@ -40,11 +51,7 @@ pub(crate) fn write_move<O: Sink>(
     ensures { WasGiven O.state out.old out.new (move_lines boards value house step.now) }
 {
     write_line(house, step, value, out);
-    match step {
-        Step::Again(board) | Step::Turn(board) | Step::Over(board) => {
-            write_board(board, boards, out);
-        }
-    }
+    write_board(board_after(step), boards, out);
 }
 
 /// Prints each legal move of a board, houses in ascending order, and draws the board after each if boards are drawn. It allocates nothing.

@@ -10,10 +10,10 @@ ghost use Rattle.kalah_cli.specs.Solver.{IsShown, begun};
 
 use crate::failure::Failure;
 use crate::game::{Form, write_game, write_in_form};
-use crate::moves::write_board;
+use crate::moves::{board_after, write_board};
 use crate::solver::GameSolver;
 use kalah_jobs::{Sink, flush_unless_failed};
-use kalah_rules::{Board, Step};
+use kalah_rules::Board;
 use kalah_solve::Verdict;
 use std::alloc::Global;
 
@@ -65,11 +65,7 @@ fn play<O: Sink>(
     let margin = margin_shown(solver, board, values, out);
     let step = board.apply(h);
     write_in_form(form, margin, h, &step, out);
-    match step {
-        Step::Again(next) | Step::Turn(next) | Step::Over(next) => {
-            write_game(solver, &next, form, out);
-        }
-    }
+    write_game(solver, board_after(&step), form, out);
 }
 
 // Returns the house that the game should begin with, if it may not be moved.

@@ -6,17 +6,18 @@ ghost use Rattle.kalah_jobs.specs.Writing.Given.{WasGiven};
 ghost use Rattle.kalah_jobs.specs.Writing.Picture.{picture_of};
 ghost use Rattle.kalah_run.specs.Limits.{IsTableSize};
 ghost use Rattle.kalah_cli.specs.Ends.{IsPrinted};
-ghost use Rattle.kalah_cli.specs.Show.{is_better, lines_asked, of_rank, rank_in, ranked_line, show_output, variation_line};
+ghost use Rattle.kalah_cli.specs.Show.{is_better, lines_asked, of_rank, rank_in, ranked_line, show_output};
 ghost use Rattle.kalah_cli.specs.Solver.{IsOfVariations, begun};
 
 use crate::failure::Failure;
 use crate::game::{Form, write_game};
+use crate::moves::board_after;
 use crate::solver::GameSolver;
 use kalah_jobs::{
     Sink, flush_unless_failed, write_picture, write_unless_failed, write_values,
     write_variation_start,
 };
-use kalah_rules::{Board, Step};
+use kalah_rules::Board;
 use kalah_solve::{MoveValue, MoveValues};
 use std::alloc::Global;
 
@@ -60,29 +61,9 @@ fn of_rank(values: &MoveValues, rank: u8) -> Option<MoveValue>
         .copied()
 }
 
-// Writes the line of a move: its house, its value and the houses that are moved from it on, each as soon as it is found.
+// Writes the line of the move of this rank, if there is one: its house, its value and the houses that are moved from it on, each as soon as
+// it is found.
 fn write_variation<O: Sink>(
-    solver: &mut GameSolver<O>,
-    board: &Board,
-    value: MoveValue,
-    out: &mut O,
-)
-    requires legal { Contains (legal_houses board.now) value.house }
-    requires shown { IsOfVariations O.state (begun solver.old) board.now out.old }
-    ensures begun { begun solver.new ≡ begun solver.old }
-    ensures line { WasGiven O.state out.old out.new (variation_line board.now value) }
-{
-    write_variation_start(out, value);
-    match board.apply(value.house) {
-        Step::Again(next) | Step::Turn(next) | Step::Over(next) => {
-            write_game(solver, &next, Form::Houses, out);
-        }
-    }
-    write_unless_failed(out, b"\n");
-}
-
-// Writes the line of the move of this rank, if there is one.
-fn write_ranked<O: Sink>(
     solver: &mut GameSolver<O>,
     board: &Board,
     values: &MoveValues,
@@ -94,9 +75,13 @@ fn write_ranked<O: Sink>(
     ensures begun { begun solver.new ≡ begun solver.old }
     ensures line { WasGiven O.state out.old out.new (ranked_line board.now rank) }
 {
-    if let Some(value) = of_rank(values, rank) {
-        write_variation(solver, board, value, out);
-    }
+    let Some(value) = of_rank(values, rank) else {
+        return;
+    };
+    write_variation_start(out, value);
+    let step = board.apply(value.house);
+    write_game(solver, board_after(&step), Form::Houses, out);
+    write_unless_failed(out, b"\n");
 }
 
 // Writes the line of each move, the best first, if they are asked for.
@@ -115,7 +100,7 @@ fn write_lines<O: Sink>(
         return;
     }
     for rank in 0..values.len() {
-        write_ranked(solver, board, values, rank, out);
+        write_variation(solver, board, values, rank, out);
     }
 }
 

@@ -10,7 +10,7 @@ use Rattle.kalah_solve.proofs.WorthLemmas.{board_equal_sides}
 use Rattle.kalah_jobs.specs.Writing.Given.{WasGiven}
 use Rattle.kalah_jobs.proofs.WritingLemmas.{given_cut_off, given_then}
 use Rattle.kalah_cli.specs.Game.{best_game, game_text, move_text}
-use Rattle.kalah_cli.proofs.GameLemmas.{kept, after_step, best_told, fewer_left, text_goes_on, no_text, shown_flushed, shown_next}
+use Rattle.kalah_cli.proofs.GameLemmas.{kept, best_told, fewer_left, text_goes_on, no_text, shown_flushed, shown_next}
 use Rattle.kalah_cli.proofs.game.+game.Goals as goal
 
 -- the margin of the verdict is that of best play
@@ -41,8 +41,8 @@ apply-step-requires g t c = c.in-Best.ensures.best_play.best.legal
 pub write_game-requires : goal.write_game-requires
 write_game-requires g t c κs within =
     let even = board_equal_sides c.args.board.now c.apply-step.ensures.limits in
-    let next = after_step c.apply-step.result c.in-Again.next c.in-Again.is in
-    let fewer : moves_left c.in-Again.next < moves_left c.args.board.now =
+    let next = c.board_after.ensures in
+    let fewer : moves_left c.board_after.result.now < moves_left c.args.board.now =
     subst (λ q. moves_left q < moves_left c.args.board.now) (sym next)
     (fewer_left c.apply-step.result even c.in-Best.ensures.best_play.best.legal c.apply-step.ensures.step) in (
       omega (arith, fewer),
@@ -69,7 +69,7 @@ returns-clause-printed g t c =
     let going = c.in-Best.ensures.best_play.going in
     let best = (best_told c.args.board.now _ house going c.in-Best.ensures.verdict).1 in
     let text = move_text form (to_z w32 (of_z w32 (to_z w32 (of_z w32 c.in-Best.margin)))) house step in
-    let next = after_step step c.in-Again.next c.in-Again.is in
+    let next = c.board_after.ensures in
     let rest = game_text form (position_after step) (best_game (position_after step)) in
     record {
       given = subst (WasGiven g.O.Sink.state c.args.out.now c.write_game.new.out) (ap (λ q. text ++ game_text form q (best_game q)) next

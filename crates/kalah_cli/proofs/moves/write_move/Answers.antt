@@ -5,7 +5,6 @@ use Rattle.kalah_jobs.specs.Files.Lines.{line_feed}
 use Rattle.kalah_jobs.specs.Writing.Given.{WasGiven}
 use Rattle.kalah_jobs.proofs.WritingLemmas.{given_then}
 use Rattle.kalah_cli.specs.Moves.{board_lines, value_text}
-use Rattle.kalah_cli.proofs.GameLemmas.{after_step}
 use Rattle.kalah_cli.proofs.moves.write_move.Goals as goal
 
 pub returns : goal.returns
@@ -13,8 +12,7 @@ returns g c =
     let move = step_text_of c.args.house c.args.step.now in
     let value = value_text c.args.value in
     let below = board_lines c.args.boards (position_after c.args.step.now) in
-    let board = after_step c.args.step.now c.in-Again.board c.in-Again.is in
     subst (WasGiven g.O.Sink.state c.args.out.now c.write_board.new.out)
-    (ap (λ p. (move ++ (value ++ line_feed ∷ [])) ++ board_lines c.args.boards p) board
+    (ap (λ p. (move ++ (value ++ line_feed ∷ [])) ++ board_lines c.args.boards p) c.board_after.ensures
     ∙ append_assoc move (value ++ line_feed ∷ []) below ∙ ap (λ text. move ++ text) (append_assoc value (line_feed ∷ []) below))
     (given_then _ _ _ _ _ _ c.write_line.ensures c.write_board.ensures)

@@ -15,9 +15,9 @@ loop-rank-preserved g c =
     let all : length (range_with_len 0 n) ≡ n = length-range_with_len 0 n in
     let this : c.loop-rank.rank ≡ 0 + c.loop-rank.rank = omega arith in
     record {
-      shown = variations_go_on _ _ c.write_ranked.ensures.begun c.loop-rank.invariant.shown c.write_ranked.ensures.line;
+      shown = variations_go_on _ _ c.write_variation.ensures.begun c.loop-rank.invariant.shown c.write_variation.ensures.line;
       given = given_more _ (ranked_line c.args.board.now) refl c.loop-rank.rank _ _ c.loop-rank.invariant.given _ c.loop-rank.rank
-          (omega (arith, few, all)) (this ∙ sym (get_or-range_with_len 0 n c.loop-rank.rank 0 few)) c.write_ranked.ensures.line;
+          (omega (arith, few, all)) (this ∙ sym (get_or-range_with_len 0 n c.loop-rank.rank 0 few)) c.write_variation.ensures.line;
     }
 
 pub returns : goal.returns
