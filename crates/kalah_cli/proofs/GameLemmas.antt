@@ -1,9 +1,9 @@
 -- The game of best play, move by move.
 use Rattle.std.proofs.Common.{◌⊎◌, ◌<◌, ◌≤◌, ◌-◌, ◌≡◌, ℕ, zero, suc, List, [], ◌∷◌, ◌++◌, Bool, true, false, inl, inr, of_z, refl, sym, subst, to_z, w32, ap, append_assoc, ◌∙◌, arith}
-use Rattle.std.specs.Prelude.{Contains, ℤ, if◌then◌else◌}
+use Rattle.std.specs.Prelude.{Contains, ℤ, None, Option, Some, if◌then◌else◌, unwrap_or}
 use Rattle.std.proofs.lemmas.Bool.{cases_Bool}
 use Rattle.std.proofs.lemmas.Int.{ints, to_z-of_z}
-use Rattle.kalah_rules.specs.Position.{Position, HasEqualSides, IsSmallMargin, final_margin, is_over, swapped, swept}
+use Rattle.kalah_rules.specs.Position.{Position, HasEqualSides, final_margin, is_over, swapped, swept}
 use Rattle.kalah_rules.specs.Sowing.{after, is_again}
 use Rattle.kalah_rules.specs.Measure.{moves_left}
 use Rattle.kalah_rules.proofs.PlayLemmas.{after_equal_sides, legal_going, row_distance_le, sum-zeros}
@@ -12,7 +12,7 @@ use Rattle.kalah_rules.specs.declared.step.Step.TheVariants as step
 use Rattle.kalah_rules.specs.declared.step.Step.{Step}
 use Rattle.kalah_solve.specs.Solver.BestPlay.{Game, Policy, follow}
 use Rattle.kalah_solve.specs.Solver.BestPlay.Game.{is_at_end, moves_on, passes_turn}
-use Rattle.kalah_solve.specs.Solver.Verdict.{verdict_of}
+use Rattle.kalah_solve.specs.Solver.Verdict.{IsSmallBest, TellsBestMove, verdict_of}
 use Rattle.kalah_solve.specs.Solver.Worth.{best_house, value_of_move, worth}
 use Rattle.kalah_solve.specs.declared.solver.Verdict.TheVariants.{Best, Over}
 use Rattle.std.proofs.lemmas.List.Elements.{Contains-push}
@@ -21,9 +21,10 @@ use Rattle.kalah_solve.proofs.WorthLemmas.{final_swapped, value_going_on, value_
 use Rattle.kalah_jobs.specs.Writing.Given.{SinkState, WasGiven}
 use Rattle.kalah_jobs.specs.Writing.Shown.{shown_of}
 use Rattle.kalah_jobs.specs.Writing.Variation.{variation_start}
-use Rattle.kalah_jobs.proofs.WritingLemmas.{given_flushed, given_off, given_then}
+use Rattle.kalah_jobs.proofs.WritingLemmas.{given_flushed, given_then}
 use Rattle.kalah_solve.specs.declared.solver.move_values.MoveValue.{MoveValue}
-use Rattle.kalah_cli.specs.Game.{PlaysBestGames, VariationsEndWithTheirValue, best_game, best_moves, game_text, move_text}
+use Rattle.kalah_cli.specs.Game.{IsNextMove, IsShownMargin, PlaysBestGames, VariationsEndWithTheirValue, best_game, best_moves, game_played, game_text, move_text}
+use Rattle.kalah_cli.specs.Play.{MayBegin}
 use Rattle.kalah_cli.specs.Moves.{board_lines}
 use Rattle.kalah_cli.specs.Solver.{Begins, Begun, IsOfVariations, IsShown}
 use Rattle.kalah_cli.specs.declared.game.Form.{Form}
@@ -35,7 +36,7 @@ abbrev pub BestGame : Position → List ℕ → Position → Type 0
 BestGame p houses final = Game (follow best_house) (follow best_house) p houses final
 
 -- the solver's verdict has the worth and the best house, if the game goes on
-pub best_told : (p : Position) (margin : ℤ) (house : ℕ) → is_over p ≡ false → Best margin house ≡ verdict_of p
+best_told : (p : Position) (margin : ℤ) (house : ℕ) → is_over p ≡ false → Best margin house ≡ verdict_of p
     → (margin ≡ worth p) × (house ≡ best_house p)
 best_told p margin house going is =
     let told : Best margin house ≡ Best (worth p) (best_house p) =
@@ -157,18 +158,63 @@ game_goes_on p even going =
     let next = same_moves n _ _ (even_after p (best_house p)) (omega (arith, fewer_next p even going)) (omega arith) in
     ap (λ k. best_moves k p) more ∙ one_left n p going ∙ ap (λ moves. best_house p ∷ moves) next
 
--- the text of a game is that of its first move, and the text from the position after it
-pub text_goes_on : (form : Form) {p : Position} {h : ℕ} {s : Step} → HasEqualSides p → is_over p ≡ false → h ≡ best_house p
-    → s ≡ step_of p h → game_text form p (best_game p)
-    ≡ move_text form (worth p) h s ++ game_text form (position_after s) (best_game (position_after s))
-text_goes_on form {p} {h} {s} even going best is =
-    ap (game_text form p) (game_goes_on p even going) ∙ ap (λ k. text_from k (step_of p k)) (sym best) ∙ ap (text_from h) (sym is)
+-- the moves of a game that may begin with a house that is asked for are its first one, and those of best play after it
+played_next : (first : Option ℕ) (p : Position) (h : ℕ) → HasEqualSides p → is_over p ≡ false → h ≡ unwrap_or first (best_house p)
+    → game_played first p ≡ h ∷ best_game (position_after (step_of p h))
+played_next first p h even going is = first_of first ∙ ap (λ k. k ∷ best_game (position_after (step_of p k))) (sym is)
   where
-    text_from : ℕ → Step → List ℕ
-    text_from k x = move_text form (worth p) k x ++ game_text form (position_after x) (best_game (position_after x))
+    first_of : (f : Option ℕ) → game_played f p ≡ unwrap_or f (best_house p) ∷ best_game (position_after (step_of p (unwrap_or f (best_house p))))
+    first_of None = game_goes_on p even going
+    first_of (Some f) = refl
 
-pub no_text : (form : Form) (p : Position) → is_over p ≡ true → game_text form p (best_game p) ≡ []
-no_text form p over = ap (game_text form p) (none_left (moves_left p) p over)
+-- a move is written with the margin of best play, if one is shown
+shown_text : (form : Form) (margin : ℤ) (p : Position) (h : ℕ) (s : Step) → IsShownMargin form margin p
+    → move_text form margin h s ≡ move_text form (worth p) h s
+shown_text (Lines boards true) margin p h s shown = ap (λ z. move_text (Lines boards true) z h s) shown
+shown_text (Lines boards false) margin p h s shown = refl
+shown_text Houses margin p h s shown = refl
+
+module _ {form : Form} {first : Option ℕ} {p : Position} {margin : ℤ} {h : ℕ} {s : Step} (next : IsNextMove form first p margin h)
+    (is : s ≡ step_of p h) where
+  -- its text has the margin of best play
+  pub next_text : move_text form margin h s ≡ move_text form (worth p) h (step_of p h)
+  next_text = shown_text form margin p h s next.shown ∙ ap (move_text form (worth p) h) is
+
+  -- the text of a game is that of its next move, and the text from the position after it
+  pub text_goes_on : HasEqualSides p → game_text form p (game_played first p)
+      ≡ move_text form margin h s ++ game_text form (position_after s) (best_game (position_after s))
+  text_goes_on even = ap (game_text form p) (played_next first p h even (legal_going p h next.legal) next.house)
+      ∙ ap (λ s. move_text form (worth p) h s ++ game_text form (position_after s) (best_game (position_after s))) (sym is)
+      ∙ ap (λ text. text ++ game_text form (position_after s) (best_game (position_after s))) (sym (shown_text form margin p h s next.shown))
+
+-- if it is over, it has none
+pub no_text : (form : Form) (first : Option ℕ) (p : Position) → MayBegin first p → is_over p ≡ true
+    → game_text form p (game_played first p) ≡ []
+no_text form None p may over = ap (game_text form p) (none_left (moves_left p) p over)
+no_text form (Some h) p may over = absurd (let both : true ≡ false = sym over ∙ legal_going p h may in cc)
+
+-- its margin is kept in thirty-two bits
+pub next_kept : {form : Form} {first : Option ℕ} {p : Position} {margin : ℤ} {h : ℕ} → IsNextMove form first p margin h
+    → IsNextMove form first p (to_z w32 (of_z w32 margin)) h
+next_kept {form} {first} {p} {margin} {h} next =
+    let same = to_z-of_z w32 margin (omega (arith, ints, next.small.low, next.small.high)) in
+    subst (λ z. IsNextMove form first p z h) (sym same) next
+
+-- the verdict tells the next move
+pub next_told : (form : Form) (first : Option ℕ) (p : Position) {margin : ℤ} {house : ℕ} → MayBegin first p → IsSmallBest margin house
+    → TellsBestMove p margin house → Best margin house ≡ verdict_of p → IsNextMove form first p margin (unwrap_or first house)
+next_told form first p {margin} {house} may small told is =
+    let best = best_told p margin house told.going is in
+    record { legal = legal first may; house = ap (unwrap_or first) best.1; small = small.small; shown = shown form best.0 }
+  where
+    legal : (f : Option ℕ) → MayBegin f p → Contains (legal_houses p) (unwrap_or f house)
+    legal None may = told.best.legal
+    legal (Some h) may = may
+
+    shown : (f : Form) → margin ≡ worth p → IsShownMargin f margin p
+    shown (Lines boards true) best = best
+    shown (Lines boards false) best = tt
+    shown Houses best = tt
 
 -- ---- the law on it
 
@@ -206,10 +252,6 @@ variations_end p h even legal =
     (game.0, record { game = game.1; margin = game.2 best.1.margin })
 
 -- ---- the positions that are shown
-
--- a margin is kept in thirty-two bits
-pub kept : {z : ℤ} → IsSmallMargin z → to_z w32 (of_z w32 z) ≡ z
-kept {z} small = to_z-of_z w32 z (omega (arith, ints, small.low, small.high))
 
 module _ {O : Type 0} (state : O → SinkState) where
   -- the first one, once it was given
@@ -261,23 +303,8 @@ module _ {O : Type 0} (state : O → SinkState) where
       by (moves o q h shown given) flushed = moves o q h shown (given_flushed state _ _ _ _ given flushed)
 
     -- the next one, once its move was given
-    pub shown_next : {now : Begun O} {form : Form} {margin : ℤ} {s : Step} {q : Position} (h : ℕ) → game.form ≡ form
-        → s ≡ step_of p h
-        → q ≡ position_after s → now ≡ game → margin ≡ worth p → WasGiven state between new (move_text form margin h s)
+    pub shown_next : {now : Begun O} {form : Form} {s : Step} {q : Position} (h : ℕ) → game.form ≡ form → s ≡ step_of p h
+        → q ≡ position_after s → now ≡ game → WasGiven state between new (move_text form (worth p) h (step_of p h))
         → IsShown state now new q
-    shown_next {form = form} {margin = margin} {s = s} h written_in step next same most given = rw (same, next, step)
-        (moves between p h shown (subst (λ f. WasGiven state between new (move_text f (worth p) h (step_of p h)))
-        (sym written_in) (subst (λ z. WasGiven state between new (move_text form z h (step_of p h))) most
-        (subst (λ s. WasGiven state between new (move_text form margin h s)) step given))))
-
-  -- a move, with the margin of best play of its position if that is shown and no call had failed
-  pub valued_move : (boards values : Bool) (h : ℕ) (s : Step) {margin most : ℤ} {between new : O}
-      → (values ≡ true → (state between).has_failed ≡ false → margin ≡ most)
-      → WasGiven state between new (move_text (Lines boards values) margin h s)
-      → WasGiven state between new (move_text (Lines boards values) most h s)
-  valued_move boards false h s is given = given
-  valued_move boards true h s {margin} {most} {between} {new} is given = elim (cases_Bool (state between).has_failed) [
-    | inl failed ↦ subst (λ o. WasGiven state between o (move_text (Lines boards true) most h s)) (sym (given.quiet failed))
-        (given_off state between (move_text (Lines boards true) most h s) failed)
-    | inr sound ↦ subst (λ z. WasGiven state between new (move_text (Lines boards true) z h s)) (is refl sound) given
-  ]
+    shown_next h written_in step next same given = rw (same, next, step)
+        (moves between p h shown (subst (λ f. WasGiven state between new (move_text f (worth p) h (step_of p h))) (sym written_in) given))

@@ -1,7 +1,7 @@
--- The game of best play from a position, and how it is written.
-use Rattle.std.specs.Prelude.{◌≡◌, ℕ, ℤ, zero, suc, List, [], ◌∷◌, ◌++◌, Bool, Option, Some, None, Contains, if◌then◌else◌}
+-- The games that are played from a position, and how they are written.
+use Rattle.std.specs.Prelude.{◌≡◌, ℕ, ℤ, zero, suc, List, [], ◌∷◌, ◌++◌, Bool, Option, Some, None, Contains, if◌then◌else◌, true, unwrap_or, ⊤}
 use Rattle.kalah_rules.specs.Measure.{moves_left}
-use Rattle.kalah_rules.specs.Position.{Position, HasEqualSides, final_margin, is_over}
+use Rattle.kalah_rules.specs.Position.{Position, HasEqualSides, IsSmallMargin, final_margin, is_over}
 use Rattle.kalah_rules.specs.Play.{legal_houses, position_after, step_of}
 use Rattle.kalah_rules.specs.declared.step.Step.{Step}
 use Rattle.kalah_solve.specs.Solver.BestPlay.{Game, follow}
@@ -35,6 +35,18 @@ value_shown values value = if values then Some value else None
 abbrev pub move_text : Form → ℤ → ℕ → Step → List ℕ
 move_text (Lines boards values) margin h step = move_lines boards (value_shown values margin) h step
 move_text Houses margin h step = next_house h
+
+-- the margin is that of best play, if it is shown with a move
+abbrev pub IsShownMargin : Form → ℤ → Position → Type 0
+IsShownMargin (Lines boards true) margin p = margin ≡ worth p
+IsShownMargin form margin p = ⊤
+
+-- the next move of a game that may begin with a house that is asked for, and the margin that is shown with it
+pub record IsNextMove (form : Form) (first : Option ℕ) (p : Position) (margin : ℤ) (h : ℕ) : Type 0 where
+  pub legal : Contains (legal_houses p) h
+  pub house : h ≡ unwrap_or first (best_house p)
+  pub small : IsSmallMargin margin
+  pub shown : IsShownMargin form margin p
 
 -- the moves of these houses, in order, from a position on
 abbrev pub game_text : Form → Position → List ℕ → List ℕ

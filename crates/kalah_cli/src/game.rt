@@ -1,8 +1,9 @@
-//! The game of best play, move by move.
-ghost use Rattle.std.specs.Prelude.{◌≡◌, Some, None, if◌then◌else◌};
+//! A game, move by move.
+ghost use Rattle.std.specs.Prelude.{◌≡◌, [], IfNone, IfSome, None, Some, if◌then◌else◌};
 ghost use Rattle.kalah_jobs.specs.Writing.Given.{WasGiven};
 ghost use Rattle.kalah_cli.specs.Ends.{IsPrinted};
-ghost use Rattle.kalah_cli.specs.Game.{best_game, game_text, move_text, value_shown};
+ghost use Rattle.kalah_cli.specs.Game.{IsNextMove, game_played, game_text, move_text, value_shown};
+ghost use Rattle.kalah_cli.specs.Play.{MayBegin};
 ghost use Rattle.kalah_cli.specs.Solver.{IsShown, begun};
 
 use crate::moves::{board_after, write_move};
@@ -39,28 +40,56 @@ pub(crate) fn write_in_form<O: Sink>(form: Form, margin: i32, house: u8, step: &
     }
 }
 
-/// Writes the moves of the game of best play from a board on, each as soon as it is found. If the output has failed, none is sought.
+// Returns the next move of a game, and the margin of best play before it: the move of house `first`, if there is one, and otherwise the best.
+// If that margin is not shown, `first` is not searched for, and the margin is 0. All that leads to the board is flushed before a search.
+// Returns `None` if the game is over, or the output has failed.
+fn next_move<O: Sink>(
+    solver: &mut GameSolver<O>,
+    board: &Board,
+    first: Option<u8>,
+    form: Form,
+    out: &mut O,
+) -> Option<(i32, u8)>
+    requires begins { MayBegin first board.now }
+    requires shown { IsShown O.state (begun solver.old) out.old board.now }
+    ensures begun { begun solver.new ≡ begun solver.old }
+    ensures flushed { WasGiven O.state out.old out.new [] }
+    ensures some { IfSome result (λ next. IsNextMove form first board.now next.0 next.1) }
+    ensures none { IfNone result (IsPrinted O.state out.old out.new (game_text form board.now (game_played first board.now))) }
+{
+    if let (Some(house), Form::Lines { values: false, .. }) = (first, form) {
+        return Some((0, house));
+    }
+    flush_unless_failed(out);
+    if out.failed() {
+        return None;
+    }
+    match solver.solve(board, out) {
+        Verdict::Over { .. } => None,
+        Verdict::Best { margin, house } => Some((margin, first.unwrap_or(house))),
+    }
+}
+
+/// Writes the moves of a game from a board on, each as soon as it is found: the move of house `first`, if there is one, and then those of
+/// best play. If the output has failed, none is sought.
 #[cycle(game)]
 pub(crate) fn write_game<O: Sink>(
     solver: &mut GameSolver<O>,
     board: &Board,
+    first: Option<u8>,
     form: Form,
     out: &mut O,
 )
+    requires begins { MayBegin first board.now }
     requires form { solver.old.form ≡ form }
     requires shown { IsShown O.state (begun solver.old) out.old board.now }
     ensures begun { begun solver.new ≡ begun solver.old }
-    ensures printed { IsPrinted O.state out.old out.new (game_text form board.now (best_game board.now)) }
+    ensures printed { IsPrinted O.state out.old out.new (game_text form board.now (game_played first board.now)) }
 {
-    flush_unless_failed(out);
-    if out.failed() {
+    let Some((margin, house)) = next_move(solver, board, first, form, out) else {
         return;
-    }
-    let (margin, house) = match solver.solve(board, out) {
-        Verdict::Over { .. } => return,
-        Verdict::Best { margin, house } => (margin, house),
     };
     let step = board.apply(house);
     write_in_form(form, margin, house, &step, out);
-    write_game(solver, board_after(&step), form, out);
+    write_game(solver, board_after(&step), None, form, out);
 }

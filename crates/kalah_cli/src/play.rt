@@ -1,72 +1,16 @@
 //! `kalah play LINE`.
-ghost use Rattle.std.specs.Prelude.{◌≡◌, [], false, true, IfNone, IfSome, MatchResult, OnOk};
-ghost use Rattle.kalah_rules.specs.Position.{IsSmallMargin};
-ghost use Rattle.kalah_solve.specs.Solver.Worth.{worth};
-ghost use Rattle.kalah_jobs.specs.Writing.Given.{WasGiven};
+ghost use Rattle.std.specs.Prelude.{◌≡◌, IfNone, IfSome, MatchResult, OnOk};
 ghost use Rattle.kalah_run.specs.Limits.{IsTableSize};
 ghost use Rattle.kalah_cli.specs.Ends.{IsPrinted};
 ghost use Rattle.kalah_cli.specs.Play.{MayBegin, play_output};
-ghost use Rattle.kalah_cli.specs.Solver.{IsShown, begun};
 
 use crate::failure::Failure;
-use crate::game::{Form, write_game, write_in_form};
-use crate::moves::{board_after, write_board};
+use crate::game::{Form, write_game};
+use crate::moves::write_board;
 use crate::solver::GameSolver;
-use kalah_jobs::{Sink, flush_unless_failed};
+use kalah_jobs::Sink;
 use kalah_rules::Board;
-use kalah_solve::Verdict;
 use std::alloc::Global;
-
-// Returns the margin of best play of a board, if values are shown. All that leads to the board is flushed before the search. If the output
-// has failed, nothing is searched.
-fn margin_shown<O: Sink>(
-    solver: &mut GameSolver<O>,
-    board: &Board,
-    values: bool,
-    out: &mut O,
-) -> i32
-    requires shown { IsShown O.state (begun solver.old) out.old board.now }
-    ensures begun { begun solver.new ≡ begun solver.old }
-    ensures flushed { WasGiven O.state out.old out.new [] }
-    ensures margin { values ≡ true → (O.state out.new).has_failed ≡ false → result ≡ worth board.now }
-    ensures small { IsSmallMargin result }
-{
-    if !values {
-        return 0;
-    }
-    flush_unless_failed(out);
-    if out.failed() {
-        return 0;
-    }
-    match solver.solve(board, out) {
-        Verdict::Best { margin, .. } => margin,
-        Verdict::Over { margin } => margin,
-    }
-}
-
-// Writes the game of best play from a board on, or after the move of the first house, below the board if boards are drawn.
-fn play<O: Sink>(
-    solver: &mut GameSolver<O>,
-    board: &Board,
-    first: Option<u8>,
-    boards: bool,
-    values: bool,
-    out: &mut O,
-)
-    requires begins { MayBegin first board.now }
-    requires begun { begun solver.old ≡ record { form = Form.Lines boards values; first = board.now; sink = out.old } }
-    ensures { IsPrinted O.state out.old out.new (play_output first boards values board.now) }
-{
-    let form = Form::Lines { boards, values };
-    write_board(board, boards, out);
-    let Some(h) = first else {
-        return write_game(solver, board, form, out);
-    };
-    let margin = margin_shown(solver, board, values, out);
-    let step = board.apply(h);
-    write_in_form(form, margin, h, &step, out);
-    write_game(solver, board_after(&step), form, out);
-}
 
 // Returns the house that the game should begin with, if it may not be moved.
 fn unmoved_house(board: &Board, first: Option<u8>) -> Option<u8>
@@ -106,6 +50,7 @@ pub(crate) fn run_play<O: Sink>(
     let Ok(mut solver) = GameSolver::new(alloc, table, board, form, out) else {
         return Err(Failure::OutOfMemory);
     };
-    play(&mut solver, board, first, boards, values, out);
+    write_board(board, boards, out);
+    write_game(&mut solver, board, first, form, out);
     Ok(())
 }

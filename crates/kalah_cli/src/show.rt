@@ -80,7 +80,7 @@ fn write_variation<O: Sink>(
     };
     write_variation_start(out, value);
     let step = board.apply(value.house);
-    write_game(solver, board_after(&step), Form::Houses, out);
+    write_game(solver, board_after(&step), None, Form::Houses, out);
     write_unless_failed(out, b"\n");
 }
 

@@ -1,0 +1,19 @@
+use Rattle.std.proofs.Common.{sym, subst}
+use Rattle.kalah_jobs.specs.Writing.Given.{WasGiven}
+use Rattle.kalah_cli.proofs.GameLemmas.{next_kept, next_told, no_text, shown_flushed}
+use Rattle.kalah_cli.proofs.game.next_move.Goals as goal
+
+pub solve-requires-clause-shown : goal.solve-requires-clause-shown
+solve-requires-clause-shown g c = shown_flushed _ c.requires.shown c.flush_unless_failed.ensures.given
+
+pub returns-in-Over-clause-none : goal.returns-in-Over-clause-none
+returns-in-Over-clause-none g c = record {
+  given = subst (WasGiven g.O.Sink.state c.args.out.now c.flush_unless_failed.new.out)
+      (sym (no_text c.args.form c.args.first c.args.board.now c.requires.begins c.in-Over.ensures.best_play.over))
+      c.flush_unless_failed.ensures.given;
+  all_flushed = c.flush_unless_failed.ensures.all_flushed;
+}
+
+pub returns-in-Best-clause-some : goal.returns-in-Best-clause-some
+returns-in-Best-clause-some g c = rw c.unwrap_or.ensures (next_kept (next_told c.args.form c.args.first c.args.board.now c.requires.begins
+    c.in-Best.ensures.small c.in-Best.ensures.best_play c.in-Best.ensures.verdict))
