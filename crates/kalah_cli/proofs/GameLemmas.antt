@@ -23,7 +23,7 @@ use Rattle.kalah_jobs.specs.Writing.Shown.{shown_of}
 use Rattle.kalah_jobs.specs.Writing.Variation.{variation_start}
 use Rattle.kalah_jobs.proofs.WritingLemmas.{given_flushed, given_then}
 use Rattle.kalah_solve.specs.declared.solver.move_values.MoveValue.{MoveValue}
-use Rattle.kalah_cli.specs.Game.{IsNextMove, IsShownMargin, PlaysBestGames, VariationsEndWithTheirValue, best_game, best_moves, game_played, game_text, move_text}
+use Rattle.kalah_cli.specs.Game.{IsNextMove, PlaysBestGames, VariationsEndWithTheirValue, best_game, best_moves, game_played, game_text, move_text, value_shown}
 use Rattle.kalah_cli.specs.Play.{MayBegin}
 use Rattle.kalah_cli.specs.Moves.{board_lines}
 use Rattle.kalah_cli.specs.Solver.{Begins, Begun, IsOfVariations, IsShown}
@@ -167,25 +167,18 @@ played_next first p h even going is = first_of first ∙ ap (λ k. k ∷ best_ga
     first_of None = game_goes_on p even going
     first_of (Some f) = refl
 
--- a move is written with the margin of best play, if one is shown
-shown_text : (form : Form) (margin : ℤ) (p : Position) (h : ℕ) (s : Step) → IsShownMargin form margin p
-    → move_text form margin h s ≡ move_text form (worth p) h s
-shown_text (Lines boards true) margin p h s shown = ap (λ z. move_text (Lines boards true) z h s) shown
-shown_text (Lines boards false) margin p h s shown = refl
-shown_text Houses margin p h s shown = refl
-
-module _ {form : Form} {first : Option ℕ} {p : Position} {margin : ℤ} {h : ℕ} {s : Step} (next : IsNextMove form first p margin h)
+module _ {form : Form} {first : Option ℕ} {p : Position} {value : Option ℤ} {h : ℕ} {s : Step} (next : IsNextMove form first p value h)
     (is : s ≡ step_of p h) where
-  -- its text has the margin of best play
-  pub next_text : move_text form margin h s ≡ move_text form (worth p) h (step_of p h)
-  next_text = shown_text form margin p h s next.shown ∙ ap (move_text form (worth p) h) is
+  -- its text has the value of best play, if values are shown
+  pub next_text : move_text form value h s ≡ move_text form (value_shown form (worth p)) h (step_of p h)
+  next_text = ap (λ v. move_text form v h s) next.shown ∙ ap (move_text form (value_shown form (worth p)) h) is
 
   -- the text of a game is that of its next move, and the text from the position after it
   pub text_goes_on : HasEqualSides p → game_text form p (game_played first p)
-      ≡ move_text form margin h s ++ game_text form (position_after s) (best_game (position_after s))
+      ≡ move_text form value h s ++ game_text form (position_after s) (best_game (position_after s))
   text_goes_on even = ap (game_text form p) (played_next first p h even (legal_going p h next.legal) next.house)
-      ∙ ap (λ s. move_text form (worth p) h s ++ game_text form (position_after s) (best_game (position_after s))) (sym is)
-      ∙ ap (λ text. text ++ game_text form (position_after s) (best_game (position_after s))) (sym (shown_text form margin p h s next.shown))
+      ∙ ap (λ s. move_text form (value_shown form (worth p)) h s ++ game_text form (position_after s) (best_game (position_after s))) (sym is)
+      ∙ ap (λ v. move_text form v h s ++ game_text form (position_after s) (best_game (position_after s))) (sym next.shown)
 
 -- if it is over, it has none
 pub no_text : (form : Form) (first : Option ℕ) (p : Position) → MayBegin first p → is_over p ≡ true
@@ -193,28 +186,18 @@ pub no_text : (form : Form) (first : Option ℕ) (p : Position) → MayBegin fir
 no_text form None p may over = ap (game_text form p) (none_left (moves_left p) p over)
 no_text form (Some h) p may over = absurd (let both : true ≡ false = sym over ∙ legal_going p h may in cc)
 
--- its margin is kept in thirty-two bits
-pub next_kept : {form : Form} {first : Option ℕ} {p : Position} {margin : ℤ} {h : ℕ} → IsNextMove form first p margin h
-    → IsNextMove form first p (to_z w32 (of_z w32 margin)) h
-next_kept {form} {first} {p} {margin} {h} next =
-    let same = to_z-of_z w32 margin (omega (arith, ints, next.small.low, next.small.high)) in
-    subst (λ z. IsNextMove form first p z h) (sym same) next
-
--- the verdict tells the next move
+-- the verdict tells the next move, by a margin of thirty-two bits
 pub next_told : (form : Form) (first : Option ℕ) (p : Position) {margin : ℤ} {house : ℕ} → MayBegin first p → IsSmallBest margin house
-    → TellsBestMove p margin house → Best margin house ≡ verdict_of p → IsNextMove form first p margin (unwrap_or first house)
+    → TellsBestMove p margin house → Best margin house ≡ verdict_of p
+    → IsNextMove form first p (value_shown form (to_z w32 (of_z w32 margin))) (unwrap_or first house)
 next_told form first p {margin} {house} may small told is =
     let best = best_told p margin house told.going is in
-    record { legal = legal first may; house = ap (unwrap_or first) best.1; small = small.small; shown = shown form best.0 }
+    let kept = to_z-of_z w32 margin (omega (arith, ints, small.small.low, small.small.high)) in
+    record { legal = legal first may; house = ap (unwrap_or first) best.1; shown = ap (value_shown form) (kept ∙ best.0) }
   where
     legal : (f : Option ℕ) → MayBegin f p → Contains (legal_houses p) (unwrap_or f house)
     legal None may = told.best.legal
     legal (Some h) may = may
-
-    shown : (f : Form) → margin ≡ worth p → IsShownMargin f margin p
-    shown (Lines boards true) best = best
-    shown (Lines boards false) best = tt
-    shown Houses best = tt
 
 -- ---- the law on it
 
@@ -304,7 +287,7 @@ module _ {O : Type 0} (state : O → SinkState) where
 
     -- the next one, once its move was given
     pub shown_next : {now : Begun O} {form : Form} {s : Step} {q : Position} (h : ℕ) → game.form ≡ form → s ≡ step_of p h
-        → q ≡ position_after s → now ≡ game → WasGiven state between new (move_text form (worth p) h (step_of p h))
+        → q ≡ position_after s → now ≡ game → WasGiven state between new (move_text form (value_shown form (worth p)) h (step_of p h))
         → IsShown state now new q
     shown_next h written_in step next same given = rw (same, next, step)
-        (moves between p h shown (subst (λ f. WasGiven state between new (move_text f (worth p) h (step_of p h))) (sym written_in) given))
+        (moves between p h shown (subst (λ f. WasGiven state between new (move_text f (value_shown f (worth p)) h (step_of p h))) (sym written_in) given))

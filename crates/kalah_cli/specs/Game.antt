@@ -1,7 +1,7 @@
 -- The games that are played from a position, and how they are written.
-use Rattle.std.specs.Prelude.{◌≡◌, ℕ, ℤ, zero, suc, List, [], ◌∷◌, ◌++◌, Bool, Option, Some, None, Contains, if◌then◌else◌, true, unwrap_or, ⊤}
+use Rattle.std.specs.Prelude.{◌≡◌, ℕ, ℤ, zero, suc, List, [], ◌∷◌, ◌++◌, Option, Some, None, Contains, if◌then◌else◌, true, unwrap_or}
 use Rattle.kalah_rules.specs.Measure.{moves_left}
-use Rattle.kalah_rules.specs.Position.{Position, HasEqualSides, IsSmallMargin, final_margin, is_over}
+use Rattle.kalah_rules.specs.Position.{Position, HasEqualSides, final_margin, is_over}
 use Rattle.kalah_rules.specs.Play.{legal_houses, position_after, step_of}
 use Rattle.kalah_rules.specs.declared.step.Step.{Step}
 use Rattle.kalah_solve.specs.Solver.BestPlay.{Game, follow}
@@ -27,31 +27,27 @@ game_played (Some h) p = h ∷ best_game (position_after (step_of p h))
 
 -- ---- its moves, as they are written
 
--- the value, if values are shown
-abbrev pub value_shown : Bool → ℤ → Option ℤ
-value_shown values value = if values then Some value else None
+-- the value that a move has, if values are shown, in a position with this margin of best play
+abbrev pub value_shown : Form → ℤ → Option ℤ
+value_shown (Lines boards true) margin = Some margin
+value_shown form margin = None
 
--- a move of a house that leads to this, made in a position with this margin of best play
-abbrev pub move_text : Form → ℤ → ℕ → Step → List ℕ
-move_text (Lines boards values) margin h step = move_lines boards (value_shown values margin) h step
-move_text Houses margin h step = next_house h
+-- a move of a house that leads to this, with this value or none
+abbrev pub move_text : Form → Option ℤ → ℕ → Step → List ℕ
+move_text (Lines boards values) value h step = move_lines boards value h step
+move_text Houses value h step = next_house h
 
--- the margin is that of best play, if it is shown with a move
-abbrev pub IsShownMargin : Form → ℤ → Position → Type 0
-IsShownMargin (Lines boards true) margin p = margin ≡ worth p
-IsShownMargin form margin p = ⊤
-
--- the next move of a game that may begin with a house that is asked for, and the margin that is shown with it
-pub record IsNextMove (form : Form) (first : Option ℕ) (p : Position) (margin : ℤ) (h : ℕ) : Type 0 where
+-- the next move of a game that may begin with a house that is asked for, and the value that it has
+pub record IsNextMove (form : Form) (first : Option ℕ) (p : Position) (value : Option ℤ) (h : ℕ) : Type 0 where
   pub legal : Contains (legal_houses p) h
   pub house : h ≡ unwrap_or first (best_house p)
-  pub small : IsSmallMargin margin
-  pub shown : IsShownMargin form margin p
+  pub shown : value ≡ value_shown form (worth p)
 
 -- the moves of these houses, in order, from a position on
 abbrev pub game_text : Form → Position → List ℕ → List ℕ
 game_text form p [] = []
-game_text form p (h ∷ houses) = move_text form (worth p) h (step_of p h) ++ game_text form (position_after (step_of p h)) houses
+game_text form p (h ∷ houses) =
+    move_text form (value_shown form (worth p)) h (step_of p h) ++ game_text form (position_after (step_of p h)) houses
 
 -- ---- the laws on this game
 

@@ -7,7 +7,7 @@ use Rattle.kalah_solve.specs.declared.solver.move_values.MoveValue.{MoveValue}
 use Rattle.kalah_jobs.specs.Writing.Given.{SinkState, WasGiven}
 use Rattle.kalah_jobs.specs.Writing.Shown.{shown_of}
 use Rattle.kalah_jobs.specs.Writing.Variation.{variation_start}
-use Rattle.kalah_cli.specs.Game.{move_text}
+use Rattle.kalah_cli.specs.Game.{move_text, value_shown}
 use Rattle.kalah_cli.specs.Moves.{board_lines}
 use Rattle.kalah_cli.specs.declared.game.Form.{Form}
 use Rattle.kalah_cli.specs.declared.game.Form.TheVariants.{Lines, Houses}
@@ -41,4 +41,5 @@ module _ {O : Type 0} (state : O → SinkState) (game : Begun O) where
   pub data IsShown : O → Position → Type 0 where
     begins : {new : O} {p : Position} → Begins game.form new p → IsShown new p
     moves : {new : O} (between : O) (p : Position) (h : ℕ) → IsShown between p
-        → WasGiven state between new (move_text game.form (worth p) h (step_of p h)) → IsShown new (position_after (step_of p h))
+        → WasGiven state between new (move_text game.form (value_shown game.form (worth p)) h (step_of p h))
+        → IsShown new (position_after (step_of p h))

@@ -1,5 +1,5 @@
 //! A game, move by move.
-ghost use Rattle.std.specs.Prelude.{◌≡◌, [], IfNone, IfSome, None, Some, if◌then◌else◌};
+ghost use Rattle.std.specs.Prelude.{◌≡◌, [], IfNone, IfSome, None, Some};
 ghost use Rattle.kalah_jobs.specs.Writing.Given.{WasGiven};
 ghost use Rattle.kalah_cli.specs.Ends.{IsPrinted};
 ghost use Rattle.kalah_cli.specs.Game.{IsNextMove, game_played, game_text, move_text, value_shown};
@@ -21,35 +21,35 @@ pub(crate) enum Form {
     Houses,
 }
 
-// Returns the value to be shown, if values are shown.
-pub(crate) fn value_shown(values: bool, value: i32) -> Option<i32>
-    ensures { result ≡ value_shown values value }
-{
-    if values { Some(value) } else { None }
-}
-
-// Writes a move in this form, made in a position with this margin of best play.
-pub(crate) fn write_in_form<O: Sink>(form: Form, margin: i32, house: u8, step: &Step, out: &mut O)
-    ensures { WasGiven O.state out.old out.new (move_text form margin house step.now) }
+// Returns the value that a move of this form has, in a position with this margin of best play.
+fn value_shown(form: Form, margin: i32) -> Option<i32>
+    ensures { result ≡ value_shown form margin }
 {
     match form {
-        Form::Lines { boards, values } => {
-            write_move(house, step, value_shown(values, margin), boards, out);
-        }
+        Form::Lines { values: true, .. } => Some(margin),
+        _ => None,
+    }
+}
+
+// Writes a move in this form, with its value or without.
+fn write_in_form<O: Sink>(form: Form, value: Option<i32>, house: u8, step: &Step, out: &mut O)
+    ensures { WasGiven O.state out.old out.new (move_text form value house step.now) }
+{
+    match form {
+        Form::Lines { boards, .. } => write_move(house, step, value, boards, out),
         Form::Houses => write_next_house(out, house),
     }
 }
 
-// Returns the next move of a game, and the margin of best play before it: the move of house `first`, if there is one, and otherwise the best.
-// If that margin is not shown, `first` is not searched for, and the margin is 0. All that leads to the board is flushed before a search.
-// Returns `None` if the game is over, or the output has failed.
+// Returns the next move of a game, with its value if values are shown: that of house `first`, if there is one, and otherwise the best. All
+// that leads to the board is flushed before a search. Returns `None` if the game is over, or the output has failed.
 fn next_move<O: Sink>(
     solver: &mut GameSolver<O>,
     board: &Board,
     first: Option<u8>,
     form: Form,
     out: &mut O,
-) -> Option<(i32, u8)>
+) -> Option<(Option<i32>, u8)>
     requires begins { MayBegin first board.now }
     requires shown { IsShown O.state (begun solver.old) out.old board.now }
     ensures begun { begun solver.new ≡ begun solver.old }
@@ -58,7 +58,7 @@ fn next_move<O: Sink>(
     ensures none { IfNone result (IsPrinted O.state out.old out.new (game_text form board.now (game_played first board.now))) }
 {
     if let (Some(house), Form::Lines { values: false, .. }) = (first, form) {
-        return Some((0, house));
+        return Some((None, house));
     }
     flush_unless_failed(out);
     if out.failed() {
@@ -66,7 +66,9 @@ fn next_move<O: Sink>(
     }
     match solver.solve(board, out) {
         Verdict::Over { .. } => None,
-        Verdict::Best { margin, house } => Some((margin, first.unwrap_or(house))),
+        Verdict::Best { margin, house } => {
+            Some((value_shown(form, margin), first.unwrap_or(house)))
+        }
     }
 }
 
@@ -86,10 +88,10 @@ pub(crate) fn write_game<O: Sink>(
     ensures begun { begun solver.new ≡ begun solver.old }
     ensures printed { IsPrinted O.state out.old out.new (game_text form board.now (game_played first board.now)) }
 {
-    let Some((margin, house)) = next_move(solver, board, first, form, out) else {
+    let Some((value, house)) = next_move(solver, board, first, form, out) else {
         return;
     };
     let step = board.apply(house);
-    write_in_form(form, margin, house, &step, out);
+    write_in_form(form, value, house, &step, out);
     write_game(solver, board_after(&step), None, form, out);
 }

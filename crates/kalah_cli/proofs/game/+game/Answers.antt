@@ -1,10 +1,10 @@
-use Rattle.std.proofs.Common.{◌<◌, ◌∙◌, [], ap, arith, of_z, subst, sym, to_z, w32}
+use Rattle.std.proofs.Common.{◌<◌, ◌∙◌, [], ap, arith, subst, sym}
 use Rattle.kalah_rules.specs.Measure.{moves_left}
 use Rattle.kalah_solve.proofs.WorthLemmas.{board_equal_sides}
 use Rattle.kalah_jobs.specs.Writing.Given.{WasGiven}
 use Rattle.kalah_jobs.proofs.WritingLemmas.{given_then}
 use Rattle.kalah_cli.specs.Game.{move_text}
-use Rattle.kalah_cli.proofs.GameLemmas.{fewer_left, next_kept, next_text, shown_flushed, shown_next, text_goes_on}
+use Rattle.kalah_cli.proofs.GameLemmas.{fewer_left, next_text, shown_flushed, shown_next, text_goes_on}
 use Rattle.kalah_cli.proofs.game.+game.Goals as goal
 
 pub apply-step-requires : goal.apply-step-requires
@@ -18,7 +18,7 @@ write_game-requires g t c κs within =
     let fewer : moves_left c.board_after.result.now < moves_left c.args.board.now =
     subst (λ q. moves_left q < moves_left c.args.board.now) (sym c.board_after.ensures)
     (fewer_left c.apply-step.result even next.legal step) in
-    let given = subst (WasGiven g.O.Sink.state c.next_move.new.out c.write_in_form.new.out) (next_text (next_kept next) step)
+    let given = subst (WasGiven g.O.Sink.state c.next_move.new.out c.write_in_form.new.out) (next_text next step)
     c.write_in_form.ensures in (
       omega (arith, fewer),
       (
@@ -42,9 +42,9 @@ returns-clause-printed g t c =
     let even = board_equal_sides c.args.board.now c.apply-step.ensures.limits in
     record {
       given = subst (WasGiven g.O.Sink.state c.args.out.now c.write_game.new.out)
-          (sym (text_goes_on (next_kept c.in-Some.ensures.some) c.apply-step.ensures.step even))
+          (sym (text_goes_on c.in-Some.ensures.some c.apply-step.ensures.step even))
           (given_then _ _ _ _ [] _ c.next_move.ensures.flushed
-          (given_then _ _ _ _ (move_text c.args.form (to_z w32 (of_z w32 c.in-Some.margin)) c.in-Some.house c.apply-step.result) _
+          (given_then _ _ _ _ (move_text c.args.form c.in-Some.value c.in-Some.house c.apply-step.result) _
           c.write_in_form.ensures (rw (← c.board_after.ensures) c.write_game.ensures.printed.given)));
       all_flushed = c.write_game.ensures.printed.all_flushed;
     }

@@ -1,6 +1,6 @@
 use Rattle.std.proofs.Common.{sym, subst}
 use Rattle.kalah_jobs.specs.Writing.Given.{WasGiven}
-use Rattle.kalah_cli.proofs.GameLemmas.{next_kept, next_told, no_text, shown_flushed}
+use Rattle.kalah_cli.proofs.GameLemmas.{next_told, no_text, shown_flushed}
 use Rattle.kalah_cli.proofs.game.next_move.Goals as goal
 
 pub solve-requires-clause-shown : goal.solve-requires-clause-shown
@@ -15,5 +15,5 @@ returns-in-Over-clause-none g c = record {
 }
 
 pub returns-in-Best-clause-some : goal.returns-in-Best-clause-some
-returns-in-Best-clause-some g c = rw c.unwrap_or.ensures (next_kept (next_told c.args.form c.args.first c.args.board.now c.requires.begins
-    c.in-Best.ensures.small c.in-Best.ensures.best_play c.in-Best.ensures.verdict))
+returns-in-Best-clause-some g c = rw (c.unwrap_or.ensures, c.value_shown.ensures) (next_told c.args.form c.args.first c.args.board.now c.requires.begins
+    c.in-Best.ensures.small c.in-Best.ensures.best_play c.in-Best.ensures.verdict)
