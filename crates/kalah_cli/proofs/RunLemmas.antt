@@ -1,11 +1,10 @@
 -- What the program has done for a request.
 use Rattle.std.proofs.Common.{◌≡◌, ◌≢◌, ◌∙◌, ℕ, List, Bool, true, false, Option, refl, sym, subst, [], ◌∷◌, ap, map, inl, ◌≤◌, ◌-◌, ◌^◌, arith, inr, append-nil}
-use Rattle.std.specs.Prelude.{◌↔◌, IfOk, IsErr, IsErrOf, Result, Ok, Err, None, Some, ◌==◌, if◌then◌else◌}
-use Rattle.std.specs.Io.KnownBytes.{Appends}
+use Rattle.std.specs.Prelude.{◌↔◌, All, IfOk, IsErr, IsErrOf, Result, Ok, Err, None, Some, ◌==◌, if◌then◌else◌}
 use Rattle.std.proofs.lemmas.Bool.{false_from_ne_true}
 use Rattle.kalah_rules.specs.Position.{Position}
 use Rattle.kalah_jobs.specs.Line.Line.{Reads}
-use Rattle.kalah_jobs.specs.Writing.Given.{AppendsPrefix, SinkState, WasGiven}
+use Rattle.kalah_jobs.specs.Writing.Given.{SinkState, WasGiven}
 use Rattle.kalah_jobs.proofs.LineLemmas.{reads_once}
 use Rattle.kalah_jobs.proofs.WritingLemmas.{given_flushed, start_none, start_then}
 use Rattle.kalah_cli.specs.Ends.{Ends, FailsWithoutOutput, IsPrinted, IsUnread, Prints, ended_by}
@@ -22,8 +21,12 @@ use Rattle.std.specs.List.{list_any}
 use Rattle.clap.proofs.WalkLemmas.{list_any-map}
 use Rattle.kalah_jobs.specs.Files.NamedBytes.{NamedBytes}
 use Rattle.kalah_jobs.specs.declared.files.question.Question.{Question}
+use Rattle.kalah_jobs.specs.Writing.Output.{TallyState, output_to}
+use Rattle.kalah_run.specs.Batch.Answering.{AnswersAll, AnswersBatch}
+use Rattle.kalah_run.specs.declared.batch.run_fault.RunFault.{RunFault}
+use Rattle.kalah_run.specs.declared.batch.run_fault.RunFault.TheVariants as fault
 use Rattle.kalah_cli.specs.SolveFiles.{AnswersFiles, has_line_feed}
-use Rattle.kalah_cli.specs.Sources.{Source, any_bytes}
+use Rattle.kalah_cli.specs.Sources.{Source, any_bytes, file_named}
 use Rattle.std.specs.Io.Buffered.{reader_buffer, reader_capacity, reader_inner, reader_remaining}
 use Rattle.std.specs.Io.KnownBytes.{prepend_known}
 use Rattle.std.specs.declared.io.buffered.BufReader.{BufReader}
@@ -138,23 +141,71 @@ unfolding empty_files
 their_names [] = refl
 their_names (name ∷ names) = ap (λ l. name ∷ l) (their_names names)
 
--- the program failed before anything was written
-pub files_refused : {O : Type 0} (state : O → SinkState) {status : ExitStatus} {out : O}
-    {may_give : Source → List ℕ → Type 0} {question : Question} {names : List (List ℕ)} → status ≡ Failed → (state out).has_failed ≡ false
-    → AnswersFiles state out out status may_give question names
-files_refused state {names = names} failed sound = record {
-  files = empty_files names;
-  named = their_names names;
-  given = inl (failed, refl);
-  printed = prints_nothing state failed;
-  one_line = λ went. absurd (went failed);
-  clean = λ went. absurd (went failed);
-  ends = ends_unchanged state sound;
-}
+module _ {O : Type 0} (state : O → SinkState) {status : ExitStatus} {may_give : Source → List ℕ → Type 0} {question : Question}
+    {names : List (List ℕ)} where
+  -- the program failed before anything was written
+  pub files_refused : {out : O} → status ≡ Failed → (state out).has_failed ≡ false
+      → AnswersFiles state out out status may_give question names
+  files_refused failed sound = record {
+    files = empty_files names;
+    named = their_names names;
+    given = inl (failed, refl);
+    printed = prints_nothing state failed;
+    one_line = λ went. absurd (went failed);
+    clean = λ went. absurd (went failed);
+    ends = ends_unchanged state sound;
+  }
 
--- what was written whole was written from its start
-pub start_whole : (old new : Option (List ℕ)) (bs : List ℕ) → Appends old new bs → AppendsPrefix old new bs
-start_whole old new bs whole = start_then old new new bs bs [] (sym (append-nil bs)) whole (start_none new [])
+  module _ {old new : O} (files : List NamedBytes) (named : map (λ file. file.name) files ≡ names)
+      (given : All (λ file. may_give (file_named file.name) file.bytes) files) where
+    -- each line was answered
+    pub files_answered : {tally : TallyState} → AnswersAll state (output_to question files) files old new tally
+        → list_any has_line_feed names ≡ false → status ≢ Failed → (status ≡ Clean) ↔ (tally.faults ≡ 0)
+        → AnswersFiles state old new status may_give question names
+    files_answered does one_line went clean = record {
+      files = files;
+      named = named;
+      given = inr given;
+      printed = record {
+        start = start_then _ _ _ _ _ [] (sym (append-nil _)) does.written (start_none _ []);
+        whole = λ _. does.written;
+      };
+      one_line = λ _. one_line;
+      clean = λ _. subst (λ (tally : TallyState). (status ≡ Clean) ↔ (tally.faults ≡ 0)) does.counted clean;
+      ends = record {
+        failed = λ has. absurd (let both : true ≡ false = sym has ∙ does.sound in cc);
+        unchanged = λ failed. absurd (went failed);
+        all_flushed = λ _ _. does.flushed;
+      };
+    }
+
+    -- the batch failed
+    pub files_failed : (why : RunFault) → AnswersBatch state (output_to question files) files old new (Err why) → status ≡ Failed
+        → (state old).has_failed ≡ false → AnswersFiles state old new status may_give question names
+    files_failed why does failed sound = by why does
+      where
+        untouched : new ≡ old → AnswersFiles state old new status may_give question names
+        untouched still = subst (λ o. AnswersFiles state old o status may_give question names) (sym still) (files_refused failed sound)
+
+        by : (f : RunFault) → AnswersBatch state (output_to question files) files old new (Err f)
+            → AnswersFiles state old new status may_give question names
+        by fault.TooManyFiles does = untouched does.1.0
+        by fault.TooManyLines does = untouched does.2.0
+        by fault.OutOfMemory does = untouched does.1.0
+        by fault.NoWorker does = untouched does.2.0
+        by fault.Write does = record {
+          files = files;
+          named = named;
+          given = inr given;
+          printed = record { start = does.1; whole = λ went. absurd (went failed) };
+          one_line = λ went. absurd (went failed);
+          clean = λ went. absurd (went failed);
+          ends = record {
+            failed = λ _. failed;
+            unchanged = λ _ sound. absurd (let both : true ≡ false = sym does.2 ∙ sound in cc);
+            all_flushed = λ went. absurd (went failed);
+          };
+        }
 
 -- ---- what `ask` has answered
 

@@ -1,8 +1,6 @@
 //! `kalah solve FILE..`, `kalah values FILE..` and `kalah steps FILE..`.
 ghost use Rattle.std.specs.Prelude.{◌≡◌, ◌↔◌, All, IfOk, IsErrOf, false, map, true};
 ghost use Rattle.std.specs.List.{list_any};
-ghost use Rattle.kalah_jobs.specs.Writing.Output.{output_to};
-ghost use Rattle.kalah_run.specs.Batch.Answering.{AnswersBatch};
 ghost use Rattle.kalah_cli.specs.Ends.{ended_by};
 ghost use Rattle.kalah_cli.specs.Request.{IsInLimits};
 ghost use Rattle.kalah_cli.specs.SolveFiles.{AnswersFiles, has_line_feed};
@@ -17,7 +15,7 @@ use crate::status::ExitStatus;
 use crate::terminal::Terminal;
 use crate::tips::advise_on_files;
 use kalah_jobs::{FileText, Sink};
-use kalah_run::{BatchRequest, OpenGate, Rest, RunFault, Tally, answer_batch};
+use kalah_run::{BatchRequest, OpenGate, Rest, answer_batch};
 use std::alloc::Global;
 use std::io::Write;
 use std::rt::Clock;
@@ -49,18 +47,22 @@ fn read_named<'a, R: Sources>(
     read_files(rt, alloc, names)
 }
 
-// Writes the answer to what is asked of each line of the files, and shows progress on `err` if that is asked for.
-fn answer_files<R: Clock + Terminal + Threads + Wait + Sync, O: Sink, E: Write>(
+// Answers what is asked of each line of the files, and shows progress on `err` if that is asked for. Returns how the program ends.
+fn answer_files<R: Sources + Clock + Terminal + Threads + Wait + Sync, O: Sink, E: Write>(
     rt: &R,
     alloc: Global,
     request: &FilesRequest<'_>,
     files: &[FileText],
     out: &mut O,
     err: &mut E,
-) -> Result<Tally, RunFault>
+) -> Result<ExitStatus, Failure<'static>>
     requires limits { IsInLimits request.now }
     requires sink { (O.state out.old).has_failed ≡ false }
-    ensures { AnswersBatch O.state (output_to request.now.question files.now) files.now out.old out.new result }
+    requires named { map (λ file. file.name) files.now ≡ map (λ name. name.now) request.now.files.items }
+    requires given { All (λ file. R.may_give rt.now (file_named file.name) file.bytes) files.now }
+    requires one_line { list_any has_line_feed (map (λ name. name.now) request.now.files.items) ≡ false }
+    ensures { AnswersFiles O.state out.old out.new (ended_by result) (R.may_give rt.now) request.now.question
+        (map (λ name. name.now) request.now.files.items) }
 {
     let batch = BatchRequest {
         question: request.question,
@@ -72,13 +74,19 @@ fn answer_files<R: Clock + Terminal + Threads + Wait + Sync, O: Sink, E: Write>(
     let mut progress = Progress::begin(rt, err, files, request.progress);
     let answered = answer_batch(rt, alloc, &batch, &OpenGate, &mut progress, out);
     progress.end();
-    answered
+    let tally = answered?;
+    if tally.faults == 0 {
+        return Ok(ExitStatus::Clean);
+    }
+    if rt.shows_errors() {
+        advise_on_files(files, err);
+    }
+    Ok(ExitStatus::LineFaults)
 }
 
 /// Answers what is asked of each line of the named files.
 ///
 /// Returns `Clean` if each line was read, and `LineFaults` if one was not.
-#[tactic(auto, using(crate::proofs::RunLemmas::start_whole))]
 pub(crate) fn run_files<
     'a,
     R: Sources + Clock + Terminal + Threads + Wait + Sync,
@@ -97,12 +105,5 @@ pub(crate) fn run_files<
         (map (λ name. name.now) request.now.files.items) }
 {
     let files = read_named(rt, alloc, request.files.as_slice())?;
-    let tally = answer_files(rt, alloc, request, files.as_slice(), out, err)?;
-    if tally.faults == 0 {
-        return Ok(ExitStatus::Clean);
-    }
-    if rt.shows_errors() {
-        advise_on_files(files.as_slice(), err);
-    }
-    Ok(ExitStatus::LineFaults)
+    answer_files(rt, alloc, request, files.as_slice(), out, err)
 }
