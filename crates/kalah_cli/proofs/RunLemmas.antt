@@ -7,7 +7,7 @@ use Rattle.kalah_jobs.specs.Line.Line.{Reads}
 use Rattle.kalah_jobs.specs.Writing.Given.{SinkState, WasGiven}
 use Rattle.kalah_jobs.proofs.LineLemmas.{reads_once}
 use Rattle.kalah_jobs.proofs.WritingLemmas.{given_flushed, start_none, start_then}
-use Rattle.kalah_cli.specs.Ends.{Ends, FailsWithoutOutput, IsPrinted, IsUnread, Prints, ended_by}
+use Rattle.kalah_cli.specs.Ends.{Ends, IsPrinted, IsUnread, Prints, ended_by}
 use Rattle.kalah_cli.specs.declared.failure.Failure.{Failure}
 use Rattle.kalah_cli.specs.Line.{MayPrint, command_output}
 use Rattle.kalah_cli.specs.declared.request.LineCommand.{LineCommand}
@@ -287,17 +287,13 @@ few_ways n depth few high = le_trans few (pow-le-pow_right {n = 6} (omega arith)
 
 module _ {O : Type 0} (state : O → SinkState) {old new : O} {status : ExitStatus}
     (sound : (state old).has_failed ≡ false) where
-  -- a run that fails without output ends as any
-  pub ends_without_output : FailsWithoutOutput old new status → Ends state old new status
-  ends_without_output fails = subst (λ o. Ends state old o status) (sym fails.1) (ends_unchanged state sound)
-
   -- how a run ends that does what is asked, unless lines of the standard input are to be answered
   pub run_ends : (may_give : Source → List ℕ → Type 0) (a : Asked) → IsOfNoInput a
       → Does state old new status may_give a → Ends state old new status
   run_ends may_give (about_line command line) _ does = does.0.ends
   run_ends may_give (answers question workers table progress names) _ does = does.ends
   run_ends may_give (ask question table) none does = absurd none
-  run_ends may_give conflict _ does = ends_without_output does
+  run_ends may_give conflict _ does = subst (λ o. Ends state old o status) (sym does.1) (ends_unchanged state sound)
 
   pub run_fails : (may_give : Source → List ℕ → Type 0) (a : Asked) → Does state old new status may_give a
       → (state new).has_failed ≡ true → status ≡ Failed
@@ -319,17 +315,12 @@ pub by_words : {O : Type 0} (state : O → SinkState) (words : List Text) (old n
 by_words state words old new status may_give accepted = record {
   moves = λ name line is p reads.
       elim (accepted (about_line (Moves false) line) (taken_at is (moves_taken name line (read_is_plain line p reads)))) [
-        | inl does ↦
-            let printed = does.0.read p reads in
-            (printed.0, λ clean. printed.1.whole (λ failed. let both : Failed ≡ Clean = sym failed ∙ clean in cc))
-        | inr fails ↦ (
-          λ fault. let both : Failed ≡ LineFaults = sym fails.0 ∙ fault in cc,
-          λ clean. absurd (let both : Failed ≡ Clean = sym fails.0 ∙ clean in cc),
-        )
+        | inl does ↦ let printed = does.0.read p reads in (printed.0, λ clean. printed.1.whole (λ failed. cc))
+        | inr fails ↦ ((λ fault. cc), (λ clean. absurd cc))
       ];
   unread = λ name line is plain none. elim (accepted (about_line (Moves false) line) (taken_at is (moves_taken name line plain))) [
-    | inl does ↦ (λ clean. let both : LineFaults ≡ Clean = sym (does.0.unread none).0 ∙ clean in cc, (does.0.unread none).1)
-    | inr fails ↦ (λ clean. let both : Failed ≡ Clean = sym fails.0 ∙ clean in cc, fails.1)
+    | inl does ↦ let unread = does.0.unread none in ((λ clean. cc), unread.1)
+    | inr fails ↦ ((λ clean. cc), fails.1)
   ];
 }
 

@@ -1,4 +1,4 @@
-use Rattle.std.proofs.Common.{◌≡◌, ◌≢◌, ◌∙◌, [], ap, inl, inr, refl, subst, sym}
+use Rattle.std.proofs.Common.{◌≢◌, ◌∙◌, ap, inl, inr, subst, sym}
 use Rattle.clap.specs.Words.{HasKind, IsAmong, fault_of, kind_of}
 use Rattle.clap.specs.declared.error.kind.ErrorKind.TheVariants.{DisplayHelp, DisplayVersion}
 use Rattle.kalah_cli.specs.Ask.{StopsBetweenLines}
@@ -19,22 +19,16 @@ use Rattle.kalah_cli.proofs.run.run_words.Goals as goal
 request_taken : (g : Over) (c : After-drop-words g) → IsTakenAs (texts_of c.args.words.items) (request_asks c.in-Ok.request)
 request_taken g c = taken_at (ap texts_of (sym c.as_slice.ensures.value)) c.in-Ok.ensures.taken
 
--- the arguments are taken as nothing else
-is_asked : (g : Over) (c : After-drop-words g) (a : Asked) → IsTakenAs (texts_of c.args.words.items) a
-    → request_asks c.in-Ok.request ≡ a
-is_asked g c a taken = taken_once (texts_of c.args.words.items) (request_asks c.in-Ok.request) a (request_taken g c) taken
-
--- what is asked is done
-does : (g : Over) (c : After-drop-words g) (a : Asked) → request_asks c.in-Ok.request ≡ a
-    → Does g.O.Sink.state c.args.out.now c.run_request-ended.new.out c.report_end.result
-    (g.R.Sources.may_give c.args.rt.now) a
-does g c a is =
-    subst (Does g.O.Sink.state c.args.out.now c.run_request-ended.new.out c.report_end.result
-    (g.R.Sources.may_give c.args.rt.now)) is
+-- what they are taken as is done, since they are taken as nothing else
+does : (g : Over) (c : After-drop-words g) (a : Asked) → IsTakenAs (texts_of c.args.words.items) a
+    → Does g.O.Sink.state c.args.out.now c.run_request-ended.new.out c.report_end.result (g.R.Sources.may_give c.args.rt.now) a
+does g c a taken =
+    subst (Does g.O.Sink.state c.args.out.now c.run_request-ended.new.out c.report_end.result (g.R.Sources.may_give c.args.rt.now))
+    (taken_once (texts_of c.args.words.items) (request_asks c.in-Ok.request) a (request_taken g c) taken)
     (rw c.report_end.ensures c.run_request-ended.ensures)
 
 pub returns-in-Ok-clause-accepted : goal.returns-in-Ok-clause-accepted
-returns-in-Ok-clause-accepted g c = λ a taken. inl (does g c a (is_asked g c a taken))
+returns-in-Ok-clause-accepted g c = λ a taken. inl (does g c a taken)
 
 pub returns-in-Ok-clause-by_words : goal.returns-in-Ok-clause-by_words
 returns-in-Ok-clause-by_words g c = by_words _ _ _ _ _ _ (returns-in-Ok-clause-accepted g c)
@@ -45,31 +39,25 @@ returns-in-Ok-clause-best_play g c = plays_best
 pub returns-in-Ok-clause-variations : goal.returns-in-Ok-clause-variations
 returns-in-Ok-clause-variations g c = variations_end
 
--- they have no fault
-no_fault : (g : Over) (c : After-drop-words g) → fault_of kalah_app (texts_of c.args.words.items) ≡ []
-no_fault g c = ap (λ words. fault_of kalah_app (texts_of words)) (sym c.as_slice.ensures.value) ∙ c.in-Ok.ensures.kinds
-
 pub returns-in-Ok-clause-refused : goal.returns-in-Ok-clause-refused
-returns-in-Ok-clause-refused g c = record {
-  usage = λ faulty. absurd (faulty (no_fault g c));
-  version = λ faulty. absurd (faulty (no_fault g c));
-  no_line = λ faulty. absurd (faulty (no_fault g c));
-}
+returns-in-Ok-clause-refused g c =
+    let none = (request_taken g c).0 in
+    record { usage = λ faulty. absurd (faulty none); version = λ faulty. absurd (faulty none); no_line = λ faulty. absurd (faulty none) }
 
 pub returns-in-Ok-clause-failed : goal.returns-in-Ok-clause-failed
-returns-in-Ok-clause-failed g c = run_fails _ c.requires.sink (g.R.Sources.may_give c.args.rt.now) _ (does g c _ refl)
+returns-in-Ok-clause-failed g c = run_fails _ c.requires.sink (g.R.Sources.may_give c.args.rt.now) _ (does g c _ (request_taken g c))
 
 pub returns-in-Ok-clause-unchanged : goal.returns-in-Ok-clause-unchanged
 returns-in-Ok-clause-unchanged g c = λ none.
-    (run_ends _ c.requires.sink (g.R.Sources.may_give c.args.rt.now) _ (none _ (request_taken g c)) (does g c _ refl)).unchanged
+    (run_ends _ c.requires.sink (g.R.Sources.may_give c.args.rt.now) _ (none _ (request_taken g c)) (does g c _ (request_taken g c))).unchanged
 
 pub returns-in-Ok-clause-stopped : goal.returns-in-Ok-clause-stopped
 returns-in-Ok-clause-stopped g c = λ question table taken failed sound.
-    let does = does g c (ask question table) (is_asked g c (ask question table) taken) in
+    let does = does g c (ask question table) taken in
     (does.0, does.1.1.left, does.1.1.stopped failed sound)
 
 pub returns-in-Ok-clause-all_flushed : goal.returns-in-Ok-clause-all_flushed
-returns-in-Ok-clause-all_flushed g c = run_hands_on _ c.requires.sink (g.R.Sources.may_give c.args.rt.now) _ (does g c _ refl)
+returns-in-Ok-clause-all_flushed g c = run_hands_on _ c.requires.sink (g.R.Sources.may_give c.args.rt.now) _ (does g c _ (request_taken g c))
 
 -- ---- the parse failed
 
