@@ -203,7 +203,6 @@ pub record Underway (question : Question) (before now old new : Option (List ℕ
   pub written : Appends old new (answers_to question lines)
   pub status : all_read ≡ are_all_read lines
 
--- nothing was read yet
 pub nothing_read : (question : Question) (before old : Option (List ℕ)) (line : List ℕ) → line ≡ [] →
     Underway question before before old old line true
 nothing_read question before old line empty = record {
@@ -230,14 +229,12 @@ module _ {question : Question} {before now old new : Option (List ℕ)} {line : 
   more_written kept more bytes keeps appends =
       Appends-trans old kept more (answers_to question u.lines) bytes (still_written kept keeps) appends
 
-  -- more is taken
   more_taken : (next : Option (List ℕ)) (bytes : List ℕ) → Consumes now next bytes →
       Consumes before next (u.lines ++ (u.part ++ bytes))
   more_taken next bytes taken =
       subst (Consumes before next) (append_assoc u.lines u.part bytes)
       (Consumes-trans before now next (u.lines ++ u.part) bytes u.taken taken)
 
-  -- all is taken
   all_taken : (next : Option (List ℕ)) → Consumes now next [] → Consumes before next (u.lines ++ u.part)
   all_taken next end = subst (λ l. Consumes before next (u.lines ++ l)) (append-nil u.part) (more_taken next [] end)
 
@@ -357,7 +354,6 @@ written_is_not_read is = absurd (cc)
 pub fine_is_no_fault : {A E : Type 0} {all_read : Bool} {fault : E} → IsErrOf (Ok all_read) fault → A
 fine_is_no_fault is = absurd (cc)
 
--- all lines so far are answered
 pub answered_so_far : {asking : Asking} {question : Question} {before now old new : Option (List ℕ)} {line : List ℕ} {all_read : Bool}
     → asking ≡ record { question = question; before = before; old = old } → Underway question before now old new line all_read
     → AreAnswered asking now new

@@ -31,7 +31,6 @@ use Rattle.kalah_jobs.specs.Collecting.AnyOrder.{job, AreJobsInSomeOrder, GetsEa
 
 -- ==== How many of the first lines of a file have come without a gap
 
--- the front is within the lines
 pub front_within : (xs : List (Option Answer)) → front_of xs ≤ length xs
 front_within [] = omega arith
 front_within (None ∷ xs) = omega arith
@@ -119,7 +118,6 @@ same_job_means a b h =
 
 -- ==== What is got of jobs that were shared out: each job's result, once
 
--- the count of a list with one element more
 count_by-cons : {X : Type 0} (p : X → Bool) (x : X) (xs : List X) → count_by p (x ∷ xs) ≡ cond (p x) 1 0 + count_by p xs
 count_by-cons p x xs = sum_by-cons (λ y. cond (p y) 1 0) x xs
 

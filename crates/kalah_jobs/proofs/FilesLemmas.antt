@@ -87,7 +87,6 @@ lines_of-last bytes n some none =
 -- what cutting off the first line needs
 pub ruleset first_lines = (lines_of-cut, lines_of-last, take_all)
 
--- no bytes have no lines
 pub lines_of-empty : (bytes : List ℕ) → length bytes ≡ 0 → lines_of bytes ≡ []
 unfolding lines_of
 lines_of-empty [] none = refl
@@ -378,7 +377,6 @@ pub record AreRead (question : Question) (files : List NamedBytes) (count : ℕ)
   pub fewer : faults ≤ before
   pub many : length jobs ≡ count
 
--- one file more is read
 pub one_read : {question : Question} {files : List NamedBytes} {count : ℕ} {jobs : List (List Entry)} {starts : List ℕ}
     {before faults many found : ℕ} {own : List Entry} (file : NamedBytes) → AreRead question files count jobs starts before faults
     → count < length files → file ≡ get_or files count file → own ≡ entries_to question file.bytes

@@ -47,7 +47,6 @@ digits_written first (byte ∷ rest) digit = elim (cases_Bool (nat_lt 0 (first -
   | inr one ↦ rw one (record { text = first ∷ []; parts = refl; number = (digit, refl) })
 ]
 
--- what is read is written
 pub number_is_written : (bytes : List ℕ) (found : ℕ × List ℕ) → number_at bytes ≡ Some found →
     WritesNumber bytes found.0 found.1
 number_is_written [] found e = absurd cc
@@ -60,7 +59,6 @@ abbrev pub EndsNumber : List ℕ → Type 0
 EndsNumber [] = ⊤
 EndsNumber (byte ∷ rest) = ¬ IsAsciiDigit byte
 
--- what is written is read
 pub number_is_read : (text : List ℕ) (n : ℕ) (rest : List ℕ) → IsNumber text n → EndsNumber rest →
     number_at (text ++ rest) ≡ Some (n, rest)
 number_is_read text n rest h ends = grind (arith, nat_tests)
@@ -264,7 +262,6 @@ begins_taking bytes side has none = record {
   goes_on = refl;
 }
 
--- no number follows
 pub no_house : {bytes : List ℕ} {side : Side} {rest : List ℕ} → IsTaking bytes side rest → number_at rest ≡ None →
     side_at bytes ≡ None
 no_house so_far none = grind (arith, so_far.goes_on)
@@ -392,7 +389,6 @@ pub empty_is_no_line : (p : Position) → ¬ IsLineOf [] p
 unfolding written_of side_at
 empty_is_no_line p line = absurd (cc (line_is_written [] p line))
 
--- a text writes one position
 pub one_position : (text : List ℕ) (p q : Position) → IsLineOf text p → IsLineOf text q → p ≡ q
 one_position text p q first second =
     let same : ◌≡◌ {A = Option Position} (Some p) (Some q) = sym (line_is_written text p first) ∙ line_is_written text q second in
@@ -414,7 +410,6 @@ same_order a b same = grind arith
 abbrev NoneBefore : List ℕ → ℕ → Type 0
 NoneBefore text n = (earlier : LineFault) → order_of earlier < n → ¬ Holds earlier text
 
--- there is none before the first
 none_at_first : (text : List ℕ) → NoneBefore text 1
 none_at_first text earlier low = grind arith
 
@@ -507,7 +502,6 @@ one_fault : (line : List ℕ) (a b : LineFault) → HasFault line a → HasFault
 one_fault line a b first second =
     grind (arith, same_order a b, first.first b, second.first a, first.holds, second.holds)
 
--- a line has one reading
 one_reading : (line : List ℕ) (r s : Result Position LineFault) → IsReading line r → IsReading line s → r ≡ s
 one_reading line (Ok p) (Ok q) first second = ap (λ (p : Position). Ok p) (reads_once line p q first second)
 one_reading line (Ok p) (Err fault) first second = absurd (no_fault line p first fault second.holds)
@@ -542,7 +536,6 @@ without_cr-append (first ∷ []) byte rest = refl
 without_cr-append (first ∷ second ∷ text) byte rest =
     ap (λ (t : List ℕ). first ∷ t) (without_cr-append (second ∷ text) byte rest)
 
--- a number does not end in a CR
 pub number_ends_without_cr : (byte : ℕ) (text : List ℕ) (n : ℕ) → IsNumber text n → without_cr (byte ∷ text) ≡ byte ∷ text
 number_ends_without_cr byte text n h = grind (arith, nat_tests)
 
@@ -699,11 +692,9 @@ last_or-append : (byte : ℕ) (front : List ℕ) (first : ℕ) (rest : List ℕ)
 last_or-append byte [] first rest = refl
 last_or-append byte (other ∷ front) first rest = last_or-append other front first rest
 
--- a number ends in a digit
 number_ends_in_digit : (byte : ℕ) (text : List ℕ) (n : ℕ) → IsNumber text n → last_or byte text ≤ 57
 number_ends_in_digit byte text n h = grind arith
 
--- a side ends in a digit
 side_ends_in_digit : (byte : ℕ) (text houses : List ℕ) (store : ℕ) → IsSide text houses store → last_or byte text ≤ 57
 side_ends_in_digit byte text houses store side =
     let last : last_or byte text ≡ last_or slash side.store_text =

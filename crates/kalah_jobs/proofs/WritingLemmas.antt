@@ -125,7 +125,6 @@ pub record IsLeft (old now : Option (List ℕ)) (bytes rest : List ℕ) : Type 0
   pub is : bytes ≡ done ++ rest
   pub written : Appends old now done
 
--- nothing was written yet
 pub left_all : (old : Option (List ℕ)) (bytes : List ℕ) → IsLeft old old bytes bytes
 left_all old bytes = record { done = []; is = refl; written = Appends-nil old }
 
@@ -199,7 +198,6 @@ module _ (place : List ℕ) (text : ℕ → List ℕ) where
 -- ==== Texts that are given to a sink in sequence
 
 module _ {O : Type 0} (state : O → SinkState) where
-  -- no text
   pub given_none : (out : O) → WasGiven state out out []
   given_none out = record { start = start_none (state out).written []; whole = λ sound. (sound, Appends-nil (state out).written); quiet = λ failed. refl }
 

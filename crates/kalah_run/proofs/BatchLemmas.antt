@@ -88,7 +88,6 @@ less_left numbers more number total is above below =
 
 -- ==== A sink that is given bytes
 
--- it was given none yet
 pub given_none : (begun : SinkState) → WasGivenSince begun begun []
 given_none begun = record { start = start_none begun.written []; whole = λ sound. Appends-nil begun.written }
 
@@ -135,7 +134,6 @@ module _ (text : ℕ → Taken → List ℕ) (jobs : List (List Entry)) where
       rw add-one (flat_map-append (text_of_job text) (file_jobs f 0 own) (jobs_from (suc f) files)
       ∙ λ i. texts_of_lines f 0 own i ++ texts_from (suc f) files i)
 
-  -- one line more
   written_line : (f n : ℕ) (e : Entry) → entry_at jobs f n ≡ Some e
       → written_upto text jobs f n ++ text f (answered_line (n, e)) ≡ written_upto text jobs f (n + 1)
   unfolding written_upto
@@ -149,7 +147,6 @@ module _ (text : ℕ → Taken → List ℕ) (jobs : List (List Entry)) where
       ∙ ap (flat_map (text_of_job text)) (sym (take_more (job_list jobs) m o (slice_get_within (job_list jobs) m o at)))
       ∙ ap (λ k. flat_map (text_of_job text) (take k (job_list jobs))) next
 
-  -- one file more
   written_file : (f : ℕ) → f < length jobs → written_upto text jobs f (length (entries_of jobs f)) ≡ written_upto text
       jobs (f + 1) 0
   unfolding written_upto
@@ -158,7 +155,6 @@ module _ (text : ℕ → Taken → List ℕ) (jobs : List (List Entry)) where
       omega (arith, lines_between jobs f low) in
       ap (λ k. flat_map (text_of_job text) (take k (job_list jobs))) next
 
-  -- all files
   written_all : (f n : ℕ) → length jobs ≤ f → written_upto text jobs f n ≡ text_of_jobs text jobs
   unfolding written_upto
   written_all f n high =
@@ -177,7 +173,6 @@ module _ (text : ℕ → Taken → List ℕ) (jobs : List (List Entry)) where
             ∙ ap (flat_map T) (take-append-drop m (job_list jobs)) ∙ texts_from 0 jobs,
       )
 
-  -- nothing yet
   written_none : written_upto text jobs 0 0 ≡ []
   unfolding written_upto
   written_none = refl
@@ -325,7 +320,6 @@ still_written keeps sound is = record {
   };
 }
 
--- a new output has written nothing
 pub new_written : (begun : SinkState) (r : OrderedOutput) → IsNew r → HasWritten r.files.now r.jobs.now [] begun begun r
 new_written begun r new = record {
   of_files = refl;
@@ -392,7 +386,6 @@ pub as_asked : (workers : List Worker) (passes : List PassState) {count fewer to
     → length workers ≡ max 1 (min wanted jobs)
 as_asked workers passes wanted jobs are many some few total = omega (arith, as_many_workers workers passes _ are many, some, few, total)
 
--- workers of new passes are at work
 pub new_at_work : {G : Type 0} {knows : G → ℕ → Bool} (shared : SharedWork G) (workers : List Worker) (count : ℕ)
     → AreNewPasses shared.desk count (passes_of workers)
     → ArePassesFrom shared.queue.id 0 (puts_of workers)
@@ -543,7 +536,6 @@ unless_left (inl a) sound = a
 unless_left (inr left) (inl solve) = absurd (let both : Leave ≡ Solve = sym left.0 ∙ solve in cc)
 unless_left (inr left) (inr still) = absurd (let both : true ≡ false = sym left.1 ∙ still in cc)
 
--- what had failed has failed
 pub failed_still : {was : Bool} (now : Bool) → (now ≡ false → was ≡ false) → was ≡ true → now ≡ true
 failed_still true sound failed = refl
 failed_still false sound failed = absurd (let both : true ≡ false = sym failed ∙ sound refl in cc)
@@ -675,28 +667,10 @@ nothing_drawn nothing draws = ⊎_elim (λ is. inl (subst HasDrawnNothing (sym i
 
 -- ==== What stands written when a batch has ended
 
--- the texts of all jobs are their output
 texts_are_output : (files : List NamedBytes) (jobs : List (List Entry))
     → text_of_jobs (text_of files) jobs ≡ output_of_jobs (names_of files) jobs
 unfolding text_of
 texts_are_output files jobs = refl
-
--- What an output has written in the end, once it is flushed: all that is to be written, if each job was accepted once or the rest is left.
-given_whole : {rest : Rest} (output : OrderedOutput) {r : OrderedOutput} {past : List Job} {begun out later : SinkState}
-    → Keeps out.written later.written → (later.has_failed ≡ false → out.has_failed ≡ false)
-    → HasWritten output.files.now output.jobs.now past begun out r × Waits r
-    → AreJobsInSomeOrder output.jobs.now past ⊎ IsLeft rest later.has_failed → WasGivenSince begun later (whole_output output)
-given_whole {rest} output {r} {past} {begun} {later = later} keeps sound written known =
-    let files = output.files.now in
-    let so_far = still_written keeps sound written.0 in
-    let is : text_of_jobs (text_of files) r.jobs.now ≡ whole_output output =
-    ap (λ l. text_of_jobs (text_of files) l) so_far.of_jobs ∙ texts_are_output files output.jobs.now in
-    subst (λ l. WasGivenSince begun later l) is
-    (⊎_elim
-    (λ (each : AreJobsInSomeOrder output.jobs.now past). progress_end so_far.progress
-    (subst (λ l. AreJobsInSomeOrder l past) (sym so_far.of_jobs) each) written.1)
-    (λ (left : IsLeft rest later.has_failed). progress_failed so_far.progress left.1)
-    known)
 
 -- What was got so far is written as far as it is ready, and the calling thread keeps its passes of the queue and of the desk.
 pub record AreCollected (desk : DeskState) (output : OrderedOutput) (begun out : SinkState) (before now : CallerPasses)
@@ -765,13 +739,21 @@ pub has_collected : {desk : DeskState} {output r : OrderedOutput} {begun out lat
     → (length now.get_pass.got ≡ job_count output.jobs.now) ⊎ IsLeft (rest_of before.rest_pass) later.has_failed
     → Keeps out.written later.written → (later.has_failed ≡ false → out.has_failed ≡ false)
     → HasCollected desk output begun later before after
-has_collected {output = output} so_far is all_got keeps sound = rw is (record {
-  queue = so_far.queue;
-  workers = so_far.workers;
-  all_got = all_got;
-  given = given_whole output keeps sound so_far.progress;
-  draws = draws_still _ sound so_far.draws;
-})
+has_collected {output = output} {r} {begun} {later = later} {before} {now} so_far is all_got keeps sound =
+    let written = still_written keeps sound so_far.progress.0 in
+    let whole : text_of_jobs (text_of output.files.now) r.jobs.now ≡ whole_output output =
+    ap (λ l. text_of_jobs (text_of output.files.now) l) written.of_jobs ∙ texts_are_output output.files.now output.jobs.now in
+    rw is (record {
+      queue = so_far.queue;
+      workers = so_far.workers;
+      all_got = all_got;
+      given = λ known. subst (λ l. WasGivenSince begun later l) whole (⊎_elim
+          (λ (each : AreJobsInSomeOrder output.jobs.now (outcomes_in now.get_pass.got)). progress_end written.progress
+          (subst (λ l. AreJobsInSomeOrder l (outcomes_in now.get_pass.got)) (sym written.of_jobs) each) so_far.progress.1)
+          (λ (left : IsLeft (rest_of before.rest_pass) later.has_failed). progress_failed written.progress left.1)
+          known);
+      draws = draws_still _ sound so_far.draws;
+    })
 
 -- the output of the jobs of the files is that of the files
 pub given_output : (question : Question) (files : List NamedBytes) (r : OrderedOutput) (begun out : SinkState)

@@ -105,13 +105,11 @@ rows_within_one (Drawing total number r) = omega arith
 rows_within_one (Closing rows) = omega arith
 rows_within_one Ended = omega arith
 
--- there are no more rows than passes
 pub rows_within_passes : (views : List DeskView) → length (all_rows views) ≤ sum_by passes_in views
 rows_within_passes [] = omega arith
 rows_within_passes (x ∷ xs) =
     omega (arith, rows_within_passes xs, rows_within_one x, sum_by-cons passes_in x xs, length-append (rows_in x) (all_rows xs))
 
--- if no seat stands for a pass there is no row
 no_passes_no_rows : (views : List DeskView) → sum_by passes_in views ≡ 0 → all_rows views ≡ []
 no_passes_no_rows views no_pass = nil_from_length (all_rows views) (omega (arith, rows_within_passes views))
 
@@ -464,7 +462,6 @@ hands_out {S} plan seat v total handed_out left is some_left = rw is (λ s kept 
     (each_set (Fits plan) s.views seat a (mine, All-nil Ascends) (λ j u other there. fitting plan s kept j u there))
     (mine, All-cons Ascends (drawn_row [] false) [] none (All-nil Ascends))))
 
--- one pass more is handed out
 pub one_pass_more : (desk : DeskState) (count : ℕ) (passes : List PassState) (p : PassState) → AreNewPasses desk count passes
     → p ≡ new_pass desk count → AreNewPasses desk (count + 1) (passes ++ p ∷ [])
 one_pass_more desk count passes p handed_out is = (

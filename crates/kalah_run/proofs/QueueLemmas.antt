@@ -67,7 +67,6 @@ known_more (x ∷ xs) s given h e (suc k) lt = known_more xs s (λ j. given (suc
 
 -- ---- what the pairs account for
 
--- nothing yet
 pub accounts_none : Accounts 0 [] []
 accounts_none = record { below = λ k d lt. absurd (omega arith); whole = λ w lt. absurd (omega arith) }
 
@@ -159,7 +158,6 @@ module _ {items : List Job} {views : List QueueView} (h : IsLawful items views) 
   abbrev pairs : List (ℕ × Job)
   pairs = h.taken ++ h.inside
 
-  -- the pass to get is the first
   getting_first : (place : ℕ) {made : ℕ} {got : List (ℕ × Job)} {known : List (List Job)}
       → get_elem? views place ≡ some (Getting made got known) → place ≡ 0
   getting_first place {made} {got} {known} at =
