@@ -165,10 +165,19 @@ fn tells_values_of_worked_positions(rt: HostRuntime) {
     let mut solver = solver_of(&rt, rt.alloc(), 1, false);
     for (m, own, other, rule, want) in VALUES {
         let values = solver.values(&board(&rt, m, own, other, rule));
-        assert!(rt; usize::from(values.len()) == want.len(), "{own:?} {other:?} {rule:?}");
+        assert!(rt;
+            usize::from(values.len()) == want.len(),
+            "{own:?} {other:?} {rule:?}"
+        );
         for (i, told) in values.iter().enumerate() {
-            assert!(rt; usize::from(told.house) == i + 1, "{own:?} {other:?} {rule:?}");
-            assert!(rt; Some(&told.value) == want.get(i), "{own:?} {other:?} {rule:?}");
+            assert!(rt;
+                usize::from(told.house) == i + 1,
+                "{own:?} {other:?} {rule:?}"
+            );
+            assert!(rt;
+                Some(&told.value) == want.get(i),
+                "{own:?} {other:?} {rule:?}"
+            );
         }
     }
 }
