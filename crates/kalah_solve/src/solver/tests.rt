@@ -1,6 +1,7 @@
 use super::*;
 use crate::bounds::interval::Interval;
 use crate::search::Search;
+use crate::table::MOST_ENTRIES;
 use crate::tests::plain;
 use kalah_rules::Rule;
 use std::process::Abort;
