@@ -47,7 +47,7 @@ use Rattle.kalah_cli.specs.Request.{Asked, about_line, answers, ask, conflict}
 use Rattle.kalah_cli.specs.Runs.{Does, DoesWhatIsAsked, IsOfNoInput, MovesByItsWords}
 use Rattle.kalah_cli.proofs.RequestLemmas.{moves_taken, taken_at, read_is_plain}
 
--- ---- how runs end that answer a line
+-- ---- how any run ends, and one that answers a line
 
 -- an error is a failure
 pub ended_err : (ended : Result ExitStatus Failure) → IsErr ended → ended_by ended ≡ Failed
@@ -279,7 +279,7 @@ module _ {O : Type 0} (state : O → SinkState) {status : ExitStatus} {question 
 abbrev pub line_of : ℕ → Position → ℕ → List ℕ
 line_of n p h = ways_line h (ways_by n p h)
 
--- no house begins more ways than its line can have
+-- at most 6 ^ 19 ways begin with a house, so the sum of six fits sixty-four bits
 pub few_ways : (n depth : ℕ) → n ≤ most_houses ^ (depth - 1) → depth ≤ most_depth → n ≤ 6 ^ 19
 few_ways n depth few high = le_trans few (pow-le-pow_right {n = 6} (omega arith) {i = depth - 1} {j = 19} (omega (arith, high)))
 
@@ -295,11 +295,13 @@ module _ {O : Type 0} (state : O → SinkState) {old new : O} {status : ExitStat
   run_ends may_give (ask question table) none does = absurd none
   run_ends may_give conflict _ does = subst (λ o. Ends state old o status) (sym does.1) (ends_unchanged state sound)
 
+  -- if a write failed, it failed
   pub run_fails : (may_give : Source → List ℕ → Type 0) (a : Asked) → Does state old new status may_give a
       → (state new).has_failed ≡ true → status ≡ Failed
   run_fails may_give (ask question table) does = does.1.1.failed
   run_fails may_give a does = (run_ends may_give a tt does).failed
 
+  -- unless it failed, all is flushed
   pub run_hands_on : (may_give : Source → List ℕ → Type 0) (a : Asked) → Does state old new status may_give a
       → status ≢ Failed → (state old).is_flushed ≡ true
       → (state new).is_flushed ≡ true

@@ -248,7 +248,7 @@ each_line files o a file_low line_low P here others =
 
 -- ---- counts of lines
 
--- the counts of lines, file by file
+-- there are as many files as lists of jobs
 pub files_many : (jobs : List (List Entry)) (files : List ArrivalsState) → HasLinesOf jobs files → length files ≡ length jobs
 files_many jobs files h = sym (length-map files line_count) ∙ ap (λ (l : List ℕ). length l) h
     ∙ length-map jobs (λ (entries : List Entry). length entries)
@@ -274,7 +274,7 @@ pub some_value : {X : Type 0} (x : Option X) → IsSome x → (a : X) × (x ≡ 
 some_value None h = absurd (false≢true h)
 some_value (Some a) h = (a, refl)
 
--- what was answered by some offers is answered by one more
+-- what was offered is offered with one offer more
 still_answered : {jobs : List (List Entry)} {past : List Job} {f k : ℕ} {a : Answer} (o : Job) → IsOffered jobs past f k a →
     IsOffered jobs (past ++ o ∷ []) f k a
 still_answered {jobs} {past} {f} {k} o old = record {
@@ -614,7 +614,7 @@ module _ {jobs : List (List Entry)} {past : List Job} {files : List ArrivalsStat
       let same : w.entry ≡ o.entry = cc (w.at, is.0) in
       omega (arith, once, is.1, times_from_contains o past (rw same at w.offered))
 
-  -- an offer that is refused for nothing is accepted
+  -- so it is accepted
   each_accepted : (after : List ArrivalsState) (gave : Result ℕ Refusal) → Offers jobs files o gave after → IsOk gave
   each_accepted after (Ok ready) step = refl
   each_accepted after (Err r) step = absurd (not_refused r step.cause)

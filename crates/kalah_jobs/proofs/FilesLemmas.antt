@@ -413,7 +413,7 @@ no_fault : (question : Question) (p : position.Position) → is_faulty_entry (en
 unfolding answer_of
 no_fault question p = grind arith
 
--- what is asked of a line makes no fault of it
+-- whether a line is answered by a fault doesn't depend on what is asked
 pub asked_fault : (question : Question) (line : List ℕ) → is_faulty_entry (entry_to question line) ≡ is_faulty line
 unfolding entry_to
 asked_fault question line =

@@ -114,7 +114,7 @@ module _ (a : HousesState) (h : ℕ) (w : IsWithinHouses a) (holds : HoldsSeeds 
         rule = sow_rule _ h _;
       }
 
-  -- the rows of the sowing
+  -- the own row after the sowing
   pub own_is : number_of q.own + 32 ^ (h - 1) * seeds a.own h ≡ number_of a.own + own_gained (length a.own) h (seeds a.own h)
   unfolding sow
   own_is = own_sown _ _ _ holds.first holds.last

@@ -283,12 +283,12 @@ with_seed_adds p (Own i) same is_cell = omega (arith, sum-slice_set)
 with_seed_adds p Store same is_cell = omega arith
 with_seed_adds p (Other j) same is_cell = omega (arith, sum-slice_set)
 
--- q is p after k of its c lifted seeds were sown
+-- the seeds of q, if k of the c lifted seeds of p were sown
 pub record HasSown (p : Position) (c k : ℕ) (q : Position) : Type 0 where
   pub houses : seeds_in_houses q + c ≤ seeds_in_houses p + k
   pub play : q.own_store + seeds_in_houses q + c ≡ p.own_store + seeds_in_houses p + k
 
--- each seed goes to one cell
+-- one seed more sown is one more in the own store and the houses together
 pub sow_adds : (p : Position) (h : ℕ) → 1 ≤ h → h ≤ side_length p → (k : ℕ) →
     (cell : Cell) × IsCellOf (side_length p) cell × (distance (side_length p) h cell ≡ k % lap_length (side_length p) + 1) →
     AddsOne (sow p h k) (sow p h (k + 1))
@@ -466,7 +466,7 @@ distance-with_seed q i low high = omega (arith, row_distance-more)
 next_house : (m h k : ℕ) → k + 1 + h ≤ m → own_distance m h (h + (k + 1)) ≡ k % lap_length m + 1
 next_house m h k near = grind (arith, mod-eq_of_lt)
 
--- sowing that does not reach the store brings each seed nearer
+-- a sowing brings its seeds nearer to the store, or leaves fewer in houses
 module _ (p : Position) (h : ℕ) (holds : HoldsSeeds p h) (same : length p.other ≡ side_length p) where
   -- the next seed before the store adds its distance
   distance_grows : (k : ℕ) → k + 1 + h ≤ side_length p →
@@ -480,13 +480,14 @@ module _ (p : Position) (h : ℕ) (holds : HoldsSeeds p h) (same : length p.othe
       ∙ distance-with_seed (sow p h k) _ low high'
       ∙ ap (λ x. distance_to_stores (sow p h k) + (x + 1 - (h + (k + 1)))) side
 
+  -- k seeds sown before the store bring each nearer by one or more
   pub distance_falls : (k : ℕ) → k + h ≤ side_length p →
       distance_to_stores (sow p h k) + seeds p.own h * (side_length p + 1 - h) ≤ distance_to_stores p + k * (side_length p - h)
   distance_falls zero near = grind (arith, sow_none, row_distance-set)
   distance_falls (suc k) near = rw (← add-one k) (fall_step _ _ _ _ _ _ (distance_falls k (omega arith))
       (distance_grows k (omega arith)) omega arith)
 
-  -- k seeds sown before the store bring each nearer by one or more
+  -- if all seeds are sown before the store, the sum of the distances falls
   pub distance_falls_all : seeds p.own h + h ≤ side_length p → distance_to_stores (sown p h) < distance_to_stores p
   distance_falls_all near = grind (arith, distance_falls)
 

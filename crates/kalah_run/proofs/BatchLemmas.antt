@@ -110,7 +110,7 @@ given_more {state = state} {begun} {old} {new} bs cs given more = by (state old)
     whole = λ still. Appends-trans begun.written (state old).written (state new).written bs cs (given.whole sound) (more.whole still).1;
   }
 
--- what it holds is flushed
+-- what was given stays given if nothing more is written, and no failure is undone
 pub given_kept : {begun out more : SinkState} {bs : List ℕ} → WasGivenSince begun out bs → Keeps out.written more.written
     → (more.has_failed ≡ false → out.has_failed ≡ false) → WasGivenSince begun more bs
 given_kept {begun} {out} {more} {bs} given keeps was_sound = record {
@@ -305,7 +305,7 @@ written_on is same_files same_jobs on =
           rw same_jobs (rw (← is.of_files) (on (rw is.of_files is.progress)));
     }
 
--- an output stays written if what was written is flushed
+-- what an output has written stays if nothing more is written
 pub still_written : {files : List NamedBytes} {jobs : List (List Entry)} {past : List Job} {begun out later : SinkState}
     {r : OrderedOutput} → Keeps out.written later.written → (later.has_failed ≡ false → out.has_failed ≡ false)
     → HasWritten files jobs past begun out r → HasWritten files jobs past begun later r
@@ -733,7 +733,7 @@ module _ {desk : DeskState} {Ended : Type 0} {output r : OrderedOutput} {begun o
     (sym so_far.draws.rest ∙ got.left.0.0, got.left.0.1),
   )
 
--- the collection has ended, and what was written is flushed
+-- the collection has ended, and what was written is kept
 pub has_collected : {desk : DeskState} {output r : OrderedOutput} {begun out later : SinkState} {before now after : CallerPasses}
     → AreCollected desk output begun out before now r → after ≡ now
     → (length now.get_pass.got ≡ job_count output.jobs.now) ⊎ IsLeft (rest_of before.rest_pass) later.has_failed
@@ -788,7 +788,7 @@ starts_none old new bytes none start = appends_none old new (take start.0 bytes)
 
 -- what a batch promises
 module _ {W : Type 0} (state : W → SinkState) (question : Question) (files : List NamedBytes) (old : W) where
-  -- if the sink was given the answers to all lines, and is flushed
+  -- if the sink was given the answers to all lines, and either all is flushed or a write failed
   pub answered : {jobs : List (List Entry)} → MakesJobs question files (Ok jobs) → (new : W) (result : Result TallyState RunFault)
       → WasGivenSince (state old) (state new) (output_to question files)
       → IfOk result (λ tally. tally ≡ counts_of jobs) → OnOk result (((state new).has_failed ≡ false) × ((state new).is_flushed ≡ true))
@@ -818,7 +818,7 @@ module _ (question : Question) (files : List NamedBytes) (none : lines_in_all fi
       ∙ sym (texts_from (taken_output (names_of files)) (jobs_to question files) 0 (jobs_to question files))
       ∙ ap (flat_map (text_of_job (taken_output (names_of files)))) no_jobs
 
-  -- if there is no line, nothing was written
+  -- if there is no line, a sink that is left as it was has been given the whole output
   pub given_no_output : (begun : SinkState) → WasGivenSince begun begun (output_to question files)
   given_no_output begun = subst (λ l. WasGivenSince begun begun l) (sym no_output) (given_none begun)
 

@@ -113,6 +113,7 @@ impl Desk {
 
         // None: the row stays, and the pass is spent.
         ensures spent { IfNone result (pass.new.row ≡ drawn_row pass.old.row.numbers true) }
+        // In either case the total is within its limit.
         ensures limit { self.now.total ≤ most_lines }
     {
         let total = self.total;

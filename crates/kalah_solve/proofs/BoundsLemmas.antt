@@ -42,7 +42,7 @@ module _ (interval : Interval) (n least most : ℕ) (few : n ≤ most_seeds) (is
   pub bounds_held : (t : ℕ) → t ≤ n → Encloses interval (pos (t + t) -ℤ pos n) → (least ≤ t) × (t ≤ min most most_seeds)
   bounds_held t all holds = omega (arith, ints, clamps)
 
-  -- the bounds of an interval hold each number whose margin is in it
+  -- and no other: a number that they hold has its margin in it, if the interval doesn't end below -n
   pub bounds_exact : pos 0 ≤ℤ (interval.hi +ℤ pos n) → (t : ℕ) → t ≤ n → least ≤ t → t ≤ min most most_seeds →
       Encloses interval (pos (t + t) -ℤ pos n)
   bounds_exact some t all low high = omega (arith, ints, clamps)
@@ -94,17 +94,18 @@ pub worth_of_won : (a : HousesState) → IsWithinHouses a
     → houses_worth a ≡ pos (won a + won a) -ℤ pos (seeds_in_houses (storeless a))
 worth_of_won a w = omega (arith, ints, (won_of_houses w).is)
 
--- a number from minus n to n: houses are worth at most their seeds
+-- a number from minus n to n
 pub record IsUpTo (n : ℕ) (z : ℤ) : Type 0 where
   pub low : (pos 0 -ℤ pos n) ≤ℤ z
   pub high : z ≤ℤ pos n
 
+-- houses are worth at most their seeds, to either player
 pub worth_up_to : {a : HousesState} → IsWithinHouses a → IsUpTo (seeds_in_houses (storeless a)) (houses_worth a)
 worth_up_to w =
     let bounds = won_of_houses w in
     record { low = omega (arith, ints); high = omega (arith, ints) }
 
--- houses are worth at most their seeds, to either player
+-- so their worth lies in the widest window
 pub worth_low : (a : HousesState) → IsWithinHouses a → least_margin ≤ℤ houses_worth a
 worth_low a w = omega (arith, ints, (worth_up_to w).low)
 
@@ -164,7 +165,7 @@ won_by_bounds {a} lo hi asked {n = n} w all ordered apart is m_is =
     let worth_is : pos (2 * won a) -ℤ pos n ≡ houses_worth a = omega (arith, ints, worth_of_won a w) in
     rw (m_is, is) (apart _ (omega (arith, (won_of_houses w).few)) ∙ ap (clamped lo hi) worth_is)
 
--- what the mover wins of an ending makes its worth in the window
+-- the margin of what the mover wins is the worth of the houses
 pub told_by_won : {a : HousesState} {m : ℤ} {n t : ℕ} → IsWithinHouses a → n ≡ seeds_in_houses (storeless a) → t ≡ won a →
     m ≡ pos (2 * t) -ℤ pos n → m ≡ houses_worth a
 told_by_won {a} w all is m_is = omega (arith, ints, worth_of_won a w)

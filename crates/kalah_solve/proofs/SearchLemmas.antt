@@ -365,7 +365,7 @@ left_of_all {beta} {number} {bound} all seeds some few is = elim (cases_lt bound
   | inr enough ↦ omega (arith, is.lower enough)
 ]
 
--- the turn leads to houses of which no more is won than they hold
+-- a turn leads on to the houses that it leaves
 turn_leads : {a b : HousesState} {h priority : ℕ} → IsWithinHouses a → IsTurnOf a h priority b →
     LeadsTo a (seeds_in_houses (storeless a) - seeds_in_houses (storeless b)) b
 turn_leads w turn = leads_by _ _ w turn.legal (sym turn.step)
@@ -396,7 +396,7 @@ module _ {a b : HousesState} {h priority bound seeds left : ℕ} (beta : ℕ) (w
   pub turn_at_most : seeds - bound < beta → WinsAtMost a (seeds - bound) h
   turn_at_most = reply_left.upper
 
--- a turn that was played waits
+-- a legal house whose step is a turn, with a priority that names it, is a turn
 pub turn_of : {a : HousesState} {h priority gained : ℕ} {b : HousesState} → IsWithinHouses a
     → Contains (legal_houses (storeless a)) h →
     Turn gained b ≡ houses_step a h → priority % 8 + 1 ≡ h → IsTurnOf a h priority b
@@ -405,7 +405,7 @@ turn_of {a} {h} {priority} {gained} {b} w has is house =
     let brought : gained ≡ seeds_in_houses (storeless a) - seeds_in_houses (storeless b) = omega arith in
     record { legal = has; step = sym is ∙ ap (λ g. Turn g b) brought; house = house }
 
--- best play wins no more than each legal move does
+-- if no legal move wins more than `most`, best play wins no more
 pub all_at_most : (a : HousesState) (most : ℕ) → IsWithinHouses a → is_over (storeless a) ≡ false →
     ((h : ℕ) → Contains (legal_houses (storeless a)) h → WinsAtMost a most h) → won a ≤ most
 all_at_most a most w going each = grind (arith, won_reached)
@@ -507,7 +507,7 @@ played_none {a} cells slots empty marked = record {
       omega arith);
 }
 
--- each marked house with seeds may be moved
+-- a house with seeds, counted from 0, may be moved while the game goes on
 pub marked_legal : {a : HousesState} (i : ℕ) → IsWithinHouses a → is_over (storeless a) ≡ false → 0 < get_or a.own i 0 →
     Contains (legal_houses (storeless a)) (i + 1)
 marked_legal {a} i w going some = elim (cases_lt i (length a.own)) [
@@ -593,7 +593,7 @@ turn_at {a} {most} {priorities} {turns} {priority} w untried found some =
     let holds = legal_holds (storeless a) _ (turn a).legal in
     record { place = omega arith; priority = rw same here; turn = rw same turn }
 
--- before any was tried, but those that end in the store
+-- before any move with a priority was tried: all others were
 pub untried_first : {a : HousesState} {beta others new : ℕ} {priorities : List ℕ} {turns : List HousesState} (again : ℕ)
     → length priorities ≡ 8 →
     AreWaiting a beta others priorities turns → ((h : ℕ) → Contains (legal_houses (storeless a)) h → EndsInStore a h

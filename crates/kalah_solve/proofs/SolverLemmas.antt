@@ -183,7 +183,7 @@ bounds {p = p} m t even (passes_turn {h = h} {final = final} going has turn rest
       high = λ best. omega (arith, ints);
     })
 
--- always moving the lowest best house is best for either side
+-- always moving the lowest-numbered best house is a strategy
 pub best_is_strategy : IsStrategy best_house
 best_is_strategy = record { moves = λ p even going. (best_found _ even going).0 }
 

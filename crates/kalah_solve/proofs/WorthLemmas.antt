@@ -91,7 +91,7 @@ pub lowest_of : (t g : ℕ → Bool) (a n h : ℕ) (xs : List ℕ) → xs ≡ fi
     unwrap_or (find t xs) 0 ≤ h
 lowest_of t g a n h xs is has passes = grind (arith, find_lowest)
 
--- ==== The lowest house that attains the greatest value, one house more at a time
+-- ==== The greatest of some values, and the test whether two numbers are equal
 
 -- no value is above the greatest
 pub value_le : (f : ℕ → ℤ) (xs : List ℕ) (k : ℕ) → k < length xs → f (get_or xs k 0) ≤ℤ greatest (map f xs)
@@ -281,7 +281,7 @@ over_for_other q over = simp or_swapped
 pub final_swapped : (q : Position) → neg_ℤ (final_margin (swapped q)) ≡ final_margin q
 final_swapped q = omega (arith, ints)
 
--- the value of a move is the worth of what follows, over or not
+-- if the mover moves again, the value of a move is the worth of what follows, over or not
 pub value_going_on : (p : Position) (h : ℕ) → is_again p h ≡ true → value_of_move p h ≡ worth (after p h)
 value_going_on p h again = grind (arith, worth_of_over)
 

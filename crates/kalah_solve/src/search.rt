@@ -129,7 +129,7 @@ impl<A: Allocator + Clone> Search<A> {
     }
 
     /// Returns the worth of the houses, raised to the window's lower end and lowered to its upper one. That of an ending is looked up,
-    /// and what is learned of others is kept as an entry of the table.
+    /// and what is learned of others is kept as an entry of the table if it took enough nodes.
     pub fn search(&mut self, houses: &Houses, window: Window) -> i32
         requires going { is_over (storeless houses.now) ≡ false }
         ensures { result ≡ clamped window.lo window.hi (houses_worth houses.now) }

@@ -9,7 +9,7 @@ use Rattle.kalah_run.specs.Queue.States.{PutPassState}
 use Rattle.kalah_run.specs.declared.batch.shared_work.SharedWork.{SharedWork}
 use Rattle.kalah_run.specs.declared.batch.worker.Worker.{Worker}
 
--- the jobs of the numbers that were drawn, in order: their outcomes are sent
+-- the jobs of these numbers, in their order
 abbrev pub drawn_jobs : List (List Entry) → List ℕ → List Job
 drawn_jobs jobs numbers = map (job jobs) numbers
 

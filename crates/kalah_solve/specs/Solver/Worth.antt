@@ -7,7 +7,7 @@ use Rattle.kalah_rules.specs.Sowing.{after, is_again}
 use Rattle.kalah_rules.specs.Play.{legal_houses}
 use Rattle.kalah_rules.specs.Measure.{moves_left}
 
--- the margin that the mover gets by house h, where `worth` is the margin of best play of what follows
+-- the margin that the mover gets by house h, where `worth_of` is the margin of best play of what follows
 abbrev pub value_by : (Position → ℤ) → Position → ℕ → ℤ
 value_by worth_of p h =
     let q = after p h in
