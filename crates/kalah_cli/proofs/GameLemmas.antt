@@ -16,9 +16,9 @@ use Rattle.kalah_solve.specs.Solver.Verdict.{IsSmallBest, TellsBestMove, verdict
 use Rattle.kalah_solve.specs.Solver.Worth.{best_house, value_of_move, worth}
 use Rattle.kalah_solve.specs.declared.solver.Verdict.TheVariants.{Best, Over}
 use Rattle.std.proofs.lemmas.List.Elements.{Contains-push}
-use Rattle.kalah_solve.proofs.SolverLemmas.{best_is_strategy, best_plays, bounds, strategy_keeps, strategy_within, widened}
-use Rattle.kalah_solve.proofs.WorthLemmas.{final_swapped, value_going_on, value_of_again, value_of_turn, value_passing, worth_of_over, over_for_other, again_fewer, again_step, over_at_end, over_ends, over_step, swapped_equal_sides, turn_fewer, turn_step}
-use Rattle.kalah_jobs.specs.Writing.Given.{SinkState, WasGiven}
+use Rattle.kalah_solve.proofs.SolverLemmas.{best_is_strategy, best_plays, game_is_bounded, strategy_keeps, strategy_within, widened}
+use Rattle.kalah_solve.proofs.WorthLemmas.{final_swapped, value_moving_again, value_of_again, value_of_turn, value_passing, worth_of_over, over_for_other, again_fewer, again_step, over_at_end, over_ends, over_step, swapped_equal_sides, turn_fewer, turn_step}
+use Rattle.kalah_jobs.specs.Writing.Sink.{SinkState, WasGiven}
 use Rattle.kalah_jobs.specs.Writing.Shown.{shown_of}
 use Rattle.kalah_jobs.specs.Writing.Variation.{variation_start}
 use Rattle.kalah_jobs.proofs.WritingLemmas.{given_flushed, given_then}
@@ -102,7 +102,7 @@ game_before {p = p} {h = h} (step.Over q) going may is (is_at_end _) =
       | inl again ↦ (
         after p h,
         moves_on going may again (is_at_end over),
-        λ _. sym (value_going_on p h again ∙ worth_of_over (after p h) over),
+        λ _. sym (value_moving_again p h again ∙ worth_of_over (after p h) over),
       )
       | inr turn ↦ (
         swapped (swapped (after p h)),
@@ -116,17 +116,17 @@ game_before {p = p} {h = h} (step.Over q) going may is (passes_turn on has turn 
 -- ---- the moves of the game
 
 -- a game that is over has none
-none_left : (n : ℕ) (p : Position) → is_over p ≡ true → best_moves n p ≡ []
+no_best_moves : (n : ℕ) (p : Position) → is_over p ≡ true → best_moves n p ≡ []
 unfolding best_moves
-none_left zero p over = refl
-none_left (suc n) p over =
+no_best_moves zero p over = refl
+no_best_moves (suc n) p over =
     ap (λ b. if b then [] else best_house p ∷ best_moves n (position_after (step_of p (best_house p)))) over
 
 -- one that goes on has one, and those after it
-one_left : (n : ℕ) (p : Position) → is_over p ≡ false
+best_move_first : (n : ℕ) (p : Position) → is_over p ≡ false
     → best_moves (suc n) p ≡ best_house p ∷ best_moves n (position_after (step_of p (best_house p)))
 unfolding best_moves
-one_left n p going = ap (λ b. if b then [] else best_house p ∷ best_moves n (position_after (step_of p (best_house p)))) going
+best_move_first n p going = ap (λ b. if b then [] else best_house p ∷ best_moves n (position_after (step_of p (best_house p)))) going
 
 -- fewer are left after its best move
 fewer_next : (p : Position) → HasEqualSides p → is_over p ≡ false → moves_left (position_after (step_of p (best_house p))) < moves_left p
@@ -137,16 +137,16 @@ same_moves : (n m : ℕ) (p : Position) → HasEqualSides p → moves_left p ≤
     → best_moves n p ≡ best_moves m p
 same_moves zero m p even low high =
     let over = over_at_end p (omega (arith, low)) in
-    none_left zero p over ∙ sym (none_left m p over)
+    no_best_moves zero p over ∙ sym (no_best_moves m p over)
 same_moves (suc n) zero p even low high =
     let over = over_at_end p (omega (arith, high)) in
-    none_left (suc n) p over ∙ sym (none_left zero p over)
+    no_best_moves (suc n) p over ∙ sym (no_best_moves zero p over)
 same_moves (suc n) (suc m) p even low high = elim (cases_Bool (is_over p)) [
-  | inl over ↦ none_left (suc n) p over ∙ sym (none_left (suc m) p over)
+  | inl over ↦ no_best_moves (suc n) p over ∙ sym (no_best_moves (suc m) p over)
   | inr going ↦
       let fewer = fewer_next p even going in
       let next = same_moves n m _ (even_after p (best_house p)) (omega (arith, low, fewer)) (omega (arith, high, fewer)) in
-      one_left n p going ∙ ap (λ moves. best_house p ∷ moves) next ∙ sym (one_left m p going)
+      best_move_first n p going ∙ ap (λ moves. best_house p ∷ moves) next ∙ sym (best_move_first m p going)
 ]
 
 -- the moves of a game are its first one, and those from the position after it
@@ -156,7 +156,7 @@ game_goes_on p even going =
     let n = moves_left p - 1 in
     let more : moves_left p ≡ suc n = omega (arith, some_left p going) in
     let next = same_moves n _ _ (even_after p (best_house p)) (omega (arith, fewer_next p even going)) (omega arith) in
-    ap (λ k. best_moves k p) more ∙ one_left n p going ∙ ap (λ moves. best_house p ∷ moves) next
+    ap (λ k. best_moves k p) more ∙ best_move_first n p going ∙ ap (λ moves. best_house p ∷ moves) next
 
 -- the moves of a game that may begin with a house that is asked for are its first one, and those of best play after it
 played_next : (first : Option ℕ) (p : Position) (h : ℕ) → HasEqualSides p → is_over p ≡ false → h ≡ unwrap_or first (best_house p)
@@ -183,7 +183,7 @@ module _ {form : Form} {first : Option ℕ} {p : Position} {value : Option ℤ} 
 -- if it is over, it has none
 pub no_text : (form : Form) (first : Option ℕ) (p : Position) → MayBegin first p → is_over p ≡ true
     → game_text form p (game_played first p) ≡ []
-no_text form None p may over = ap (game_text form p) (none_left (moves_left p) p over)
+no_text form None p may over = ap (game_text form p) (no_best_moves (moves_left p) p over)
 no_text form (Some h) p may over = absurd (let both : true ≡ false = sym over ∙ legal_going p h may in cc)
 
 -- the verdict tells the next move, by a margin of thirty-two bits
@@ -203,7 +203,7 @@ next_told form first p {margin} {house} may small told is =
 
 -- if it is over, it has no moves
 none_played : (n : ℕ) (p : Position) → is_over p ≡ true → (final : Position) × BestGame p (best_moves n p) final
-none_played n p over = (p, subst (λ houses. BestGame p houses p) (sym (none_left n p over)) (is_at_end over))
+none_played n p over = (p, subst (λ houses. BestGame p houses p) (sym (no_best_moves n p over)) (is_at_end over))
 
 -- they are the moves of a game
 is_game : (n : ℕ) (p : Position) → HasEqualSides p → moves_left p ≤ n → (final : Position) × BestGame p (best_moves n p) final
@@ -213,7 +213,7 @@ is_game (suc n) p even low = elim (cases_Bool (is_over p)) [
   | inr going ↦
       let next = is_game n _ (even_after p (best_house p)) (omega (arith, low, fewer_next p even going)) in
       let game = game_before {policy = follow best_house} _ going (Contains-push [] (best_house p)) refl next.1 in
-      (game.0, subst (λ houses. BestGame p houses game.0) (sym (one_left n p going)) game.1)
+      (game.0, subst (λ houses. BestGame p houses game.0) (sym (best_move_first n p going)) game.1)
 ]
 
 -- of one that ends with the margin of best play
@@ -221,7 +221,7 @@ pub plays_best : PlaysBestGames
 plays_best p even =
     let game = is_game (moves_left p) p even (omega arith) in
     let keeps = strategy_keeps best_house best_is_strategy in
-    let bounded = bounds keeps keeps even game.1 in
+    let bounded = game_is_bounded keeps keeps even game.1 in
     (game.0, record { game = game.1; margin = omega (ints, arith, bounded.low best_plays, bounded.high best_plays) })
 
 -- ---- the law on variations

@@ -5,7 +5,7 @@ use Rattle.std.specs.Io.KnownBytes.{Appends}
 use Rattle.clap.specs.Words.{Text}
 use Rattle.kalah_jobs.specs.Asking.{answers_to, are_all_read}
 use Rattle.kalah_jobs.specs.Files.NamedBytes.{NamedBytes}
-use Rattle.kalah_jobs.specs.Writing.Given.{SinkState}
+use Rattle.kalah_jobs.specs.Writing.Sink.{SinkState}
 use Rattle.kalah_jobs.specs.declared.files.question.Question.{Question}
 use Rattle.kalah_cli.specs.Ask.{AnswersInput}
 use Rattle.kalah_cli.specs.KnownRuns.{AnswersWhatIsKnown, AreOn, IsAnswerTo, IsAnswerToLines}

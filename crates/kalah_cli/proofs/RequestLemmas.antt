@@ -11,7 +11,8 @@ use Rattle.clap.proofs.OnLiterals.{clap_on_literals}
 use Rattle.kalah_jobs.specs.declared.files.question.Question.{Question}
 use Rattle.kalah_jobs.specs.declared.files.question.Question.TheVariants.{BestMove, Steps, Values}
 use Rattle.kalah_cli.specs.Command.{file_rule, kalah_app, table_rule, workers_rule}
-use Rattle.kalah_cli.specs.Request.{AreMatches, MayHaveNumber, command_of, number_written, is_set, number_given, Asked, IsPlainWord, IsTakenAs, about_line}
+use Rattle.kalah_cli.specs.Request.{AreMatches, MayHaveNumber, name_of_question, number_written, is_set, number_given, Asked, IsTakenAs, about_line}
+use Rattle.kalah_cli.specs.Runs.{IsPlainWord}
 use Rattle.kalah_cli.specs.declared.request.LineCommand.TheVariants.{Moves}
 use Rattle.kalah_cli.proofs.ClapLemmas.{Given, HasOf, IsUsableIn, accepted_in, arg_in, given_in, row_by_id, taken_has, cases_Option}
 use Rattle.std.specs.Str.{bytes_eq}
@@ -66,14 +67,14 @@ abbrev pub built_rule : Rule → Rule
 built_rule a = with_index 1 (filled a)
 
 -- the arguments of the subcommands with files
-pub takes_files : (question : Question) → Takes (command_of question) (codes "workers") (built_rule workers_rule)
-    × Takes (command_of question) (codes "file") (built_rule file_rule)
+pub takes_files : (question : Question) → Takes (name_of_question question) (codes "workers") (built_rule workers_rule)
+    × Takes (name_of_question question) (codes "file") (built_rule file_rule)
 takes_files BestMove = (refl, refl)
 takes_files question = (refl, refl)
 
 -- the arguments of the subcommands with files that search
 pub takes_table : (question : Question) → (question ≡ BestMove) ⊎ (question ≡ Values)
-    → Takes (command_of question) (codes "table") (built_rule table_rule)
+    → Takes (name_of_question question) (codes "table") (built_rule table_rule)
 takes_table BestMove searches = refl
 takes_table Values searches = refl
 takes_table Steps searches = elim searches [ inl best ↦ cc | inr values ↦ cc ]

@@ -4,7 +4,7 @@ use Rattle.std.specs.Prelude.{◌↔◌, All, IfOk, IsErr, IsErrOf, Result, Ok, 
 use Rattle.std.proofs.lemmas.Bool.{false_from_ne_true}
 use Rattle.kalah_rules.specs.Position.{Position}
 use Rattle.kalah_jobs.specs.Line.Line.{Reads}
-use Rattle.kalah_jobs.specs.Writing.Given.{SinkState, WasGiven}
+use Rattle.kalah_jobs.specs.Writing.Sink.{SinkState, WasGiven}
 use Rattle.kalah_jobs.proofs.LineLemmas.{reads_once}
 use Rattle.kalah_jobs.proofs.WritingLemmas.{given_flushed, start_none, start_then}
 use Rattle.kalah_cli.specs.Ends.{Ends, IsPrinted, IsUnread, Prints, ended_by}
@@ -276,8 +276,8 @@ module _ {O : Type 0} (state : O → SinkState) {status : ExitStatus} {question 
 -- ---- the lines of `count`, and the sum below them
 
 -- the line of a house, which that many moves follow
-abbrev pub line_of : ℕ → Position → ℕ → List ℕ
-line_of n p h = ways_line h (ways_by n p h)
+abbrev pub house_line : ℕ → Position → ℕ → List ℕ
+house_line n p h = ways_line h (ways_by n p h)
 
 -- at most 6 ^ 19 ways begin with a house, so the sum of six fits sixty-four bits
 pub few_ways : (n depth : ℕ) → n ≤ most_houses ^ (depth - 1) → depth ≤ most_depth → n ≤ 6 ^ 19
@@ -302,12 +302,12 @@ module _ {O : Type 0} (state : O → SinkState) {old new : O} {status : ExitStat
   run_fails may_give a does = (run_ends may_give a tt does).failed
 
   -- unless it failed, all is flushed
-  pub run_hands_on : (may_give : Source → List ℕ → Type 0) (a : Asked) → Does state old new status may_give a
+  pub run_flushes : (may_give : Source → List ℕ → Type 0) (a : Asked) → Does state old new status may_give a
       → status ≢ Failed → (state old).is_flushed ≡ true
       → (state new).is_flushed ≡ true
-  run_hands_on may_give (ask question table) does = λ went.
+  run_flushes may_give (ask question table) does = λ went.
       does.1.1.all_flushed (false_from_ne_true (state new).has_failed (λ failed. went (does.1.1.failed failed)))
-  run_hands_on may_give a does = (run_ends may_give a tt does).all_flushed
+  run_flushes may_give a does = (run_ends may_give a tt does).all_flushed
 
 -- what is promised of arguments that are accepted covers those of `moves`
 pub by_words : {O : Type 0} (state : O → SinkState) (words : List Text) (old new : O)

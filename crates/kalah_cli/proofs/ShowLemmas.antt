@@ -8,7 +8,7 @@ use Rattle.kalah_rules.specs.Play.{legal_houses}
 use Rattle.kalah_solve.specs.Solver.MoveValues.{move_value, values_of}
 use Rattle.kalah_solve.specs.declared.solver.move_values.MoveValue.{MoveValue}
 use Rattle.kalah_jobs.specs.Files.Lines.{line_feed}
-use Rattle.kalah_jobs.specs.Writing.Given.{SinkState, WasGiven}
+use Rattle.kalah_jobs.specs.Writing.Sink.{SinkState, WasGiven}
 use Rattle.kalah_jobs.specs.Writing.Picture.{picture_of}
 use Rattle.kalah_jobs.specs.Writing.Shown.{shown_of, values_line}
 use Rattle.kalah_jobs.proofs.WritingLemmas.{given_then}

@@ -13,14 +13,14 @@ abbrev pub board_lines : Bool → Position → List ℕ
 board_lines boards p = if boards then picture_of p else []
 
 -- what stands after a move: a space and a value, if there is one
-abbrev pub value_text : Option ℤ → List ℕ
-value_text None = []
-value_text (Some value) = value_after value
+abbrev pub value_suffix : Option ℤ → List ℕ
+value_suffix None = []
+value_suffix (Some value) = value_after value
 
 -- the line of a move, with this value or none, and below it the position after it, if boards are drawn
 abbrev pub move_lines : Bool → Option ℤ → ℕ → Step → List ℕ
 move_lines boards value house step =
-    step_text_of house step ++ (value_text value ++ line_feed ∷ board_lines boards (position_after step))
+    step_text_of house step ++ (value_suffix value ++ line_feed ∷ board_lines boards (position_after step))
 
 -- the moves of the legal houses, in ascending order
 abbrev pub moves_output : Bool → Position → List ℕ

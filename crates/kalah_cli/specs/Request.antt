@@ -1,5 +1,5 @@
 -- What the arguments of a command line ask the program to do.
-use Rattle.std.specs.Prelude.{IfSome, ℕ, Bool, false, List, [], ◌∷◌, Option, None, Some, codes, ◌<◌, ◌≤◌, ◌≡◌, ◌≢◌, length, map, option_map, string_bytes, option_and_then, if◌then◌else◌, true, unwrap_or, ⊤}
+use Rattle.std.specs.Prelude.{IfSome, ℕ, Bool, false, List, [], Option, None, Some, codes, ◌<◌, ◌≤◌, ◌≡◌, ◌≢◌, length, map, option_map, string_bytes, option_and_then, if◌then◌else◌, true, unwrap_or, ⊤}
 use Rattle.std.specs.declared.string.String.{String}
 use Rattle.std.specs.Option.{option_map_or}
 use Rattle.std.specs.Str.{bytes_eq}
@@ -9,9 +9,6 @@ use Rattle.clap.specs.declared.error.kind.ErrorKind.{ErrorKind}
 use Rattle.kalah_jobs.specs.declared.files.question.Question.{Question}
 use Rattle.kalah_jobs.specs.declared.files.question.Question.TheVariants.{BestMove, Values, Steps}
 use Rattle.kalah_rules.specs.Limits.{most_depth}
-use Rattle.kalah_solve.specs.Table.Entries.{empty_table}
-use Rattle.kalah_solve.specs.declared.solver.Solver.{Solver}
-use Rattle.std.specs.declared.alloc.Global.{Global}
 use Rattle.kalah_run.specs.Limits.{AreWorkers, IsTableSize}
 use Rattle.kalah_cli.specs.Command.{kalah_app}
 use Rattle.kalah_cli.specs.declared.request.Request.{Request}
@@ -37,10 +34,10 @@ pub data Asked : Type 0 where
   conflict : Asked
 
 -- the subcommand that asks this of files
-abbrev pub command_of : Question → Text
-command_of BestMove = codes "solve"
-command_of Values = codes "values"
-command_of Steps = codes "steps"
+abbrev pub name_of_question : Question → Text
+name_of_question BestMove = codes "solve"
+name_of_question Values = codes "values"
+name_of_question Steps = codes "steps"
 
 -- how many workers there are, and how many entries a table has, if no argument says so
 abbrev pub default_workers : ℕ
@@ -149,10 +146,6 @@ request_asks Conflict = conflict
 abbrev pub IsInLimits : FilesRequest → Type 0
 IsInLimits b = AreWorkers b.workers × IsTableSize b.table × (0 < length b.files.items)
 
--- the solver has an empty table of this capacity
-abbrev pub HasTable : ℕ → Solver Global → Type 0
-HasTable capacity solver = solver.search.table ≡ empty_table capacity
-
 -- numbers are in their ranges
 abbrev pub IsCommandInRange : LineCommand → Type 0
 IsCommandInRange (Moves boards) = ⊤
@@ -165,11 +158,6 @@ IsInRange (Line line command) = IsCommandInRange command
 IsInRange (Files b) = IsInLimits b
 IsInRange (Ask question table) = IsTableSize table
 IsInRange Conflict = ⊤
-
--- an argument that is no flag: it isn't empty and doesn't begin with `-` (45)
-abbrev pub IsPlainWord : Text → Type 0
-IsPlainWord [] = ⊥
-IsPlainWord (x ∷ xs) = x ≢ 45
 
 -- ---- the matches of arguments that the command line accepts
 

@@ -6,10 +6,10 @@ use Rattle.clap.specs.declared.error.kind.ErrorKind.TheVariants.{DisplayHelp, Di
 use Rattle.kalah_rules.specs.Position.{Position}
 use Rattle.kalah_jobs.specs.Files.Lines.{line_feed}
 use Rattle.kalah_jobs.specs.Line.Line.{Reads}
-use Rattle.kalah_jobs.specs.Writing.Given.{SinkState}
+use Rattle.kalah_jobs.specs.Writing.Sink.{SinkState}
 use Rattle.kalah_cli.specs.Line.{MayPrint, command_output}
 use Rattle.kalah_cli.specs.Moves.{moves_output}
-use Rattle.kalah_cli.specs.Request.{Asked, AsksNot, IsPlainWord, IsRefused, IsTakenAs, about_line, answers, ask, conflict}
+use Rattle.kalah_cli.specs.Request.{Asked, AsksNot, IsRefused, IsTakenAs, about_line, answers, ask, conflict}
 use Rattle.kalah_cli.specs.Ask.{AnswersInput}
 use Rattle.kalah_cli.specs.SolveFiles.{AnswersFiles}
 use Rattle.kalah_cli.specs.Sources.{MayBeLeft, Source, standard_input}
@@ -43,6 +43,11 @@ module _ {O : Type 0} (state : O → SinkState) (old new : O) (status : ExitStat
   DoesWhatIsAsked words = (a : Asked) → IsTakenAs words a → Does a ⊎ FailsWithoutOutput old new status
 
 -- ---- what a run promises for its arguments
+
+-- an argument that is no flag: it isn't empty and doesn't begin with `-` (45)
+abbrev pub IsPlainWord : Text → Type 0
+IsPlainWord [] = ⊥
+IsPlainWord (x ∷ xs) = x ≢ 45
 
 module _ {O : Type 0} (state : O → SinkState) (words : List Text) (old new : O) (status : ExitStatus) where
   -- the arguments of `moves` without options

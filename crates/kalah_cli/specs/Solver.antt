@@ -1,10 +1,13 @@
--- What stands in the output before a position of a game is solved.
+-- The solver of a line: its table, and what stands in the output before a position of a game is solved.
 use Rattle.std.specs.Prelude.{◌≡◌, ◌++◌, ℕ, List}
+use Rattle.std.specs.declared.alloc.Global.{Global}
 use Rattle.kalah_rules.specs.Position.{Position}
 use Rattle.kalah_rules.specs.Play.{position_after, step_of}
 use Rattle.kalah_solve.specs.Solver.Worth.{worth}
+use Rattle.kalah_solve.specs.Table.Entries.{empty_table}
+use Rattle.kalah_solve.specs.declared.solver.Solver.{Solver}
 use Rattle.kalah_solve.specs.declared.solver.move_values.MoveValue.{MoveValue}
-use Rattle.kalah_jobs.specs.Writing.Given.{SinkState, WasGiven}
+use Rattle.kalah_jobs.specs.Writing.Sink.{SinkState, WasGiven}
 use Rattle.kalah_jobs.specs.Writing.Shown.{shown_of}
 use Rattle.kalah_jobs.specs.Writing.Variation.{variation_start}
 use Rattle.kalah_cli.specs.Game.{move_text, value_shown}
@@ -12,6 +15,10 @@ use Rattle.kalah_cli.specs.Moves.{board_lines}
 use Rattle.kalah_cli.specs.declared.game.Form.{Form}
 use Rattle.kalah_cli.specs.declared.game.Form.TheVariants.{Lines, Houses}
 use Rattle.kalah_cli.specs.declared.solver.GameSolver.{GameSolver}
+
+-- the solver has an empty table of this capacity
+abbrev pub HasTable : ℕ → Solver Global → Type 0
+HasTable capacity solver = solver.search.table ≡ empty_table capacity
 
 -- a game as it began: how its moves are written, the first position, and the sink before any of it was written
 pub record Begun (O : Type 0) : Type 0 where

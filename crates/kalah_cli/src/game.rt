@@ -1,6 +1,6 @@
 //! A game, move by move.
 ghost use Rattle.std.specs.Prelude.{◌≡◌, [], IfNone, IfSome, None, Some};
-ghost use Rattle.kalah_jobs.specs.Writing.Given.{WasGiven};
+ghost use Rattle.kalah_jobs.specs.Writing.Sink.{WasGiven};
 ghost use Rattle.kalah_cli.specs.Ends.{IsPrinted};
 ghost use Rattle.kalah_cli.specs.Game.{IsNextMove, game_played, game_text, move_text, value_shown};
 ghost use Rattle.kalah_cli.specs.Play.{MayBegin};

@@ -5,7 +5,7 @@ ghost use Rattle.clap.specs.declared.error.kind.ErrorKind.TheVariants.{OutOfMemo
 ghost use Rattle.kalah_solve.specs.Table.Entries.{most_entries};
 ghost use Rattle.kalah_run.specs.Limits.{IsTableSize};
 ghost use Rattle.kalah_cli.specs.Command.{kalah_app};
-ghost use Rattle.kalah_cli.specs.Request.{AreMatches, IsInRange, IsTakenAs, MayHaveNumber, command_of, files_ask, flags_ask, is_set, matches_ask, number_given, number_or, request_asks};
+ghost use Rattle.kalah_cli.specs.Request.{AreMatches, IsInRange, IsTakenAs, MayHaveNumber, name_of_question, files_ask, flags_ask, is_set, matches_ask, number_given, number_or, request_asks};
 
 use crate::command::command;
 use clap::{ArgMatches, Error};
@@ -76,7 +76,7 @@ pub struct FilesRequest<'a> {
 }
 
 // Returns the number of an option, if it is given.
-fn given_number(found: &ArgMatches<'_>, id: &str) -> Option<u32>
+fn number_given(found: &ArgMatches<'_>, id: &str) -> Option<u32>
     requires { MayHaveNumber id.now 1 most_entries (rows_of (found_of found.now)) }
     ensures given { result ≡ number_given id.now (rows_of (found_of found.now)) }
     ensures range { IfSome result IsTableSize }
@@ -91,7 +91,7 @@ fn number_or(found: &ArgMatches<'_>, id: &str, default: u32) -> u32
     ensures number { result ≡ number_or default id.now (rows_of (found_of found.now)) }
     ensures range { IsTableSize result }
 {
-    given_number(found, id).unwrap_or(default)
+    number_given(found, id).unwrap_or(default)
 }
 
 // Returns the small number of an argument, if it has one.
@@ -124,7 +124,7 @@ fn files_request<'a>(
     question: Question,
     found: &ArgMatches<'a>,
 ) -> Result<Request<'a>, Error>
-    requires { AreMatches (command_of question) (rows_of (found_of found.now)) }
+    requires { AreMatches (name_of_question question) (rows_of (found_of found.now)) }
     ensures memory { IfErr result (λ e. kind_of e ≡ OutOfMemory) }
     ensures asked { IfOk result (λ r. files_ask question (rows_of (found_of found.now)) ≡ Some (request_asks r)) }
     ensures range { IfOk result IsInRange }
@@ -169,7 +169,7 @@ fn requested<'a>(alloc: Global, name: &str, found: &ArgMatches<'a>) -> Result<Re
         "steps" => return files_request(alloc, Question::Steps, found),
         "ask" => {
             let (values, steps) = (is_set(found, "values"), is_set(found, "steps"));
-            return Ok(ask_request(values, steps, given_number(found, "table")));
+            return Ok(ask_request(values, steps, number_given(found, "table")));
         }
         "moves" => LineCommand::Moves {
             boards: is_set(found, "boards"),

@@ -1,8 +1,7 @@
 //! `kalah show LINE`.
-ghost use Rattle.std.specs.Prelude.{◌≡◌, Contains, IsErr, MatchResult, false, true};
-ghost use Rattle.kalah_rules.specs.Play.{legal_houses};
+ghost use Rattle.std.specs.Prelude.{◌≡◌, IsErr, MatchResult, false, true};
 ghost use Rattle.kalah_solve.specs.Solver.MoveValues.{values_of};
-ghost use Rattle.kalah_jobs.specs.Writing.Given.{WasGiven};
+ghost use Rattle.kalah_jobs.specs.Writing.Sink.{WasGiven};
 ghost use Rattle.kalah_jobs.specs.Writing.Picture.{picture_of};
 ghost use Rattle.kalah_run.specs.Limits.{IsTableSize};
 ghost use Rattle.kalah_cli.specs.Ends.{IsPrinted};

@@ -2,11 +2,10 @@
 ghost use Rattle.std.specs.Prelude.{◌≡◌, IfOk, true};
 ghost use Rattle.kalah_solve.specs.Solver.MoveValues.{values_of};
 ghost use Rattle.kalah_solve.specs.Solver.Verdict.{IsSmallVerdict, TellsBestPlay, verdict_of};
-ghost use Rattle.kalah_jobs.specs.Writing.Given.{WasGiven};
+ghost use Rattle.kalah_jobs.specs.Writing.Sink.{WasGiven};
 ghost use Rattle.kalah_jobs.specs.Writing.Picture.{picture_of};
 ghost use Rattle.kalah_run.specs.Limits.{IsTableSize};
-ghost use Rattle.kalah_cli.specs.Request.{HasTable};
-ghost use Rattle.kalah_cli.specs.Solver.{IsShown, begun};
+ghost use Rattle.kalah_cli.specs.Solver.{HasTable, IsShown, begun};
 
 use crate::game::Form;
 use kalah_jobs::Sink;

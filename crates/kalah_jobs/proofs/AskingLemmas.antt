@@ -30,7 +30,7 @@ use Rattle.kalah_jobs.proofs.WritingLemmas.{files_split_between_lines, one_line_
 use Rattle.std.specs.Io.KnownBytes.{Appends, Consumes, IsAtEnd, Keeps}
 use Rattle.std.proofs.KnownBytes.{Appends-kept, Appends-nil, Appends-trans, Consumes-kept, Consumes-nil, Consumes-trans, Consumes-whole, Keeps-refl}
 use Rattle.std.proofs.lemmas.List.Elements.{All-nil, All-push}
-use Rattle.kalah_jobs.specs.Writing.Given.{AppendsPrefix}
+use Rattle.kalah_jobs.specs.Writing.Sink.{AppendsPrefix}
 
 -- ==== What is answered, line by line
 

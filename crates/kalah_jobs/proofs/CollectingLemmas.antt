@@ -1,5 +1,5 @@
 -- The collector: how far each file has come, and what any list of offers and takes makes of it.
-use Rattle.std.proofs.Common.{◌≡◌, ◌⊎◌, ℕ, zero, suc, ◌+◌, ◌-◌, ◌<◌, ◌≤◌, List, [], ◌∷◌, length, set, get_or, replicate, true, false, refl, arith, ⊎_elim, Bool, ◌&&◌, ◌==◌, ap, ap₂, eq-eqb, ◌≢◌, inl, inr, if◌then◌else◌, cond, ◌++◌, map, slice_index_or, ◌∙◌, sym, ne_eqb, subst, length-set, get_or-set_other, get_or-set_same, take}
+use Rattle.std.proofs.Common.{◌≡◌, ◌⊎◌, ℕ, zero, suc, ◌+◌, ◌-◌, ◌<◌, ◌≤◌, List, [], ◌∷◌, length, set, get_or, replicate, true, false, refl, arith, Bool, ◌&&◌, ◌==◌, ap, eq-eqb, ◌≢◌, inl, inr, if◌then◌else◌, cond, ◌++◌, map, slice_index_or, ◌∙◌, sym, ne_eqb, subst, length-set, get_or-set_other, get_or-set_same, take}
 use Rattle.std.specs.Prelude.{Option, Some, None, is_some, sum_by, count_by, nat_lt, IsSome, Contains, Result, Ok, Err, sum, not, slice_get, IsOk}
 use Rattle.std.proofs.lemmas.Bool.{false≢true, lt-ltb, cases_eq, cases_Bool}
 use Rattle.kalah_jobs.specs.declared.writing.answer.Answer.{Answer}
@@ -275,9 +275,9 @@ some_value None h = absurd (false≢true h)
 some_value (Some a) h = (a, refl)
 
 -- what was offered is offered with one offer more
-still_answered : {jobs : List (List Entry)} {past : List Job} {f k : ℕ} {a : Answer} (o : Job) → IsOffered jobs past f k a →
+still_offered : {jobs : List (List Entry)} {past : List Job} {f k : ℕ} {a : Answer} (o : Job) → IsOffered jobs past f k a →
     IsOffered jobs (past ++ o ∷ []) f k a
-still_answered {jobs} {past} {f} {k} o old = record {
+still_offered {jobs} {past} {f} {k} o old = record {
   entry = old.entry;
   at = old.at;
   is = old.is;
@@ -302,7 +302,7 @@ holds_accepted jobs past files o holds wanted =
       only = each_line files o a wanted.0.0.0.0 wanted.0.0.1
           (λ f k now. (b : Answer) → now ≡ Some b → IsOffered jobs (past ++ o ∷ []) f k b)
           (λ b same. record { entry = o.entry; at = entry_is; is = (cc); offered = Contains-push past o })
-          (λ f k apart b is. still_answered o (holds.only f k b is));
+          (λ f k apart b is. still_offered o (holds.only f k b is));
     }
 
 -- a file with a line is there
@@ -337,7 +337,7 @@ holds_refused jobs past files o r holds refused = record {
         let w = holds.only f k v.0 v.1 in
         cc (v.1, w.is, w.at, is)
   ];
-  only = λ f k a is. still_answered o (holds.only f k a is);
+  only = λ f k a is. still_offered o (holds.only f k a is);
 }
 
 -- a take changes nothing of what came, so what holds stays true
@@ -382,13 +382,13 @@ pub taken_is : (t : Taken) (k : ℕ) (e : Entry) → t.line ≡ k → t.answer �
 taken_is t k e p q = λ i. record { line = p i; answer = q i }
 
 -- the lines of file f, each with its answer
-abbrev lines_of : List (List Entry) → ℕ → List Taken
-lines_of jobs f = answered_lines (entries_of jobs f)
+abbrev answered_lines_of : List (List Entry) → ℕ → List Taken
+answered_lines_of jobs f = answered_lines (entries_of jobs f)
 
 -- the list of the first lines grows by the line that is taken
 first_lines_more : (jobs : List (List Entry)) (past : List Job) (files : List ArrivalsState) (f : ℕ) (t : Taken) →
     HoldsOffered jobs past files → IsNext (state_of files f) t
-    → take (state_of files f).taken (lines_of jobs f) ++ t ∷ [] ≡ take ((state_of files f).taken + 1) (lines_of jobs f)
+    → take (state_of files f).taken (answered_lines_of jobs f) ++ t ∷ [] ≡ take ((state_of files f).taken + 1) (answered_lines_of jobs f)
 first_lines_more jobs past files f t holds is_next =
     let n : ℕ = (state_of files f).taken in
     let xs : List (ℕ × Entry) = enumerate_from 0 (entries_of jobs f) in
@@ -399,18 +399,18 @@ first_lines_more jobs past files f t holds is_next =
     let numbered = get_or-enumerate_from 0 (entries_of jobs f) n (0, w.entry)
     (omega (arith, low, length-enumerate_from 0 (entries_of jobs f))) in
     let entry = get_or_from_slice_get (entries_of jobs f) n w.entry w.entry at in
-    let here : get_or (lines_of jobs f) n t ≡ t =
+    let here : get_or (answered_lines_of jobs f) n t ≡ t =
     get_or-map answered_line xs n (0, w.entry) t low ∙ ap answered_line numbered
     ∙ sym (taken_is t (0 + n) _ (is_next.first ∙ omega arith) (w.is ∙ ap answer_of (sym entry))) in
-    ap (λ x. take n (lines_of jobs f) ++ x ∷ []) (sym here)
-    ∙ sym (take_more (lines_of jobs f) n t (omega (arith, length-map xs answered_line)))
+    ap (λ x. take n (answered_lines_of jobs f) ++ x ∷ []) (sym here)
+    ∙ sym (take_more (answered_lines_of jobs f) n t (omega (arith, length-map xs answered_line)))
 
 -- ---- any list of events
 
 -- from one state to the other, these were taken of each file: its next lines
 abbrev WereTaken : List (List Entry) → List ArrivalsState → (ℕ → List Taken) → List ArrivalsState → Type 0
 WereTaken jobs files took after = (f : ℕ) →
-    take (state_of files f).taken (lines_of jobs f) ++ took f ≡ take (state_of after f).taken (lines_of jobs f)
+    take (state_of files f).taken (answered_lines_of jobs f) ++ took f ≡ take (state_of after f).taken (answered_lines_of jobs f)
 
 -- the state is kept by each event
 module _ {jobs : List (List Entry)} {past : List Job} {files after : List ArrivalsState} (kept : Kept jobs past files) where
@@ -448,21 +448,21 @@ module _ {jobs : List (List Entry)} {past : List Job} {files after : List Arriva
   taken_next : (g : ℕ) (t : Taken) → Gives files g t after → WereTaken jobs files (λ f. with_taken f g (Some t) []) after
   taken_next g t step =
       rw step.kept (each_file files g (with_one_taken (state_of files g)) step.file_there
-      (λ f new. take (state_of files f).taken (lines_of jobs f) ++ with_taken f g (Some t) [] ≡ take new.taken (lines_of jobs f))
+      (λ f new. take (state_of files f).taken (answered_lines_of jobs f) ++ with_taken f g (Some t) [] ≡ take new.taken (answered_lines_of jobs f))
       (rw (eq-eqb g g refl) (first_lines_more jobs past files g t kept.offered step.next_line))
-      (λ f other. rw (ne_eqb g f (λ same. other (sym same))) (append-nil (take (state_of files f).taken (lines_of jobs f)))))
+      (λ f other. rw (ne_eqb g f (λ same. other (sym same))) (append-nil (take (state_of files f).taken (answered_lines_of jobs f)))))
 
 -- any list of events
 runs : (jobs : List (List Entry)) (past : List Job) (events : List Event) (files after : List ArrivalsState)
     → Runs jobs files events after → Kept jobs past files →
     Kept jobs (past ++ offers events) after × WereTaken jobs files (λ f. takes f events) after
 runs jobs past [] files after run kept =
-    rw (← run, append-nil) (kept, λ f. append-nil (take (state_of files f).taken (lines_of jobs f)))
+    rw (← run, append-nil) (kept, λ f. append-nil (take (state_of files f).taken (answered_lines_of jobs f)))
 runs jobs past (Offered o gave ∷ events) files after run kept =
     let now = kept_by_offer kept o gave run.1 in
     let rest = runs jobs (past ++ o ∷ []) events run.0 after run.2 now.0 in (
       subst (λ (l : List Job). Kept jobs l after) (append_assoc past (o ∷ []) (offers events)) rest.0,
-      λ f. ap (λ n. take n (lines_of jobs f) ++ takes f events) (sym (now.1 f)) ∙ rest.1 f,
+      λ f. ap (λ n. take n (answered_lines_of jobs f) ++ takes f events) (sym (now.1 f)) ∙ rest.1 f,
     )
 runs jobs past (Took g None ∷ events) files after run kept =
     let step = run.1 in
@@ -524,7 +524,7 @@ law_holds jobs events files run =
         below = λ k low. only f k (front_came (state_of files f).arrived k None low);
         greatest = λ m low all. front_least (state_of files f).arrived m (λ k k_low. came f k (all k k_low));
       };
-      taken = λ f. ap (λ n. take n (lines_of jobs f) ++ takes f events) (sym (new_taken jobs f)) ∙ all.1 f;
+      taken = λ f. ap (λ n. take n (answered_lines_of jobs f) ++ takes f events) (sym (new_taken jobs f)) ∙ all.1 f;
       taken_within = all.0.within;
     }
 

@@ -1,10 +1,10 @@
 -- The lines of files, their entries, and the jobs of a batch.
 use Rattle.kalah_rules.specs.Position as position
 use Rattle.kalah_rules.specs.contracts.board.BoardPartialEq.TheImpl as board_eq
-use Rattle.std.proofs.Common.{◌≡◌, ◌≢◌, ℕ, ◌+◌, ◌<◌, ◌≤◌, List, [], ◌∷◌, ◌++◌, length, get_or, take, drop, take-append-drop, refl, ap, sym, ◌∙◌, arith, length-drop, ◌⊎◌, inl, inr, ⊎_elim, subst, append_assoc, Result, Ok, Err, zero, suc, ◌-◌, Bool, true, false, cond, map, ap₂, length-append, ◌&&◌, ◌==◌}
+use Rattle.std.proofs.Common.{◌≡◌, ◌≢◌, ℕ, ◌+◌, ◌<◌, ◌≤◌, List, [], ◌∷◌, ◌++◌, length, get_or, take, drop, take-append-drop, refl, ap, sym, ◌∙◌, arith, length-drop, ◌⊎◌, inl, inr, append_assoc, Ok, Err, zero, suc, ◌-◌, Bool, true, false, cond, map, length-append, ◌==◌}
 use Rattle.std.specs.Prelude.{if◌then◌else◌, All, Some, slice_get, sum_by, count_by}
 use Rattle.std.specs.List.{onto_first, flat_map}
-use Rattle.std.proofs.lemmas.List.{take_all, drop_all, drop_more, append-nil, take_more, take-take, take-append-le, get_or_append_left, get_or_default, length-map, map-append, get_or-map, length-take-le}
+use Rattle.std.proofs.lemmas.List.{take_all, drop_all, drop_more, append-nil, take_more, take-append-le, get_or_append_left, length-map, map-append, get_or-map}
 use Rattle.std.proofs.lemmas.List.Elements.{All-head, All-tail, All-nil, All-cons}
 use Rattle.std.proofs.Math.Seq.{take-nil, get_or-append_seam}
 use Rattle.std.proofs.lemmas.List.Sums.{sum_by-cons, sum_by-append, sum_by_push, sum_by-drop_more, get_or-le-sum_by, count_by-le-length}
@@ -24,7 +24,7 @@ use Rattle.kalah_jobs.specs.Files.JobList.{entries_of, line_job, file_jobs, jobs
 use Rattle.kalah_jobs.specs.Files.Jobs.{lines_in_all, lines_in, entries_to, jobs_to, job_count, AreStarts}
 use Rattle.kalah_jobs.specs.declared.files.question.Question.{Question}
 use Rattle.kalah_jobs.specs.declared.files.question.Question.TheVariants.{BestMove}
-use Rattle.kalah_rules.specs.Position.{is_over, final_margin, IsWithinLimits, houses_in, seeds_in_houses}
+use Rattle.kalah_rules.specs.Position.{IsWithinLimits, houses_in}
 use Rattle.kalah_jobs.specs.Writing.Answer.{answer_of, is_faulty_entry}
 use Rattle.kalah_jobs.specs.Writing.Output.{is_faulty, is_faulty_job}
 use Rattle.kalah_rules.proofs.KeyLemmas.{same_key}
@@ -409,16 +409,16 @@ pub ruleset counts_of_jobs = (get_or-map, length-map, length-job_list, lines_bet
 -- ==== The lines that are answered by a fault are those that are not read
 
 -- a position is answered by no fault
-no_fault : (question : Question) (p : position.Position) → is_faulty_entry (entry_asked question p) ≡ false
+asked_is_no_fault : (question : Question) (p : position.Position) → is_faulty_entry (entry_asked question p) ≡ false
 unfolding answer_of
-no_fault question p = grind arith
+asked_is_no_fault question p = grind arith
 
 -- whether a line is answered by a fault doesn't depend on what is asked
 pub asked_fault : (question : Question) (line : List ℕ) → is_faulty_entry (entry_to question line) ≡ is_faulty line
 unfolding entry_to
 asked_fault question line =
     elim (reading_of line) as (λ r. is_faulty_entry (entry_of_reading question r) ≡ is_faulty_entry (entry_of_reading BestMove r)) [
-      | Ok p ↦ no_fault question p ∙ sym (no_fault BestMove p)
+      | Ok p ↦ asked_is_no_fault question p ∙ sym (asked_is_no_fault BestMove p)
       | Err fault ↦ refl
     ]
 

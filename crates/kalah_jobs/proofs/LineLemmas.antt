@@ -616,23 +616,23 @@ text_is_line p limits own_low other_low = record {
 
 -- ---- how long a text is
 
-number_length : (n : ℕ) → n ≤ 99 → length (decimal n) ≤ 2
-number_length n low = length-decimal-le 2 n (lit< tt) (omega (arith, low)) (omega (arith, low))
+small_number_length : (n : ℕ) → n ≤ 99 → length (decimal n) ≤ 2
+small_number_length n low = length-decimal-le 2 n (lit< tt) (omega (arith, low)) (omega (arith, low))
 
 houses_text_length : (houses : List ℕ) → sum houses ≤ 99 → length (join_with_byte comma (map decimal houses)) ≤ 3 * length houses
 houses_text_length [] few = omega arith
-houses_text_length (n ∷ []) few = omega (arith, number_length n (omega arith))
+houses_text_length (n ∷ []) few = omega (arith, small_number_length n (omega arith))
 houses_text_length (n ∷ m ∷ houses) few =
     let all = sum_by-cons (λ (x : ℕ). x) n (m ∷ houses) in
     let rest = houses_text_length (m ∷ houses) (omega (arith, all)) in
-    let first = number_length n (omega (arith, all)) in
+    let first = small_number_length n (omega (arith, all)) in
     omega (arith, first, rest, length-append (decimal n) (comma ∷ join_with_byte comma (map decimal (m ∷ houses))))
 
 side_text_length : (houses : List ℕ) (store : ℕ) → length houses ≤ 6 → sum houses ≤ 99 → store ≤ 99 →
     length (side_text houses store) ≤ 21
 side_text_length houses store few short low =
     let own = houses_text_length houses short in
-    let last = number_length store low in
+    let last = small_number_length store low in
     omega (arith, few, own, last, length-append (join_with_byte comma (map decimal houses)) (slash ∷ decimal store))
 
 suffix_length : (rule : Rule) → length (suffix_of rule) ≤ 2

@@ -15,7 +15,7 @@ use Rattle.std.proofs.KnownBytes.{Appends-kept, Appends-nil, Appends-trans}
 use Rattle.std.proofs.Math.Seq.{take-append-add}
 use Rattle.std.proofs.Math.ListN.{drop_of_length-le}
 use Rattle.std.proofs.lemmas.List.{take-append-drop, length-take-le, length-drop, drop_at, drop-drop, flat_map_more, take_more, take_all, drop_more}
-use Rattle.kalah_jobs.specs.Writing.Given.{AppendsPrefix, SinkState, WasGiven}
+use Rattle.kalah_jobs.specs.Writing.Sink.{AppendsPrefix, SinkState, WasGiven}
 use Rattle.std.specs.List.{join_with_byte, range_with_len, flat_map, enumerate_from, onto_first, count_by}
 use Rattle.std.proofs.lemmas.Bool.{ne_eqb, cases_eq}
 use Rattle.std.proofs.lemmas.Grind.{flat_map-append}
@@ -120,15 +120,15 @@ start_kept old between new bs start kept = (start.0, Appends-kept old between ne
 
 -- ==== Bytes that are written in part
 
-pub record IsLeft (old now : Option (List ℕ)) (bytes rest : List ℕ) : Type 0 where
+pub record IsPartWritten (old now : Option (List ℕ)) (bytes rest : List ℕ) : Type 0 where
   pub done : List ℕ
   pub is : bytes ≡ done ++ rest
   pub written : Appends old now done
 
-pub left_all : (old : Option (List ℕ)) (bytes : List ℕ) → IsLeft old old bytes bytes
+pub left_all : (old : Option (List ℕ)) (bytes : List ℕ) → IsPartWritten old old bytes bytes
 left_all old bytes = record { done = []; is = refl; written = Appends-nil old }
 
-module _ (old now next : Option (List ℕ)) (bytes rest : List ℕ) (left : IsLeft old now bytes rest) where
+module _ (old now next : Option (List ℕ)) (bytes rest : List ℕ) (left : IsPartWritten old now bytes rest) where
   -- a prefix of the rest was written
   pub left_start : AppendsPrefix now next rest → AppendsPrefix old next bytes
   left_start start = start_then old now next bytes left.done rest left.is left.written start
@@ -138,12 +138,12 @@ module _ (old now next : Option (List ℕ)) (bytes rest : List ℕ) (left : IsLe
   left_whole adds = subst (Appends old next) (sym left.is) (Appends-trans old now next left.done rest left.written adds)
 
   -- nothing was written
-  pub left_kept : Keeps now next → IsLeft old next bytes rest
+  pub left_kept : Keeps now next → IsPartWritten old next bytes rest
   left_kept keeps = record { done = left.done; is = left.is; written = Appends-kept old now next left.done left.written keeps }
 
   -- a part of the rest was written
   pub left_part : (taken : ℕ) → Appends now next (take taken rest)
-      → IsLeft old next bytes (take (length rest - taken) (drop taken rest))
+      → IsPartWritten old next bytes (take (length rest - taken) (drop taken rest))
   left_part taken part =
       let others = take_all (length rest - taken) (drop taken rest) (omega (arith, length-drop taken rest)) in
       let parts = ap (λ l. take taken rest ++ l) others ∙ take-append-drop taken rest in

@@ -16,7 +16,7 @@ use Rattle.kalah_jobs.specs.Files.NamedBytes.{NamedBytes}
 use Rattle.kalah_jobs.specs.Files.Entry.{entry_to}
 use Rattle.kalah_jobs.specs.Writing.Answer.{answer_of, answer_texts, joined_text, in_one_line, place_text}
 use Rattle.kalah_jobs.specs.Writing.Output.{is_faulty, output_to, line_output}
-use Rattle.kalah_jobs.specs.Writing.Given.{SinkState}
+use Rattle.kalah_jobs.specs.Writing.Sink.{SinkState}
 use Rattle.kalah_jobs.specs.Writing.Splitting.{EndsWithItsLine}
 
 -- the bytes of a line that are kept, enough to determine its entry: a line with that many, with its CR or not, is too long

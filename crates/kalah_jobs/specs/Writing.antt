@@ -2,7 +2,7 @@ pub mod Player
 pub mod Answer
 pub mod Output
 pub mod Stream
-pub mod Given
+pub mod Sink
 pub mod Counts
 pub mod Picture
 pub mod Shown

@@ -23,7 +23,7 @@ pub use files::entry::Entry;
 pub use files::file_text::FileText;
 pub use files::job::Job;
 pub use files::jobs::{Jobs, JobsFault};
-pub use files::laws::{entries_are_one, files_are_their_jobs, lines_are_one};
+pub use files::laws::{entries_are_one, lines_are_one};
 pub use files::question::Question;
 pub use limits::{MOST_FILE_BYTES, MOST_FILES, MOST_LINE_BYTES, MOST_LINES, limits_of_reading};
 pub use line::laws::{
@@ -35,7 +35,7 @@ pub use line::reading::read_line;
 pub use writing::answer::{Answer, Taken};
 pub use writing::answer_line::{answer_text, write_answer, write_answer_unless_failed};
 pub use writing::counts::{write_total, write_ways};
-pub use writing::laws::{files_split_between_lines, output_splits_by_files};
+pub use writing::laws::{files_are_their_jobs, files_split_between_lines, output_splits_by_files};
 pub use writing::picture::write_picture;
 pub use writing::position_text::{line_text, step_text, write_step, write_valued_step};
 pub use writing::shown::write_values;

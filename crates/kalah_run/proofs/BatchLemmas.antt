@@ -15,7 +15,7 @@ use Rattle.kalah_run.specs.Batch.AtWork.{drawn_jobs, passes_of, puts_of, AreAtWo
 use Rattle.std.specs.Io.KnownBytes.{Appends, Keeps}
 use Rattle.std.proofs.Math.Seq.{take-nil}
 use Rattle.std.proofs.KnownBytes.{Appends-kept, Appends-nil, Appends-trans, Keeps-refl}
-use Rattle.kalah_jobs.specs.Writing.Given.{AppendsPrefix, SinkState, WasGiven}
+use Rattle.kalah_jobs.specs.Writing.Sink.{AppendsPrefix, SinkState, WasGiven}
 use Rattle.kalah_jobs.proofs.WritingLemmas.{start_none, start_then, start_longer, start_kept, files_are_their_jobs}
 use Rattle.kalah_run.specs.Batch.OrderedOutput.{WasGivenSince, text_of_job, written_upto, IsUnderWay, text_of, IsNew, HasWritten, whole_output, Waits, WritesReady}
 use Rattle.kalah_run.specs.Batch.Leaving.{rest_of, pass_in, HasDrawnNothing, IsLeft, NothingIsLeft, DrawsOnlyTheRest}
@@ -88,32 +88,32 @@ less_left numbers more number total is above below =
 
 -- ==== A sink that is given bytes
 
-pub given_none : (begun : SinkState) → WasGivenSince begun begun []
-given_none begun = record { start = start_none begun.written []; whole = λ sound. Appends-nil begun.written }
+pub since_none : (begun : SinkState) → WasGivenSince begun begun []
+since_none begun = record { start = start_none begun.written []; whole = λ sound. Appends-nil begun.written }
 
 -- it has failed, and what more there is is not written
-given_off : {begun out : SinkState} (bs cs : List ℕ) → WasGivenSince begun out bs → out.has_failed ≡ true
+since_failed : {begun out : SinkState} (bs cs : List ℕ) → WasGivenSince begun out bs → out.has_failed ≡ true
     → WasGivenSince begun out (bs ++ cs)
-given_off {begun} {out} bs cs given broken = record {
+since_failed {begun} {out} bs cs given broken = record {
   start = start_longer begun.written out.written bs cs given.start;
   whole = λ sound. absurd (let both : true ≡ false = sym broken ∙ sound in cc);
 }
 
 -- it is given more, unless it has failed
-pub given_more : {W : Type 0} {state : W → SinkState} {begun : SinkState} {old new : W} (bs cs : List ℕ)
+pub since_more : {W : Type 0} {state : W → SinkState} {begun : SinkState} {old new : W} (bs cs : List ℕ)
     → WasGivenSince begun (state old) bs → WasGiven state old new cs → WasGivenSince begun (state new) (bs ++ cs)
-given_more {state = state} {begun} {old} {new} bs cs given more = by (state old).has_failed refl where
+since_more {state = state} {begun} {old} {new} bs cs given more = by (state old).has_failed refl where
   by : (b : Bool) → (state old).has_failed ≡ b → WasGivenSince begun (state new) (bs ++ cs)
-  by true failed = subst (λ o. WasGivenSince begun (state o) (bs ++ cs)) (sym (more.quiet failed)) (given_off bs cs given failed)
+  by true failed = subst (λ o. WasGivenSince begun (state o) (bs ++ cs)) (sym (more.quiet failed)) (since_failed bs cs given failed)
   by false sound = record {
     start = start_then begun.written (state old).written (state new).written (bs ++ cs) bs cs refl (given.whole sound) more.start;
     whole = λ still. Appends-trans begun.written (state old).written (state new).written bs cs (given.whole sound) (more.whole still).1;
   }
 
 -- what was given stays given if nothing more is written, and no failure is undone
-pub given_kept : {begun out more : SinkState} {bs : List ℕ} → WasGivenSince begun out bs → Keeps out.written more.written
+pub since_kept : {begun out more : SinkState} {bs : List ℕ} → WasGivenSince begun out bs → Keeps out.written more.written
     → (more.has_failed ≡ false → out.has_failed ≡ false) → WasGivenSince begun more bs
-given_kept {begun} {out} {more} {bs} given keeps was_sound = record {
+since_kept {begun} {out} {more} {bs} given keeps was_sound = record {
   start = start_kept begun.written out.written more.written bs given.start keeps;
   whole = λ sound. Appends-kept begun.written out.written more.written bs (given.whole (was_sound sound)) keeps;
 }
@@ -185,7 +185,7 @@ module _ (text : ℕ → Taken → List ℕ) (jobs : List (List Entry)) where
         before = λ g low. absurd (omega arith);
         later = λ g high. new_taken jobs g;
         written = subst (λ (l : List ℕ). WasGivenSince begun begun l)
-            (sym (ap (λ n. written_upto text jobs 0 n) (new_taken jobs 0) ∙ written_none)) (given_none begun);
+            (sym (ap (λ n. written_upto text jobs 0 n) (new_taken jobs 0) ∙ written_none)) (since_none begun);
       }
 
 -- a step of a batch that is under way
@@ -261,7 +261,7 @@ module _ {text : ℕ → Taken → List ℕ} {jobs : List (List Entry)} {past : 
   pub progress_failed : out.has_failed ≡ true → WasGivenSince begun out (text_of_jobs text jobs)
   progress_failed broken =
       let all = written_first text jobs f (state_of files f).taken in
-      subst (λ (l : List ℕ). WasGivenSince begun out l) all.1 (given_off _ all.0 progress.written broken)
+      subst (λ (l : List ℕ). WasGivenSince begun out l) all.1 (since_failed _ all.0 progress.written broken)
 
   -- Each job was offered once, and the current file, if there is one, has not ended.
   module _ (each : AreJobsInSomeOrder jobs past) (waits : f < length files → HasEnded (state_of files f) → ⊥) where
@@ -316,7 +316,7 @@ still_written keeps sound is = record {
     kept = is.progress.kept;
     before = is.progress.before;
     later = is.progress.later;
-    written = given_kept is.progress.written keeps sound;
+    written = since_kept is.progress.written keeps sound;
   };
 }
 
@@ -756,10 +756,10 @@ has_collected {output = output} {r} {begun} {later = later} {before} {now} so_fa
     })
 
 -- the output of the jobs of the files is that of the files
-pub given_output : (question : Question) (files : List NamedBytes) (r : OrderedOutput) (begun out : SinkState)
+pub since_output : (question : Question) (files : List NamedBytes) (r : OrderedOutput) (begun out : SinkState)
     → r.files.now ≡ files → r.jobs.now ≡ jobs_to question files
     → WasGivenSince begun out (whole_output r) → WasGivenSince begun out (output_to question files)
-given_output question files r begun out of_files of_jobs given =
+since_output question files r begun out of_files of_jobs given =
     subst (λ l. WasGivenSince begun out l)
     ((λ i. output_of_jobs (names_of (of_files i)) (of_jobs i)) ∙ sym (files_are_their_jobs.output question files)) given
 
@@ -819,8 +819,8 @@ module _ (question : Question) (files : List NamedBytes) (none : lines_in_all fi
       ∙ ap (flat_map (text_of_job (taken_output (names_of files)))) no_jobs
 
   -- if there is no line, a sink that is left as it was has been given the whole output
-  pub given_no_output : (begun : SinkState) → WasGivenSince begun begun (output_to question files)
-  given_no_output begun = subst (λ l. WasGivenSince begun begun l) (sym no_output) (given_none begun)
+  pub since_no_output : (begun : SinkState) → WasGivenSince begun begun (output_to question files)
+  since_no_output begun = subst (λ l. WasGivenSince begun begun l) (sym no_output) (since_none begun)
 
   no_tally : tally_of files ≡ record { lines = 0; faults = 0 }
   no_tally =

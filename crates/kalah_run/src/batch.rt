@@ -1,7 +1,7 @@
 //! A batch: the lines of position files, solved by many workers and answered in order.
 ghost use Rattle.std.specs.Prelude.{◌≡◌, ◌<◌, ◌⊎◌, [], false, true, IfErr, IfOk, OnOk};
 ghost use Rattle.kalah_run.specs.Limits.{AreWorkers, IsTableSize};
-ghost use Rattle.kalah_jobs.specs.Writing.Given.{WasGiven};
+ghost use Rattle.kalah_jobs.specs.Writing.Sink.{WasGiven};
 ghost use Rattle.kalah_jobs.specs.Writing.Output.{output_of, output_to};
 ghost use Rattle.kalah_run.specs.Batch.Answering.{AnswersBatch, HearsAll, counts_of};
 ghost use Rattle.kalah_run.specs.declared.batch.request.Rest.TheVariants.{Solve};

@@ -1,5 +1,5 @@
 //! The desk: its passes draw the numbers below a total from one word, each number once.
-ghost use Rattle.std.specs.Prelude.{◌≡◌, ℕ, ◌<◌, ◌≤◌, ◌↔◌, [], ◌∷◌, ◌++◌, length, true, false, All, IfOk, IfSome, IfNone, IsTrue};
+ghost use Rattle.std.specs.Prelude.{◌≡◌, ◌<◌, ◌≤◌, ◌↔◌, [], ◌∷◌, ◌++◌, length, true, false, All, IfOk, IfSome, IfNone, IsTrue};
 ghost use Rattle.kalah_jobs.specs.Limits.{most_lines};
 ghost use Rattle.kalah_run.specs.Limits.{AreWorkers, most_passes};
 ghost use Rattle.kalah_run.specs.Desk.Rows.{drawn_row, spent_in, DealsEachOnce};

@@ -1,5 +1,5 @@
 //! The results queue: outcomes on their way from many workers to one thread.
-ghost use Rattle.std.specs.Prelude.{◌≡◌, ◌≤◌, ◌<◌, ℕ, true, false, List, [], ◌∷◌, ◌++◌, length, All, IfNone, IfOk, MatchOption, vec_len};
+ghost use Rattle.std.specs.Prelude.{◌≡◌, ◌≤◌, ◌<◌, ℕ, false, List, [], ◌∷◌, ◌++◌, length, All, IfNone, IfOk, MatchOption, vec_len};
 ghost use Rattle.kalah_jobs.specs.declared.files.job.Job.{Job};
 ghost use Rattle.kalah_run.specs.Limits.{IsQueueCapacity, AreWorkers};
 ghost use Rattle.kalah_run.specs.Queue.States.{ArePassesFrom, HasGot, MayGet, sent_by, Accounts};

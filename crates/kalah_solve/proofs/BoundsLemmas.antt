@@ -166,6 +166,6 @@ won_by_bounds {a} lo hi asked {n = n} w all ordered apart is m_is =
     rw (m_is, is) (apart _ (omega (arith, (won_of_houses w).few)) ∙ ap (clamped lo hi) worth_is)
 
 -- the margin of what the mover wins is the worth of the houses
-pub told_by_won : {a : HousesState} {m : ℤ} {n t : ℕ} → IsWithinHouses a → n ≡ seeds_in_houses (storeless a) → t ≡ won a →
+pub margin_of_won_is : {a : HousesState} {m : ℤ} {n t : ℕ} → IsWithinHouses a → n ≡ seeds_in_houses (storeless a) → t ≡ won a →
     m ≡ pos (2 * t) -ℤ pos n → m ≡ houses_worth a
-told_by_won {a} w all is m_is = omega (arith, ints, worth_of_won a w)
+margin_of_won_is {a} w all is m_is = omega (arith, ints, worth_of_won a w)

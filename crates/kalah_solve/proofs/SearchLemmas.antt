@@ -508,9 +508,9 @@ played_none {a} cells slots empty marked = record {
 }
 
 -- a house with seeds, counted from 0, may be moved while the game goes on
-pub marked_legal : {a : HousesState} (i : ℕ) → IsWithinHouses a → is_over (storeless a) ≡ false → 0 < get_or a.own i 0 →
+pub seeded_is_legal : {a : HousesState} (i : ℕ) → IsWithinHouses a → is_over (storeless a) ≡ false → 0 < get_or a.own i 0 →
     Contains (legal_houses (storeless a)) (i + 1)
-marked_legal {a} i w going some = elim (cases_lt i (length a.own)) [
+seeded_is_legal {a} i w going some = elim (cases_lt i (length a.own)) [
   | inl inside ↦
       let at : i + 1 - 1 ≡ i = omega arith in
       filled_legal a _ going (omega arith) (omega arith) (rw at some)

@@ -9,7 +9,7 @@ use Rattle.kalah_rules.proofs.PlayLemmas.{legal_holds, after_equal_sides, after_
 use Rattle.kalah_solve.specs.Solver.BestPlay.{Strategy, IsStrategy, Policy, follow, Game, Secures, HoldsTo, IsBestPlay, IsBestMove, IsWorthOfMove}
 use Rattle.kalah_solve.specs.Solver.BestPlay.Game.{is_at_end, moves_on, passes_turn}
 use Rattle.kalah_solve.specs.Solver.Laws.{EndsInTime, StrategiesPlayAGame, StrategiesPlayOneGame, GamesEnd, WorthIsBestPlay, BestPlayIsOne, BestHouseIsBestPlay, EndsWithAtLeast, EndsWithAtMost, BestPlayAgainstStrategies, BestHouseIsLowest, BestMovesAttain, BestVerdictIsOne}
-use Rattle.kalah_solve.proofs.WorthLemmas.{swapped_equal_sides, over_at_end, over_for_other, worth_of_over, final_swapped, value_going_on, value_passing, best_found, best_attains, value_most, eq_yes, lowest_of, worth_of_going, eq_no, greatest_reached, worth_of_houses, value_of_houses}
+use Rattle.kalah_solve.proofs.WorthLemmas.{swapped_equal_sides, over_at_end, over_for_other, worth_of_over, final_swapped, value_moving_again, value_passing, best_found, best_attains, value_most, eq_yes, lowest_of, worth_of_going, eq_no, greatest_reached, worth_of_houses, value_of_houses}
 use Rattle.lru.proofs.Splits.{Contains-head}
 use Rattle.std.proofs.lemmas.Int.{ints, clamps}
 use Rattle.kalah_solve.specs.Solver.Worth.{worth, value_of_move, best_house, houses_worth}
@@ -59,8 +59,8 @@ ends_within (suc n) mine theirs m t p even few = elim (cases_Bool _) [
 ]
 
 -- the law on games that end
-pub game_ends : StrategiesPlayAGame
-game_ends mine theirs m t p even = ends_within (moves_left p) mine theirs m t p even (omega arith)
+pub strategies_play_a_game : StrategiesPlayAGame
+strategies_play_a_game mine theirs m t p even = ends_within (moves_left p) mine theirs m t p even (omega arith)
 
 -- each move leaves fewer, and the last position is over
 pub ends_in_time : {mine theirs : Policy} {p : Position} {houses : List ℕ} {final : Position} → KeepsRules mine → KeepsRules theirs
@@ -162,20 +162,20 @@ pub record IsBounded (mine theirs : Policy) (p : Position) (z : ℤ) : Type 0 wh
   pub high : PlaysBest theirs → z ≤ℤ worth p
 
 -- a game by the rules ends on the right side of the worth for whoever plays best: by induction on its moves, for both players
-pub bounds : {mine theirs : Policy} {p : Position} {houses : List ℕ} {final : Position} → KeepsRules mine → KeepsRules theirs
+pub game_is_bounded : {mine theirs : Policy} {p : Position} {houses : List ℕ} {final : Position} → KeepsRules mine → KeepsRules theirs
     → HasEqualSides p →
     Game mine theirs p houses final → IsBounded mine theirs p (final_margin final)
-bounds {p = p} m t even (is_at_end over) = grind (arith, worth_of_over)
-bounds {p = p} {final = final} m t even (moves_on {h = h} going has again rest) =
-    let inner = bounds m t (after_equal_sides p h) rest in
-    let value = value_going_on p h again in
+game_is_bounded {p = p} m t even (is_at_end over) = grind (arith, worth_of_over)
+game_is_bounded {p = p} {final = final} m t even (moves_on {h = h} going has again rest) =
+    let inner = game_is_bounded m t (after_equal_sides p h) rest in
+    let value = value_moving_again p h again in
     let most = value_most p h even going (m.legal_only p h even going has) in
     record {
       low = λ best. omega (arith, ints, best.attains p h even going has);
       high = λ best. omega (arith, ints);
     }
-bounds {p = p} m t even (passes_turn {h = h} {final = final} going has turn rest) =
-    let inner = bounds t m (swapped_equal_sides _ (after_equal_sides p h)) rest in
+game_is_bounded {p = p} m t even (passes_turn {h = h} {final = final} going has turn rest) =
+    let inner = game_is_bounded t m (swapped_equal_sides _ (after_equal_sides p h)) rest in
     let value = value_passing p h turn in
     let most = value_most p h even going (m.legal_only p h even going has) in
     rw (← final_swapped _) (record {
@@ -193,11 +193,11 @@ best_plays = grind (arith, best_attains)
 
 -- it gets the mover at least the worth
 pub best_secures : (p : Position) → HasEqualSides p → Secures best_house p (worth p)
-best_secures p even = λ houses final game. (bounds (strategy_keeps _ best_is_strategy) legal_keeps even game).low best_plays
+best_secures p even = λ houses final game. (game_is_bounded (strategy_keeps _ best_is_strategy) legal_keeps even game).low best_plays
 
 -- the best house holds the mover to the worth when the other player moves it
 pub best_holds : (p : Position) → HasEqualSides p → HoldsTo best_house p (worth p)
-best_holds p even = grind (arith, bounds, legal_keeps, strategy_keeps, best_is_strategy, best_plays)
+best_holds p even = grind (arith, game_is_bounded, legal_keeps, strategy_keeps, best_is_strategy, best_plays)
 
 -- the law that always moving the best house is best play
 pub best_house_is_best_play : BestHouseIsBestPlay
@@ -212,13 +212,13 @@ module _ (mine theirs : Strategy) (m : IsStrategy mine) (t : IsStrategy theirs) 
   -- what a strategy secures, the game brings
   pub ends_at_least : Secures mine p v → EndsWithAtLeast mine theirs p v
   ends_at_least secures =
-      let game = game_ends mine _ m t p even in
+      let game = strategies_play_a_game mine _ m t p even in
       (game.0, game.1, game.2, secures _ game.1 (widened (same_policy _) (strategy_within t) even game.2))
 
   -- what a strategy of the opponent allows is the most that the game brings
   pub ends_at_most : HoldsTo theirs p v → EndsWithAtMost mine theirs p v
   ends_at_most holds =
-      let game = game_ends mine _ m t p even in
+      let game = strategies_play_a_game mine _ m t p even in
       (game.0, game.1, game.2, holds _ game.1 (widened (strategy_within m) (same_policy _) even game.2))
 
 -- the law on two strategies
@@ -255,7 +255,7 @@ best_play_is_one p v w even a b = omega (arith, ints, secured_at_most p v w even
 -- the value of a move is the margin of best play after it
 pub move_worth : (p : Position) (h : ℕ) → IsWorthOfMove p h (value_of_move p h)
 move_worth p h = record {
-  again = λ more. subst (IsBestPlay _) (sym (value_going_on _ _ more)) (worth_is_best _ (after_equal_sides p h));
+  again = λ more. subst (IsBestPlay _) (sym (value_moving_again _ _ more)) (worth_is_best _ (after_equal_sides p h));
   turn = λ passed.
       let other = swapped _ in
       let same : worth other ≡ neg_ℤ _ = omega (arith, ints, value_passing p h passed) in

@@ -13,6 +13,7 @@ use Rattle.kalah_rules.proofs.KeyLemmas.{same_key, number_of-append, pow_five, r
 use Rattle.kalah_solve.specs.Table.RowRank.{choose, row_rank, sums_number, rank_of_houses}
 use Rattle.kalah_solve.specs.Table.EndgameTable.{choice_at, AreChoices, pair_at, ArePairs, IsEnding, StoresWon, AreTrueWords, word_of, stored_at}
 use Rattle.atomic_table.specs.Table.{State, Arrives, keeps}
+use Rattle.kalah_solve.specs.declared.table.endgame_table.TheConstants.{INVERSE_OF_31}
 use Rattle.kalah_solve.specs.declared.table.endgame_table.words.TheConstants.{FIRST_WORDS}
 use Rattle.kalah_solve.specs.Bounds.Won.{won, won_by_step}
 use Rattle.kalah_rules.specs.Play.{legal_houses}
@@ -30,7 +31,7 @@ use Rattle.kalah_solve.specs.Solver.Worth.{houses_worth}
 use Rattle.kalah_solve.specs.Bounds.Intervals.{Encloses}
 use Rattle.kalah_solve.specs.Table.Entries.{TableState, IsTrueEntry, AreTrue}
 use Rattle.kalah_rules.specs.Limits.{most_seeds}
-use Rattle.kalah_solve.specs.Table.DirectTable.{mixed, slot_at, tag_of_key, stored_tag, stored_least, stored_most, IsWithinSlot, StoreBounds}
+use Rattle.kalah_solve.specs.Table.DirectTable.{mixed, slot_of, tag_of, stored_tag, stored_least, stored_most, IsWithinSlot, StoreBounds}
 use Rattle.kalah_solve.specs.declared.table.direct_table.Slot.{Slot}
 
 -- ==== The digits of a number, of four bits each
@@ -197,8 +198,8 @@ sums_by_number (x ∷ xs) = omega (arith, sums_by_number xs, sum_by-cons)
 -- the sums, by a division by 31 that is a multiplication
 pub record AreSums (row : List ℕ) (number seeds : ℕ) : Type 0 where
   pub few : seeds ≤ number
-  pub small : (number - seeds) * 17256631552825064415 % 2 ^ 64 < 2 ^ 58
-  pub sums : seeds + (number - seeds) * 17256631552825064415 % 2 ^ 64 * 32 ≡ sums_number row
+  pub small : (number - seeds) * INVERSE_OF_31 % 2 ^ 64 < 2 ^ 58
+  pub sums : seeds + (number - seeds) * INVERSE_OF_31 % 2 ^ 64 * 32 ≡ sums_number row
 
 pub sums_are : (row : List ℕ) (number seeds : ℕ) → 1 ≤ length row → number ≡ number_of row → seeds ≡ sum row
     → number < 2 ^ 60 →
@@ -582,29 +583,33 @@ put_again (Err x) c new k i ok succeeds some = cc (succeeds some)
 
 -- ==== What the slots of houses state stays true: a key's slot, and what the slot leaves open of it, determine the key
 
+-- the inverse, modulo 2 ^ 64, of the number by which a key is mixed
+abbrev inverse_of_mix : ℕ
+inverse_of_mix = 17428512612931826493
+
 -- a mixed key determines the key
-unmixed : (k : ℕ) → k < 2 ^ 64 → (mixed k * 17428512612931826493) % 2 ^ 64 ≡ k
+unmixed : (k : ℕ) → k < 2 ^ 64 → (mixed k * inverse_of_mix) % 2 ^ 64 ≡ k
 unfolding mixed
 unmixed k small = omega arith
 
 -- different keys stay different when mixed
 same_unmixed : (k l : ℕ) → k < 2 ^ 64 → l < 2 ^ 64 → mixed k ≡ mixed l → k ≡ l
-same_unmixed k l hk hl same = sym (unmixed _ hk) ∙ ap (λ x. (x * 17428512612931826493) % 2 ^ 64) same ∙ unmixed _ hl
+same_unmixed k l hk hl same = sym (unmixed _ hk) ∙ ap (λ x. (x * inverse_of_mix) % 2 ^ 64) same ∙ unmixed _ hl
 
 -- bits from bit 54 on are among those from an earlier bit on
-bits_among : (s n : ℕ) → s ≤ 54 → n / 2 ^ 54 ≡ slot_at s n / 2 ^ (54 - s)
+bits_among : (s n : ℕ) → s ≤ 54 → n / 2 ^ 54 ≡ slot_of s n / 2 ^ (54 - s)
 bits_among s n few =
     let all : s + (54 - s) ≡ 54 = omega arith in
     let worth : 2 ^ s * 2 ^ (54 - s) ≡ 2 ^ 54 = rw (← pow-add 2 s (54 - s)) (ap (λ k. 2 ^ k) all) in
     rw (div-div-eq-div-mul n (2 ^ s) (2 ^ (54 - s)), worth) refl
 
 -- so two numbers with one slot that leave the same open are one
-slot_same : (s x y : ℕ) → s ≤ 54 → tag_of_key x ≡ tag_of_key y → slot_at s x ≡ slot_at s y → x ≡ y
+slot_same : (s x y : ℕ) → s ≤ 54 → tag_of x ≡ tag_of y → slot_of s x ≡ slot_of s y → x ≡ y
 slot_same s x y few rest same =
     omega (arith, bits_among s x few, bits_among s y few, ap (λ slot. slot / 2 ^ (54 - s)) same)
 
 -- a number has a slot
-pub slot_inside : (s n : ℕ) → s < 64 → n < 2 ^ 64 → slot_at s n < 2 ^ (64 - s)
+pub slot_inside : (s n : ℕ) → s < 64 → n < 2 ^ 64 → slot_of s n < 2 ^ (64 - s)
 slot_inside s n few small =
     let all : 64 - s + s ≡ 64 = omega arith in
     let worth : 2 ^ (64 - s) * 2 ^ s ≡ 2 ^ 64 = rw (← pow-add 2 (64 - s) s) (ap (λ k. 2 ^ k) all) in
@@ -612,8 +617,8 @@ slot_inside s n few small =
 
 -- houses with one slot and one tag are the same
 same_slotted : (s : ℕ) (a b : HousesState) → s ≤ 54 → IsWithinHouses a → IsWithinHouses b →
-    tag_of_key (mixed (key_of a)) ≡ tag_of_key (mixed (key_of b)) →
-    slot_at s (mixed (key_of a)) ≡ slot_at s (mixed (key_of b)) → a ≡ b
+    tag_of (mixed (key_of a)) ≡ tag_of (mixed (key_of b)) →
+    slot_of s (mixed (key_of a)) ≡ slot_of s (mixed (key_of b)) → a ≡ b
 same_slotted s a b enough ha hb rest place = grind (arith, same_key, same_unmixed, key_fits, slot_same)
 
 -- the greatest power of two of at least 1,024 has ten digits below its one
@@ -626,8 +631,8 @@ ten_bits bits n some next = elim (cases_lt bits 10) [
 -- slots stay true once one more is stored
 pub bounds_more : (s : ℕ) (slots : List Slot) {a : HousesState} {number at : ℕ} {p : Slot} → s ≤ 54 → StoreBounds s slots
     → IsWithinHouses a →
-    number ≡ mixed (key_of a) → at ≡ slot_at s number → at < length slots
-    → stored_tag p ≡ tag_of_key number →
+    number ≡ mixed (key_of a) → at ≡ slot_of s number → at < length slots
+    → stored_tag p ≡ tag_of number →
     IsWithinSlot p (won a) → StoreBounds s (slice_set slots at p)
 bounds_more s slots enough before within is place inside rest known b number_b d within_b is_b inside_b rest_b =
     grind (arith, length-set, cases_eq, get_or-set_same, same_slotted, get_or-set_other)

@@ -1,6 +1,6 @@
 -- What positions, moves and steps are worth.
 use Rattle.kalah_rules.specs.declared.step.Step.TheVariants as board
-use Rattle.std.proofs.Common.{zero, suc, ◌≡◌, ℕ, ◌+◌, ◌<◌, ◌≤◌, inl, inr, List, [], ◌∷◌, length, get_or, arith, sym, ◌∙◌, refl, ap, IsTrue, ◌-◌, ◌*◌, Bool, true, false, Contains, map, filter, find, unwrap_or, ℤ, if◌then◌else◌, pos, ◌≤ℤ◌, ◌<ℤ◌, sum, neg_ℤ, ◌||◌, ◌+ℤ◌, ◌-ℤ◌, fold, int_eq}
+use Rattle.std.proofs.Common.{zero, suc, ◌≡◌, ℕ, ◌+◌, ◌<◌, ◌≤◌, inl, inr, List, [], ◌∷◌, length, get_or, arith, sym, ◌∙◌, refl, ap, IsTrue, ◌-◌, Bool, true, false, Contains, map, filter, find, unwrap_or, ℤ, if◌then◌else◌, pos, ◌≤ℤ◌, ◌<ℤ◌, sum, neg_ℤ, ◌||◌, ◌+ℤ◌, ◌-ℤ◌, fold, int_eq}
 use Rattle.std.specs.List.{range_with_len}
 use Rattle.std.proofs.lemmas.Bool.{cases_Bool, cases_lt}
 use Rattle.std.proofs.lemmas.Int.{fold-int_max_reached, ints, fold-int_max_bounds}
@@ -282,8 +282,8 @@ pub final_swapped : (q : Position) → neg_ℤ (final_margin (swapped q)) ≡ fi
 final_swapped q = omega (arith, ints)
 
 -- if the mover moves again, the value of a move is the worth of what follows, over or not
-pub value_going_on : (p : Position) (h : ℕ) → is_again p h ≡ true → value_of_move p h ≡ worth (after p h)
-value_going_on p h again = grind (arith, worth_of_over)
+pub value_moving_again : (p : Position) (h : ℕ) → is_again p h ≡ true → value_of_move p h ≡ worth (after p h)
+value_moving_again p h again = grind (arith, worth_of_over)
 
 -- with the turn passed, the value of a move is the negative of what follows
 pub value_passing : (p : Position) (h : ℕ) → is_again p h ≡ false → value_of_move p h ≡ neg_ℤ (worth (swapped (after p h)))
@@ -508,21 +508,21 @@ leads_by {a} h s w has e = grind (arith, leads_on)
 
 -- ---- what the search needs of a step
 -- houses that go on from a are of its variant, within the limits
-goes_on_to : {a b : HousesState} {game gained : ℕ} → IsWithinHouses a → variant_of a ≡ game → LeadsTo a gained b
-    → GoesOnAt game gained b
+goes_on_to : {a b : HousesState} {variant gained : ℕ} → IsWithinHouses a → variant_of a ≡ variant → LeadsTo a gained b
+    → GoesOnAt variant gained b
 goes_on_to w is leads = grind arith
 
-goes_on_of : (a : HousesState) (game : ℕ) (s : HousesStep) → IsWithinHouses a → variant_of a ≡ game → LeadsOn a s
-    → GoesOn game s
-goes_on_of a game (Over own other) w is leads = omega arith
-goes_on_of a game (Again gained b) w is leads = goes_on_to w is leads
-goes_on_of a game (Turn gained b) w is leads = goes_on_to w is leads
+goes_on_of : (a : HousesState) (variant : ℕ) (s : HousesStep) → IsWithinHouses a → variant_of a ≡ variant → LeadsOn a s
+    → GoesOn variant s
+goes_on_of a variant (Over own other) w is leads = omega arith
+goes_on_of a variant (Again gained b) w is leads = goes_on_to w is leads
+goes_on_of a variant (Turn gained b) w is leads = goes_on_to w is leads
 
 -- the step of a legal move goes on in the variant
-pub goes_on : (a : HousesState) (game h : ℕ) (s : HousesStep) → variant_of a ≡ game → IsWithinHouses a
+pub goes_on : (a : HousesState) (variant h : ℕ) (s : HousesStep) → variant_of a ≡ variant → IsWithinHouses a
     → Contains (legal_houses (storeless a)) h
-    → s ≡ houses_step a h → GoesOn game s
-goes_on a game h s is w has e = goes_on_of _ _ _ w is (leads_by _ _ w has e)
+    → s ≡ houses_step a h → GoesOn variant s
+goes_on a variant h s is w has e = goes_on_of _ _ _ w is (leads_by _ _ w has e)
 
 -- a step that leads on leaves fewer moves
 falls_of : (a : HousesState) (s : HousesStep) → 0 < moves_left (storeless a) → LeadsOn a s → moves_after s < moves_left (storeless a)

@@ -76,7 +76,7 @@ impl<A: Allocator + Clone> Solver<A> {
         let houses = board.houses();
         let best = self.houses_worth(&houses);
         let beta = won_of(best, houses.seeds());
-        let house = self.first_house(&houses, &board.legal(), beta);
+        let house = self.best_house(&houses, &board.legal(), beta);
         let margin = best + (board.own_store() as i32 - board.other_store() as i32);
         Verdict::Best { margin, house }
     }
@@ -91,7 +91,7 @@ impl<A: Allocator + Clone> Solver<A> {
     }
 
     // Returns the lowest-numbered house that wins as many seeds as best play. If all but the last fall short, it is the last.
-    fn first_house(&mut self, houses: &Houses, moves: &Moves, beta: u8) -> u8
+    fn best_house(&mut self, houses: &Houses, moves: &Moves, beta: u8) -> u8
         requires limits { IsWithinHouses houses.now }
         requires moves { moves.now ≡ legal_houses (storeless houses.now) }
         requires going { is_over (storeless houses.now) ≡ false }

@@ -9,8 +9,7 @@ use Rattle.kalah_jobs.specs.declared.files.entry.Entry.TheVariants.{Position, Va
 use Rattle.kalah_jobs.specs.declared.files.question.Question.{Question}
 use Rattle.kalah_jobs.specs.declared.files.question.Question.TheVariants.{BestMove, Values, Steps}
 
--- the content of the line: it is read as the position, or the fault is the first that holds of it. A question is no part
--- of a line
+-- the line says the entry: it is read as the position, or the fault is the first that holds of it. A question is no part of a line
 abbrev pub Says : List ℕ → Entry → Type 0
 Says line (Position p) = Reads line p
 Says line (ValuesOf p) = ⊥
@@ -36,7 +35,7 @@ entry_to question line = entry_of_reading question (reading_of line)
 abbrev pub entry_of : List ℕ → Entry
 entry_of line = entry_to BestMove line
 
--- each line has exactly one content
+-- each line says exactly one entry
 pub record EntriesAreOne : Type 0 where
   pub some : (line : List ℕ) → Says line (entry_of line)
   pub one : (line : List ℕ) (entry : Entry) → Says line entry → entry ≡ entry_of line

@@ -1,5 +1,5 @@
 //! The first bytes of a line.
-ghost use Rattle.std.specs.Prelude.{◌≡◌, ◌∷◌, [], ◌++◌, length, take, ◌==◌};
+ghost use Rattle.std.specs.Prelude.{◌≡◌, ◌∷◌, [], ◌++◌, length, take};
 ghost use Rattle.kalah_jobs.specs.Asking.{kept_bytes};
 
 use crate::limits::MOST_LINE_BYTES;

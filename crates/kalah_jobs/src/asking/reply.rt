@@ -1,7 +1,7 @@
 //! The answer to one line.
 ghost use Rattle.std.specs.Prelude.{◌≡◌, not, true, false};
 ghost use Rattle.kalah_jobs.specs.Asking.{is_last_read, reply, last_reply};
-ghost use Rattle.kalah_jobs.specs.Writing.Given.{WasGiven};
+ghost use Rattle.kalah_jobs.specs.Writing.Sink.{WasGiven};
 ghost use Rattle.kalah_jobs.specs.Writing.Output.{is_faulty};
 
 use crate::asking::line_head::LineHead;

@@ -1,4 +1,4 @@
-//! The content of a line of a file, and what is asked of it.
+//! The entry of a line of a file: what the line says, and what is asked of it.
 ghost use Rattle.std.specs.Prelude.{◌≡◌, ◌↔◌, IsTrue};
 ghost use Rattle.kalah_jobs.specs.Files.Entry.{entry_asked, entry_to};
 ghost use Rattle.kalah_jobs.specs.Writing.Answer.{is_faulty_entry};
@@ -8,7 +8,7 @@ use crate::line::line_fault::LineFault;
 use crate::line::reading::read_line;
 use kalah_rules::Board;
 
-/// The content of a line of a file, and what is asked of its position.
+/// What a line of a file says, and what is asked of its position.
 #[derive(Clone, Copy, Debug, PartialEq, Eq)]
 pub enum Entry {
     /// The position that the line writes; its best move is asked.
@@ -22,7 +22,7 @@ pub enum Entry {
 }
 
 impl Entry {
-    // Returns the content of a line that writes this position, with this question.
+    // Returns the entry of a line that writes this position, with this question.
     #[inline(always)]
     pub(crate) fn of_board(question: Question, board: Board) -> Entry
         ensures { result ≡ entry_asked question board }
@@ -34,7 +34,7 @@ impl Entry {
         }
     }
 
-    // Returns the content of the line, with this question.
+    // Returns the entry of the line, with this question.
     #[tactic(auto, unfolding(crate::specs::Files::Entry::entry_to))]
     #[inline(always)]
     pub(crate) fn of_line(question: Question, line: &[u8]) -> Entry

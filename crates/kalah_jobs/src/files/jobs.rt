@@ -1,7 +1,6 @@
 //! The jobs of a batch: the lines of its files.
-ghost use Rattle.std.specs.Prelude.{◌≡◌, ◌<◌, ◌≤◌, ◌↔◌, ◌++◌, ◌+◌, length, count_by, IfNone, IfOk, IfSome, OnOk, slice_get, slice_index, ℕ, Some, Err};
+ghost use Rattle.std.specs.Prelude.{◌≡◌, ◌<◌, ◌≤◌, ◌++◌, ◌+◌, length, count_by, IfNone, IfOk, IfSome, OnOk, slice_get, Some, Err};
 ghost use Rattle.kalah_jobs.specs.Files.JobList.{entries_of, line_job, job_list};
-ghost use Rattle.kalah_jobs.specs.Files.Lines.{lines_of};
 ghost use Rattle.kalah_jobs.specs.Limits.{most_files, most_lines};
 ghost use Rattle.kalah_jobs.specs.Files.Jobs.{MakesJobs, entries_to, job_count, lines_in_all};
 ghost use Rattle.kalah_jobs.specs.declared.files.question.Question.TheVariants.{BestMove};

@@ -1,7 +1,6 @@
 //! Laws over all files.
 ghost use Rattle.kalah_jobs.specs.Files.Lines.{LinesAreOne};
 ghost use Rattle.kalah_jobs.specs.Files.Entry.{EntriesAreOne};
-ghost use Rattle.kalah_jobs.specs.Writing.Output.{FilesAreTheirJobs};
 
 /// Every file has lines, for any bytes, and only one list of them.
 #[tactic(auto, using(crate::proofs::FilesLemmas::lines_are_one))]
@@ -13,10 +12,4 @@ pub fn lines_are_one()
 #[tactic(auto, using(crate::proofs::FilesLemmas::entries_are_one))]
 pub fn entries_are_one()
     ensures { EntriesAreOne }
-{}
-
-/// What a batch of files must write and count is the same, whether stated by its files or by its jobs.
-#[tactic(auto, using(crate::proofs::WritingLemmas::files_are_their_jobs))]
-pub fn files_are_their_jobs()
-    ensures { FilesAreTheirJobs }
 {}

@@ -3,7 +3,7 @@ ghost use Rattle.std.specs.Prelude.{◌≡◌, ◌+◌, ◌*◌, ◌≤◌, ◌�
 ghost use Rattle.std.specs.Io.KnownBytes.{Appends};
 ghost use Rattle.kalah_jobs.specs.Files.Lines.{line_feed};
 ghost use Rattle.kalah_jobs.specs.Writing.Answer.{answer_line, joined_text, value_text, values_text, IsOfOneLine};
-ghost use Rattle.kalah_jobs.specs.Writing.Given.{AppendsPrefix, WasGiven};
+ghost use Rattle.kalah_jobs.specs.Writing.Sink.{AppendsPrefix, WasGiven};
 
 use crate::writing::answer::{Answer, Taken};
 use crate::writing::named_text::write_named;

@@ -1,6 +1,6 @@
 //! A name and the text after it, written to a sink.
 ghost use Rattle.std.specs.Prelude.{◌++◌};
-ghost use Rattle.kalah_jobs.specs.Writing.Given.{WasGiven};
+ghost use Rattle.kalah_jobs.specs.Writing.Sink.{WasGiven};
 
 use crate::writing::sink::{Sink, write_unless_failed};
 use crate::writing::stack_text::StackText;

@@ -1,6 +1,6 @@
 //! Positions drawn as boards.
 ghost use Rattle.std.specs.Prelude.{◌≡◌, ◌≤◌, ◌+◌, ◌*◌, ◌++◌, length};
-ghost use Rattle.kalah_jobs.specs.Writing.Given.{WasGiven};
+ghost use Rattle.kalah_jobs.specs.Writing.Sink.{WasGiven};
 ghost use Rattle.kalah_rules.specs.Position.{side_length};
 ghost use Rattle.kalah_jobs.specs.Writing.Picture.{cell, house_in, houses_line, picture_of};
 
@@ -10,7 +10,7 @@ use crate::writing::stack_text::{ROOM, StackText};
 use kalah_rules::Board;
 
 /// The bytes of a column.
-pub(crate) const COLUMN: usize = 4;
+pub(crate) const COLUMN_WIDTH: usize = 4;
 
 // Puts a number, right-aligned in a column, in front of the text.
 #[tactic(auto, using(crate::proofs::WritingLemmas::byte_length))]
@@ -19,7 +19,7 @@ fn prepend_cell(text: &mut StackText, number: u8)
     ensures cell { text.new ≡ cell number ++ text.old }
     ensures longer { length text.new ≡ 4 + length text.old }
 {
-    let end = text.len() + COLUMN;
+    let end = text.len() + COLUMN_WIDTH;
     text.prepend_number(u64::from(number));
     text.prepend_blanks(end - text.len());
 }
@@ -49,7 +49,7 @@ fn prepend_houses(text: &mut StackText, board: &Board, player: Player)
         prepend_cell(text, player.seeds(board, house_in(player, board, column)));
         column -= 1;
     }
-    text.prepend_blanks(COLUMN);
+    text.prepend_blanks(COLUMN_WIDTH);
 }
 
 // Returns the picture of a board.
@@ -63,7 +63,7 @@ fn picture(board: &Board) -> StackText
     prepend_houses(&mut text, board, Player::Mover);
     text.prepend("\n");
     prepend_cell(&mut text, board.own_store());
-    text.prepend_blanks(COLUMN * m);
+    text.prepend_blanks(COLUMN_WIDTH * m);
     prepend_cell(&mut text, board.other_store());
     text.prepend("\n");
     prepend_houses(&mut text, board, Player::Other);

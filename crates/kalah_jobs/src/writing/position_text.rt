@@ -1,6 +1,6 @@
 //! Positions and steps as text.
 ghost use Rattle.std.specs.Prelude.{◌≡◌, ◌<◌, ◌≤◌, ◌+◌, ◌*◌, ◌∷◌, [], ◌++◌, IfOk, drop, length, string_bytes};
-ghost use Rattle.kalah_jobs.specs.Writing.Given.{WasGiven};
+ghost use Rattle.kalah_jobs.specs.Writing.Sink.{WasGiven};
 ghost use Rattle.kalah_rules.specs.Limits.{most_in_store};
 ghost use Rattle.kalah_rules.specs.Play.{position_after};
 ghost use Rattle.kalah_rules.specs.Position.{IsWithinLimits, side_length};

@@ -4,10 +4,10 @@ ghost use Rattle.kalah_rules.specs.Limits.{most_houses};
 ghost use Rattle.kalah_rules.specs.Position.{IsSmallMargin};
 ghost use Rattle.kalah_solve.specs.Solver.MoveValues.{values_of};
 ghost use Rattle.kalah_jobs.specs.Files.Lines.{line_feed};
-ghost use Rattle.kalah_jobs.specs.Writing.Given.{WasGiven};
-ghost use Rattle.kalah_jobs.specs.Writing.Shown.{AreSmall, AscendFrom, over_text, value_cell, value_columns, values_line};
+ghost use Rattle.kalah_jobs.specs.Writing.Sink.{WasGiven};
+ghost use Rattle.kalah_jobs.specs.Writing.Shown.{AreSmall, AscendFrom, value_cell, value_columns, values_line};
 
-use crate::writing::picture::COLUMN;
+use crate::writing::picture::COLUMN_WIDTH;
 use crate::writing::sink::{Sink, write_unless_failed};
 use crate::writing::stack_text::{ROOM, StackText};
 use kalah_rules::Board;
@@ -20,7 +20,7 @@ fn prepend_value_cell(text: &mut StackText, value: MoveValue)
     ensures cell { text.new ≡ value_cell value.value ++ text.old }
     ensures longer { length text.new ≡ 4 + length text.old }
 {
-    let end = text.len() + COLUMN;
+    let end = text.len() + COLUMN_WIDTH;
     text.prepend_margin(i32::from(value.value));
     text.prepend_blanks(end - text.len());
 }
@@ -41,7 +41,7 @@ fn prepend_columns(text: &mut StackText, values: &MoveValues, i: u8, filled: u8)
     let value = values.get(i);
     prepend_columns(text, values, i + 1, value.house + 1);
     prepend_value_cell(text, value);
-    text.prepend_blanks(COLUMN * usize::from(value.house - filled));
+    text.prepend_blanks(COLUMN_WIDTH * usize::from(value.house - filled));
 }
 
 // Returns the line below the picture of a board with these values.

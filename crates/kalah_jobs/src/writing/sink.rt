@@ -1,7 +1,7 @@
 //! The sinks that answers are written to: bytes go out in order until a call fails, and none after that.
 ghost use Rattle.std.specs.Prelude.{◌≡◌, ◌↔◌, [], true, false, OnOk, IsErr};
 ghost use Rattle.std.specs.Io.KnownBytes.{Appends, Keeps};
-ghost use Rattle.kalah_jobs.specs.Writing.Given.{AppendsPrefix, IsReady, SinkState, WasGiven};
+ghost use Rattle.kalah_jobs.specs.Writing.Sink.{AppendsPrefix, IsReady, SinkState, WasGiven};
 
 use std::io;
 

@@ -1,10 +1,10 @@
 //! The steps of a position, a line each.
-ghost use Rattle.std.specs.Prelude.{◌≡◌, ◌≤◌, ◌∷◌, [], ◌++◌, if◌then◌else◌, true, OnOk, length, map, string_bytes};
+ghost use Rattle.std.specs.Prelude.{◌≡◌, ◌≤◌, ◌∷◌, [], ◌++◌, if◌then◌else◌, OnOk, length, map, string_bytes};
 ghost use Rattle.std.specs.List.{join_with_byte};
 ghost use Rattle.kalah_jobs.specs.Files.Lines.{line_feed};
 ghost use Rattle.kalah_jobs.specs.Line.Line.{step_text_of};
 ghost use Rattle.kalah_jobs.specs.Writing.Answer.{steps_texts};
-ghost use Rattle.kalah_jobs.specs.Writing.Given.{WasGiven};
+ghost use Rattle.kalah_jobs.specs.Writing.Sink.{WasGiven};
 
 use crate::writing::named_text::write_named;
 use crate::writing::position_text::text_of_step;

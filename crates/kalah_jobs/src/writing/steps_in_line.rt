@@ -4,7 +4,7 @@ ghost use Rattle.kalah_rules.specs.Play.{legal_houses, step_of};
 ghost use Rattle.kalah_jobs.specs.Files.Lines.{line_feed};
 ghost use Rattle.kalah_jobs.specs.Line.Line.{step_text_of};
 ghost use Rattle.kalah_jobs.specs.Writing.Answer.{in_one_line, steps_texts};
-ghost use Rattle.kalah_jobs.specs.Writing.Given.{WasGiven};
+ghost use Rattle.kalah_jobs.specs.Writing.Sink.{WasGiven};
 
 use crate::writing::position_text::text_of_step;
 use crate::writing::sink::{Sink, write_unless_failed};

@@ -1,7 +1,7 @@
 //! The sink over a writer.
 ghost use Rattle.std.specs.Prelude.{◌≡◌, false, true, OnOk};
 ghost use Rattle.std.specs.Io.KnownBytes.{Appends};
-ghost use Rattle.kalah_jobs.specs.Writing.Given.{AppendsPrefix};
+ghost use Rattle.kalah_jobs.specs.Writing.Sink.{AppendsPrefix};
 ghost use Rattle.kalah_jobs.specs.Writing.Stream.{stream_failed, stream_flushed, stream_writer};
 
 use crate::Sink;

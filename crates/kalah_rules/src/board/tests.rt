@@ -86,7 +86,7 @@ fn another_move_with_no_seeds_left_ends_the_game(rt: HostRuntime) {
             assert!(rt; swept.is_over());
             assert!(rt; swept.returns() == 0);
         }
-        _ => assert!(rt; false),
+        step => assert!(rt; false, "{step:?}"),
     }
 }
 

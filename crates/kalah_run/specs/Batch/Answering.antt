@@ -1,7 +1,7 @@
 -- What a batch promises, for each question.
 use Rattle.std.specs.Prelude.{◌≡◌, ◌<◌, ◌≤◌, ℕ, List, Bool, Result, Ok, Err, length, count_by, true, false, IfErr, ◌⊎◌, Option, IfOk}
 use Rattle.std.specs.Io.KnownBytes.{Appends, Keeps}
-use Rattle.kalah_jobs.specs.Writing.Given.{AppendsPrefix, SinkState}
+use Rattle.kalah_jobs.specs.Writing.Sink.{AppendsPrefix, SinkState}
 use Rattle.kalah_jobs.specs.Limits.{most_files, most_lines}
 use Rattle.kalah_jobs.specs.Files.Jobs.{AreFew, lines_in_all}
 use Rattle.kalah_jobs.specs.declared.files.entry.Entry.{Entry}

@@ -16,11 +16,11 @@ pass_in None = []
 
 -- it has drawn nothing
 abbrev pub HasDrawnNothing : Option PassState → Type 0
-HasDrawnNothing left = IfSome left (λ pass. pass.row.numbers ≡ [])
+HasDrawnNothing rest_pass = IfSome rest_pass (λ pass. pass.row.numbers ≡ [])
 
 -- it is there, and is spent: so nothing is left to draw for any pass
 abbrev pub NothingIsLeft : Option PassState → Type 0
-NothingIsLeft left = IsSomeAnd left (λ pass. pass.row.spent ≡ true)
+NothingIsLeft rest_pass = IsSomeAnd rest_pass (λ pass. pass.row.spent ≡ true)
 
 -- the rest is left, as the output has failed
 abbrev pub IsLeft : Rest → Bool → Type 0

@@ -10,7 +10,7 @@ use Rattle.kalah_jobs.specs.Files.Jobs.{job_count}
 use Rattle.kalah_jobs.specs.Collecting.CollectorState.{ArrivalsState, state_of, new_files, HasEnded}
 use Rattle.kalah_jobs.specs.Collecting.Held.{Kept}
 use Rattle.kalah_jobs.specs.Writing.Output.{text_of_line, names_of, output_of_jobs, taken_output}
-use Rattle.kalah_jobs.specs.Writing.Given.{AppendsPrefix, SinkState}
+use Rattle.kalah_jobs.specs.Writing.Sink.{AppendsPrefix, SinkState}
 use Rattle.kalah_jobs.specs.Files.NamedBytes.{NamedBytes}
 use Rattle.kalah_run.specs.declared.batch.ordered_output.OrderedOutput.{OrderedOutput}
 

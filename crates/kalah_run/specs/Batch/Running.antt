@@ -8,7 +8,7 @@ use Rattle.kalah_solve.specs.declared.solver.Solver.{Solver}
 use Rattle.kalah_jobs.specs.declared.files.entry.Entry.{Entry}
 use Rattle.kalah_jobs.specs.declared.files.job.Job.{Job}
 use Rattle.kalah_jobs.specs.Files.Jobs.{job_count}
-use Rattle.kalah_jobs.specs.Writing.Given.{SinkState}
+use Rattle.kalah_jobs.specs.Writing.Sink.{SinkState}
 use Rattle.kalah_solve.specs.Table.Entries.{empty_table}
 use Rattle.kalah_run.specs.Desk.States.{DeskState, IsPassAt}
 use Rattle.kalah_run.specs.Queue.States.{ArePassesFrom, MayGet, outcomes_in}

@@ -1,6 +1,6 @@
 //! The calling thread's passes of a batch. No other module can use them, so what these calls require holds at each wait for an outcome.
 ghost use Rattle.std.specs.Prelude.{◌≡◌, ◌≤◌, ◌↔◌, true, IfNone, IfSome};
-ghost use Rattle.kalah_jobs.specs.Writing.Given.{IsReady};
+ghost use Rattle.kalah_jobs.specs.Writing.Sink.{IsReady};
 ghost use Rattle.kalah_run.specs.Batch.Leaving.{rest_of, IsLeft, NothingIsLeft, DrawsOnlyTheRest};
 ghost use Rattle.kalah_run.specs.Desk.States.{IsPassAt};
 ghost use Rattle.kalah_run.specs.Queue.States.{HasGot, MayGet};

@@ -55,7 +55,7 @@ fn threads_draw_each_number_once(rt: HostRuntime) {
     draw_in_threads(&rt, &desk, &mut passes, counts.as_slice());
     let closed = desk.close(passes);
     assert!(rt; (closed.drawn(), closed.spent()) == (1000, true));
-    for count in counts.as_slice() {
-        assert!(rt; count.load(SeqCst) == 1);
+    for (number, count) in counts.as_slice().iter().enumerate() {
+        assert!(rt; count.load(SeqCst) == 1, "{number}");
     }
 }

@@ -13,12 +13,12 @@ unfoldable pub mixed : ℕ → ℕ
 mixed key = key * MIX % 2 ^ 64
 
 -- the slot of a mixed key: its bits from `shift` on
-abbrev pub slot_at : ℕ → ℕ → ℕ
-slot_at shift number = number / 2 ^ shift
+abbrev pub slot_of : ℕ → ℕ → ℕ
+slot_of shift number = number / 2 ^ shift
 
 -- the tag of a mixed key: what its slot leaves open of it
-abbrev pub tag_of_key : ℕ → ℕ
-tag_of_key number = number % 2 ^ 54
+abbrev pub tag_of : ℕ → ℕ
+tag_of number = number % 2 ^ 54
 
 -- a slot keeps the tag of the last houses that had it
 abbrev pub stored_tag : Slot → ℕ
@@ -40,9 +40,9 @@ pub record IsWithinSlot (p : Slot) (t : ℕ) : Type 0 where
 -- what a slot states is true of all houses that have it and its tag
 abbrev pub StoreBounds : ℕ → List Slot → Type 0
 StoreBounds shift slots = (a : HousesState) (number : ℕ) (d : Slot) → IsWithinHouses a → number ≡ mixed (key_of a) →
-    slot_at shift number < length slots →
-    stored_tag (slice_index_or slots (slot_at shift number) d) ≡ tag_of_key number →
-    IsWithinSlot (slice_index_or slots (slot_at shift number) d) (won a)
+    slot_of shift number < length slots →
+    stored_tag (slice_index_or slots (slot_of shift number) d) ≡ tag_of number →
+    IsWithinSlot (slice_index_or slots (slot_of shift number) d) (won a)
 
 -- how many slots a table of this capacity has: the greatest power of two that is no more, and never fewer than 1,024
 pub record AreSlotsFor (capacity count : ℕ) : Type 0 where

@@ -11,8 +11,8 @@ fn packs_as_the_layout_says(rt: HostRuntime) {
         (1, eights, Rule::Classic, 0x1000_0002_0000_0008),
     ] {
         let houses = Houses::new(m, row, row, rule).expect(&rt, "beyond the limits");
-        assert!(rt; pack(&houses) == key);
-        assert!(rt; unpack(key) == Some(houses));
+        assert!(rt; pack(&houses) == key, "{houses:?}");
+        assert!(rt; unpack(key) == Some(houses), "{key}");
     }
 }
 
@@ -24,6 +24,6 @@ fn what_is_no_key_has_no_houses(rt: HostRuntime) {
         0x1000_0002_0000_0028,
         0x1000_0004_0000_0010,
     ] {
-        assert!(rt; unpack(key).is_none());
+        assert!(rt; unpack(key).is_none(), "{key}");
     }
 }

@@ -44,7 +44,8 @@ fn verdict(margin: i32, house: u8) -> Verdict {
 // Houses a side, both sides, the rule, and the verdict.
 type Worked = (u8, [u8; 4], [u8; 4], Rule, i32, u8);
 
-// The last ones take so much work that an answer is kept, and differ in their rule or stores alone.
+// The two that stand twice are solved again after positions with the same houses and another store or rule. The last ones take so much
+// work that an answer is kept, and differ in their rule or stores alone.
 const WORKED: [Worked; 28] = [
     (1, [1, 0, 0, 0], [1, 0, 0, 0], Rule::Classic, 0, 1),
     (1, [2, 0, 0, 0], [2, 0, 0, 0], Rule::Classic, -2, 1),

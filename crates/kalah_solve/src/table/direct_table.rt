@@ -4,7 +4,7 @@ ghost use Rattle.kalah_rules.specs.Limits.{most_seeds};
 ghost use Rattle.kalah_rules.specs.Position.{IsWithinHouses};
 ghost use Rattle.kalah_rules.specs.Key.{key_of};
 ghost use Rattle.kalah_solve.specs.Bounds.Won.{won, IsWithinBounds};
-ghost use Rattle.kalah_solve.specs.Table.DirectTable.{mixed, slot_at, tag_of_key, stored_tag, stored_least, stored_most, AreSlotsFor};
+ghost use Rattle.kalah_solve.specs.Table.DirectTable.{mixed, slot_of, tag_of, stored_tag, stored_least, stored_most, AreSlotsFor};
 
 use crate::bounds::seed_bounds::SeedBounds;
 use kalah_rules::{Houses, MOST_SEEDS};
@@ -94,7 +94,7 @@ fn mixed_key(houses: &Houses) -> u64
 // Returns the slot of a mixed key: its bits from `shift` on.
 fn slot_of(mixed: u64, shift: u32) -> usize
     requires { shift < 64 }
-    ensures slot { result ≡ slot_at shift mixed }
+    ensures slot { result ≡ slot_of shift mixed }
     ensures inside { result < 2 ^ (64 - shift) }
 {
     (mixed >> shift) as usize
@@ -102,7 +102,7 @@ fn slot_of(mixed: u64, shift: u32) -> usize
 
 // Returns the tag of a mixed key: what its slot leaves open of it.
 fn tag_of(mixed: u64) -> u64
-    ensures tag { result ≡ tag_of_key mixed }
+    ensures tag { result ≡ tag_of mixed }
     ensures small { result < 2 ^ 54 }
 {
     mixed % TAGS

@@ -10,9 +10,9 @@ use Rattle.kalah_rules.specs.Ways.{ways, ways_by}
 use Rattle.kalah_rules.proofs.WaysLemmas.{legal_few, ways_more}
 use Rattle.kalah_solve.proofs.SolverLemmas.{house_small}
 use Rattle.kalah_jobs.specs.Writing.Counts.{ways_line}
-use Rattle.kalah_jobs.specs.Writing.Given.{WasGiven}
+use Rattle.kalah_jobs.specs.Writing.Sink.{WasGiven}
 use Rattle.kalah_cli.specs.Count.{ways_lines}
-use Rattle.kalah_cli.proofs.RunLemmas.{few_ways, line_of}
+use Rattle.kalah_cli.proofs.RunLemmas.{few_ways, house_line}
 use Rattle.kalah_jobs.proofs.WritingLemmas.{given_all, given_cut, given_flushed, given_more}
 use Rattle.kalah_cli.proofs.count.write_houses.Goals as goal
 
@@ -24,7 +24,7 @@ all_counted {moves = moves} p n some same i end sum =
 
 pub loop-i-preserved : goal.loop-i-preserved
 loop-i-preserved g c =
-    let one : ℕ → List ℕ = line_of (c.args.depth - 1) c.args.board.now in
+    let one : ℕ → List ℕ = house_line (c.args.depth - 1) c.args.board.now in
     let by : ℕ → ℕ = ways_by (c.args.depth - 1) c.args.board.now in
     let moves = c.legal-moves.result in
     let i = c.loop-i.i in
@@ -60,7 +60,7 @@ pub returns-then-failed-clause-given : goal.returns-then-failed-clause-given
 returns-then-failed-clause-given g c =
     let some : c.args.depth ≡ suc (c.args.depth - 1) = omega arith in
     subst (λ depth. WasGiven g.O.Sink.state c.args.out.now c.loop-i.out (ways_lines depth c.args.board.now)) (sym some)
-    (given_cut _ (line_of (c.args.depth - 1) c.args.board.now) c.loop-i.invariant.same c.loop-i.i _ _ c.loop-i.invariant.given
+    (given_cut _ (house_line (c.args.depth - 1) c.args.board.now) c.loop-i.invariant.same c.loop-i.i _ _ c.loop-i.invariant.given
     (sym c.failed.ensures ∙ c.if-failed.true))
 
 pub returns-clause-total : goal.returns-clause-total
@@ -72,7 +72,7 @@ pub returns-clause-given : goal.returns-clause-given
 returns-clause-given g c =
     let some : c.args.depth ≡ suc (c.args.depth - 1) = omega arith in
     subst (λ depth. WasGiven g.O.Sink.state c.args.out.now c.loop-i.out (ways_lines depth c.args.board.now)) (sym some)
-    (given_all _ (line_of (c.args.depth - 1) c.args.board.now) c.loop-i.invariant.same c.loop-i.i _ _ c.loop-i.invariant.given
+    (given_all _ (house_line (c.args.depth - 1) c.args.board.now) c.loop-i.invariant.same c.loop-i.i _ _ c.loop-i.invariant.given
     (omega (arith, c.loop-i-test.false, c.len-i-end.ensures)))
 
 pub loop-i-init : goal.loop-i-init

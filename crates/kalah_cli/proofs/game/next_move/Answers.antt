@@ -1,5 +1,5 @@
 use Rattle.std.proofs.Common.{sym, subst}
-use Rattle.kalah_jobs.specs.Writing.Given.{WasGiven}
+use Rattle.kalah_jobs.specs.Writing.Sink.{WasGiven}
 use Rattle.kalah_cli.proofs.GameLemmas.{next_told, no_text, shown_flushed}
 use Rattle.kalah_cli.proofs.game.next_move.Goals as goal
 

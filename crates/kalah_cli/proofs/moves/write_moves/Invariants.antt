@@ -1,6 +1,6 @@
 use Rattle.std.proofs.Common.{◌≡◌, None, flat_map, take}
 use Rattle.kalah_rules.specs.Play.{legal_houses, step_of}
-use Rattle.kalah_jobs.specs.Writing.Given.{WasGiven}
+use Rattle.kalah_jobs.specs.Writing.Sink.{WasGiven}
 use Rattle.kalah_cli.specs.Moves.{move_lines}
 use Rattle.kalah_cli.proofs.moves.write_moves.Given as goal
 

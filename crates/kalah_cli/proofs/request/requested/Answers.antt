@@ -17,8 +17,8 @@ number_or-requires c = record {
 pub given_byte-requires : goal.given_byte-requires
 given_byte-requires c = may_have_number (codes "first") 0 255 (rw c.in-play.is at c.requires) refl refl (omega arith) (omega arith)
 
-pub given_number-requires : goal.given_number-requires
-given_number-requires c = may_have_number (codes "table") 1 most_entries (rw c.in-ask.is at c.requires) refl refl (omega arith)
+pub number_given-requires : goal.number_given-requires
+number_given-requires c = may_have_number (codes "table") 1 most_entries (rw c.in-ask.is at c.requires) refl refl (omega arith)
     (omega arith)
 
 pub number_or-requires-in-show : goal.number_or-requires-in-show

@@ -6,7 +6,7 @@ use Rattle.kalah_cli.specs.Command.{kalah_app}
 use Rattle.kalah_cli.specs.Ends.{FailsWithoutOutput}
 use Rattle.kalah_cli.specs.Request.{Asked, AsksNot, IsTakenAs, ask, request_asks, texts_of}
 use Rattle.kalah_cli.specs.Runs.{Does}
-use Rattle.kalah_cli.proofs.RunLemmas.{stops_at_once, by_words, no_request, run_ends, run_fails, run_hands_on}
+use Rattle.kalah_cli.proofs.RunLemmas.{stops_at_once, by_words, no_request, run_ends, run_fails, run_flushes}
 use Rattle.kalah_cli.proofs.RequestLemmas.{taken_at, taken_once}
 use Rattle.kalah_cli.proofs.GameLemmas.{plays_best, variations_end}
 use Rattle.kalah_cli.proofs.run.run_words.Goals.{After-drop-words, After-drop-words-2}
@@ -57,7 +57,7 @@ returns-in-Ok-clause-stopped g c = λ question table taken failed sound.
     (does.0, does.1.1.left, does.1.1.stopped failed sound)
 
 pub returns-in-Ok-clause-all_flushed : goal.returns-in-Ok-clause-all_flushed
-returns-in-Ok-clause-all_flushed g c = run_hands_on _ c.requires.sink (g.R.Sources.may_give c.args.rt.now) _ (does g c _ (request_taken g c))
+returns-in-Ok-clause-all_flushed g c = run_flushes _ c.requires.sink (g.R.Sources.may_give c.args.rt.now) _ (does g c _ (request_taken g c))
 
 -- ---- the parse failed
 

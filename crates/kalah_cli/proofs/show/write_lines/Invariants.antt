@@ -1,7 +1,7 @@
 use Rattle.std.proofs.Common.{flat_map, length, take}
 use Rattle.std.specs.List.{range_with_len}
 use Rattle.kalah_solve.specs.Solver.MoveValues.{values_of}
-use Rattle.kalah_jobs.specs.Writing.Given.{WasGiven}
+use Rattle.kalah_jobs.specs.Writing.Sink.{WasGiven}
 use Rattle.kalah_cli.specs.Show.{ranked_line}
 use Rattle.kalah_cli.specs.Solver.{IsOfVariations, begun}
 use Rattle.kalah_cli.proofs.show.write_lines.Given as goal

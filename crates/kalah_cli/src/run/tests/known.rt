@@ -122,9 +122,9 @@ fn what_is_known_is_answered(rt: HostRuntime) {
         file(&rt, "b", b"1/0 1/0\n"),
     ];
     for (words, status, want) in RUNS {
-        let words = words_of(&rt, *words);
-        let (ended, out) = run_over(&rt, rt.alloc(), &disk, b"3/0 3/0\n\n", words);
-        assert!(rt; ended == *status);
-        assert!(rt; out.as_slice() == want.as_bytes());
+        let taken = words_of(&rt, *words);
+        let (ended, out) = run_over(&rt, rt.alloc(), &disk, b"3/0 3/0\n\n", taken);
+        assert!(rt; ended == *status, "{words:?}");
+        assert!(rt; out.as_slice() == want.as_bytes(), "{words:?}");
     }
 }

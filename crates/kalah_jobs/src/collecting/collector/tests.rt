@@ -49,7 +49,10 @@ impl Trial {
     // Takes this line of the first file, with the margin of best play.
     fn assert_takes(&mut self, rt: &impl Abort, line: u32, margin: i32) {
         let answer = Answer::Best { margin, house: 1 };
-        assert!(rt; self.collector.take(0) == Some(Taken { line, answer }));
+        assert!(rt;
+            self.collector.take(0) == Some(Taken { line, answer }),
+            "{line}"
+        );
     }
 
     // Takes the three lines of the first file, each once, with the margins of best play, and nothing else.

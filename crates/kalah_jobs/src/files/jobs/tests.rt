@@ -35,7 +35,10 @@ fn a_million_empty_lines_are_jobs(rt: HostRuntime) {
         let jobs = Jobs::of_files(rt.alloc(), files.as_slice()).expect(&rt, "no jobs");
         assert!(rt; jobs.total() == 1_000_000);
         for n in 0..jobs.total() {
-            assert!(rt; jobs.get(n).entry == Entry::Bad(LineFault::Empty));
+            assert!(rt;
+                jobs.get(n).entry == Entry::Bad(LineFault::Empty),
+                "{count} files, line {n}"
+            );
         }
     }
 }

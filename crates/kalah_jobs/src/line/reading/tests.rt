@@ -4,8 +4,11 @@ use std::process::Abort;
 
 // The line can't be read, for this fault.
 fn assert_fault(rt: &impl Abort, line: &[u8], fault: LineFault) {
-    assert!(rt; read_line(line).err() == Some(fault));
-    assert!(rt; Entry::of_line(Question::BestMove, line) == Entry::Bad(fault));
+    assert!(rt; read_line(line).err() == Some(fault), "{line:?}");
+    assert!(rt;
+        Entry::of_line(Question::BestMove, line) == Entry::Bad(fault),
+        "{line:?}"
+    );
 }
 
 // Lines that can't be read, and why.
@@ -67,8 +70,11 @@ fn lines_that_are_read(rt: HostRuntime) {
         let other_row = [other.0, 0, 0, 0, 0, 0];
         let board = Board::new(1, own_row, own.1, other_row, other.1, *rule);
         let board = board.expect(&rt, "within the limits");
-        assert!(rt; read_line(line) == Ok(board));
-        assert!(rt; Entry::of_line(Question::BestMove, line) == Entry::Position(board));
+        assert!(rt; read_line(line) == Ok(board), "{line:?}");
+        assert!(rt;
+            Entry::of_line(Question::BestMove, line) == Entry::Position(board),
+            "{line:?}"
+        );
     }
 }
 

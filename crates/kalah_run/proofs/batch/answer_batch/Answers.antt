@@ -2,7 +2,7 @@ use Rattle.std.proofs.lemmas.Grind.{common_steps}
 use Rattle.std.proofs.Common.{◌≡◌, ◌∙◌, [], Err, false, refl, sym, ap, ⊎_elim, inl, inr, arith, rules}
 use Rattle.kalah_jobs.specs.Files.Jobs.{job_count}
 use Rattle.kalah_run.specs.declared.batch.run_fault.RunFault.TheVariants.{NoWorker}
-use Rattle.kalah_run.proofs.BatchLemmas.{answered, as_many_jobs, given_kept, given_no_output, given_output, starts_none}
+use Rattle.kalah_run.proofs.BatchLemmas.{answered, as_many_jobs, since_kept, since_no_output, since_output, starts_none}
 use Rattle.kalah_run.proofs.batch.answer_batch.Goals.{then-total-gt0+in_ok-open+in_ok-run, else-total-gt0}
 use Rattle.kalah_run.proofs.batch.answer_batch.Goals as goal
 
@@ -22,14 +22,14 @@ pub returns-clause-answers : goal.returns-clause-answers
 returns-clause-answers g c =
     let jobs = c.in_ok-jobs.ensures in
     let end = c.flush_and_count.ensures in
-    answered g.W.Sink.state c.args.request.now.question _ _ jobs _ _ (given_kept {out = g.W.Sink.state c.if-total-gt0.out}
+    answered g.W.Sink.state c.args.request.now.question _ _ jobs _ _ (since_kept {out = g.W.Sink.state c.if-total-gt0.out}
     (elim c.if-total-gt0.branch [
       | then-total-gt0+in_ok-open+in_ok-run w ↦
           let asked = w.in_ok-open.ensures.asked in
-          rw w.out-is (given_output c.args.request.now.question c.args.request.now.files.now w.in_ok-open.field-0.output _ _
+          rw w.out-is (since_output c.args.request.now.question c.args.request.now.files.now w.in_ok-open.field-0.output _ _
           asked.of_files (w.in_ok-open.ensures.ready.jobs ∙ asked.of_jobs ∙ jobs.1) w.in_ok-run.ensures.given)
       | else-total-gt0 w ↦
-          rw w.out-is (given_no_output c.args.request.now.question c.args.request.now.files.now
+          rw w.out-is (since_no_output c.args.request.now.question c.args.request.now.files.now
           (omega (arith, w.if-total-gt0.false, c.total.ensures.lines, as_many_jobs _ _ _ jobs.1)) _)
     ])
     (starts_none _ _ [] refl end.given.start) (λ sound. (end.given.whole sound).0)) end.counted end.all_flushed end.fault

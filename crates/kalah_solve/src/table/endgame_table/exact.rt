@@ -1,5 +1,5 @@
 //! The number of seeds that the mover wins of houses with few seeds, by trying each move to the end.
-ghost use Rattle.std.specs.Prelude.{◌≡◌, ◌<◌, ◌^◌, false, Contains};
+ghost use Rattle.std.specs.Prelude.{◌≡◌, ◌<◌, false, Contains};
 ghost use Rattle.kalah_rules.specs.Position.{storeless, is_over};
 ghost use Rattle.kalah_rules.specs.Play.{legal_houses};
 ghost use Rattle.kalah_rules.specs.Key.{variant_of};

@@ -6,7 +6,7 @@ fn an_ending_is_known_once_it_was_asked_for(rt: HostRuntime) {
     let threes = [3, 0, 0, 0, 0, 0];
     let houses = Houses::new(1, threes, threes, Rule::Classic).expect(&rt, "beyond the limits");
     assert!(rt; !houses.is_over());
-    assert!(rt; houses.seeds() <= 9);
+    assert!(rt; houses.seeds() <= MOST_ENDING_SEEDS);
     let endings = EndgameTable::new(rt.alloc()).expect(&rt, "no memory");
     let rank = endings.rank(&houses);
     assert!(rt; endings.get(&houses, rank) == None);

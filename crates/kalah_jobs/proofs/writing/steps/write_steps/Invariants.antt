@@ -2,7 +2,7 @@ use Rattle.std.proofs.Common.{◌++◌, ◌∷◌, [], flat_map, take}
 use Rattle.kalah_rules.specs.Play.{step_of}
 use Rattle.kalah_jobs.specs.Files.Lines.{line_feed}
 use Rattle.kalah_jobs.specs.Line.Line.{step_text_of}
-use Rattle.kalah_jobs.specs.Writing.Given.{WasGiven}
+use Rattle.kalah_jobs.specs.Writing.Sink.{WasGiven}
 use Rattle.kalah_jobs.proofs.writing.steps.write_steps.Given as goal
 
 abbrev pub invariant-loop-i : goal.invariant-loop-i

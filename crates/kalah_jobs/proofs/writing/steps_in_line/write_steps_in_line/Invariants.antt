@@ -1,7 +1,7 @@
 use Rattle.std.proofs.Common.{take}
 use Rattle.kalah_rules.specs.Play.{step_of}
 use Rattle.kalah_jobs.specs.Line.Line.{step_text_of}
-use Rattle.kalah_jobs.specs.Writing.Given.{WasGiven}
+use Rattle.kalah_jobs.specs.Writing.Sink.{WasGiven}
 use Rattle.kalah_jobs.proofs.WritingLemmas.{texts_in_line}
 use Rattle.kalah_jobs.proofs.writing.steps_in_line.write_steps_in_line.Given as goal
 

@@ -1,5 +1,5 @@
-use Rattle.kalah_jobs.proofs.WritingLemmas.{IsLeft}
+use Rattle.kalah_jobs.proofs.WritingLemmas.{IsPartWritten}
 use Rattle.kalah_jobs.proofs.writing.stream.write_rest.Given as goal
 
 abbrev pub invariant-loop : goal.invariant-loop
-invariant-loop g l = IsLeft (g.W.Write.contents l.fn.writer) (g.W.Write.contents l.writer) l.fn.bytes l.rest
+invariant-loop g l = IsPartWritten (g.W.Write.contents l.fn.writer) (g.W.Write.contents l.writer) l.fn.bytes l.rest

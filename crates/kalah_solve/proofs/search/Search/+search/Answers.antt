@@ -3,7 +3,7 @@ use Rattle.std.proofs.lemmas.List.Sums.{sum_by-set}
 use Rattle.kalah_rules.specs.declared.step.HousesStep.TheVariants.{Turn}
 use Rattle.kalah_solve.specs.Solver.GoingOn.{GoesOn}
 use Rattle.kalah_solve.specs.Search.{EndsInStore, WinsAtMost}
-use Rattle.kalah_solve.proofs.SearchLemmas.{cell_none, marks_fall, move_enough, turn_enough, turn_at_most, turn_of, turn_at, waits_there, reply_fits, bound_up_to, bound_left, low_more, played_none, played_more, played_bound, into_store_legal, marked_legal, moves_fewer, last_legal, each_fewer, each_last, unmarked_none, unmarked_more, untried_first, untried_fewer, none_untried}
+use Rattle.kalah_solve.proofs.SearchLemmas.{cell_none, marks_fall, move_enough, turn_enough, turn_at_most, turn_of, turn_at, waits_there, reply_fits, bound_up_to, bound_left, low_more, played_none, played_more, played_bound, into_store_legal, seeded_is_legal, moves_fewer, last_legal, each_fewer, each_last, unmarked_none, unmarked_more, untried_first, untried_fewer, none_untried}
 use Rattle.kalah_solve.proofs.WorthLemmas.{goes_on, leads_by, step_falls}
 use Rattle.kalah_solve.proofs.BoundsLemmas.{won_of_houses}
 use Rattle.kalah_solve.proofs.search.Search.+search.Goals as goal
@@ -199,7 +199,7 @@ try_remaining-loop-untried-init g t c =
     let marks = c.remaining_houses-untried.ensures in
     record {
       low = λ enough. refl;
-      may = record { are = marks.marks; legal = λ i some. marked_legal _ marks.limits c.requires.going ((marks.marked i).0 some).0 };
+      may = record { are = marks.marks; legal = λ i some. seeded_is_legal _ marks.limits c.requires.going ((marks.marked i).0 some).0 };
       played = played_none (search rules) (search rules) c.requires.none marks.marked;
     }
 

@@ -1,7 +1,7 @@
 use Rattle.std.proofs.Common.{ap, refl, rules, ◌≡◌, ◌∙◌, w8, w32, to_z, of_z, SFits, to_z-of_z}
 use Rattle.kalah_solve.specs.Bounds.Intervals.{clamped}
 use Rattle.kalah_solve.specs.Solver.Worth.{houses_worth}
-use Rattle.kalah_solve.proofs.BoundsLemmas.{worth_low, worth_high, within_both, won_by_bounds, told_by_won}
+use Rattle.kalah_solve.proofs.BoundsLemmas.{worth_low, worth_high, within_both, won_by_bounds, margin_of_won_is}
 use Rattle.kalah_solve.proofs.search.Search.search_in_variant.Given.{Over}
 use Rattle.kalah_solve.proofs.search.Search.search_in_variant.Goals as goal
 
@@ -42,7 +42,7 @@ returns-then-seeds-self g c =
     let fits : SFits w32 c.clamp.result = search rules in
     let margin_fits : SFits w32 c.margin_of.result = search rules in
     simp to_z-of_z (simp to_z-of_z at c.clamp.ensures
-    ∙ ap (clamped _ _) (told_by_won seeds.limits seeds.seeds c.won-won.ensures c.margin_of.ensures))
+    ∙ ap (clamped _ _) (margin_of_won_is seeds.limits seeds.seeds c.won-won.ensures c.margin_of.ensures))
 
 pub returns-in_default : goal.returns-in_default
 returns-in_default g c =

@@ -21,8 +21,8 @@ returns-then-is_over-clause-best_play g c =
 pub houses_worth-best-requires-clause-limits : goal.houses_worth-best-requires-clause-limits
 houses_worth-best-requires-clause-limits g c = rw c.houses-houses.ensures (houses_within _ c.is_over.ensures.limits)
 
-pub first_house-house-requires-clause-moves : goal.first_house-house-requires-clause-moves
-first_house-house-requires-clause-moves g c = c.legal.ensures.moves ∙ sym (ap (λ (a : HousesState). legal_houses (storeless a)) c.houses-houses.ensures)
+pub best_house-house-requires-clause-moves : goal.best_house-house-requires-clause-moves
+best_house-house-requires-clause-moves g c = c.legal.ensures.moves ∙ sym (ap (λ (a : HousesState). legal_houses (storeless a)) c.houses-houses.ensures)
 
 pub won_of-beta-requires : goal.won_of-beta-requires
 won_of-beta-requires g c =
@@ -30,8 +30,8 @@ won_of-beta-requires g c =
     let limits = c.seeds.ensures.limits in
     omega (arith, ints, worth_low a limits, worth_high a limits)
 
-pub first_house-house-requires-clause-best : goal.first_house-house-requires-clause-best
-first_house-house-requires-clause-best g c =
+pub best_house-house-requires-clause-best : goal.best_house-house-requires-clause-best
+best_house-house-requires-clause-best g c =
     let fits : SFits w32 c.houses_worth-best.result = search rules in
     half_is c.houses-houses.result _ _ c.seeds.ensures.limits c.houses_worth-best.ensures
     (rw c.seeds.ensures.seeds at (simp to_z-of_z at c.won_of-beta.ensures))
@@ -46,27 +46,27 @@ overflow_add-margin g c =
     (found g c) c.own_store.ensures c.other_store.ensures
 
 -- the reported house
-house_is : (g : given.Over) (c : goal.After-other_store g) → c.first_house-house.result ≡ best_house c.args.board.now
-house_is g c = c.first_house-house.ensures ∙ ap (λ (a : HousesState). best_house (storeless a)) c.houses-houses.ensures
+house_is : (g : given.Over) (c : goal.After-other_store g) → c.best_house-house.result ≡ best_house c.args.board.now
+house_is g c = c.best_house-house.ensures ∙ ap (λ (a : HousesState). best_house (storeless a)) c.houses-houses.ensures
     ∙ sym (best_of_houses c.args.board.now)
 
 pub returns-clause-verdict : goal.returns-clause-verdict
 returns-clause-verdict g c =
     let p = c.args.board.now in
-    verdict_by p (told_margin c.houses_worth-best.result c.own_store.result c.other_store.result) c.first_house-house.result
+    verdict_by p (told_margin c.houses_worth-best.result c.own_store.result c.other_store.result) c.best_house-house.result
     (sym c.if-is_over.ensures.over)
     (told_worth p c.houses_worth-best.result c.own_store.result c.other_store.result c.is_over.ensures.limits
     (found g c) c.own_store.ensures c.other_store.ensures) (house_is g c)
 
 pub returns-clause-best_play : goal.returns-clause-best_play
 returns-clause-best_play g c =
-    verdict_tells c.args.board.now (Best (told_margin c.houses_worth-best.result c.own_store.result c.other_store.result) c.first_house-house.result)
+    verdict_tells c.args.board.now (Best (told_margin c.houses_worth-best.result c.own_store.result c.other_store.result) c.best_house-house.result)
     (board_equal_sides c.args.board.now c.is_over.ensures.limits) (returns-clause-verdict g c)
 
 pub returns-clause-small : goal.returns-clause-small
 returns-clause-small g c =
     let p = c.args.board.now in
     let limits = c.is_over.ensures.limits in
-    small_best p (told_margin c.houses_worth-best.result c.own_store.result c.other_store.result) c.first_house-house.result limits
+    small_best p (told_margin c.houses_worth-best.result c.own_store.result c.other_store.result) c.best_house-house.result limits
     (rw (house_is g c) (best_found p (board_equal_sides p limits) (sym c.if-is_over.ensures.over)).0)
     (told_small p c.houses_worth-best.result c.own_store.result c.other_store.result limits (found g c) c.own_store.ensures c.other_store.ensures)

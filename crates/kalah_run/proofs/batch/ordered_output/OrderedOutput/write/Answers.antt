@@ -4,7 +4,7 @@ use Rattle.kalah_jobs.specs.Collecting.CollectorState.{ArrivalsState, front, sta
 use Rattle.kalah_jobs.specs.Files.NamedBytes.{NamedBytes}
 use Rattle.kalah_jobs.proofs.CollectingLemmas.{files_many}
 use Rattle.kalah_run.specs.Batch.OrderedOutput.{WasGivenSince}
-use Rattle.kalah_run.proofs.BatchLemmas.{wrote_file, wrote_line, wrote_nothing, given_more, written_on, text_of_taken}
+use Rattle.kalah_run.proofs.BatchLemmas.{wrote_file, wrote_line, wrote_nothing, since_more, written_on, text_of_taken}
 use Rattle.kalah_run.proofs.batch.ordered_output.OrderedOutput.write.Goals as goal
 
 pub bounds-files-f : goal.bounds-files-f
@@ -21,7 +21,7 @@ loop-self-preserved-in-Some g c = record {
       written_on (c.loop-self.invariant.progress files jobs past begun so_far) refl refl
       (λ progress. wrote_line progress c.take.new.self c.in-Some.taken _ c.in-Some.ensures.takes
       (λ given was. subst (λ (l : List ℕ). WasGivenSince begun (g.W.Sink.state c.write_answer_unless_failed.new.out) (given ++ l))
-      (sym text) (given_more given _ was c.write_answer_unless_failed.ensures)));
+      (sym text) (since_more given _ was c.write_answer_unless_failed.ensures)));
 }
 
 pub loop-self-preserved : goal.loop-self-preserved

@@ -1,7 +1,7 @@
 use Rattle.std.proofs.Common.{arith, rules, ◌-◌, ◌^◌, sym, ◌∙◌}
 use Rattle.kalah_solve.proofs.BoundsLemmas.{won_of_houses}
 use Rattle.kalah_solve.proofs.WorthLemmas.{leads_by}
-use Rattle.kalah_solve.proofs.SearchLemmas.{marks_fall, marked_legal, moves_fewer, last_legal}
+use Rattle.kalah_solve.proofs.SearchLemmas.{marks_fall, seeded_is_legal, moves_fewer, last_legal}
 use Rattle.kalah_solve.proofs.TableLemmas.{most_of_none, most_more, most_all, most_won}
 use Rattle.kalah_solve.proofs.table.endgame_table.EndgameTable.+exact.Goals as goal
 
@@ -10,7 +10,7 @@ most_won-loop-untried-init g t c =
     let a = c.args.houses.now in
     let marks = c.filled_houses-untried.ensures in
     record {
-      may = record { are = marks.marks; legal = λ i some. marked_legal _ marks.limits c.requires.going ((marks.marked i).0 some) };
+      may = record { are = marks.marks; legal = λ i some. seeded_is_legal _ marks.limits c.requires.going ((marks.marked i).0 some) };
       is = most_of_none marks.marked;
     }
 

@@ -3,7 +3,7 @@ use Rattle.clap.specs.Words.{found_of, one_of, rows_of}
 use Rattle.kalah_solve.specs.Table.Entries.{most_entries}
 use Rattle.kalah_run.specs.Limits.{IsTableSize}
 use Rattle.kalah_cli.proofs.RequestLemmas.{in_range, number_read}
-use Rattle.kalah_cli.proofs.request.given_number.Goals as goal
+use Rattle.kalah_cli.proofs.request.number_given.Goals as goal
 
 pub returns-clause-given : goal.returns-clause-given
 returns-clause-given c = number_read 32 1 most_entries (found_of c.args.found.now) c.args.id.now c.get_one.result

@@ -6,7 +6,7 @@ use Rattle.kalah_rules.proofs.PlayLemmas.{legal_holds}
 use Rattle.kalah_solve.proofs.WorthLemmas.{legal_some}
 use Rattle.kalah_solve.proofs.SolverLemmas.{root_found, root_short, root_last}
 use Rattle.kalah_solve.proofs.SearchLemmas.{enough_of, short_of}
-use Rattle.kalah_solve.proofs.solver.Solver.first_house.Goals as goal
+use Rattle.kalah_solve.proofs.solver.Solver.best_house.Goals as goal
 
 pub overflow_sub-last : goal.overflow_sub-last
 overflow_sub-last g c = omega (arith, ap length c.requires.moves, legal_some (storeless c.args.houses.now) c.requires.going)
