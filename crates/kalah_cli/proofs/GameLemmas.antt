@@ -16,8 +16,8 @@ use Rattle.kalah_solve.specs.Solver.Verdict.{IsSmallBest, TellsBestMove, verdict
 use Rattle.kalah_solve.specs.Solver.Worth.{best_house, value_of_move, worth}
 use Rattle.kalah_solve.specs.declared.solver.Verdict.TheVariants.{Best, Over}
 use Rattle.std.proofs.lemmas.List.Elements.{Contains-push}
-use Rattle.kalah_solve.proofs.SolverLemmas.{best_is_strategy, best_plays, game_is_bounded, strategy_keeps, strategy_within, widened}
-use Rattle.kalah_solve.proofs.WorthLemmas.{final_swapped, value_moving_again, value_of_again, value_of_turn, value_passing, worth_of_over, over_for_other, again_fewer, again_step, over_at_end, over_ends, over_step, swapped_equal_sides, turn_fewer, turn_step}
+use Rattle.kalah_solve.proofs.SolverLemmas.{best_is_strategy, best_plays, game_is_bounded, strategy_within, widened}
+use Rattle.kalah_solve.proofs.WorthLemmas.{final_swapped, value_moving_again, value_of_again, value_of_turn, value_passing, worth_of_over, again_fewer, again_step, over_at_end, over_ends, over_step, swapped_equal_sides, turn_fewer, turn_step}
 use Rattle.kalah_jobs.specs.Writing.Sink.{SinkState, WasGiven}
 use Rattle.kalah_jobs.specs.Writing.Shown.{shown_of}
 use Rattle.kalah_jobs.specs.Writing.Variation.{variation_start}
@@ -97,7 +97,7 @@ game_before {policy} {p} {h} {houses} {final} (step.Turn q) going may is game =
     )
 game_before {p = p} {h = h} (step.Over q) going may is (is_at_end _) =
     let over = (over_step (is_over (after p h)) (is_again p h) (after p h) q is).0 in
-    let other = over_for_other (after p h) over in
+    let other = is_over-swapped (after p h) ∙ over in
     elim (cases_Bool (is_again p h)) [
       | inl again ↦ (
         after p h,
@@ -220,7 +220,7 @@ is_game (suc n) p even low = elim (cases_Bool (is_over p)) [
 pub plays_best : PlaysBestGames
 plays_best p even =
     let game = is_game (moves_left p) p even (omega arith) in
-    let keeps = strategy_keeps best_house best_is_strategy in
+    let keeps = strategy_within best_is_strategy in
     let bounded = game_is_bounded keeps keeps even game.1 in
     (game.0, record { game = game.1; margin = omega (ints, arith, bounded.low best_plays, bounded.high best_plays) })
 

@@ -1,10 +1,11 @@
 -- Moves on the numbers of two rows.
 use Rattle.kalah_rules.specs.declared.step.Step.TheVariants as step
 use Rattle.kalah_rules.specs.Position as position
-use Rattle.std.proofs.Common.{◌≡◌, ◌≢◌, ℕ, zero, suc, ◌+◌, ◌-◌, ◌*◌, ◌/◌, ◌%◌, ◌^◌, ◌<◌, ◌≤◌, inl, inr, length, arith, ap, sym, ◌∙◌, refl, subst, eq-eqb, List, Bool, true, false, sum, ◌==◌, ◌&&◌, Option, Some, None, MatchBool, cond, Contains, slice_set, bit_and, length-set}
+use Rattle.std.proofs.Common.{◌≡◌, ◌≢◌, ℕ, zero, suc, ◌+◌, ◌-◌, ◌*◌, ◌/◌, ◌%◌, ◌^◌, ◌<◌, ◌≤◌, inl, inr, length, arith, ap, sym, ◌∙◌, refl, subst, eq-eqb, List, Bool, true, false, sum, ◌==◌, ◌&&◌, Option, Some, None, MatchBool, Contains, slice_set, bit_and, length-set}
 use Rattle.std.proofs.lemmas.Nat.{mod_below, div-add-mod', and_block, and_mask, and_le_r, pow_pos}
 use Rattle.std.proofs.Math.Nat.{div-eq_of_lt, mod-eq_of_lt, div-div-eq-div-mul}
-use Rattle.std.proofs.lemmas.Bool.{cases_Bool, cases_eq, cases_lt, and_parts, eqb-true}
+use Rattle.std.proofs.Math.Bool.{or_comm}
+use Rattle.std.proofs.lemmas.Bool.{cases_Bool, cases_eq, cases_lt, and_parts, cond_both, eqb-true}
 use Rattle.std.proofs.lemmas.Bool.Decides.{nat_tests}
 use Rattle.kalah_rules.specs.Position.{Position, HousesState, IsWithinHouses, side_length, seeds, opposite, seeds_in_houses, storeless, IsWithinLimits, is_over, swapped, houses_in, with_stores, without_seeds}
 use Rattle.kalah_rules.specs.Lap.{HoldsSeeds, lifted}
@@ -371,14 +372,9 @@ pub step_turn : (q : Position) (again : Bool) → is_over q ≡ false → again 
     → houses_step_to q again ≡ Turn q.own_store (houses_in (swapped q))
 step_turn q again going more = cc
 
--- what holds of both
-pub on_cond : {X : Type 0} (P : X → Type 0) (b : Bool) (s t : X) → (b ≡ true → P s) → (b ≡ false → P t) → P (cond b s t)
-on_cond P true s t h k = h refl
-on_cond P false s t h k = k refl
-
--- a game that goes on also goes on for the other player
-pub over_swapped : (q : Position) → is_over q ≡ false → is_over (swapped q) ≡ false
-over_swapped q going = grind arith
+-- a game is over for both players or for none
+pub is_over-swapped : (q : Position) → is_over (swapped q) ≡ is_over q
+is_over-swapped q = or_comm (sum q.other == 0) (sum q.own == 0)
 
 -- the houses of a board are within their limits
 pub houses_within : (p : Position) → IsWithinLimits p → IsWithinHouses (houses_in p)
@@ -510,7 +506,7 @@ step_within {p} h l holds =
     let w = houses_within p l in
     let keeps = after_keeps a h w holds in
     let on = after_within a h w holds in
-    on_cond (IsStepWithin p) (is_over q) _ _
+    cond_both (is_over q) _ _ (IsStepWithin p)
     (λ over.
     let side = length-replicate {A = ℕ} (side_length p) 0 in
     let none = sum-zeros (side_length p) in
@@ -522,7 +518,7 @@ step_within {p} h l holds =
       own_store_low = omega arith;
       other_store_low = omega (arith, keeps.play);
     })
-    (λ going. on_cond (IsStepWithin p) (is_again (storeless a) h) _ _
+    (λ going. cond_both (is_again (storeless a) h) _ _ (IsStepWithin p)
     (omega arith)
     (omega arith))
 

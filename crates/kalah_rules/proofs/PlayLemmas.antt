@@ -2,7 +2,7 @@
 use Rattle.std.proofs.Common.{zero, suc, ◌≡◌, ◌≢◌, ℕ, ◌+◌, ◌-◌, ◌*◌, ◌<◌, ◌≤◌, inl, inr, List, [], ◌∷◌, zero-le, length, replicate, arith, ap, ◌∙◌, refl, ◌/◌, ◌%◌, ◌⊎◌, sym, add-one, ◌++◌, eq-eqb, lt-ltb, slice_set, slice_index, sum, sum_by, Bool, true, false, cond, Option, Some, None, find, filter, Contains, All, nat_lt, length-set}
 use Rattle.std.specs.List.{range_with_len}
 use Rattle.std.proofs.lemmas.Nat.{mul-le}
-use Rattle.std.proofs.lemmas.Bool.{cases_eq, cases_lt, ltb-true, ne_eqb}
+use Rattle.std.proofs.lemmas.Bool.{cases_eq, cases_lt, cond_both, ltb-true, ne_eqb}
 use Rattle.std.proofs.lemmas.List.{get_or_past, set_past, get_or-set_same, get_or-set_other}
 use Rattle.std.proofs.lemmas.List.Folds.{sum_by-replicate}
 use Rattle.std.proofs.lemmas.List.Sums.{sum_by-set, sum_by-cons, length-filter, count_by-le-length}
@@ -198,22 +198,13 @@ module _ (p : Position) (h : ℕ) (low : 1 ≤ h) (high : h ≤ side_length p) w
       refl refl
 
   -- a cell away from the next distance gets nothing
-  own_kept : (k d : ℕ) → d ≡ k % lap_length (side_length p) + 1 → (j : ℕ) → 1 ≤ j → j ≤ side_length p →
-      own_distance (side_length p) h j ≢ d →
-      gain (lap_length (side_length p)) (k + 1) (own_distance (side_length p) h j) ≡ gain (lap_length (side_length p)) k
-      (own_distance (side_length p) h j)
-  own_kept k d next j j_low j_high ne = grind (arith, gain_same)
-
-  store_kept : (k d : ℕ) → d ≡ k % lap_length (side_length p) + 1 → store_distance (side_length p) h ≢ d →
-      p.own_store + gain (lap_length (side_length p)) (k + 1) (store_distance (side_length p) h)
-      ≡ p.own_store + gain (lap_length (side_length p)) k (store_distance (side_length p) h)
-  store_kept k d next ne = omega (arith, gain_same)
-
-  other_kept : (k d : ℕ) → d ≡ k % lap_length (side_length p) + 1 → (j : ℕ) → j ≤ side_length p
-      → other_distance (side_length p) h j ≢ d →
-      gain (lap_length (side_length p)) (k + 1) (other_distance (side_length p) h j)
-      ≡ gain (lap_length (side_length p)) k (other_distance (side_length p) h j)
-  other_kept k d next j j_high ne = omega (arith, gain_same)
+  gain_kept : (k d : ℕ) → d ≡ k % lap_length (side_length p) + 1 → (cell : Cell) → IsCellOf (side_length p) cell
+      → distance (side_length p) h cell ≢ d
+      → gain (lap_length (side_length p)) (k + 1) (distance (side_length p) h cell)
+      ≡ gain (lap_length (side_length p)) k (distance (side_length p) h cell)
+  gain_kept k d next (Own j) is_cell ne = grind (arith, gain_same)
+  gain_kept k d next Store is_cell ne = omega (arith, gain_same)
+  gain_kept k d next (Other j) is_cell ne = omega (arith, gain_same)
 
   -- one seed more goes to the cell at the next distance
   pub sow_more : (k : ℕ) (cell : Cell) → IsCellOf (side_length p) cell
@@ -224,24 +215,24 @@ module _ (p : Position) (h : ℕ) (low : 1 ≤ h) (high : h ≤ side_length p) w
       (row_of_more _ _ _ i is_cell.0 is_cell.1
       (omega (arith, gain_more))
       (λ j j_low j_high ne. omega
-      (arith, own_kept k _ next j j_low j_high (own_distance_apart _ h low high j i j_low j_high is_cell.0 is_cell.1 ne))))
-      (store_kept k _ next (λ e. own_from_store _ h low high i is_cell.0 is_cell.1 (sym e)))
-      (row_of_same _ _ _ (λ j j_low j_high. omega
-      (arith, other_kept k _ next j j_high (λ e. own_from_other _ h low high i j is_cell.0 is_cell.1 j_low j_high (sym e)))))
+      (arith, gain_kept k _ next (Own j) (j_low, j_high) (own_distance_apart _ h low high j i j_low j_high is_cell.0 is_cell.1 ne))))
+      (omega (arith, gain_kept k _ next Store tt (λ e. own_from_store _ h low high i is_cell.0 is_cell.1 (sym e))))
+      (row_of_same _ _ _ (λ j j_low j_high. omega (arith,
+      gain_kept k _ next (Other j) (j_low, j_high) (λ e. own_from_other _ h low high i j is_cell.0 is_cell.1 j_low j_high (sym e)))))
       refl refl
   sow_more k Store is_cell next = same_position
       (row_of_same _ _ _ (λ j j_low j_high. omega
-      (arith, own_kept k _ next j j_low j_high (own_from_store _ h low high j j_low j_high))))
+      (arith, gain_kept k _ next (Own j) (j_low, j_high) (own_from_store _ h low high j j_low j_high))))
       (omega (arith, gain_more))
-      (row_of_same _ _ _ (λ j j_low j_high. omega (arith, other_kept k _ next j j_high (omega arith))))
+      (row_of_same _ _ _ (λ j j_low j_high. omega (arith, gain_kept k _ next (Other j) (j_low, j_high) (omega arith))))
       refl refl
   sow_more k (Other i) is_cell next = same_position
       (row_of_same _ _ _ (λ j j_low j_high. omega
-      (arith, own_kept k _ next j j_low j_high (own_from_other _ h low high j i j_low j_high is_cell.0 is_cell.1))))
-      (store_kept k _ next (omega arith))
+      (arith, gain_kept k _ next (Own j) (j_low, j_high) (own_from_other _ h low high j i j_low j_high is_cell.0 is_cell.1))))
+      (omega (arith, gain_kept k _ next Store tt (omega arith)))
       (row_of_more _ _ _ i is_cell.0 is_cell.1
       (omega (arith, gain_more))
-      (λ j j_low j_high ne. omega (arith, other_kept k _ next j j_high (omega arith))))
+      (λ j j_low j_high ne. omega (arith, gain_kept k _ next (Other j) (j_low, j_high) (omega arith))))
       refl refl
 
 -- some cell lies at each distance of a lap
@@ -362,21 +353,18 @@ pub after_at : (p : Position) (h : ℕ) (o : Option ℕ) → last_house p h ≡ 
 unfolding after
 after_at p h o e = cc
 
--- a list contains what it did with one more element in front, kept or dropped
-contains_kept : (b : Bool) (x : ℕ) (xs : List ℕ) (y : ℕ) → Contains xs y → Contains (cond b (x ∷ xs) xs) y
-contains_kept true x xs y has = Contains-append_right (x ∷ []) xs y has
-contains_kept false x xs y has = has
-
 -- a number of a range that passes is among those that pass
 contains_range : (f : ℕ → Bool) (a n i : ℕ) → a ≤ i → i < a + n → f i ≡ true → Contains (filter f (range_with_len a n)) i
 contains_range f a zero i low high here = absurd (omega arith)
 contains_range f a (suc n) i low high here = elim (cases_eq a i) [
   | inl e ↦ rw (e, here) (Contains-append_left (i ∷ []) _ i (Contains-push [] i))
-  | inr ne ↦ contains_kept _ _ _ _ (contains_range f (a + 1) n i (omega arith) (omega arith) here)
+  | inr ne ↦
+      let later = contains_range f (a + 1) n i (omega arith) (omega arith) here in
+      cond_both (f a) _ _ (λ l. Contains l i) (λ kept. Contains-append_right (a ∷ []) _ i later) (λ dropped. later)
 ]
 
 -- each number of a range is within it
-all_range : (a n : ℕ) → All (λ i. (a ≤ i) × (i < a + n)) (range_with_len a n)
+pub all_range : (a n : ℕ) → All (λ i. (a ≤ i) × (i < a + n)) (range_with_len a n)
 all_range a n = omega (arith, length-range_with_len, get_or-range_with_len)
 
 -- a game with a legal house isn't over

@@ -10,10 +10,11 @@ use Rattle.kalah_rules.specs.Position.{HousesState, IsWithinHouses, seeds_in_hou
 use Rattle.kalah_rules.specs.Measure.{moves_left}
 use Rattle.kalah_rules.specs.Play.{legal_houses}
 use Rattle.kalah_rules.specs.HousesStep.{houses_step}
+use Rattle.kalah_rules.proofs.PlayLemmas.{legal_going}
 use Rattle.kalah_rules.specs.declared.step.HousesStep.{HousesStep}
 use Rattle.kalah_rules.specs.declared.step.HousesStep.TheVariants.{Over, Again, Turn}
 use Rattle.kalah_solve.specs.Solver.Worth.{houses_worth, value_of_move}
-use Rattle.kalah_solve.proofs.WorthLemmas.{worth_of_step, LeadsTo, LeadsOn, worth_of_over, value_is, leads_on, worth_reached, value_le_worth}
+use Rattle.kalah_solve.proofs.WorthLemmas.{worth_of_step, LeadsTo, LeadsOn, worth_of_over, value_is, leads_on, worth_is_most}
 use Rattle.kalah_solve.specs.Bounds.Won.{nat_or_zero, won, won_by_step}
 use Rattle.kalah_solve.specs.declared.bounds.interval.Interval.{Interval}
 use Rattle.kalah_solve.specs.declared.bounds.seed_bounds.SeedBounds.{SeedBounds}
@@ -73,8 +74,8 @@ some_won zero a w few = absurd (omega arith)
 some_won (suc n) a w few = elim (cases_Bool _) [
   | inl over ↦ (sum a.own, rw (worth_of_over _ over) (record { few = omega arith; is = omega (arith, ints) }))
   | inr going ↦
-      let at = worth_reached a w going in
-      rw (at.2, value_is a at.0 w at.1) (some_won_by_step a _ (leads_on a at.0 w at.1)
+      let at = (worth_is_most (storeless a) (omega arith) going).reached in
+      rw (← at.2, value_is a at.0 w at.1) (some_won_by_step a _ (leads_on a at.0 w at.1)
       (λ b _ on. some_won n b on.limits (omega arith)))
 ]
 
@@ -94,23 +95,12 @@ pub worth_of_won : (a : HousesState) → IsWithinHouses a
     → houses_worth a ≡ pos (won a + won a) -ℤ pos (seeds_in_houses (storeless a))
 worth_of_won a w = omega (arith, ints, (won_of_houses w).is)
 
--- a number from minus n to n
-pub record IsUpTo (n : ℕ) (z : ℤ) : Type 0 where
-  pub low : (pos 0 -ℤ pos n) ≤ℤ z
-  pub high : z ≤ℤ pos n
-
--- houses are worth at most their seeds, to either player
-pub worth_up_to : {a : HousesState} → IsWithinHouses a → IsUpTo (seeds_in_houses (storeless a)) (houses_worth a)
-worth_up_to w =
-    let bounds = won_of_houses w in
-    record { low = omega (arith, ints); high = omega (arith, ints) }
-
--- so their worth lies in the widest window
+-- the worth of houses lies in the widest window
 pub worth_low : (a : HousesState) → IsWithinHouses a → least_margin ≤ℤ houses_worth a
-worth_low a w = omega (arith, ints, (worth_up_to w).low)
+worth_low a w = omega (arith, ints, (won_of_houses w).few, (won_of_houses w).is)
 
 pub worth_high : (a : HousesState) → IsWithinHouses a → houses_worth a ≤ℤ most_margin
-worth_high a w = omega (arith, ints, (worth_up_to w).high)
+worth_high a w = omega (arith, ints, (won_of_houses w).few, (won_of_houses w).is)
 
 -- the mover wins half of what the houses are worth and hold together
 pub half_is : (a : HousesState) (worth : ℤ) (half : ℕ) → IsWithinHouses a → worth ≡ houses_worth a →
@@ -136,12 +126,16 @@ module _ (a : HousesState) (w : IsWithinHouses a) where
 
   -- no move wins more than best play
   pub won_at_most : (h : ℕ) → Contains (legal_houses (storeless a)) h → won_by_step (houses_step a h) ≤ won a
-  won_at_most h has = omega (arith, ints, (won_of_move h has).is, (won_of_houses w).is, value_le_worth a h w has)
+  won_at_most h has =
+      let most = (worth_is_most (storeless a) (omega arith) (legal_going (storeless a) h has)).most h has in
+      omega (arith, ints, (won_of_move h has).is, (won_of_houses w).is)
 
   -- some move wins as many as best play
   pub won_reached : is_over (storeless a) ≡ false → (h : ℕ) × Contains (legal_houses (storeless a)) h
       × (won_by_step (houses_step a h) ≡ won a)
-  won_reached going = grind (arith, worth_reached, won_of_move, won_of_houses)
+  won_reached going =
+      let at = (worth_is_most (storeless a) (omega arith) going).reached in
+      (at.0, at.1, omega (arith, ints, at.2, (won_of_move at.0 at.1).is, (won_of_houses w).is))
 
 -- ==== The answer of the search in a window
 

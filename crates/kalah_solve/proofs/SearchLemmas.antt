@@ -340,30 +340,18 @@ pub low_more : (beta most bound new : ℕ) → (beta ≤ most → most ≡ 0) �
     → new ≡ 0
 low_more beta most bound new low short is enough = omega arith
 
--- what is left of all is bounded by what the bound leaves
-pub bound_left : {beta number bound : ℕ} (all seeds gained : ℕ) → all ≡ gained + seeds → number ≤ seeds → gained < beta
-    → beta ≤ all →
-    IsSoftBound (all - beta + 1) number bound → IsSoftBound beta (gained + (seeds - number)) (all - bound)
-bound_left all seeds gained is few low high b = omega arith
-
--- a house with seeds may be moved, if the game goes on
-pub filled_legal : (a : HousesState) (h : ℕ) → is_over (storeless a) ≡ false → 1 ≤ h → h ≤ length a.own
-    → 0 < seeds a.own h →
-    Contains (legal_houses (storeless a)) h
-filled_legal a h going first last some = holds_legal (storeless a) h (omega arith) going
+-- what is left of all is bounded by what the bound of the other player leaves
+pub bound_left : {beta number bound : ℕ} (all seeds gained : ℕ) → all ≡ gained + seeds → number ≤ seeds
+    → IsSoftBound (all - beta + 1) number bound → IsSoftBound beta (gained + (seeds - number)) (all - bound)
+bound_left {beta} {number} {bound} all seeds gained is few b = elim (cases_lt bound (all - beta + 1)) [
+  | inl short ↦ omega (arith, b.upper short)
+  | inr enough ↦ omega (arith, b.lower enough)
+]
 
 -- a bound of a move that is enough is no more than best play wins
 pub move_enough : (a : HousesState) (beta h bound : ℕ) → IsWithinHouses a → Contains (legal_houses (storeless a)) h →
     IsSoftBound beta (won_by_step (houses_step a h)) bound → beta ≤ bound → bound ≤ won a
 move_enough a beta h bound w has is enough = omega (arith, won_at_most a w h has)
-
--- what the other player wins of all seeds bounds what it leaves
-left_of_all : {beta number bound : ℕ} (all seeds : ℕ) → seeds ≤ all → number ≤ seeds → IsSoftBound (all - beta + 1) number bound →
-    IsSoftBound beta (all - seeds + (seeds - number)) (all - bound)
-left_of_all {beta} {number} {bound} all seeds some few is = elim (cases_lt bound (all - beta + 1)) [
-  | inl short ↦ omega (arith, is.upper short)
-  | inr enough ↦ omega (arith, is.lower enough)
-]
 
 -- a turn leads on to the houses that it leaves
 turn_leads : {a b : HousesState} {h priority : ℕ} → IsWithinHouses a → IsTurnOf a h priority b →
@@ -379,7 +367,7 @@ module _ {a b : HousesState} {h priority bound seeds left : ℕ} (beta : ℕ) (w
 
   -- what the reply leaves is a bound of the turn
   reply_left : IsSoftBound beta (won_by_step (houses_step a h)) (seeds - bound)
-  reply_left = rw (turn.step, seeds_are) (left_of_all _ _ (omega (arith, (turn_leads w turn).kept)) reply_few (rw (left_is, seeds_are) at is))
+  reply_left = rw (turn.step, seeds_are) (bound_left _ _ _ (omega (arith, (turn_leads w turn).kept)) reply_few (rw (left_is, seeds_are) at is))
 
   -- the bound is at most all seeds
   pub reply_fits : bound ≤ seeds
@@ -447,6 +435,18 @@ pub waits_there : {a : HousesState} {priorities : List ℕ} {turns : List Houses
     → WaitsWith a priorities turns r → b ≡ get_or turns (r % 8) b → IsTurnOf a (r % 8 + 1) r b
 waits_there {a} {r = r} {b = b} waits is = subst (IsTurnOf a (r % 8 + 1) r) (sym is) (waits.turn b)
 
+-- what holds of the last marked house, and of each other unmarked one that may be moved, holds of each that is unmarked without it
+pub each_unmarked : (a : HousesState) {marks h : ℕ} (P : ℕ → Type 0) → IsLastMark marks h → P h
+    → ((i : ℕ) → Contains (legal_houses (storeless a)) i → i - 1 ≢ h - 1 → cell marks (i - 1) ≡ 0 → P i)
+    → (i : ℕ) → Contains (legal_houses (storeless a)) i → cell (marks - 32 ^ (h - 1)) (i - 1) ≡ 0 → P i
+each_unmarked a {marks} {h} P last here each i may gone = elim (cases_eq i h) [
+  | inl same ↦ subst P (sym same) here
+  | inr other ↦
+      let first = (legal_holds (storeless a) i may).first in
+      let place : i - 1 ≢ h - 1 = omega arith in
+      each i may place (gone_before marks h last (i - 1) place gone)
+]
+
 -- each house with a priority waits, and each other one that may be moved wins at most `most` seeds, or ends in the store, or is
 -- still marked
 pub record ArePlayed (a : HousesState) (most marks : ℕ) (priorities : List ℕ) (turns : List HousesState) : Type 0 where
@@ -464,17 +464,10 @@ module _ {a : HousesState} {most marks h : ℕ} {priorities : List ℕ} {turns :
   played_more v b some turn = let inside : h - 1 < length priorities = omega arith in record {
     waiting = turns_more is.waiting is.slots last.first last.last turn;
     slots = length-set turns _ b ∙ is.slots;
-    others = λ i may gone none apart. elim (cases_eq i h) [
-      | inl same ↦
-          let at = sym (get_or-set_same priorities (h - 1) v 0 inside)
-          ∙ subst (λ j. get_or (slice_set priorities (h - 1) v) (j - 1) 0 ≡ 0) same none in
-          absurd (omega arith)
-      | inr other ↦
-          let first = (legal_holds (storeless a) i may).first in
-          let place : i - 1 ≢ h - 1 = omega arith in
-          is.others i may (gone_before marks h last _ place gone)
-          (rw (get_or-set_other _ (h - 1) _ v 0 place) at none) apart
-    ];
+    others = each_unmarked a
+        (λ i. get_or (slice_set priorities (h - 1) v) (i - 1) 0 ≡ 0 → ¬ EndsInStore a i → WinsAtMost a most i) last
+        (λ none apart. absurd (omega (arith, get_or-set_same priorities (h - 1) v 0 inside, none)))
+        (λ i may place gone none apart. is.others i may gone (rw (get_or-set_other _ (h - 1) _ v 0 place) at none) apart);
   }
 
   -- the last marked house was played, and wins at most `bound`
@@ -483,13 +476,8 @@ module _ {a : HousesState} {most marks h : ℕ} {priorities : List ℕ} {turns :
   played_bound bound new takes new_is = record {
     waiting = is.waiting;
     slots = is.slots;
-    others = λ i may gone none apart. elim (cases_eq i h) [
-      | inl same ↦ rw same (omega arith)
-      | inr other ↦
-          let first = (legal_holds (storeless a) i may).first in
-          let place : i - 1 ≢ h - 1 = omega arith in
-          omega (arith, is.others i may (gone_before marks h last _ place gone) none apart)
-    ];
+    others = each_unmarked a (λ i. get_or priorities (i - 1) 0 ≡ 0 → ¬ EndsInStore a i → WinsAtMost a new i) last
+        (λ none apart. omega arith) (λ i may place gone none apart. omega (arith, is.others i may gone none apart));
   }
 
 -- before any was played
@@ -513,7 +501,7 @@ pub seeded_is_legal : {a : HousesState} (i : ℕ) → IsWithinHouses a → is_ov
 seeded_is_legal {a} i w going some = elim (cases_lt i (length a.own)) [
   | inl inside ↦
       let at : i + 1 - 1 ≡ i = omega arith in
-      filled_legal a _ going (omega arith) (omega arith) (rw at some)
+      holds_legal (storeless a) _ (record { first = omega arith; last = omega arith; some = rw at some }) going
   | inr past ↦ absurd (omega (arith, get_or_past a.own i 0 past))
 ]
 
@@ -521,7 +509,8 @@ seeded_is_legal {a} i w going some = elim (cases_lt i (length a.own)) [
 pub into_store_legal : {a : HousesState} (i : ℕ) → IsWithinHouses a → is_over (storeless a) ≡ false → i < length a.own
     → EndsInStore a (i + 1) →
     Contains (legal_houses (storeless a)) (i + 1)
-into_store_legal {a} i w going inside ends = grind (arith, filled_legal)
+into_store_legal {a} i w going inside ends =
+    holds_legal (storeless a) (i + 1) (record { first = omega arith; last = omega arith; some = omega arith }) going
 
 -- what holds of each marked house holds of those that stay marked
 pub each_fewer : (P : ℕ → Type 0) {marks h : ℕ} → IsLastMark marks h → ((i : ℕ) → 0 < cell marks i → P (i + 1)) →
@@ -567,13 +556,9 @@ unmarked_none a most marks marked h may ends gone = absurd (
 pub unmarked_more : (a : HousesState) (most : ℕ) {marks h : ℕ} (bound : ℕ) {new : ℕ} → UnmarkedWinAtMost a most marks → IsLastMark marks h
     → WinsAtMost a bound h → new ≡ max most bound →
     UnmarkedWinAtMost a new (marks - 32 ^ (h - 1))
-unmarked_more a most {marks} {h} bound are last takes new_is i may ends gone = elim (cases_eq i h) [
-  | inl same ↦ rw same (omega arith)
-  | inr other ↦
-      let first = (legal_holds (storeless a) i may).first in
-      let place : i - 1 ≢ h - 1 = omega arith in
-      omega (arith, are i may ends (gone_before marks h last _ place gone))
-]
+unmarked_more a most {marks} {h} bound {new} are last takes new_is i may ends gone =
+    each_unmarked a (λ i. EndsInStore a i → WinsAtMost a new i) last
+    (λ e. omega arith) (λ j may_j place gone_j e. omega (arith, are j may_j e gone_j)) i may gone ends
 
 -- the moves with a priority are still to be tried, and the others win at most `most` seeds
 pub record AreUntried (a : HousesState) (most : ℕ) (priorities : List ℕ) (turns : List HousesState) : Type 0 where

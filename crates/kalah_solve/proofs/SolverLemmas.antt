@@ -1,6 +1,6 @@
 -- Games, best play, and what a solver says of it.
 use Rattle.std.proofs.Common.{zero, suc, ◌≡◌, ℕ, ◌<◌, ◌≤◌, inl, inr, List, [], ◌∷◌, length, get_or, arith, ap, sym, subst, ◌∙◌, refl, ◌+◌, w32, to_z, of_z, FitsSigned, ◌++◌, take, length-append, length-take-le, false, Contains, ℤ, ◌≤ℤ◌, Bool, if◌then◌else◌, filter, nat_lt, neg_ℤ, true, map, pos, ◌<ℤ◌, All, find, option_map, Some, ◌+ℤ◌, ◌-ℤ◌, replicate, slice_set, int_eq}
-use Rattle.std.proofs.lemmas.Bool.{cases_Bool, cases_eq}
+use Rattle.std.proofs.lemmas.Bool.{both_ways, cases_Bool, cases_eq, cond_both}
 use Rattle.kalah_rules.specs.Position.{Position, HasEqualSides, is_over, swapped, final_margin, side_length, seeds, IsWithinLimits, IsSmallMargin, HousesState, IsWithinHouses, houses_in, storeless}
 use Rattle.kalah_rules.specs.Sowing.{after}
 use Rattle.kalah_rules.specs.Play.{legal_houses}
@@ -9,32 +9,40 @@ use Rattle.kalah_rules.proofs.PlayLemmas.{legal_holds, after_equal_sides, after_
 use Rattle.kalah_solve.specs.Solver.BestPlay.{Strategy, IsStrategy, Policy, follow, Game, Secures, HoldsTo, IsBestPlay, IsBestMove, IsWorthOfMove}
 use Rattle.kalah_solve.specs.Solver.BestPlay.Game.{is_at_end, moves_on, passes_turn}
 use Rattle.kalah_solve.specs.Solver.Laws.{EndsInTime, StrategiesPlayAGame, StrategiesPlayOneGame, GamesEnd, WorthIsBestPlay, BestPlayIsOne, BestHouseIsBestPlay, EndsWithAtLeast, EndsWithAtMost, BestPlayAgainstStrategies, BestHouseIsLowest, BestMovesAttain, BestVerdictIsOne}
-use Rattle.kalah_solve.proofs.WorthLemmas.{swapped_equal_sides, over_at_end, over_for_other, worth_of_over, final_swapped, value_moving_again, value_passing, best_found, best_attains, value_most, eq_yes, lowest_of, worth_of_going, eq_no, greatest_reached, worth_of_houses, value_of_houses}
+use Rattle.kalah_solve.proofs.WorthLemmas.{swapped_equal_sides, over_at_end, worth_of_over, final_swapped, value_moving_again, value_passing, best_found, best_attains, value_most, eq_yes, lowest_of, worth_of_going, eq_no, greatest_reached, worth_of_houses, value_of_houses}
 use Rattle.lru.proofs.Splits.{Contains-head}
 use Rattle.std.proofs.lemmas.Int.{ints, clamps}
 use Rattle.kalah_solve.specs.Solver.Worth.{worth, value_of_move, best_house, houses_worth}
 use Rattle.std.specs.List.{range_with_len}
-use Rattle.std.proofs.lemmas.List.{get_or_default, take_more_set, length-set}
+use Rattle.std.proofs.lemmas.List.{get_or_default, map-id, take_more_set, length-set}
+use Rattle.std.proofs.lemmas.Simd.{map-map}
 use Rattle.kalah_solve.specs.Solver.Verdict.{verdict_of, IsSmallBest, TellsBestPlay}
 use Rattle.kalah_solve.specs.declared.solver.Verdict.TheVariants.{Best, Over}
 use Rattle.kalah_solve.specs.declared.solver.Verdict.{Verdict}
 use Rattle.std.proofs.lemmas.List.Elements.{All-map, All-from_get_or, Contains-get_or}
 use Rattle.kalah_solve.specs.Solver.MoveValues.{TellMoves, ValueIsWorthOfMove, WorthOfMoveIsOne, ValuesTellVerdict, move_value, values_of, no_value}
 use Rattle.kalah_solve.specs.declared.solver.move_values.MoveValue.{MoveValue}
-use Rattle.kalah_rules.proofs.PackedLemmas.{houses_within}
+use Rattle.kalah_rules.proofs.PackedLemmas.{houses_within, is_over-swapped}
 use Rattle.kalah_solve.specs.Bounds.Intervals.{least_margin, most_margin, clamped}
 use Rattle.kalah_rules.specs.HousesStep.{houses_step}
 use Rattle.kalah_solve.specs.Bounds.Won.{won, won_by_step}
-use Rattle.kalah_solve.proofs.BoundsLemmas.{worth_up_to, worth_low, worth_high, won_of_houses, won_of_move, won_at_most}
+use Rattle.kalah_solve.proofs.BoundsLemmas.{worth_low, worth_high, won_of_houses, won_of_move, won_at_most}
 use Rattle.kalah_rules.specs.Limits.{most_houses}
 use Rattle.kalah_rules.specs.Cells.{padded_with, IsSixAtMost}
 
 -- ==== The games that players play
 
--- a policy that moves only legal houses
-pub record KeepsRules (policy : Policy) : Type 0 where
-  pub legal_only : (p : Position) (h : ℕ) → HasEqualSides p → is_over p ≡ false → Contains (policy p) h
-      → Contains (legal_houses p) h
+-- a policy whose houses are all of a wider policy
+pub record IsWithin (policy wider : Policy) : Type 0 where
+  pub widens : (p : Position) (h : ℕ) → HasEqualSides p → is_over p ≡ false → Contains (policy p) h → Contains (wider p) h
+
+-- a policy is as wide as itself
+pub same_policy : (policy : Policy) → IsWithin policy policy
+same_policy policy = grind arith
+
+-- who follows a strategy keeps to the rules
+pub strategy_within : {s : Strategy} → IsStrategy s → IsWithin (follow s) legal_houses
+strategy_within {s} ok = grind arith
 
 -- two strategies play a game to its end
 pub ends_within : (n : ℕ) (mine theirs : Strategy) → IsStrategy mine → IsStrategy theirs → (p : Position) → HasEqualSides p
@@ -63,27 +71,22 @@ pub strategies_play_a_game : StrategiesPlayAGame
 strategies_play_a_game mine theirs m t p even = ends_within (moves_left p) mine theirs m t p even (omega arith)
 
 -- each move leaves fewer, and the last position is over
-pub ends_in_time : {mine theirs : Policy} {p : Position} {houses : List ℕ} {final : Position} → KeepsRules mine → KeepsRules theirs
-    → HasEqualSides p →
-    Game mine theirs p houses final → EndsInTime p houses final
+pub ends_in_time : {mine theirs : Policy} {p : Position} {houses : List ℕ} {final : Position} → IsWithin mine legal_houses
+    → IsWithin theirs legal_houses → HasEqualSides p → Game mine theirs p houses final → EndsInTime p houses final
 ends_in_time m t even (is_at_end over) = grind arith
 ends_in_time {mine} {theirs} {p} m t even (moves_on {h = h} going has again rest) =
-    let fewer = after_fewer p h (legal_holds p h (m.legal_only p h even going has)) even in
+    let fewer = after_fewer p h (legal_holds p h (m.widens p h even going has)) even in
     let inner = ends_in_time m t (after_equal_sides p h) rest in
     record { over = inner.over; short = omega arith }
 ends_in_time {mine} {theirs} {p} m t even (passes_turn {h = h} {final = final} going has turn rest) =
-    let fewer = after_fewer p h (legal_holds p h (m.legal_only p h even going has)) even in
+    let fewer = after_fewer p h (legal_holds p h (m.widens p h even going has)) even in
     let turned = moves_left-swapped _ (after_equal_sides p h) in
     let inner = ends_in_time t m (swapped_equal_sides _ (after_equal_sides p h)) rest in
-    record { over = over_for_other final inner.over; short = omega arith }
-
--- a player whom only the rules bind keeps to them
-pub legal_keeps : KeepsRules legal_houses
-legal_keeps = grind arith
+    record { over = is_over-swapped final ∙ inner.over; short = omega arith }
 
 -- the law on how games end
 pub games_end : GamesEnd
-games_end p houses final even game = ends_in_time legal_keeps legal_keeps even game
+games_end p houses final even game = ends_in_time (same_policy _) (same_policy _) even game
 
 -- a policy that has one house at most
 pub record HasNoChoice (policy : Policy) : Type 0 where
@@ -123,10 +126,6 @@ game_is_one {mine} {theirs} {p} m t (passes_turn {h = h} going has turn rest)
 pub the_game_is_one : StrategiesPlayOneGame
 the_game_is_one mine theirs p houses others final other one two = game_is_one (follow_one mine) (follow_one theirs) one two
 
--- a policy whose houses are all of a wider policy
-pub record IsWithin (policy wider : Policy) : Type 0 where
-  pub widens : (p : Position) (h : ℕ) → HasEqualSides p → is_over p ≡ false → Contains (policy p) h → Contains (wider p) h
-
 -- a game is one of wider policies, too
 pub widened : {mine theirs mine' theirs' : Policy} {p : Position} {houses : List ℕ} {final : Position} → IsWithin mine mine' →
     IsWithin theirs theirs' → HasEqualSides p →
@@ -136,18 +135,6 @@ widened {mine} {theirs} {mine'} {theirs'} {p} m t even (moves_on {h = h} going h
     moves_on going (m.widens p h even going has) again (widened m t (after_equal_sides p h) rest)
 widened {mine} {theirs} {mine'} {theirs'} {p} m t even (passes_turn {h = h} going has turn rest) =
     passes_turn going (m.widens p h even going has) turn (widened t m (swapped_equal_sides _ (after_equal_sides p h)) rest)
-
--- a policy is as wide as itself
-pub same_policy : (policy : Policy) → IsWithin policy policy
-same_policy policy = grind arith
-
--- a strategy is within the rules
-pub strategy_within : {s : Strategy} → IsStrategy s → IsWithin (follow s) legal_houses
-strategy_within {s} ok = grind arith
-
--- who follows a strategy keeps to the rules
-pub strategy_keeps : (s : Strategy) → IsStrategy s → KeepsRules (follow s)
-strategy_keeps s ok = grind arith
 
 -- ==== What players who play best secure
 
@@ -162,14 +149,13 @@ pub record IsBounded (mine theirs : Policy) (p : Position) (z : ℤ) : Type 0 wh
   pub high : PlaysBest theirs → z ≤ℤ worth p
 
 -- a game by the rules ends on the right side of the worth for whoever plays best: by induction on its moves, for both players
-pub game_is_bounded : {mine theirs : Policy} {p : Position} {houses : List ℕ} {final : Position} → KeepsRules mine → KeepsRules theirs
-    → HasEqualSides p →
-    Game mine theirs p houses final → IsBounded mine theirs p (final_margin final)
+pub game_is_bounded : {mine theirs : Policy} {p : Position} {houses : List ℕ} {final : Position} → IsWithin mine legal_houses
+    → IsWithin theirs legal_houses → HasEqualSides p → Game mine theirs p houses final → IsBounded mine theirs p (final_margin final)
 game_is_bounded {p = p} m t even (is_at_end over) = grind (arith, worth_of_over)
 game_is_bounded {p = p} {final = final} m t even (moves_on {h = h} going has again rest) =
     let inner = game_is_bounded m t (after_equal_sides p h) rest in
     let value = value_moving_again p h again in
-    let most = value_most p h even going (m.legal_only p h even going has) in
+    let most = value_most p h even going (m.widens p h even going has) in
     record {
       low = λ best. omega (arith, ints, best.attains p h even going has);
       high = λ best. omega (arith, ints);
@@ -177,7 +163,7 @@ game_is_bounded {p = p} {final = final} m t even (moves_on {h = h} going has aga
 game_is_bounded {p = p} m t even (passes_turn {h = h} {final = final} going has turn rest) =
     let inner = game_is_bounded t m (swapped_equal_sides _ (after_equal_sides p h)) rest in
     let value = value_passing p h turn in
-    let most = value_most p h even going (m.legal_only p h even going has) in
+    let most = value_most p h even going (m.widens p h even going has) in
     rw (← final_swapped _) (record {
       low = λ best. omega (arith, ints, best.attains p h even going has);
       high = λ best. omega (arith, ints);
@@ -193,11 +179,11 @@ best_plays = grind (arith, best_attains)
 
 -- it gets the mover at least the worth
 pub best_secures : (p : Position) → HasEqualSides p → Secures best_house p (worth p)
-best_secures p even = λ houses final game. (game_is_bounded (strategy_keeps _ best_is_strategy) legal_keeps even game).low best_plays
+best_secures p even = λ houses final game. (game_is_bounded (strategy_within best_is_strategy) (same_policy _) even game).low best_plays
 
 -- the best house holds the mover to the worth when the other player moves it
 pub best_holds : (p : Position) → HasEqualSides p → HoldsTo best_house p (worth p)
-best_holds p even = grind (arith, game_is_bounded, legal_keeps, strategy_keeps, best_is_strategy, best_plays)
+best_holds p even = λ houses final game. (game_is_bounded (same_policy _) (strategy_within best_is_strategy) even game).high best_plays
 
 -- the law that always moving the best house is best play
 pub best_house_is_best_play : BestHouseIsBestPlay
@@ -329,17 +315,10 @@ small_best p margin house limits is_legal is_small =
     let holds = legal_holds p _ is_legal in
     record { small = is_small; first = holds.first; last = omega arith }
 
--- the two verdicts, by whether the game is over
-pub tells_either : (p : Position) (over : Bool) → (over ≡ true → TellsBestPlay p (Over (final_margin p))) →
-    (over ≡ false → TellsBestPlay p (Best (worth p) (best_house p))) →
-    TellsBestPlay p (if over then Over (final_margin p) else Best (worth p) (best_house p))
-tells_either p true at_end going = at_end refl
-tells_either p false at_end going = going refl
-
 -- the verdict states how best play ends
 pub verdict_tells : (p : Position) (v : Verdict) → HasEqualSides p → v ≡ verdict_of p → TellsBestPlay p v
 verdict_tells p v even is =
-    let tells = tells_either p _
+    let tells = cond_both (is_over p) _ _ (TellsBestPlay p)
     (λ over. record { over = over; final = refl; best_play = rw (worth_of_over p over) at (worth_is_best p even) })
     (λ going. record { going = going; best = best_move p even going; lowest = λ h is. best_house_lowest p h going is }) in
     subst (λ u. TellsBestPlay p u) (sym is) tells
@@ -372,8 +351,7 @@ worth_of_move_is_one p h v w even going a b = move_worth_is_one a b
 
 -- the houses are the legal ones
 houses_of : (p : Position) (xs : List ℕ) → map (λ v. v.house) (map (move_value p) xs) ≡ xs
-houses_of p [] = refl
-houses_of p (x ∷ xs) = ap (λ ys. x ∷ ys) (houses_of p xs)
+houses_of p xs = map-map (λ (v : MoveValue). v.house) (move_value p) xs ∙ map-id xs
 
 -- no values state nothing
 tell_none : (p : Position) → All (λ (v : MoveValue). IsWorthOfMove p v.house v.value) []
@@ -391,11 +369,6 @@ values_tell {p} even = record {
   ];
 }
 
--- only the values
-values_alone : (p : Position) (xs : List ℕ) → map (λ v. v.value) (map (move_value p) xs) ≡ map (value_of_move p) xs
-values_alone p [] = refl
-values_alone p (x ∷ xs) = ap (λ ys. value_of_move p x ∷ ys) (values_alone p xs)
-
 -- the first house with a value
 first_with : (p : Position) (m : ℤ) (xs : List ℕ)
     → option_map (λ (v : MoveValue). v.house) (find (λ v. int_eq v.value m) (map (move_value p) xs)) ≡ find
@@ -409,7 +382,7 @@ first_with p m (x ∷ xs) = elim (cases_Bool (int_eq (value_of_move p x) m)) [
 -- the law on the verdict
 pub values_tell_verdict : ValuesTellVerdict
 values_tell_verdict p even going =
-    grind (arith, values_alone, worth_of_going, first_with)
+    grind (arith, map-map, worth_of_going, first_with)
 
 -- ==== The first house that attains the margin of best play, and the margin with the stores
 
@@ -470,50 +443,41 @@ module _ (a : HousesState) (w : IsWithinHouses a) where
       let is = ap (value_of_move (storeless a)) place ∙ one.2 ∙ sym (worth_of_going _ (record { same = w.same_side }) going) in
       elim (cases_eq one.1.0 n) [
         | inl same ↦ root_is n (omega arith) short (rw same at is)
-        | inr other ↦ absurd (let here = eq_yes _ _ is in let there = short one.1.0 (omega arith) in cc)
+        | inr other ↦ absurd (both_ways _ (short one.1.0 (omega arith)) (eq_yes _ _ is))
       ]
 
 -- ---- with the stores
-margin_is : (p : Position) (best margin : ℤ) → best ≡ houses_worth (houses_in p) →
-    margin ≡ best +ℤ (pos p.own_store -ℤ pos p.other_store) → margin ≡ worth p
-margin_is p best margin best_is e = grind (arith, worth_of_houses)
-
--- the margin is one that a player can have
-pub margin_small : (p : Position) (best margin : ℤ) → IsWithinLimits p → best ≡ houses_worth (houses_in p) →
-    margin ≡ best +ℤ (pos p.own_store -ℤ pos p.other_store)
-    → IsSmallMargin margin
-margin_small p best margin limits best_is e =
-    let bounds = worth_up_to (houses_within p limits) in
-    record {
-      low = omega (arith, ints);
-      high = omega (arith, ints);
-    }
-
 -- the reported margin of the best of the houses: with the difference of the stores, in thirty-two bits
 abbrev pub told_margin : ℤ → ℕ → ℕ → ℤ
 told_margin best own other = to_z w32 (of_z w32 (to_z w32 (of_z w32 best) +ℤ to_z w32 (of_z w32 (to_z w32 own -ℤ to_z w32 other))))
 
-module _ (p : Position) (best : ℤ) (own other : ℕ) (limits : IsWithinLimits p)
-    (best_is : best ≡ houses_worth (houses_in p)) (own_is : own ≡ p.own_store) (other_is : other ≡ p.other_store) where
+module _ (p : Position) {rows : HousesState} {best : ℤ} {own other : ℕ} (limits : IsWithinLimits p) (best_is : best ≡ houses_worth rows)
+    (rows_is : rows ≡ houses_in p) (own_is : own ≡ p.own_store) (other_is : other ≡ p.other_store) where
+  -- what was found is the worth of the houses
+  found : best ≡ houses_worth (houses_in p)
+  found = best_is ∙ ap houses_worth rows_is
+
   -- no sum is too large
   pub told_fits : FitsSigned w32 (to_z w32 (of_z w32 best) +ℤ to_z w32 (of_z w32 (to_z w32 own -ℤ to_z w32 other)))
   told_fits =
-      let rows = houses_within p limits in
-      omega (arith, ints, worth_low _ rows, worth_high _ rows)
+      let within = houses_within p limits in
+      omega (arith, ints, found, worth_low _ within, worth_high _ within)
 
   -- nothing is lost in thirty-two bits
   told_is : told_margin best own other ≡ best +ℤ (pos p.own_store -ℤ pos p.other_store)
   told_is =
-      let rows = houses_within p limits in
-      omega (arith, ints, worth_low _ rows, worth_high _ rows)
+      let within = houses_within p limits in
+      omega (arith, ints, found, worth_low _ within, worth_high _ within)
 
   -- the sum of worth and stores is the worth of the position
   pub told_worth : told_margin best own other ≡ worth p
-  told_worth = margin_is p best _ best_is told_is
+  told_worth = told_is ∙ rw found (sym (worth_of_houses p))
 
   -- that sum is small
   pub told_small : IsSmallMargin (told_margin best own other)
-  told_small = margin_small p best _ limits best_is told_is
+  told_small =
+      let of_houses = won_of_houses (houses_within p limits) in
+      record { low = omega (arith, ints, found, told_is); high = omega (arith, ints, found, told_is) }
 
 -- ==== The value of a move, and its house, are numbers that a game can have
 

@@ -20,7 +20,7 @@ use Rattle.kalah_rules.specs.Play.{legal_houses}
 use Rattle.kalah_rules.specs.HousesStep.{houses_step}
 use Rattle.kalah_rules.proofs.PlayLemmas.{legal_holds}
 use Rattle.kalah_solve.specs.Marks.{cell, IsLastMark}
-use Rattle.kalah_solve.proofs.SearchLemmas.{cell_none, gone_before}
+use Rattle.kalah_solve.proofs.SearchLemmas.{cell_none, each_unmarked}
 use Rattle.kalah_solve.proofs.BoundsLemmas.{won_at_most, won_reached, won_of_houses}
 use Rattle.std.specs.Map.{lookup}
 use Rattle.lru.specs.LruCache.{LruCache, lru_cache, put_entries, promoted}
@@ -493,12 +493,8 @@ pub most_more : {a : HousesState} {marks most h : ℕ} (v new : ℕ) → IsWithi
     v ≡ won_by_step (houses_step a h) → new ≡ max most v → IsMost a (marks - 32 ^ (h - 1)) new
 most_more {a} {marks} {most} {h} v new w is last has v_is new_is = record {
   reached = omega (arith, won_at_most a w h has);
-  all = λ i may gone. elim (cases_eq i h) [
-    | inl same ↦ rw same (omega arith)
-    | inr other ↦
-        let place : i - 1 ≢ h - 1 = omega (arith, (legal_holds (storeless a) i may).first) in
-        omega (arith, is.all i may (gone_before marks h last _ place gone))
-  ];
+  all = each_unmarked a (λ i. won_by_step (houses_step a i) ≤ new) last (omega arith)
+      (λ i may place gone. omega (arith, is.all i may gone));
 }
 
 -- if all seeds are won, best play wins as many
@@ -514,10 +510,6 @@ most_won a marks most w going is none = grind (arith, won_reached, cell_none)
 
 -- ==== What a table keeps, over the list of its entries
 
--- equal numbers
-same_number : (m n : ℕ) → nat_eq m n ≡ true → m ≡ n
-same_number m n h = eqb-true m n h
-
 -- what a look-up finds encloses the worth of the houses
 pub found_holds : (es : List (ℕ × Interval)) (a : HousesState) (k : ℕ) → AreTrue es → IsWithinHouses a → k ≡ key_of a →
     (o : Option Interval) → lookup (nat_eq k) es ≡ o
@@ -526,7 +518,7 @@ found_holds es a k entries within key None h = tt
 found_holds es a k entries within key (Some i) h =
     let at = Contains-lookup _ es i h in
     let entry = entries _ at.1 in
-    let same = same_key _ a entry.1 within (entry.2 ∙ sym (same_number _ _ at.2) ∙ key) in
+    let same = same_key _ a entry.1 within (entry.2 ∙ sym (eqb-true _ _ at.2) ∙ key) in
     subst (λ b. Encloses i (houses_worth b)) same entry.3
 
 -- a use changes only the order
@@ -545,7 +537,7 @@ module _ (c : LruCache ℕ Interval) (a : HousesState) (k : ℕ) (i : Interval) 
     | inl was ↦ entries e was
     | inr put ↦ elim put.1 [
       | inl at ↦ put_entry e put.0 at
-      | inr other ↦ put_entry e put.0 (sym (same_number _ _ other.2))
+      | inr other ↦ put_entry e put.0 (sym (eqb-true _ _ other.2))
     ]
   ]
 

@@ -2,16 +2,16 @@
 use Rattle.kalah_rules.specs.declared.step.Step.TheVariants as board
 use Rattle.std.proofs.Common.{zero, suc, ◌≡◌, ℕ, ◌+◌, ◌<◌, ◌≤◌, inl, inr, List, [], ◌∷◌, length, get_or, arith, sym, ◌∙◌, refl, ap, IsTrue, ◌-◌, Bool, true, false, Contains, map, filter, find, unwrap_or, ℤ, if◌then◌else◌, pos, ◌≤ℤ◌, ◌<ℤ◌, sum, neg_ℤ, ◌||◌, ◌+ℤ◌, ◌-ℤ◌, fold, int_eq}
 use Rattle.std.specs.List.{range_with_len}
-use Rattle.std.proofs.lemmas.Bool.{cases_Bool, cases_lt}
+use Rattle.std.proofs.lemmas.Bool.{cases_Bool, cases_lt, cond_both}
 use Rattle.std.proofs.lemmas.Int.{fold-int_max_reached, ints, fold-int_max_bounds}
 use Rattle.std.proofs.lemmas.List.{length-map, get_or-map, get_or_default}
-use Rattle.std.proofs.lemmas.List.Elements.{Contains-get_or, Contains-append_right, Contains-append_left, Contains-push, All-from_get_or}
+use Rattle.std.proofs.lemmas.List.Elements.{All-contains, All-filter, Contains-get_or, Contains-append_right, Contains-append_left, Contains-push, All-from_get_or}
 use Rattle.lru.proofs.Splits.{Contains-head, Contains-tail, Contains-cons}
 use Rattle.kalah_solve.specs.Solver.Worth.{greatest, worth, best_house, value_by, worth_within, value_of_move, houses_worth}
 use Rattle.std.proofs.lemmas.Bool.Decides.{Decides-int_eq}
 use Rattle.kalah_rules.specs.Position.{Position, IsWithinLimits, is_over, final_margin, HasEqualSides, seeds_in_houses, swapped, swept, houses_in, storeless, HousesState, IsWithinHouses}
 use Rattle.kalah_rules.specs.Play.{legal_houses, step_of}
-use Rattle.kalah_rules.proofs.PlayLemmas.{legal_holds, holds_legal, sum-zeros, after_equal_sides, after_fewer, moves_left-swapped, with_more, after_with_more, is_with_more, legal_going}
+use Rattle.kalah_rules.proofs.PlayLemmas.{all_range, legal_holds, holds_legal, sum-zeros, after_equal_sides, after_fewer, moves_left-swapped, with_more, after_with_more, is_with_more, legal_going}
 use Rattle.std.proofs.lemmas.List.Sums.{sum_by-le}
 use Rattle.kalah_rules.specs.Sowing.{after, is_again}
 use Rattle.kalah_rules.specs.Measure.{moves_left}
@@ -23,7 +23,7 @@ use Rattle.kalah_rules.specs.declared.step.HousesStep.{HousesStep}
 use Rattle.kalah_rules.specs.declared.step.HousesStep.TheVariants.{Over, Again, Turn}
 use Rattle.kalah_rules.specs.HousesStep.{houses_step_to, houses_step}
 use Rattle.kalah_solve.specs.Solver.GoingOn.{GoesOn, GoesOnAt}
-use Rattle.kalah_rules.proofs.PackedLemmas.{after_keeps, on_cond, over_swapped, after_within, swapped_within}
+use Rattle.kalah_rules.proofs.PackedLemmas.{after_keeps, is_over-swapped, after_within, swapped_within}
 
 -- ==== What a search in a list finds
 
@@ -57,16 +57,9 @@ find_passes t (x ∷ xs) k has passes = elim (cases_Bool (t x)) [
 
 -- a number of a range that passes is no lower than its start
 pub filter_low : (g : ℕ → Bool) (a n h : ℕ) → Contains (filter g (range_with_len a n)) h → a ≤ h
-filter_low g a zero h has = absurd (omega arith)
-filter_low g a (suc n) h has = elim (cases_Bool (g a)) [
-  | inl kept ↦
-      let has' = rw kept at has in
-      elim (Contains-cons a (filter g (range_with_len (a + 1) n)) h has') [
-        | inl first ↦ omega arith
-        | inr later ↦ let low = filter_low g (a + 1) n h later in omega arith
-      ]
-  | inr dropped ↦ let low = filter_low g (a + 1) n h (rw dropped at has) in omega arith
-]
+filter_low g a n h has =
+    let InRange : ℕ → Type 0 = λ i. (a ≤ i) × (i < a + n) in
+    (All-contains InRange _ h (All-filter g InRange (range_with_len a n) (all_range a n)) has).0
 
 -- what a search finds in ascending numbers is the lowest that passes
 pub find_lowest : (t g : ℕ → Bool) (a n h : ℕ) → Contains (filter g (range_with_len a n)) h → t h ≡ true →
@@ -266,18 +259,7 @@ legal_some p going = grind (arith, row_empty)
 
 -- ==== The value of a move and the worth of what follows
 
--- one of two tests passes, in either order
-pub or_swapped : (a b : Bool) → (a || b) ≡ true → (b || a) ≡ true
-or_swapped true true is = refl
-or_swapped true false is = refl
-or_swapped false true is = refl
-or_swapped false false is = is
-
--- a game that is over is over from the other side
-pub over_for_other : (q : Position) → is_over q ≡ true → is_over (swapped q) ≡ true
-over_for_other q over = simp or_swapped
-
--- with the opposite margin
+-- the final margin is the opposite for the other player
 pub final_swapped : (q : Position) → neg_ℤ (final_margin (swapped q)) ≡ final_margin q
 final_swapped q = omega (arith, ints)
 
@@ -287,7 +269,7 @@ value_moving_again p h again = grind (arith, worth_of_over)
 
 -- with the turn passed, the value of a move is the negative of what follows
 pub value_passing : (p : Position) (h : ℕ) → is_again p h ≡ false → value_of_move p h ≡ neg_ℤ (worth (swapped (after p h)))
-value_passing p h turn = grind (arith, cases_Bool, worth_of_over, over_for_other, final_swapped)
+value_passing p h turn = grind (arith, cases_Bool, worth_of_over, is_over-swapped, final_swapped)
 
 -- the best house is legal, and attains the worth
 pub best_found : (p : Position) → HasEqualSides p → is_over p ≡ false →
@@ -395,8 +377,7 @@ worth_by_stores p = omega (arith, ints, worth_of_houses p)
 
 -- the same search by tests that agree
 find_same : (p q : ℕ → Bool) (xs : List ℕ) → ((h : ℕ) → p h ≡ q h) → find p xs ≡ find q xs
-find_same p q [] same = refl
-find_same p q (x ∷ xs) same = grind arith
+find_same p q xs same = λ i. find (λ h. same h i) xs
 
 -- two shifted numbers are equal if the two were
 int_eq_shift : (x y d : ℤ) → int_eq (x +ℤ d) (y +ℤ d) ≡ int_eq x y
@@ -484,7 +465,7 @@ leads_on a h w has =
     let play = keeps.play in
     let within = after_within a h w holds in
     let rule = ap rule_bit keeps.rule in
-    on_cond (LeadsOn a) (is_over q) _ _ (omega arith) (λ going. on_cond (LeadsOn a) (is_again (storeless a) h) _ _
+    cond_both (is_over q) _ _ (LeadsOn a) (omega arith) (λ going. cond_both (is_again (storeless a) h) _ _ (LeadsOn a)
     (λ again. record {
       kept = omega arith;
       fewer = fewer;
@@ -495,7 +476,7 @@ leads_on a h w has =
     (λ turn. record {
       kept = omega arith;
       fewer = omega (arith, moves_left-swapped q (omega arith));
-      going = over_swapped q going;
+      going = is_over-swapped q ∙ going;
       limits = swapped_within q within;
       same = omega arith;
     }))
@@ -537,17 +518,3 @@ pub step_falls : (a : HousesState) (h : ℕ) (s : HousesStep) → IsWithinHouses
 step_falls a h s w has e =
     let fewer = after_fewer (storeless a) h (legal_holds (storeless a) h has) (record { same = w.same_side }) in
     falls_of a s (omega (arith, fewer)) (leads_by _ _ w has e)
-
--- ==== What houses are worth
-
--- no move is worth more
-pub value_le_worth : (a : HousesState) (h : ℕ) → IsWithinHouses a → Contains (legal_houses (storeless a)) h
-    → value_of_move (storeless a) h ≤ℤ houses_worth a
-value_le_worth a h w has = value_most _ _ (omega arith) (legal_going (storeless a) h has) has
-
--- some move is worth as much as the houses
-pub worth_reached : (a : HousesState) → IsWithinHouses a → is_over (storeless a) ≡ false →
-    (h : ℕ) × Contains (legal_houses (storeless a)) h × (houses_worth a ≡ value_of_move (storeless a) h)
-worth_reached a w going =
-    let even : HasEqualSides _ = omega arith in
-    (best_house (storeless a), (best_found _ even going).0, sym (best_attains even going))

@@ -50,8 +50,7 @@ bound_turn-overflow_sub-result g t c =
 pub bound_turn-returns-else-all-beta : goal.bound_turn-returns-else-all-beta
 bound_turn-returns-else-all-beta g t c =
     let few = (won_of_houses c.requires.on.limits).few in
-    bound_left (c.args.gained + c.seeds.result) _ c.args.gained (omega arith) few c.if-beta-gained.false c.if-all-beta.false
-    c.bound.ensures
+    bound_left (c.args.gained + c.seeds.result) _ c.args.gained (omega arith) few c.bound.ensures
 
 pub explore-bounds-priorities-at : goal.explore-bounds-priorities-at
 explore-bounds-priorities-at g t c = omega (arith, (c.loop-priority.invariant.next c.loop-priority-test.true).place)

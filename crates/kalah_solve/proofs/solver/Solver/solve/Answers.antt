@@ -36,14 +36,10 @@ best_house-house-requires-clause-best g c =
     half_is c.houses-houses.result _ _ c.seeds.ensures.limits c.houses_worth-best.ensures
     (rw c.seeds.ensures.seeds at (simp to_z-of_z at c.won_of-beta.ensures))
 
--- what the search finds is the worth of the houses
-found : (g : given.Over) (c : goal.After-other_store g) → c.houses_worth-best.result ≡ houses_worth (houses_in c.args.board.now)
-found g c = c.houses_worth-best.ensures ∙ ap houses_worth c.houses-houses.ensures
-
 pub overflow_add-margin : goal.overflow_add-margin
 overflow_add-margin g c =
-    told_fits c.args.board.now c.houses_worth-best.result c.own_store.result c.other_store.result c.is_over.ensures.limits
-    (found g c) c.own_store.ensures c.other_store.ensures
+    told_fits c.args.board.now c.is_over.ensures.limits c.houses_worth-best.ensures c.houses-houses.ensures c.own_store.ensures
+    c.other_store.ensures
 
 -- the reported house
 house_is : (g : given.Over) (c : goal.After-other_store g) → c.best_house-house.result ≡ best_house c.args.board.now
@@ -55,8 +51,8 @@ returns-clause-verdict g c =
     let p = c.args.board.now in
     verdict_by p (told_margin c.houses_worth-best.result c.own_store.result c.other_store.result) c.best_house-house.result
     (sym c.if-is_over.ensures.over)
-    (told_worth p c.houses_worth-best.result c.own_store.result c.other_store.result c.is_over.ensures.limits
-    (found g c) c.own_store.ensures c.other_store.ensures) (house_is g c)
+    (told_worth p c.is_over.ensures.limits c.houses_worth-best.ensures c.houses-houses.ensures c.own_store.ensures c.other_store.ensures)
+    (house_is g c)
 
 pub returns-clause-best_play : goal.returns-clause-best_play
 returns-clause-best_play g c =
@@ -69,4 +65,4 @@ returns-clause-small g c =
     let limits = c.is_over.ensures.limits in
     small_best p (told_margin c.houses_worth-best.result c.own_store.result c.other_store.result) c.best_house-house.result limits
     (rw (house_is g c) (best_found p (board_equal_sides p limits) (sym c.if-is_over.ensures.over)).0)
-    (told_small p c.houses_worth-best.result c.own_store.result c.other_store.result limits (found g c) c.own_store.ensures c.other_store.ensures)
+    (told_small p limits c.houses_worth-best.ensures c.houses-houses.ensures c.own_store.ensures c.other_store.ensures)

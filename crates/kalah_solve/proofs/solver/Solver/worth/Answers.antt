@@ -15,21 +15,14 @@ returns-then-is_over-clause-worth g c =
 pub houses_worth-best-requires-clause-limits : goal.houses_worth-best-requires-clause-limits
 houses_worth-best-requires-clause-limits g c = rw c.houses.ensures (houses_within _ c.is_over.ensures.limits)
 
--- what the search finds is the worth of the houses
-found : (g : Over) (c : goal.After-other_store g) → c.houses_worth-best.result ≡ houses_worth (houses_in c.args.board.now)
-found g c = c.houses_worth-best.ensures ∙ ap houses_worth c.houses.ensures
-
 pub overflow_add-result : goal.overflow_add-result
 overflow_add-result g c =
-    told_fits c.args.board.now c.houses_worth-best.result c.own_store.result c.other_store.result c.is_over.ensures.limits
-    (found g c) c.own_store.ensures c.other_store.ensures
+    told_fits c.args.board.now c.is_over.ensures.limits c.houses_worth-best.ensures c.houses.ensures c.own_store.ensures c.other_store.ensures
 
 pub returns-clause-worth : goal.returns-clause-worth
 returns-clause-worth g c =
-    told_worth c.args.board.now c.houses_worth-best.result c.own_store.result c.other_store.result c.is_over.ensures.limits
-    (found g c) c.own_store.ensures c.other_store.ensures
+    told_worth c.args.board.now c.is_over.ensures.limits c.houses_worth-best.ensures c.houses.ensures c.own_store.ensures c.other_store.ensures
 
 pub returns-clause-small : goal.returns-clause-small
 returns-clause-small g c =
-    told_small c.args.board.now c.houses_worth-best.result c.own_store.result c.other_store.result c.is_over.ensures.limits
-    (found g c) c.own_store.ensures c.other_store.ensures
+    told_small c.args.board.now c.is_over.ensures.limits c.houses_worth-best.ensures c.houses.ensures c.own_store.ensures c.other_store.ensures
