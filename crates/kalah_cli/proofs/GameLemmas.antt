@@ -17,7 +17,7 @@ use Rattle.kalah_solve.specs.Solver.Worth.{best_house, value_of_move, worth}
 use Rattle.kalah_solve.specs.declared.solver.Verdict.TheVariants.{Best, Over}
 use Rattle.std.proofs.lemmas.List.Elements.{Contains-push}
 use Rattle.kalah_solve.proofs.SolverLemmas.{best_is_strategy, best_plays, game_is_bounded, strategy_within, widened}
-use Rattle.kalah_solve.proofs.WorthLemmas.{final_swapped, value_moving_again, value_of_again, value_of_turn, value_passing, worth_of_over, again_fewer, again_step, over_at_end, over_ends, over_step, swapped_equal_sides, turn_fewer, turn_step}
+use Rattle.kalah_solve.proofs.WorthLemmas.{final_swapped, value_moving_again, value_of_again, value_of_turn, value_passing, worth_of_over, again_fewer, over_at_end, over_ends, step_states, swapped_equal_sides, turn_fewer}
 use Rattle.kalah_jobs.specs.Writing.Sink.{SinkState, WasGiven}
 use Rattle.kalah_jobs.specs.Writing.Shown.{shown_of}
 use Rattle.kalah_jobs.specs.Writing.Variation.{variation_start}
@@ -84,19 +84,19 @@ game_before : {policy : Policy} {p : Position} {h : ℕ} {houses : List ℕ} {fi
     → (end : Position) × Game policy policy p (h ∷ houses) end
     × (final_margin final ≡ worth (position_after s) → final_margin end ≡ value_of_move p h)
 game_before {policy} {p} {h} {houses} {final} (step.Again q) going may is game =
-    let to = again_step (is_over (after p h)) (is_again p h) (after p h) q is in (
+    let to = step_states (is_over (after p h)) (is_again p h) (after p h) (step.Again q) is in (
       final,
       moves_on going may to.1 (subst (λ r. Game policy policy r houses final) to.2 game),
       λ margin. margin ∙ value_of_again p h q is,
     )
 game_before {policy} {p} {h} {houses} {final} (step.Turn q) going may is game =
-    let to = turn_step (is_over (after p h)) (is_again p h) (after p h) q is in (
+    let to = step_states (is_over (after p h)) (is_again p h) (after p h) (step.Turn q) is in (
       swapped final,
       passes_turn going may to.1 (subst (λ r. Game policy policy r houses final) to.2 game),
       λ margin. omega (arith, ints, final_swapped final, margin, value_of_turn p h q is),
     )
 game_before {p = p} {h = h} (step.Over q) going may is (is_at_end _) =
-    let over = (over_step (is_over (after p h)) (is_again p h) (after p h) q is).0 in
+    let over = (step_states (is_over (after p h)) (is_again p h) (after p h) (step.Over q) is).0 in
     let other = is_over-swapped (after p h) ∙ over in
     elim (cases_Bool (is_again p h)) [
       | inl again ↦ (

@@ -242,6 +242,13 @@ module _ (f d e m n i : ℕ) (few : m ≤ 6) (d_is : d ≡ distances m) (e_is : 
 pub one_remaining : (x f e : ℕ) → f ≡ min 1 x → e ≤ 1 → (0 < e → 0 < x) → (0 < bit_xor f e) ↔ ((0 < x) × ¬ (0 < e))
 one_remaining x f e f_is single within = grind arith
 
+-- what is equivalent to one thing and not another is so to their equivalents, one part of the other being implied
+unless_both : {A X N S L E : Type 0} → A ↔ (X × ¬ N) → X ↔ S → N ↔ (L × E) → (S → L) → A ↔ (S × ¬ E)
+unless_both a x n implied = (
+  λ p. let q = a.0 p in (x.0 q.0, λ e. q.1 (n.1 (implied (x.0 q.0), e))),
+  λ p. a.1 (x.1 p.0, λ m. p.1 (n.0 m).1),
+)
+
 -- ==== Marks of a player's houses, by the cells of their row
 
 module _ (a : HousesState) (row : ℕ) (w : IsWithinHouses a) (row_is : row ≡ number_of a.own) where
@@ -295,27 +302,11 @@ module _ (a : HousesState) (row : ℕ) (w : IsWithinHouses a) (row_is : row ≡ 
         (0 < cell (bit_xor f n) i) ↔ ((0 < slice_index a.own i) × ¬ EndsInStore a (i + 1))
     remaining_marked f i few cells single apart = elim (cases_lt i 6) [
       | inl low ↦
-          let again = into_store_marked i in
-          let within : 0 < cell n i → 0 < cell row i =
-          λ some. let both = again.0 some in let ends = (ends_at i).0 both.1 in let before = both.0 in
-          omega (arith, own_cell i) in
-          let one = one_remaining _ _ _ (cells i low) (single i low) within in (
-            λ some. let both = one.0 (omega arith) in
-                let filled : 0 < slice_index a.own i = let has = both.0 in omega (arith, own_cell i) in (
-                  filled,
-                  λ ends. both.1 (again.1 (
-                    elim (cases_lt i (length a.own)) [
-                      | inl before ↦ before
-                      | inr beyond ↦ absurd
-                          (omega (arith, own_past i beyond))
-                    ],
-                    ends,
-                  )),
-                ),
-            λ both. let has = both.0 in
-                let marked = one.1 (omega (arith, own_cell i), λ some. both.1 (again.0 some).1) in
-                omega arith,
-          )
+          let ending = into_store_marked i in
+          let seeded : 0 < cell n i → 0 < cell row i = λ some. let ends = (ends_at i).0 (ending.0 some).1 in
+          let before = (ending.0 some).0 in omega (arith, own_cell i) in
+          rw apart (unless_both (one_remaining _ _ _ (cells i low) (single i low) seeded) (rw (own_cell i) ((λ has. has), (λ has. has))) ending
+          (λ has. elim (cases_lt i (length a.own)) [ inl before ↦ before | inr past ↦ absurd (omega (arith, own_past i past)) ]))
       | inr high ↦
           let none = cell_past _ _ _ (xor_lt 30 f n few small) high in
           let nothing = own_past i (omega arith) in

@@ -194,23 +194,16 @@ final_margin-swept q = omega (arith, ints)
 abbrev step_by : Bool → Bool → Position → Step
 step_by b a q = if b then board.Over (swept q) else (if a then board.Again q else board.Turn (swapped q))
 
--- it ends the game only if the game is over, with the houses swept
-pub over_step : (b a : Bool) (q e : Position) → board.Over e ≡ step_by b a q → (b ≡ true) × (e ≡ swept q)
-over_step true a q e is = (refl, cc)
-over_step false true q e is = cc
-over_step false false q e is = cc
+-- what a step states: the game is over, and the houses are swept; the mover moves again; or the turn passes, and the sides are swapped
+abbrev pub StatesEnding : Bool → Bool → Position → Step → Type 0
+StatesEnding over again q (board.Over e) = (over ≡ true) × (e ≡ swept q)
+StatesEnding over again q (board.Again e) = (over ≡ false) × (again ≡ true) × (e ≡ q)
+StatesEnding over again q (board.Turn e) = (over ≡ false) × (again ≡ false) × (e ≡ swapped q)
 
--- it lets the mover move again only if that is so
-pub again_step : (b a : Bool) (q e : Position) → board.Again e ≡ step_by b a q → (b ≡ false) × (a ≡ true) × (e ≡ q)
-again_step true a q e is = cc
-again_step false true q e is = (refl, refl, cc)
-again_step false false q e is = cc
-
--- it passes the turn only if that is so, with the sides swapped
-pub turn_step : (b a : Bool) (q e : Position) → board.Turn e ≡ step_by b a q → (b ≡ false) × (a ≡ false) × (e ≡ swapped q)
-turn_step true a q e is = cc
-turn_step false true q e is = cc
-turn_step false false q e is = (refl, refl, cc)
+pub step_states : (over again : Bool) (q : Position) (s : Step) → s ≡ step_by over again q → StatesEnding over again q s
+step_states true again q s is = rw is (refl, refl)
+step_states false true q s is = rw is (refl, refl, refl)
+step_states false false q s is = rw is (refl, refl, refl)
 
 -- a move that ends the game leaves it over
 pub over_ends : (p : Position) (h : ℕ) (e : Position) → board.Over e ≡ step_of p h → IsTrue (is_over e)
@@ -232,14 +225,18 @@ value_of_turn p h e is = grind arith
 pub again_fewer : (p : Position) (h : ℕ) (e : Position) → HasEqualSides p → Contains (legal_houses p) h
     → board.Again e ≡ step_of p h →
     moves_left e < moves_left p
-again_fewer p h e even is_legal is = grind (arith, again_step, after_fewer, legal_holds)
+again_fewer p h e even is_legal is =
+    let to = step_states (is_over (after p h)) (is_again p h) (after p h) (board.Again e) is in
+    rw to.2 (after_fewer p h (legal_holds p h is_legal) even)
 
 -- if the turn passes
 pub turn_fewer : (p : Position) (h : ℕ) (e : Position) → HasEqualSides p → Contains (legal_houses p) h
     → board.Turn e ≡ step_of p h →
     moves_left e < moves_left p
 turn_fewer p h e even is_legal is =
-    grind (arith, turn_step, moves_left-swapped, after_equal_sides, after_fewer, legal_holds)
+    let to = step_states (is_over (after p h)) (is_again p h) (after p h) (board.Turn e) is in
+    let fewer = after_fewer p h (legal_holds p h is_legal) even in
+    rw to.2 (omega (arith, moves_left-swapped (after p h) (after_equal_sides p h)))
 
 -- without a legal house the own row of a game that goes on would be empty
 row_empty : (p : Position) → is_over p ≡ false → length (legal_houses p) ≤ 0 → sum p.own ≡ 0
