@@ -1,9 +1,9 @@
 -- Lines that come as a stream: what is answered of them, and how far.
 use Rattle.kalah_rules.specs.Position as position
 use Rattle.std.proofs.Common.{◌≡◌, ◌≢◌, ◌∙◌, ℕ, zero, suc, ◌+◌, ◌≤◌, Bool, true, false, List, [], ◌∷◌, ◌++◌, length, take, inl, inr, refl, sym, ap, ap₂, arith, append-nil, append_assoc, Err, not, ◌||◌, ◌&&◌, subst}
-use Rattle.std.specs.Prelude.{IsErrOf, Result, Ok, if◌then◌else◌, Option}
+use Rattle.std.specs.Prelude.{IsErrOf, Result, Ok, Option}
 use Rattle.std.specs.List.{flat_map, enumerate_from}
-use Rattle.std.proofs.lemmas.Bool.{cases_lt}
+use Rattle.std.proofs.lemmas.Bool.{cases_lt, cond_both}
 use Rattle.std.proofs.Math.Bool.{and-true}
 use Rattle.std.proofs.lemmas.Grind.{flat_map-append}
 use Rattle.std.proofs.lemmas.List.{length-take-le, take_all}
@@ -12,7 +12,6 @@ use Rattle.kalah_rules.specs.Position.{is_over}
 use Rattle.kalah_jobs.specs.declared.files.question.Question.{Question}
 use Rattle.kalah_jobs.specs.declared.files.question.Question.TheVariants.{BestMove, Values, Steps}
 use Rattle.kalah_jobs.specs.declared.asking.ask_fault.AskFault.TheVariants.{Read, Write}
-use Rattle.kalah_jobs.specs.declared.writing.answer.Answer.{Answer}
 use Rattle.kalah_jobs.specs.declared.line.line_fault.LineFault.{LineFault}
 use Rattle.kalah_jobs.specs.Asking.{kept_bytes, reply, last_reply, is_last_read, answers_to, are_all_read, AnswersAreThoseOfAFile, AreAnswered, Asking, IsAnswered, IsBegun, IsCutOff}
 use Rattle.kalah_jobs.specs.Files.Entry.{entry_of_reading, entry_to}
@@ -24,7 +23,7 @@ use Rattle.kalah_jobs.specs.declared.line.line_fault.LineFault.TheVariants.{Long
 use Rattle.kalah_jobs.specs.Writing.Answer.{answer_of, joined_text, is_fault, place_text, IsOfOneLine}
 use Rattle.kalah_jobs.specs.Writing.Output.{is_faulty, line_output}
 use Rattle.kalah_jobs.specs.Writing.Splitting.{EndsWithItsLine}
-use Rattle.kalah_jobs.proofs.FilesLemmas.{lines_of-ended, lines_of-open, IsNoFeed}
+use Rattle.kalah_jobs.proofs.FilesLemmas.{lines_of-ended, lines_of-open, IsNoFeed, lines_of-empty}
 use Rattle.kalah_jobs.proofs.LineLemmas.{long_is_read}
 use Rattle.kalah_jobs.proofs.WritingLemmas.{files_split_between_lines, one_line_parts}
 use Rattle.std.specs.Io.KnownBytes.{Appends, Consumes, IsAtEnd, Keeps}
@@ -45,13 +44,9 @@ lines_of_ended piece none = lines_of-ended piece [] none
 lines_of_open : (byte : ℕ) (piece : List ℕ) → HasNoLineFeed (byte ∷ piece) → lines_of (byte ∷ piece) ≡ (byte ∷ piece) ∷ []
 lines_of_open byte piece none = lines_of-open (byte ∷ piece) none (λ e. cc)
 
-no_lines : lines_of [] ≡ []
-unfolding lines_of
-no_lines = refl
-
 -- a piece is one line at most
 pub one_line : (piece : List ℕ) → HasNoLineFeed piece → length (lines_of piece) ≤ 1
-one_line [] none = rw no_lines (omega arith)
+one_line [] none = rw (lines_of-empty [] refl) (omega arith)
 one_line (byte ∷ piece) none = rw (lines_of_open byte piece none) (omega arith)
 
 -- ---- the answers
@@ -64,7 +59,7 @@ answers_split question lines more ends =
 
 pub no_answers : (question : Question) → answers_to question [] ≡ []
 unfolding answers_to
-no_answers question = ap (flat_map (reply question)) no_lines
+no_answers question = ap (flat_map (reply question)) (lines_of-empty [] refl)
 
 -- the answer to one line
 pub answers_to_one : (question : Question) (bytes line : List ℕ) → lines_of bytes ≡ line ∷ []
@@ -147,17 +142,13 @@ last_read lines (byte ∷ piece) ends none =
 
 -- ---- the law
 
-one_of_two : (over : Bool) (a b : Answer) → IsOfOneLine a → IsOfOneLine b → IsOfOneLine (if over then a else b)
-one_of_two true a b one other = one
-one_of_two false a b one other = other
-
 -- where no steps are asked an answer is of one line
 one_line_read : (question : Question) → question ≢ Steps → (r : Result position.Position LineFault) →
     IsOfOneLine (answer_of (entry_of_reading question r))
 unfolding answer_of
-one_line_read BestMove other (Ok p) = one_of_two (is_over p) _ _ tt tt
+one_line_read BestMove other (Ok p) = cond_both (is_over p) _ _ IsOfOneLine (λ _. tt) (λ _. tt)
 one_line_read BestMove other (Err fault) = tt
-one_line_read Values other (Ok p) = one_of_two (is_over p) _ _ tt tt
+one_line_read Values other (Ok p) = cond_both (is_over p) _ _ IsOfOneLine (λ _. tt) (λ _. tt)
 one_line_read Values other (Err fault) = tt
 one_line_read Steps other r = absurd (other refl)
 
@@ -176,9 +167,8 @@ line_parts question other name number line =
 lines_parts : (question : Question) → question ≢ Steps → (name : List ℕ) (number : ℕ) (lines : List (List ℕ)) →
     flat_map (line_output question name) (enumerate_from number lines)
     ≡ flat_map (λ p. place_text name p.0 ++ reply question p.1) (enumerate_from number lines)
-lines_parts question other name number [] = refl
-lines_parts question other name number (line ∷ lines) =
-    ap₂ (λ (l m : List ℕ). l ++ m) (line_parts question other name number line) (lines_parts question other name (number + 1) lines)
+lines_parts question other name number lines =
+    λ i. flat_map (λ p. line_parts question other name p.0 p.1 i) (enumerate_from number lines)
 
 pub answers_are_those_of_a_file : AnswersAreThoseOfAFile
 answers_are_those_of_a_file = record {

@@ -288,18 +288,17 @@ still_offered {jobs} {past} {f} {k} o old = record {
 pub holds_accepted : (jobs : List (List Entry)) (past : List Job) (files : List ArrivalsState) (o : Job) → HoldsOffered jobs past files →
     IsWanted jobs files o
     → HoldsOffered jobs (past ++ o ∷ []) (after_offer files o.file o.line (answer_of o.entry))
-holds_accepted jobs past files o holds wanted =
+holds_accepted jobs past files o holds ((((there, not_ended), line), entry_is), first) =
     let a : Answer = answer_of o.entry in
-    let entry_is : entry_at jobs o.file o.line ≡ Some o.entry = wanted.0.1 in
     record {
       counts = counts_set files o.file (with_answer (state_of files o.file) o.line a)
           (length-set (state_of files o.file).arrived o.line (Some a)) ∙ holds.counts;
-      came = each_line files o a wanted.0.0.0.0 wanted.0.0.1
+      came = each_line files o a there line
           (λ f k now. (e : Entry) → entry_at jobs f k ≡ Some e → Contains (past ++ o ∷ []) (line_job f k e)
           → now ≡ Some (answer_of e))
           (λ e is has. cc (entry_is, is))
           (λ f k apart e is has. grind (arith, apart, Contains-push_cases past o (line_job f k e) has, holds.came f k e is));
-      only = each_line files o a wanted.0.0.0.0 wanted.0.0.1
+      only = each_line files o a there line
           (λ f k now. (b : Answer) → now ≡ Some b → IsOffered jobs (past ++ o ∷ []) f k b)
           (λ b same. record { entry = o.entry; at = entry_is; is = (cc); offered = Contains-push past o })
           (λ f k apart b is. still_offered o (holds.only f k b is));

@@ -1,13 +1,13 @@
 -- The lines of files, their entries, and the jobs of a batch.
 use Rattle.kalah_rules.specs.Position as position
 use Rattle.kalah_rules.specs.contracts.board.BoardPartialEq.TheImpl as board_eq
-use Rattle.std.proofs.Common.{◌≡◌, ◌≢◌, ℕ, ◌+◌, ◌<◌, ◌≤◌, List, [], ◌∷◌, ◌++◌, length, get_or, take, drop, take-append-drop, refl, ap, sym, ◌∙◌, arith, length-drop, ◌⊎◌, inl, inr, append_assoc, Ok, Err, zero, suc, ◌-◌, Bool, true, false, cond, map, length-append, ◌==◌}
+use Rattle.std.proofs.Common.{◌≡◌, ◌≢◌, ℕ, ◌+◌, ◌<◌, ◌≤◌, List, [], ◌∷◌, ◌++◌, length, get_or, take, drop, take-append-drop, refl, ap, sym, ◌∙◌, arith, length-drop, ◌⊎◌, inl, inr, append_assoc, Ok, Err, zero, suc, ◌-◌, Bool, true, false, cond, map, length-append, ◌==◌, sum}
 use Rattle.std.specs.Prelude.{if◌then◌else◌, All, Some, slice_get, sum_by, count_by}
 use Rattle.std.specs.List.{onto_first, flat_map}
 use Rattle.std.proofs.lemmas.List.{take_all, drop_all, drop_more, append-nil, take_more, take-append-le, get_or_append_left, length-map, map-append, get_or-map}
-use Rattle.std.proofs.lemmas.List.Elements.{All-head, All-tail, All-nil, All-cons}
+use Rattle.std.proofs.lemmas.List.Elements.{All-head, All-tail, All-nil, All-cons, All-pop}
 use Rattle.std.proofs.Math.Seq.{take-nil, get_or-append_seam}
-use Rattle.std.proofs.lemmas.List.Sums.{sum_by-cons, sum_by-append, sum_by_push, sum_by-drop_more, get_or-le-sum_by, count_by-le-length}
+use Rattle.std.proofs.lemmas.List.Sums.{sum_by-cons, sum_by-append, sum_by_push, sum_by-drop_more, get_or-le-sum_by, count_by-le-length, sum-map}
 use Rattle.kalah_jobs.specs.Files.Lines.{line_feed, lines_of, HasNoLineFeed, with_line_feeds, EndsInOpenLine, AreLines, LinesAreOne}
 use Rattle.std.proofs.lemmas.Bool.{cases_eq}
 use Rattle.kalah_jobs.specs.declared.files.entry.Entry.{Entry}
@@ -30,6 +30,7 @@ use Rattle.kalah_jobs.specs.Writing.Output.{is_faulty, is_faulty_job}
 use Rattle.kalah_rules.proofs.KeyLemmas.{same_key}
 use Rattle.kalah_rules.proofs.PackedLemmas.{houses_within}
 use Rattle.kalah_rules.specs.contracts.board.BoardEq.TheImpl.Laws.{laws-law}
+use Rattle.std.proofs.lemmas.Simd.{map-map}
 
 -- ==== Where the first line of some bytes ends
 
@@ -189,20 +190,13 @@ lines_of-feeds (piece ∷ pieces) rest whole =
       lines_of-feeds pieces rest (All-tail HasNoLineFeed piece pieces whole),
     )
 
-All-before : (before : List (List ℕ)) (last : List ℕ) → All HasNoLineFeed (before ++ last ∷ []) →
-    All HasNoLineFeed before × HasNoLineFeed last
-All-before [] last whole = (All-nil HasNoLineFeed, All-head HasNoLineFeed last [] whole)
-All-before (piece ∷ before) last whole =
-    let rest = All-before before last (All-tail HasNoLineFeed piece (before ++ last ∷ []) whole) in
-    (All-cons HasNoLineFeed piece before (All-head HasNoLineFeed piece (before ++ last ∷ []) whole) rest.0, rest.1)
-
 -- no other pieces are the lines of the bytes
 no_others : (bytes : List ℕ) (pieces : List (List ℕ)) → AreLines bytes pieces → pieces ≡ lines_of bytes
 unfolding lines_of
 no_others bytes pieces are = elim are.parts [
   | inl closed ↦ grind (arith, append-nil, closed, lines_of-feeds pieces [] are.whole)
   | inr unended ↦
-      let whole = All-before unended.before unended.last (rw unended.pieces_are at are.whole) in
+      let whole = All-pop HasNoLineFeed pieces unended.before (Some unended.last) unended.pieces_are are.whole in
       grind (arith, lines_of-feeds unended.before unended.last whole.0, lines_of-open unended.last whole.1 unended.some_bytes)
 ]
 
@@ -233,13 +227,7 @@ job_count-cons entries jobs = sum_by-cons length entries jobs
 
 -- of the results of f as many pass a test as there are elements whose result does
 pub count_map : {A X : Type 0} (p : X → Bool) (f : A → X) (xs : List A) → count_by p (map f xs) ≡ count_by (λ x. p (f x)) xs
-count_map p f [] = refl
-count_map {A} {X} p f (x ∷ xs) = omega (
-  arith,
-  count_map p f xs,
-  sum_by-cons (λ (y : X). cond (p y) 1 0) (f x) (map f xs),
-  sum_by-cons (λ (y : A). cond (p (f y)) 1 0) x xs,
-)
+count_map p f xs = sym (sum-map _ (map f xs)) ∙ ap sum (map-map _ f xs) ∙ sum-map _ xs
 
 -- rows counted in one list
 pub count_flat : {X : Type 0} (q : X → Bool) (rows : List (List X)) →

@@ -6,7 +6,7 @@ use Rattle.std.proofs.lemmas.Bool.{cases_lt, cases_Bool, lt-ltb, cond-true, cond
 use Rattle.std.proofs.lemmas.Bool.Decides.{nat_tests, eqb_tells}
 use Rattle.std.proofs.lemmas.Option.{cond_some}
 use Rattle.std.proofs.lemmas.Fmt.{decimal_digit, decimal_step, length-decimal-le}
-use Rattle.kalah_jobs.specs.Line.Line.{IsNumber, comma, slash, AreHouses, IsSide, space, suffix_of, IsLineOf, without_cr, HasSidesInLimits, Reads, Holds, HasFault, side_text, line_text_of}
+use Rattle.kalah_jobs.specs.Line.Line.{IsNumber, comma, slash, AreHouses, IsSide, space, suffix_of, IsLineOf, without_cr, HasSidesInLimits, Reads, Holds, HasFault, side_text, line_text_of, carriage_return}
 use Rattle.kalah_jobs.specs.Line.Reading.{number_from, number_at, ◌>>=◌, Found, store_at, house_followed, side_from, side_at, rule_of, position_from, written_of, admitted, admitted_if_written, reading_of}
 use Rattle.std.proofs.lemmas.List.{nil_from_length}
 use Rattle.kalah_jobs.specs.Line.Side.{AreKept}
@@ -422,6 +422,14 @@ nor_this {text} fault before not earlier low holds = elim (cases_lt (order_of ea
 ]
 
 -- a line of few bytes that writes the position
+-- a line that writes a position isn't empty
+not_empty : (text : List ℕ) (p : Position) → IsLineOf text p → ¬ Holds Empty text
+not_empty text p form empty = empty_is_no_line p (subst (λ t. IsLineOf t p) empty form)
+
+-- nor do its sides differ or have too many houses, if those of the position don't
+not_houses : (text : List ℕ) (p : Position) → IsLineOf text p → HasSidesInLimits p → ¬ Holds Houses text
+not_houses text p form sides (q, (other, wrong)) = wrong (subst HasSidesInLimits (one_position text p q form other) sides)
+
 position_is_read : (line : List ℕ) (p : Position) → length (without_cr line) ≤ most_line_bytes → NoneBefore (without_cr line) 4 →
     IsLineOf (without_cr line) p → IsReading line (admitted p)
 position_is_read line p few none form = elim (eqb_tells (length p.other) (side_length p)) [
@@ -432,8 +440,7 @@ position_is_read line p few none form = elim (eqb_tells (length p.other) (side_l
         let sides : HasSidesInLimits p = record { same_side = same.1; at_most_six = six } in
         elim (cases_lt most_seeds (seeds_in_houses p)) [
           | inl many ↦
-              let fit : ¬ Holds Houses (without_cr line) =
-              λ h. h.1.1 (subst HasSidesInLimits (one_position (without_cr line) p h.0 form h.1.0) sides) in
+              let fit = not_houses (without_cr line) p form sides in
               rw (same.0, le-ltb _ _ six, lt-ltb _ _ many) (record { holds = (p, (form, many)); first = nor_this Houses none fit })
           | inr few_seeds ↦
               rw (same.0, le-ltb _ _ six, le-ltb _ _ few_seeds)
@@ -467,8 +474,7 @@ few_are_read line few r e =
       | None ↦ λ e. nothing_is_read line text refl none e
       | Some p ↦ λ e.
           let form = written_is_line text p e in
-          let some : ¬ Holds Empty text = λ empty. empty_is_no_line p (subst (λ t. IsLineOf t p) empty form) in
-          position_is_read line p few (nor_this Shape (nor_this Empty none some) (λ shape. shape p form)) form
+          position_is_read line p few (nor_this Shape (nor_this Empty none (not_empty text p form)) (λ shape. shape p form)) form
     ]) e
 
 pub long_is_read : (line : List ℕ) → most_line_bytes < length (without_cr line) → reading_of line ≡ Err Long
@@ -490,13 +496,11 @@ reads_once line p q first second = one_position (without_cr line) p q first.form
 
 no_fault : (line : List ℕ) (p : Position) → Reads line p → (fault : LineFault) → ¬ Holds fault (without_cr line)
 no_fault line p reads Long long = omega (arith, reads.few_bytes, long)
-no_fault line p reads Empty empty = empty_is_no_line p (subst (λ t. IsLineOf t p) empty reads.form)
+no_fault line p reads Empty empty = not_empty (without_cr line) p reads.form empty
 no_fault line p reads Shape none = none p reads.form
-no_fault line p reads Houses other =
-    other.1.1 (subst HasSidesInLimits (one_position (without_cr line) p other.0 reads.form other.1.0) reads.sides)
-no_fault line p reads Seeds many =
-    let same = one_position (without_cr line) many.0 p many.1.0 reads.form in
-    omega (arith, ap seeds_in_houses same, many.1.1, reads.few_seeds)
+no_fault line p reads Houses other = not_houses (without_cr line) p reads.form reads.sides other
+no_fault line p reads Seeds (q, (form, many)) =
+    omega (arith, ap seeds_in_houses (one_position (without_cr line) q p form reads.form), many, reads.few_seeds)
 
 one_fault : (line : List ℕ) (a b : LineFault) → HasFault line a → HasFault line b → a ≡ b
 one_fault line a b first second =
@@ -514,14 +518,14 @@ only_reading line r is = one_reading line (reading_of line) r (is_reading line) 
 -- ==== What stands at the end of a line
 
 -- one CR at the end is dropped
-pub without_cr-cr : (text : List ℕ) → without_cr (text ++ 13 ∷ []) ≡ text
+pub without_cr-cr : (text : List ℕ) → without_cr (text ++ carriage_return ∷ []) ≡ text
 without_cr-cr [] = refl
 without_cr-cr (byte ∷ []) = refl
 without_cr-cr (byte ∷ more ∷ text) = ap (λ (t : List ℕ). byte ∷ t) (without_cr-cr (more ∷ text))
 
 -- any other byte at the end stays
-pub without_cr-other : (text : List ℕ) (last : ℕ) → last ≢ 13 → without_cr (text ++ last ∷ []) ≡ text ++ last ∷ []
-without_cr-other [] last other = rw (ne_eqb last 13 other) refl
+pub without_cr-other : (text : List ℕ) (last : ℕ) → last ≢ carriage_return → without_cr (text ++ last ∷ []) ≡ text ++ last ∷ []
+without_cr-other [] last other = rw (ne_eqb last carriage_return other) refl
 without_cr-other (byte ∷ []) last other = ap (λ (t : List ℕ). byte ∷ t) (without_cr-other [] last other)
 without_cr-other (byte ∷ more ∷ text) last other = ap (λ (t : List ℕ). byte ∷ t) (without_cr-other (more ∷ text) last other)
 
@@ -546,8 +550,8 @@ number_ends_without_cr byte text n h = grind (arith, nat_tests)
 houses_text : (text houses : List ℕ) → AreHouses text houses → text ≡ join_with_byte comma (map decimal houses)
 houses_text text [] h = absurd h
 houses_text text (n ∷ []) h = number_text text n h
-houses_text text (n ∷ m ∷ houses) h =
-    h.1.1.0 ∙ ap₂ (λ (a b : List ℕ). a ++ comma ∷ b) (number_text h.0 n h.1.1.1) (houses_text h.1.0 (m ∷ houses) h.1.1.2)
+houses_text text (n ∷ m ∷ houses) (first, (rest, (parts, number, written))) =
+    parts ∙ ap₂ (λ (a b : List ℕ). a ++ comma ∷ b) (number_text first n number) (houses_text rest (m ∷ houses) written)
 
 pub is_side_text : (text houses : List ℕ) (store : ℕ) → IsSide text houses store → text ≡ side_text houses store
 is_side_text text houses store side =

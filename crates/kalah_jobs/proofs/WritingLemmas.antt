@@ -2,11 +2,11 @@
 use Rattle.std.proofs.Common.{SFits, of_z, to_z, w16, w32, ℕ, ◌<◌, ◌≤◌, ◌^◌, length, arith, ◌≡◌, zero, suc, List, ◌++◌, IsAscii, IsUtf8, subst, sym, refl, ◌+◌, [], ap, ◌∙◌, take, drop, append_assoc, ◌∷◌, map, get_or, flat_map, cond, ◌==◌, append-nil, add-one, Bool, true, false, codes, ap₂, ◌-◌, filter, length-append, inl, inr}
 use Rattle.std.specs.Fmt.{decimal, signed_decimal}
 use Rattle.std.proofs.lemmas.Fmt.{length-decimal-le, IsAscii-decimal, length_signed_le}
-use Rattle.std.specs.Prelude.{decimal, replicate, Option, ◌↔◌, IsErr, Ok, Err, OnOk, Result, ℤ, pos, negsuc, nat_lt, slice_get, Some, if◌then◌else◌, sum_by, count_by}
+use Rattle.std.specs.Prelude.{decimal, replicate, Option, ◌↔◌, IsErr, Ok, Err, OnOk, Result, ℤ, pos, negsuc, slice_get, Some, sum_by, count_by}
 use Rattle.std.proofs.lemmas.Str.{IsUtf8-append, IsUtf8-from_ascii}
 use Rattle.std.proofs.lemmas.Str.Ascii.{IsAscii-nil, IsAscii-cons}
 use Rattle.kalah_jobs.specs.Line.Line.{comma, space, side_text}
-use Rattle.kalah_rules.specs.Position.{Position, side_length, IsWithinLimits, IsSmallMargin, is_over, seeds}
+use Rattle.kalah_rules.specs.Position.{Position, side_length, IsWithinLimits, IsSmallMargin, is_over}
 use Rattle.std.specs.Io.KnownBytes.{Appends, Keeps}
 use Rattle.kalah_jobs.specs.Writing.Player.{houses_of}
 use Rattle.kalah_jobs.specs.declared.writing.player.Player.{Player}
@@ -17,7 +17,7 @@ use Rattle.std.proofs.Math.ListN.{drop_of_length-le}
 use Rattle.std.proofs.lemmas.List.{take-append-drop, length-take-le, length-drop, drop_at, drop-drop, flat_map_more, take_more, take_all, drop_more}
 use Rattle.kalah_jobs.specs.Writing.Sink.{AppendsPrefix, SinkState, WasGiven}
 use Rattle.std.specs.List.{join_with_byte, range_with_len, flat_map, enumerate_from, onto_first, count_by}
-use Rattle.std.proofs.lemmas.Bool.{ne_eqb, cases_eq}
+use Rattle.std.proofs.lemmas.Bool.{ne_eqb, cases_eq, cond_both}
 use Rattle.std.proofs.lemmas.Grind.{flat_map-append}
 use Rattle.kalah_jobs.specs.Files.Lines.{line_feed, lines_of}
 use Rattle.kalah_jobs.specs.Writing.Answer.{in_one_line, answer_line, joined_text, place_text, value_text, values_text, answer_of, is_faulty_entry}
@@ -174,6 +174,20 @@ first_moves one moves others i same =
 later : (i : ℕ) → (suc i == 0) ≡ false
 later i = ne_eqb (suc i) 0 (λ e. omega (arith, e))
 
+-- the text of each number, joined with the separator between any two
+module _ (joined : List ℕ → List ℕ) (text : ℕ → List ℕ) (separator : List ℕ) (none : joined [] ≡ [])
+    (one : (x : ℕ) → joined (x ∷ []) ≡ text x)
+    (more : (x y : ℕ) (xs : List ℕ) → joined (x ∷ y ∷ xs) ≡ text x ++ (separator ++ joined (y ∷ xs))) where
+  one_more_joined : (xs : List ℕ) (i : ℕ) → i < length xs →
+      joined (take (i + 1) xs) ≡ joined (take i xs) ++ (cond (i == 0) [] separator ++ text (get_or xs i 0))
+  one_more_joined [] i within = absurd (omega (arith, within))
+  one_more_joined (x ∷ xs) zero within = rw (none, one) refl
+  one_more_joined (x ∷ []) (suc i) within = absurd (omega (arith, within))
+  one_more_joined (x ∷ y ∷ xs) (suc zero) within = rw (more, one, one) refl
+  one_more_joined (x ∷ y ∷ xs) (suc (suc i)) within =
+      let rest = rw add-one at (one_more_joined (y ∷ xs) (suc i) (omega (arith, within))) in
+      rw (add-one, more, more) (simp (rest, later, append_assoc))
+
 module _ (place : List ℕ) (text : ℕ → List ℕ) where
   -- the lines of moves, with a line feed between any two
   abbrev pub joined_lines : List ℕ → List ℕ
@@ -188,12 +202,7 @@ module _ (place : List ℕ) (text : ℕ → List ℕ) where
   pub one_line_more : (moves : List ℕ) (i : ℕ) → i < length moves →
       joined_lines (take (i + 1) moves) ≡ joined_lines (take i moves) ++
       (cond (i == 0) [] (line_feed ∷ []) ++ (place ++ text (get_or moves i 0)))
-  one_line_more [] i within = absurd (omega (arith, within))
-  one_line_more (h ∷ moves) zero within = refl
-  one_line_more (h ∷ []) (suc i) within = absurd (omega (arith, within))
-  one_line_more (h ∷ k ∷ moves) (suc zero) within = refl
-  one_line_more (h ∷ k ∷ moves) (suc (suc i)) within =
-      let rest = rw add-one at (one_line_more (k ∷ moves) (suc i) (omega (arith, within))) in rw add-one (simp (rest, later, append_assoc))
+  one_line_more = one_more_joined joined_lines (λ h. place ++ text h) (line_feed ∷ []) refl (λ h. refl) (λ h k moves. refl)
 
 -- ==== Texts that are given to a sink in sequence
 
@@ -288,12 +297,7 @@ module _ (text : ℕ → List ℕ) where
 
   pub one_text_more : (moves : List ℕ) (i : ℕ) → i < length moves →
       texts_in_line (take (i + 1) moves) ≡ texts_in_line (take i moves) ++ (cond (i == 0) [] (codes "; ") ++ text (get_or moves i 0))
-  one_text_more [] i within = absurd (omega (arith, within))
-  one_text_more (h ∷ moves) zero within = refl
-  one_text_more (h ∷ []) (suc i) within = absurd (omega (arith, within))
-  one_text_more (h ∷ k ∷ moves) (suc zero) within = refl
-  one_text_more (h ∷ k ∷ moves) (suc (suc i)) within =
-      let rest = rw add-one at (one_text_more (k ∷ moves) (suc i) (omega (arith, within))) in rw add-one (simp (rest, later, append_assoc))
+  one_text_more = one_more_joined texts_in_line text (codes "; ") refl (λ h. refl) (λ h k moves. refl)
 
 -- ==== Texts with a byte between any two, put together from the last on
 
@@ -432,24 +436,17 @@ ascend_later : (low high : ℕ) (vs : List MoveValue) → low ≤ high → Ascen
 ascend_later low high [] within ascend = tt
 ascend_later low high (v ∷ vs) within ascend = (omega (arith, within, ascend.0), ascend.1)
 
--- a house more, if it is kept
-ascend_more : (p : Position) (from : ℕ) (rest : List ℕ) (is_kept : Bool) → AscendFrom (from + 1) (map (move_value p) rest)
-    → AscendFrom from (map (move_value p) (cond is_kept (from ∷ rest) rest))
-ascend_more p from rest true ascend = (omega arith, ascend)
-ascend_more p from rest false ascend = ascend_later from (from + 1) (map (move_value p) rest) (omega arith) ascend
-
 -- the values of the houses that are kept ascend by their houses
 kept_ascend : (f : ℕ → Bool) (p : Position) (from n : ℕ) → AscendFrom from (map (move_value p) (filter f (range_with_len from n)))
 kept_ascend f p from zero = tt
-kept_ascend f p from (suc n) = ascend_more p from (filter f (range_with_len (from + 1) n)) (f from) (kept_ascend f p (from + 1) n)
+kept_ascend f p from (suc n) =
+    let later = kept_ascend f p (from + 1) n in
+    cond_both (f from) _ _ (λ houses. AscendFrom from (map (move_value p) houses)) (λ kept. (omega arith, later))
+    (λ left_out. ascend_later from (from + 1) _ (omega arith) later)
 
 values_ascend : (p : Position) → AscendFrom 1 (values_of p)
-values_ascend p = go (is_over p)
-  where
-    go : (b : Bool) →
-        AscendFrom 1 (map (move_value p) (if b then [] else filter (λ i. nat_lt 0 (seeds p.own i)) (range_with_len 1 (side_length p))))
-    go true = tt
-    go false = kept_ascend (λ i. nat_lt 0 (seeds p.own i)) p 1 (side_length p)
+values_ascend p = cond_both (is_over p) _ _ (λ houses. AscendFrom 1 (map (move_value p) houses)) (λ over. tt)
+    (λ going. kept_ascend _ p 1 (side_length p))
 
 pub have_columns : (p : Position) (values : List MoveValue) → values ≡ values_of p → AscendFrom 0 values
 have_columns p values is = subst (AscendFrom 0) (sym is) (ascend_later 0 1 (values_of p) (omega arith) (values_ascend p))
