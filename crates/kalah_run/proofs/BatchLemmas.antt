@@ -20,7 +20,7 @@ use Rattle.kalah_jobs.proofs.WritingLemmas.{start_none, start_then, start_longer
 use Rattle.kalah_run.specs.Batch.OrderedOutput.{WasGivenSince, text_of_job, written_upto, IsUnderWay, text_of, IsNew, HasWritten, whole_output, Waits, WritesReady}
 use Rattle.kalah_run.specs.Batch.Leaving.{rest_of, pass_in, HasDrawnNothing, IsLeft, NothingIsLeft, DrawsOnlyTheRest}
 use Rattle.std.specs.List.{flat_map, enumerate_from}
-use Rattle.std.proofs.lemmas.Bool.{cases_eq, cases_lt, lt-ltb}
+use Rattle.std.proofs.lemmas.Bool.{cases_eq, cases_lt, lt-ltb, both_ways, true_from_ne_false}
 use Rattle.std.proofs.lemmas.Grind.{flat_map-append}
 use Rattle.kalah_jobs.specs.declared.writing.answer.Taken.{Taken}
 use Rattle.kalah_jobs.specs.declared.collecting.refusal.Refusal.{Refusal}
@@ -96,7 +96,7 @@ since_failed : {begun out : SinkState} (bs cs : List ℕ) → WasGivenSince begu
     → WasGivenSince begun out (bs ++ cs)
 since_failed {begun} {out} bs cs given broken = record {
   start = start_longer begun.written out.written bs cs given.start;
-  whole = λ sound. absurd (let both : true ≡ false = sym broken ∙ sound in cc);
+  whole = λ sound. absurd (both_ways _ sound broken);
 }
 
 -- it is given more, unless it has failed
@@ -242,7 +242,7 @@ module _ {text : ℕ → Taken → List ℕ} {jobs : List (List Entry)} {past : 
             (λ (np : g ≡ f → ⊥). progress.before g (omega arith))
             (cases_eq g f);
         later = λ g g_high. progress.later g (omega arith);
-        written = subst (λ (l : List ℕ). WasGivenSince begun out l) text_is progress.written;
+        written = subst (WasGivenSince begun out) text_is progress.written;
       }
 
   -- an outcome is offered, and accepted or refused: what was written stays
@@ -261,7 +261,7 @@ module _ {text : ℕ → Taken → List ℕ} {jobs : List (List Entry)} {past : 
   pub progress_failed : out.has_failed ≡ true → WasGivenSince begun out (text_of_jobs text jobs)
   progress_failed broken =
       let all = written_first text jobs f (state_of files f).taken in
-      subst (λ (l : List ℕ). WasGivenSince begun out l) all.1 (since_failed _ all.0 progress.written broken)
+      subst (WasGivenSince begun out) all.1 (since_failed _ all.0 progress.written broken)
 
   -- Each job was offered once, and the current file, if there is one, has not ended.
   module _ (each : AreJobsInSomeOrder jobs past) (waits : f < length files → HasEnded (state_of files f) → ⊥) where
@@ -277,7 +277,7 @@ module _ {text : ℕ → Taken → List ℕ} {jobs : List (List Entry)} {past : 
     progress_end =
         let many : length files ≡ length jobs = files_many jobs files progress.kept.offered.counts in
         let high : length files ≤ f = past_all in
-        subst (λ (l : List ℕ). WasGivenSince begun out l) (written_all text jobs f (state_of files f).taken (omega arith))
+        subst (WasGivenSince begun out) (written_all text jobs f (state_of files f).taken (omega arith))
         progress.written
 
 -- ==== What an output writes, line by line
@@ -364,12 +364,12 @@ one_taken f workers w is so_far = is ∙ ap (λ l. l ++ f w ∷ []) so_far ∙ s
 -- a list that has room for one element of each worker that is left, and for some more, has room for the first worker's
 pub room_for_one : {w : Worker} {workers workers' : List Worker} {len capacity : ℕ} (more : ℕ) → workers ≡ w ∷ workers'
     → length workers + (len + more) ≤ capacity → len < capacity
-room_for_one more is room = omega (arith, room, ap (λ (l : List Worker). length l) is)
+room_for_one more is room = omega (arith, room, ap length is)
 
 -- then it has room for those of the others
 pub room_still : {w : Worker} {workers workers' : List Worker} {len' capacity capacity' : ℕ} (len more : ℕ) → workers ≡ w ∷ workers'
     → len' ≡ len + 1 → capacity' ≡ capacity → length workers + (len + more) ≤ capacity → length workers' + (len' + more) ≤ capacity'
-room_still len more is longer same room = omega (arith, room, longer, same, ap (λ (l : List Worker). length l) is)
+room_still len more is longer same room = omega (arith, room, longer, same, ap length is)
 
 -- ==== The workers of a batch, from their passes to what was got of them
 
@@ -378,7 +378,7 @@ pub as_many_workers : (workers : List Worker) (passes : List PassState) (count :
     → length passes ≡ count
     → length workers ≡ count
 as_many_workers workers passes count are many =
-    sym (length-map workers (λ (w : Worker). w.pass)) ∙ ap (λ (l : List PassState). length l) are ∙ many
+    sym (length-map workers (λ (w : Worker). w.pass)) ∙ ap length are ∙ many
 
 -- a new batch has a worker for each job up to the number asked for, and one for no job
 pub as_asked : (workers : List Worker) (passes : List PassState) {count fewer total : ℕ} (wanted jobs : ℕ)
@@ -410,12 +410,12 @@ puts_after : {G : Type 0} {knows : G → ℕ → Bool} (shared : SharedWork G) (
     → HaveRun knows shared before after
     → ArePassesFrom shared.queue.id n (puts_of before) → ArePassesFrom shared.queue.id n (puts_of after)
 puts_after shared [] [] n run from = tt
-puts_after shared [] (a ∷ others) n run from = absurd (let many = run.as_many in omega arith)
-puts_after shared (b ∷ bs) [] n run from = absurd (let many = run.as_many in omega arith)
+puts_after shared [] (a ∷ others) n run from = absurd (omega (arith, run.as_many))
+puts_after shared (b ∷ bs) [] n run from = absurd (omega (arith, run.as_many))
 puts_after {knows = knows} shared (b ∷ bs) (a ∷ others) n run from =
     let first = run.each 0 a (omega arith) in
     let rest : HaveRun knows shared bs others = record {
-      as_many = (let many = run.as_many in omega arith);
+      as_many = (omega (arith, run.as_many));
       each = λ k d within. run.each (suc k) d (omega arith);
     } in
     (first.at_work.sends, first.number ∙ from.1, puts_after shared bs others (suc n) rest from.2)
@@ -431,7 +431,7 @@ have_run is as_many each = rw (← is) (record { as_many = as_many; each = each 
 module _ {G : Type 0} {knows : G → ℕ → Bool} (shared : SharedWork G) (before after : List Worker)
     (run : HaveRun knows shared before after) where
   pub run_at_work : AreAtWork knows shared after
-  run_at_work = λ k d within. (run.each k d (let many = run.as_many in omega arith)).at_work
+  run_at_work = λ k d within. (run.each k d (omega (arith, run.as_many))).at_work
 
   run_passes : All (IsPassAt shared.desk) (passes_of after)
   run_passes = All-map (IsPassAt shared.desk) (λ (w : Worker). w.pass) after (λ k d within. (run_at_work k d within).draws)
@@ -520,8 +520,8 @@ pub each_job_known : {G : Type 0} {knows : G → ℕ → Bool} {shared : SharedW
 each_job_known {knows = knows} {shared} {before} {after} {drawn} run some deals job low =
     let Known : ℕ → Type 0 = λ n. knows shared.gate.now n ≡ true in
     let spent = λ (k : ℕ) (w : Worker) (within : k < length after).
-    (run.each k w (let many = run.as_many in omega arith)).spent in
-    let all : drawn ≡ job_count shared.jobs.now = deals.spent (some_spent after (let many = run.as_many in omega arith) spent) in
+    (run.each k w (omega (arith, run.as_many))).spent in
+    let all : drawn ≡ job_count shared.jobs.now = deals.spent (some_spent after (omega (arith, run.as_many)) spent) in
     let once = deals.each_once job ∙ ap {B = ℕ} (λ (b : Bool). if b then 1 else 0) (lt-ltb job drawn (omega arith)) in
     has_of_rows Known job (drawn_rows (passes_of after)) (omega (arith, once))
     (All-map (λ (r : DrawnRow). All Known r.numbers) (λ (p : PassState). p.row) (passes_of after)
@@ -534,11 +534,10 @@ each_job_known {knows = knows} {shared} {before} {after} {drawn} run some deals 
 pub unless_left : {rest : Rest} {failed : Bool} {A : Type 0} → A ⊎ IsLeft rest failed → (rest ≡ Solve) ⊎ (failed ≡ false) → A
 unless_left (inl a) sound = a
 unless_left (inr left) (inl solve) = absurd (let both : Leave ≡ Solve = sym left.0 ∙ solve in cc)
-unless_left (inr left) (inr still) = absurd (let both : true ≡ false = sym left.1 ∙ still in cc)
+unless_left (inr left) (inr still) = absurd (both_ways _ still left.1)
 
 pub failed_still : {was : Bool} (now : Bool) → (now ≡ false → was ≡ false) → was ≡ true → now ≡ true
-failed_still true sound failed = refl
-failed_still false sound failed = absurd (let both : true ≡ false = sym failed ∙ sound refl in cc)
+failed_still now sound failed = true_from_ne_false now (λ still. both_ways _ (sound still) failed)
 
 -- the calling thread's pass, before and after a call of the output
 pub draws_still : {desk : DeskState} {was : Bool} {before after : Option PassState} (now : Bool) → (now ≡ false → was ≡ false)
@@ -643,7 +642,7 @@ module _ {G : Type 0} {knows : G → ℕ → Bool} {shared : SharedWork G} {befo
   pub all_back : {passes : ℕ} {back : List PassState} (left left' : Option PassState) → rest_of left' ≡ rest_of left
       → back ≡ passes_of after ++ pass_in left' → length before + length (pass_in left) ≡ passes → length back ≡ passes
   all_back left left' same is all =
-      let many = ap (λ (l : List PassState). length l) is ∙ length-append (passes_of after) (pass_in left') in
+      let many = ap length is ∙ length-append (passes_of after) (pass_in left') in
       omega (arith, many, length-map after (λ (w : Worker). w.pass), run.as_many, all, as_many_left left left' same)
 
   -- each of them is of the desk
@@ -656,7 +655,7 @@ module _ {G : Type 0} {knows : G → ℕ → Bool} {shared : SharedWork G} {befo
   pub puts_back : {len count : ℕ} {puts : List PutPassState} → len ≡ length puts → puts ≡ puts_of after → count ≡ length before
       → ArePassesFrom shared.queue.id 0 (puts_of before) → (len ≡ count) × ArePassesFrom shared.queue.id 0 puts
   puts_back many is count from = (
-    omega (arith, many, ap (λ (l : List PutPassState). length l) is, length-map after (λ (w : Worker). w.put_pass), run.as_many, count),
+    omega (arith, many, ap length is, length-map after (λ (w : Worker). w.put_pass), run.as_many, count),
     rw is (puts_after shared before after 0 run from),
   )
 
@@ -747,7 +746,7 @@ has_collected {output = output} {r} {begun} {later = later} {before} {now} so_fa
       queue = so_far.queue;
       workers = so_far.workers;
       all_got = all_got;
-      given = λ known. subst (λ l. WasGivenSince begun later l) whole (⊎_elim
+      given = λ known. subst (WasGivenSince begun later) whole (⊎_elim
           (λ (each : AreJobsInSomeOrder output.jobs.now (outcomes_in now.get_pass.got)). progress_end written.progress
           (subst (λ l. AreJobsInSomeOrder l (outcomes_in now.get_pass.got)) (sym written.of_jobs) each) so_far.progress.1)
           (λ (left : IsLeft (rest_of before.rest_pass) later.has_failed). progress_failed written.progress left.1)
@@ -760,7 +759,7 @@ pub since_output : (question : Question) (files : List NamedBytes) (r : OrderedO
     → r.files.now ≡ files → r.jobs.now ≡ jobs_to question files
     → WasGivenSince begun out (whole_output r) → WasGivenSince begun out (output_to question files)
 since_output question files r begun out of_files of_jobs given =
-    subst (λ l. WasGivenSince begun out l)
+    subst (WasGivenSince begun out)
     ((λ i. output_of_jobs (names_of (of_files i)) (of_jobs i)) ∙ sym (files_are_their_jobs.output question files)) given
 
 -- there are as many jobs as lines
@@ -820,7 +819,7 @@ module _ (question : Question) (files : List NamedBytes) (none : lines_in_all fi
 
   -- if there is no line, a sink that is left as it was has been given the whole output
   pub since_no_output : (begun : SinkState) → WasGivenSince begun begun (output_to question files)
-  since_no_output begun = subst (λ l. WasGivenSince begun begun l) (sym no_output) (since_none begun)
+  since_no_output begun = subst (WasGivenSince begun begun) (sym no_output) (since_none begun)
 
   no_tally : tally_of files ≡ record { lines = 0; faults = 0 }
   no_tally =

@@ -2,7 +2,7 @@
 use Rattle.std.proofs.Common.{◌≡◌, ◌⊎◌, ⊎_elim, inl, inr, ℕ, zero, suc, ◌+◌, ◌≤◌, List, [], ◌∷◌, ◌++◌, length, set, refl, sym, ap, ◌∙◌, subst, arith, length-append, append-nil, append_assoc, ◌%◌, ◌^◌, ◌<◌, get_or, true, false, cond, ◌-◌}
 use Rattle.std.specs.Prelude.{◌==◌, Option, Some, None, sum_by, count_by, All, nat_lt, AllPairs, if◌then◌else◌, slice_index, max, min, IsTrue, ⊤}
 use Rattle.std.proofs.lemmas.List.Sums.{sum_by-cons, sum_by-append, sum_by_push, count_by-le-length, get_or-le-sum_by}
-use Rattle.std.proofs.lemmas.List.Elements.{All-append, All-nil, All-cons, All-head, All-tail}
+use Rattle.std.proofs.lemmas.List.Elements.{All-append, All-nil, All-cons, All-head, All-take, All-drop}
 use mathlib.Core.Option.{some, some-injective, some-ne-none, none}
 use lib.ListN.{get_elem?}
 use Rattle.atomic_table.proofs.Lists.{set_again, set_here}
@@ -13,7 +13,7 @@ use Rattle.kalah_run.specs.declared.desk.rule.DeskView.{DeskView}
 use Rattle.kalah_run.specs.declared.desk.rule.DeskView.TheVariants.{Opening, Drawing, Closing, Ended}
 use Rattle.kalah_jobs.specs.Collecting.Shares.{times_in}
 use Rattle.kalah_run.specs.Desk.Rows.{drawn_numbers, drawn_row, drawn_in, spent_in, AreLawful, DealsEachOnce}
-use Rattle.kalah_run.specs.Desk.Rule.{rows_in, all_rows, passes_in, HasTotal, IsLawful, opening_view, ended_view, CountsWhatItDeals, DrawsFrom, Draws, DrawsRest, numbers_from, StartsClosing, after_handing_out, pass_handed_out, after_reclaiming_row}
+use Rattle.kalah_run.specs.Desk.Rule.{rows_in, all_rows, passes_in, HasTotal, IsLawful, opening_view, ended_view, CountsWhatItDeals, DrawsFrom, Draws, DrawsRest, StartsClosing, after_handing_out, pass_handed_out, after_reclaiming_row}
 use Rattle.std.proofs.lemmas.List.Quantifiers.{all_pairs_push}
 use Rattle.std.proofs.lemmas.Bool.{lt-ltb, le-ltb, cases_lt}
 use Rattle.std.proofs.Math.Nat.{mod-eq_of_lt}
@@ -22,8 +22,9 @@ use Rattle.atomic_table.specs.Table.{State, Me, step, keeps, Allows, opening, Sp
 use Rattle.kalah_jobs.specs.Limits.{most_lines}
 use Rattle.kalah_run.specs.Limits.{most_passes}
 use Rattle.kalah_run.specs.Desk.States.{as_pass_view, row_in, total_in, number_in, PassState, DeskState, new_pass, AreNewPasses, drawn_rows}
-use Rattle.std.proofs.lemmas.List.{get_or_push, get_or_append_left, length-map, map-append, nil_from_length, set-set}
+use Rattle.std.proofs.lemmas.List.{get_or_push, get_or_append_left, length-map, map-append, nil_from_length, set-set, take_at, drop_at}
 use Rattle.kalah_run.specs.Batch.Leaving.{HasDrawnNothing, pass_in}
+use Rattle.std.specs.List.{range_with_len}
 
 -- ==== Sums over the rows of all seats, and facts of each row: after a change of one seat's view, and after a new seat
 
@@ -75,22 +76,14 @@ pub rows_at : (f : DrawnRow → ℕ) (views : List DeskView) (seat : ℕ) (v : D
     → sum_by f (rows_in v) ≤ sum_by f (all_rows views)
 rows_at f views seat v at = omega (arith, rows_sum f views, sum_at (λ u. sum_by f (rows_in u)) views seat v at)
 
--- a fact of each row in two lists is one of each row in the second
-all_back : (P : DrawnRow → Type 0) (xs ys : List DrawnRow) → All P (xs ++ ys) → All P ys
-all_back P [] ys h = h
-all_back P (x ∷ xs) ys h = all_back P xs ys (All-tail P x (xs ++ ys) h)
-
--- a fact of each row in two lists is one of each row in the first
-all_front : (P : DrawnRow → Type 0) (xs ys : List DrawnRow) → All P (xs ++ ys) → All P xs
-all_front P [] ys h = All-nil P
-all_front P (x ∷ xs) ys h = All-cons P x xs (All-head P x (xs ++ ys) h) (all_front P xs ys (All-tail P x (xs ++ ys) h))
-
 -- a fact of the rows of one seat
 pub all_at : (P : DrawnRow → Type 0) (views : List DeskView) (seat : ℕ) (v : DeskView) → get_elem? views seat ≡ some v
     → All P (all_rows views) → All P (rows_in v)
 all_at P [] seat v at all = absurd (some-ne-none v (sym at))
-all_at P (x ∷ xs) zero v at all = subst (λ u. All P (rows_in u)) (some-injective x v at) (all_front P (rows_in x) (all_rows xs) all)
-all_at P (x ∷ xs) (suc seat) v at all = all_at P xs seat v at (all_back P (rows_in x) (all_rows xs) all)
+all_at P (x ∷ xs) zero v at all = subst (λ u. All P (rows_in u)) (some-injective x v at)
+    (rw (take_at (rows_in x) (all_rows xs) _ refl) at (All-take P (length (rows_in x)) _ all))
+all_at P (x ∷ xs) (suc seat) v at all =
+    all_at P xs seat v at (rw (drop_at (rows_in x) (all_rows xs) _ refl) at (All-drop P (length (rows_in x)) _ all))
 
 -- a fact of the rows of each seat is one of all rows
 all_from : (P : DrawnRow → Type 0) (views : List DeskView) → Each (λ seat v. All P (rows_in v)) views → All P (all_rows views)
@@ -131,6 +124,18 @@ has_all (x ∷ xs) (suc seat) rows at whole =
 -- the numbers of the row ascend
 abbrev Ascends : DrawnRow → Type 0
 Ascends r = AllPairs (λ x y. x < y) r.numbers
+
+-- rows with the same numbers, each as often, deal the same
+deals_alike : {total drawn : ℕ} {rows others : List DrawnRow} → DealsEachOnce total drawn rows → drawn_in others ≡ drawn_in rows
+    → ((x : ℕ) → sum_by (times x) others ≡ sum_by (times x) rows) → All Ascends others → (0 < spent_in others → drawn ≡ total)
+    → DealsEachOnce total drawn others
+deals_alike {rows = rows} {others} deals drawn same ascending spent = record {
+  within = deals.within;
+  count = deals.count ∙ sym drawn;
+  each_once = λ x. times_rows x others ∙ same x ∙ sym (times_rows x rows) ∙ deals.each_once x;
+  ascending = ascending;
+  spent = spent;
+}
 
 -- what is kept of each view: it has the plan's total, if it has one, and its rows ascend
 abbrev Fits : DeskPlan → ℕ → DeskView → Type 0
@@ -248,20 +253,9 @@ module _ {S : Type 0} (plan : DeskPlan) (s : State S DeskView) (seat total numbe
       omega (arith, rows_set (λ r. length r.numbers) s.views seat v w at) in
       let spent : spent_in (all_rows (set s.views seat w)) ≡ spent_in (all_rows s.views) + 1 =
       omega (arith, rows_set (λ r. cond r.spent 1 0) s.views seat v w at) in (
-        record {
-          within = omega arith;
-          count = refl;
-          each_once = λ x.
-              let t : sum_by (times x) (all_rows (set s.views seat w)) ≡ sum_by (times x) (all_rows s.views) =
-              omega (arith, rows_set (times x) s.views seat v w at) in
-              times_rows x (all_rows (set s.views seat w))
-              ∙ t
-              ∙ sym (times_rows x (all_rows s.views))
-              ∙ kept.lawful.each_once x
-              ∙ ap (λ c. if nat_lt x c then 1 else 0) (sym drawn);
-          ascending = stays_ascending w (All-cons Ascends (drawn_row numbers true) [] ascends (All-nil Ascends));
-          spent = λ some_spent. omega arith;
-        },
+        subst (λ c. DealsEachOnce plan.total c (all_rows (set s.views seat w))) (sym drawn)
+            (deals_alike kept.lawful drawn (λ x. omega (arith, rows_set (times x) s.views seat v w at))
+            (stays_ascending w (All-cons Ascends (drawn_row numbers true) [] ascends (All-nil Ascends))) (λ some_spent. full)),
         omega arith,
       )
 
@@ -343,7 +337,7 @@ draws_all : {S : Type 0} (plan : DeskPlan) (left : ℕ) (s : State S DeskView) (
     → IsLawful {S = S} plan (record {
       words = total ∷ [];
       homes = s.homes;
-      views = set s.views seat (unspent_view total number (numbers ++ numbers_from n left));
+      views = set s.views seat (unspent_view total number (numbers ++ range_with_len n left));
     })
 draws_all {S} plan zero s seat total number numbers n kept at is all =
     let same : set s.views seat (unspent_view total number (numbers ++ [])) ≡ s.views =
@@ -359,7 +353,7 @@ draws_all {S} plan (suc left) s seat total number numbers n kept at is all =
     (set_here s.views seat w (in_views s.views seat (unspent_view total number numbers) at)) (sym one.1) (omega arith) in
     subst (λ (views : List DeskView). IsLawful {S = S} plan (record { words = total ∷ []; homes = s.homes; views = views }))
     (set-set s.views seat w _ ∙ ap (λ l. set s.views seat (unspent_view total number l))
-    (append_assoc numbers (n ∷ []) (numbers_from (n + 1) left)))
+    (append_assoc numbers (n ∷ []) (range_with_len (n + 1) left)))
     rest
 
 draws_rest_at : {S : Type 0} (plan : DeskPlan) (slots seat total number : ℕ) (numbers : List ℕ) (limit : ℕ) → limit ≡ plan.total
@@ -369,7 +363,7 @@ draws_rest_at {S} plan slots seat total number numbers limit limit_is s kept hom
     let n : ℕ = slice_index s.words 0 in
     let is : n ≡ drawn_in (all_rows s.views) + spent_in (all_rows s.views) = ap (λ ws. slice_index ws 0) kept.word in
     let same : total ≡ plan.total = kept.totals seat (unspent_view total number numbers) at in
-    let w : DeskView = unspent_view total number (numbers ++ numbers_from n (total - n)) in
+    let w : DeskView = unspent_view total number (numbers ++ range_with_len n (total - n)) in
     let words : set s.words 0 (max n limit) ≡ max n limit ∷ [] = ap (λ ws. set ws 0 (max n limit)) kept.word in
     let done : IsLawful {S = S} plan (record { words = set s.words 0 (max n limit); homes = s.homes; views = set s.views seat w }) =
     ⊎_elim
@@ -379,7 +373,7 @@ draws_rest_at {S} plan slots seat total number numbers limit limit_is s kept hom
     (draws_all plan (total - n) s seat total number numbers n kept at is (omega arith)))
     (λ (high : total ≤ n).
     let none_left : total - n ≡ 0 = omega arith in
-    let row : numbers ++ numbers_from n (total - n) ≡ numbers = ap (λ k. numbers ++ numbers_from n k) none_left ∙ append-nil numbers in
+    let row : numbers ++ range_with_len n (total - n) ≡ numbers = ap (λ k. numbers ++ range_with_len n k) none_left ∙ append-nil numbers in
     let views : set s.views seat w ≡ s.views =
     set_again s.views seat w (at ∙ ap (λ l. some (unspent_view total number l)) (sym row)) in
     let unchanged : set s.words 0 (max n limit) ≡ s.words = words ∙ ap (λ m. m ∷ []) (omega arith) ∙ sym kept.word in
@@ -407,14 +401,9 @@ kept_alike plan s after kept words same passes fits =
       few = kept.few;
       word = words ∙ kept.word ∙ ap (λ m. m ∷ []) (omega (arith, drawn, spent));
       passes = passes ∙ kept.passes;
-      lawful = record {
-        within = omega (arith, drawn, kept.lawful.within);
-        count = refl;
-        each_once = λ x. times_rows x (all_rows after.views) ∙ same (times x) refl ∙ sym (times_rows x (all_rows s.views))
-            ∙ kept.lawful.each_once x ∙ ap (λ c. if nat_lt x c then 1 else 0) (sym drawn);
-        ascending = all_from Ascends after.views (λ seat v at. (fits seat v at).1);
-        spent = λ some_spent. drawn ∙ kept.lawful.spent (omega arith);
-      };
+      lawful = subst (λ c. DealsEachOnce plan.total c (all_rows after.views)) (sym drawn)
+          (deals_alike kept.lawful drawn (λ x. same (times x) refl) (all_from Ascends after.views (λ seat v at. (fits seat v at).1))
+          (λ some_spent. kept.lawful.spent (omega arith)));
       totals = λ seat v at. (fits seat v at).0;
     }
 
@@ -476,22 +465,12 @@ one_pass_more desk count passes p handed_out is = (
 -- if the last row is empty, the others have all numbers
 deals_but_last : (total drawn : ℕ) (rows : List DrawnRow) (r : DrawnRow) → r.numbers ≡ []
     → DealsEachOnce total drawn (rows ++ r ∷ []) → DealsEachOnce total drawn rows
-deals_but_last total drawn rows r empty deals = record {
-  within = deals.within;
-  count = omega (arith, deals.count, sum_by_push (λ (x : DrawnRow). length x.numbers) rows r, ap (λ (l : List ℕ). length l) empty);
-  each_once = λ x.
-      let same : times_in x (drawn_numbers rows) ≡ times_in x (drawn_numbers (rows ++ r ∷ [])) = omega (
-        arith,
-        times_rows x rows,
-        times_rows x (rows ++ r ∷ []),
-        sum_by_push (times x) rows r,
-        ap (λ (l : List ℕ). count_by (λ y. y == x) l) empty,
-      ) in
-      same ∙ deals.each_once x;
-  ascending = λ k d within. subst (λ (x : DrawnRow). AllPairs (λ a b. a < b) x.numbers) (get_or_append_left rows (r ∷ []) d k within)
-      (deals.ascending k d (omega (arith, within, length-append rows (r ∷ []))));
-  spent = λ some. deals.spent (omega (arith, some, sum_by_push (λ (x : DrawnRow). if x.spent then 1 else 0) rows r));
-}
+deals_but_last total drawn rows r empty deals = deals_alike deals
+    (omega (arith, sum_by_push (λ (x : DrawnRow). length x.numbers) rows r, ap length empty))
+    (λ x. omega (arith, sum_by_push (times x) rows r, ap (λ (l : List ℕ). count_by (λ y. y == x) l) empty))
+    (λ k d within. subst Ascends (get_or_append_left rows (r ∷ []) d k within)
+    (deals.ascending k d (omega (arith, within, length-append rows (r ∷ [])))))
+    (λ some. deals.spent (omega (arith, some, sum_by_push (λ (x : DrawnRow). if x.spent then 1 else 0) rows r)))
 
 -- if the calling thread has drawn nothing, the workers have all numbers
 pub deals_to_others : {total drawn : ℕ} (passes : List PassState) (left : Option PassState) → HasDrawnNothing left

@@ -1,6 +1,6 @@
 -- The results queue: its pairs, the views of its passes, and what each step keeps.
-use Rattle.std.proofs.Common.{◌≡◌, ◌≢◌, ℕ, zero, suc, ◌+◌, ◌<◌, ◌≤◌, ◌==◌, if◌then◌else◌, Bool, true, false, List, [], ◌∷◌, ◌++◌, length, All, slice_index_or, refl, sym, ap, ◌∙◌, eq-eqb, ne_eqb, arith, set, subst, append_assoc}
-use Rattle.std.proofs.lemmas.List.{append-nil, length-map, length-set, length_push, map-append}
+use Rattle.std.proofs.Common.{◌≡◌, ◌≢◌, ℕ, zero, suc, ◌+◌, ◌<◌, ◌≤◌, ◌==◌, if◌then◌else◌, Bool, true, false, List, [], ◌∷◌, ◌++◌, length, All, slice_index_or, refl, sym, ap, ◌∙◌, eq-eqb, ne_eqb, arith, set, subst, append_assoc, inl, inr, length-append}
+use Rattle.std.proofs.lemmas.List.{append-nil, length-map, length-set, length_push, map-append, get_or_at, get_or_append_left, get_or_push}
 use Rattle.std.proofs.lemmas.List.Elements.{All-push}
 use Rattle.kalah_jobs.specs.declared.files.job.Job.{Job}
 use Rattle.kalah_jobs.specs.Collecting.Shares.{sent_by_worker}
@@ -14,6 +14,7 @@ use Rattle.atomic_table.specs.Seated.{TableId}
 use Rattle.kalah_run.specs.Queue.States.{PutPassState, ArePassesFrom, Accounts, outcomes_in}
 use Rattle.crossbeam_queue.specs.Fifo.{Pushes, Pops, Forks, Held, Merges, Learns}
 use Rattle.kalah_run.specs.Queue.Rule.{Fits, FitsPut, FitsGet, IsLawful, IsWholeAndInOrder, first_view, after_making_one, one_made, after_put, after_reclaiming_sent, IsGot, Tells}
+use Rattle.std.proofs.lemmas.Bool.{cases_lt}
 
 -- ==== What the pairs determine of one worker, and of all
 
@@ -54,16 +55,18 @@ no_pair_beyond_workers workers w (t ∷ ts) below le =
 pub next_below : (workers : ℕ) (taken : List (ℕ × Job)) (t : ℕ × Job) (rest : List (ℕ × Job))
     → All (λ (u : ℕ × Job). u.0 < workers) (taken ++ t ∷ rest)
     → t.0 < workers
-next_below workers [] t rest below = below 0 t (omega arith)
-next_below workers (x ∷ xs) t rest below = next_below workers xs t rest (λ k d lt. below (suc k) d (omega arith))
+next_below workers taken t rest below =
+    rw (get_or_at taken t rest t _ refl) at (below (length taken) t (omega (arith, length-append taken (t ∷ rest))))
 
 known_more : (known : List (List Job)) (s : List Job) (given : ℕ → List Job)
     → ((k : ℕ) → k < length known → given k ≡ slice_index_or known k []) → given (length known) ≡ s
     → (k : ℕ) → k < length (known ++ s ∷ []) → given k ≡ slice_index_or (known ++ s ∷ []) k []
-known_more [] s given h e zero lt = e
-known_more [] s given h e (suc k) lt = absurd (omega arith)
-known_more (x ∷ xs) s given h e zero lt = h 0 (omega arith)
-known_more (x ∷ xs) s given h e (suc k) lt = known_more xs s (λ j. given (suc j)) (λ j b. h (suc j) (omega arith)) e k (omega arith)
+known_more known s given h e k lt = elim (cases_lt k (length known)) [
+  | inl old ↦ h k old ∙ sym (get_or_append_left known (s ∷ []) [] k old)
+  | inr new ↦
+      let at : k ≡ length known = omega (arith, length-append known (s ∷ [])) in
+      ap given at ∙ e ∙ sym (get_or_push known s [] k (sym at))
+]
 
 -- ---- what the pairs account for
 

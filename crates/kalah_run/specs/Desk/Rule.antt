@@ -1,5 +1,5 @@
 -- What is kept of the desk's word and of the views of its seats, and what each step returns.
-use Rattle.std.specs.Prelude.{◌≡◌, ℕ, ◌+◌, ◌≤◌, List, [], ◌∷◌, length, sum_by, flat_map, ⊤, zero, suc, ◌-◌, ◌<◌, ◌++◌, true, false, nat_lt, All, MatchBool}
+use Rattle.std.specs.Prelude.{◌≡◌, ℕ, ◌+◌, ◌≤◌, List, [], ◌∷◌, length, sum_by, flat_map, ⊤, ◌-◌, ◌<◌, ◌++◌, true, false, nat_lt, All, MatchBool}
 use mathlib.Core.Option.{some}
 use lib.ListN.{get_elem?}
 use Rattle.atomic_table.specs.Table.{State, Me, Step}
@@ -10,6 +10,7 @@ use Rattle.kalah_run.specs.declared.desk.rule.DeskPlan.{DeskPlan}
 use Rattle.kalah_run.specs.declared.desk.rule.DeskView.{DeskView}
 use Rattle.kalah_run.specs.declared.desk.rule.DeskView.TheVariants.{Opening, Drawing, Closing, Ended}
 use Rattle.kalah_run.specs.Desk.Rows.{drawn_in, spent_in, AreLawful, DealsEachOnce, drawn_row}
+use Rattle.std.specs.List.{range_with_len}
 
 -- the first seat: all passes are yet to be handed out
 abbrev pub opening_view : DeskPlan → DeskView
@@ -63,14 +64,9 @@ DrawsFrom _ n w = Unit {0}
 abbrev pub Draws : {S : Type 0} → Step S → Me S DeskView → ℕ → Me S DeskView → Type 0
 Draws step me n now = (now.1 ≡ me.1) × DrawsFrom me.0 n now.0
 
--- the numbers from n on, below n + k
-abbrev pub numbers_from : ℕ → ℕ → List ℕ
-numbers_from n zero = []
-numbers_from n (suc k) = n ∷ numbers_from (n + 1) k
-
 -- The view w after a pass has drawn all that is left from n on.
 abbrev pub DrawsRestFrom : DeskView → ℕ → DeskView → Type 0
-DrawsRestFrom (Drawing total number r) n w = w ≡ Drawing total number (drawn_row (r.numbers ++ numbers_from n (total - n)) r.spent)
+DrawsRestFrom (Drawing total number r) n w = w ≡ Drawing total number (drawn_row (r.numbers ++ range_with_len n (total - n)) r.spent)
 DrawsRestFrom _ n w = Unit {0}
 
 -- a pass draws all that is left
