@@ -13,7 +13,7 @@ use Rattle.kalah_run.specs.declared.desk.rule.DeskView.{DeskView}
 use Rattle.kalah_run.specs.declared.desk.rule.DeskView.TheVariants.{Opening, Drawing, Closing, Ended}
 use Rattle.kalah_jobs.specs.Collecting.Shares.{times_in}
 use Rattle.kalah_run.specs.Desk.Rows.{drawn_numbers, drawn_row, drawn_in, spent_in, AreLawful, DealsEachOnce}
-use Rattle.kalah_run.specs.Desk.Rule.{rows_in, all_rows, passes_in, HasTotal, IsLawful, opening_view, ended_view, CountsWhatItDeals, DrawsFrom, Draws, DrawsRest, StartsClosing, after_handing_out, pass_handed_out, after_reclaiming_row}
+use Rattle.kalah_run.specs.Desk.Rule.{rows_in, all_rows, passes_in, HasTotal, IsLawful, opening_view, CountsWhatItDeals, DrawsFrom, Draws, DrawsRest, StartsClosing, after_handing_out, pass_handed_out, after_reclaiming_row}
 use Rattle.std.proofs.lemmas.List.Quantifiers.{all_pairs_push}
 use Rattle.std.proofs.lemmas.Bool.{lt-ltb, le-ltb, cases_lt}
 use Rattle.std.proofs.Math.Nat.{mod-eq_of_lt}
@@ -495,7 +495,7 @@ starts_closing {S} plan slots s kept homes fits = (
 -- a pass is reclaimed
 reclaims_at : {S : Type 0} (plan : DeskPlan) (seat : ℕ) (rows : List DrawnRow) (other total number : ℕ) (r : DrawnRow)
     → Joins {S = S} (IsLawful plan) seat (Closing rows) other (Drawing total number r)
-    (after_reclaiming_row (Closing rows) (Drawing total number r)) ended_view
+    (after_reclaiming_row (Closing rows) (Drawing total number r)) Ended
 reclaims_at {S} plan seat rows other total number r s kept at apart there =
     let w : DeskView = Closing (r ∷ rows) in
     let u : DeskView = Drawing total number r in
@@ -517,7 +517,7 @@ reclaims_at {S} plan seat rows other total number r s kept at apart there =
 
 pub reclaims : {S : Type 0} (plan : DeskPlan) (seat : ℕ) (v : DeskView) (other : ℕ) (w : DeskView)
     → v ≡ Closing (rows_in v) → w ≡ as_pass_view w → Joins {S = S} (IsLawful plan) seat v other w
-    (after_reclaiming_row v w) ended_view
+    (after_reclaiming_row v w) Ended
 reclaims plan seat v other w is pass =
     rw is (rw pass (reclaims_at plan seat (rows_in v) other (total_in w) (number_in w) (row_in w)))
 

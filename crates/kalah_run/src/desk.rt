@@ -1,7 +1,7 @@
 //! The desk: its passes draw the numbers below a total from one word, each number once.
 ghost use Rattle.std.specs.Prelude.{◌≡◌, ◌<◌, ◌≤◌, ◌↔◌, [], ◌∷◌, ◌++◌, length, true, false, All, IfOk, IfSome, IfNone, IsTrue};
 ghost use Rattle.kalah_jobs.specs.Limits.{most_lines};
-ghost use Rattle.kalah_run.specs.Limits.{AreWorkers, most_passes};
+ghost use Rattle.kalah_run.specs.Limits.{most_passes};
 ghost use Rattle.kalah_run.specs.Desk.Rows.{drawn_row, spent_in, DealsEachOnce};
 ghost use Rattle.kalah_run.specs.Desk.States.{IsPassAt, AreNewPasses, drawn_rows};
 
@@ -48,34 +48,10 @@ pub struct ClosedDesk {
     spent: bool,
 }
 
-impl Model for ClosedDesk {
-    ghost use Rattle.kalah_run.specs.Desk.States.{ClosedDeskState};
-
-    ghost Value = { ClosedDeskState };
-
-    ghost view = { λ c. record { drawn = c.drawn; spent = c.spent } };
-
-    ghost inverse = { λ c. record { drawn = c.drawn; spent = c.spent } };
-}
-
 impl Desk {
-    /// Opens a desk for the numbers below `total`, at most 1,000,000, with `passes` passes, 1 to 64.
+    /// Opens a desk for the numbers below `total`, at most 1,000,000, with `passes` passes, at most 65.
     /// Each has an empty row, and none is spent. Fails with `AllocError` only if memory was refused.
     pub fn open(alloc: Global, total: u32, passes: u32) -> Result<(Desk, Vec<Pass>), AllocError>
-        requires total { total ≤ most_lines }
-        requires passes { AreWorkers passes }
-        ensures desk { IfOk result (λ r. (r.0.total ≡ total) × (r.0.passes ≡ passes)) }
-        ensures passes { IfOk result (λ r. AreNewPasses r.0 passes r.1.items) }
-    {
-        Desk::open_for(alloc, total, passes)
-    }
-
-    /// Opens a desk as `open`, with up to 65 passes.
-    pub(crate) fn open_for(
-        alloc: Global,
-        total: u32,
-        passes: u32,
-    ) -> Result<(Desk, Vec<Pass>), AllocError>
         requires total { total ≤ most_lines }
         requires passes { passes ≤ most_passes }
         ensures desk { IfOk result (λ r. (r.0.total ≡ total) × (r.0.passes ≡ passes)) }

@@ -273,16 +273,6 @@ pub struct ClosedQueue {
     left: u32,
 }
 
-impl Model for ClosedQueue {
-    ghost use Rattle.kalah_run.specs.Queue.States.{ClosedQueueState};
-
-    ghost Value = { ClosedQueueState };
-
-    ghost view = { λ c. record { left = c.left } };
-
-    ghost inverse = { λ c. record { left = c.left } };
-}
-
 impl ClosedQueue {
     /// Returns how many outcomes were put and not got.
     pub fn left(&self) -> u32

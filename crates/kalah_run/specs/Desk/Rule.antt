@@ -16,9 +16,6 @@ use Rattle.std.specs.List.{range_with_len}
 abbrev pub opening_view : DeskPlan → DeskView
 opening_view plan = Opening plan.total 0 plan.passes
 
-abbrev pub ended_view : DeskView
-ended_view = Ended
-
 -- the rows that a seat has
 abbrev pub rows_in : DeskView → List DrawnRow
 rows_in (Drawing total number r) = r ∷ []

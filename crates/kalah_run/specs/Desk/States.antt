@@ -1,5 +1,5 @@
--- A desk, a pass and a closed desk, as contracts see them.
-use Rattle.std.specs.Prelude.{◌≡◌, ℕ, ◌<◌, List, [], length, Bool, false, slice_index_or, map}
+-- A desk and a pass, as contracts see them.
+use Rattle.std.specs.Prelude.{◌≡◌, ℕ, ◌<◌, List, [], length, false, slice_index_or, map}
 use Rattle.atomic_table.specs.Seated.{TableId}
 use Rattle.kalah_run.specs.declared.desk.rule.DrawnRow.{DrawnRow}
 use Rattle.kalah_run.specs.declared.desk.rule.DeskView.{DeskView}
@@ -18,11 +18,6 @@ pub record PassState : Type 0 where
   pub total : ℕ
   pub number : ℕ
   pub row : DrawnRow
-
--- how many numbers were drawn, and whether some pass is spent
-pub record ClosedDeskState : Type 0 where
-  pub drawn : ℕ
-  pub spent : Bool
 
 -- the pass is of this desk
 abbrev pub IsPassAt : DeskState → PassState → Type 0

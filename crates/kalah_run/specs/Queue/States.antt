@@ -1,4 +1,4 @@
--- The results queue, its passes and a closed queue, as contracts see them, and what was sent through it.
+-- The results queue and its passes, as contracts see them, and what was sent through it.
 use Rattle.std.specs.Prelude.{◌≡◌, ℕ, suc, ◌<◌, List, [], ◌∷◌, ◌++◌, map, length, slice_index_or, All, Option, MatchOption}
 use Rattle.atomic_table.specs.Seated.{TableId}
 use Rattle.kalah_jobs.specs.declared.files.job.Job.{Job}
@@ -29,10 +29,6 @@ HasGot before outcome after = (worker : ℕ) × (worker < before.workers)
 -- an outcome was got, or none and the pass is as it was
 abbrev pub MayGet : GetPassState → Option Job → GetPassState → Type 0
 MayGet before result after = MatchOption result (after ≡ before) (λ outcome. HasGot before outcome after)
-
--- how many pairs were put and not got
-pub record ClosedQueueState : Type 0 where
-  pub left : ℕ
 
 -- the passes to put to one queue of worker n, worker n + 1 and so on
 abbrev pub ArePassesFrom : TableId → ℕ → List PutPassState → Type 0

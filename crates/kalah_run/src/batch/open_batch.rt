@@ -50,25 +50,14 @@ fn open_desk(alloc: Global, total: u32, workers: u32, rest: Rest) -> Result<Open
     ensures all { IfOk result (λ made. workers + length (pass_in made.rest_pass) ≡ made.desk.passes) }
     ensures room { IfOk result (λ made. workers + length (pass_in made.rest_pass) ≤ vec_capacity made.passes) }
 {
-    match rest {
-        Rest::Solve => {
-            let (desk, passes) = Desk::open(alloc, total, workers)?;
-            Ok(OpenDesk {
-                desk,
-                passes,
-                rest_pass: None,
-            })
-        }
-        Rest::Leave => {
-            let (desk, mut passes) = Desk::open_for(alloc, total, workers + 1)?;
-            let rest_pass = passes.pop();
-            Ok(OpenDesk {
-                desk,
-                passes,
-                rest_pass,
-            })
-        }
-    }
+    let leaves = rest == Rest::Leave;
+    let (desk, mut passes) = Desk::open(alloc, total, workers + u32::from(leaves))?;
+    let rest_pass = if leaves { passes.pop() } else { None };
+    Ok(OpenDesk {
+        desk,
+        passes,
+        rest_pass,
+    })
 }
 
 // Makes a worker for each pair of passes, in their order, and leaves the lists empty. All workers share what they learn of endings.

@@ -83,9 +83,10 @@ impl Play<(), DeskView> for StartClosing {
 pub struct Reclaim;
 
 impl Join<DeskView> for Reclaim {
-    ghost use Rattle.kalah_run.specs.Desk.Rule.{ended_view, after_reclaiming_row};
+    ghost use Rattle.kalah_run.specs.declared.desk.rule.DeskView.TheVariants.{Ended};
+    ghost use Rattle.kalah_run.specs.Desk.Rule.{after_reclaiming_row};
 
     ghost both = { after_reclaiming_row };
 
-    ghost spent = { ended_view };
+    ghost spent = { Ended };
 }

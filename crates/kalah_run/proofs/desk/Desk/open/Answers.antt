@@ -3,7 +3,7 @@ use Rattle.kalah_run.proofs.DeskLemmas.{begins, hands_out, one_pass_more}
 use Rattle.kalah_run.specs.Desk.Rule.{after_handing_out, pass_handed_out}
 use Rattle.kalah_run.specs.Desk.States.{DeskState, PassState, AreNewPasses, number_in, row_in, total_in}
 use Rattle.kalah_run.specs.declared.desk.rule.DeskView.TheVariants.{Opening}
-use Rattle.kalah_run.proofs.desk.Desk.open_for.Goals as goal
+use Rattle.kalah_run.proofs.desk.Desk.open.Goals as goal
 
 pub of_words-requires : goal.of_words-requires
 of_words-requires c = begins _ (search rules) (search rules)

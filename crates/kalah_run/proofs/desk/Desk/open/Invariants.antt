@@ -2,7 +2,7 @@ use Rattle.std.proofs.Common.{◌≡◌, ◌-◌, []}
 use Rattle.std.specs.Prelude.{vec_capacity}
 use Rattle.kalah_run.specs.declared.desk.rule.DeskView.TheVariants.{Opening}
 use Rattle.kalah_run.specs.Desk.States.{AreNewPasses}
-use Rattle.kalah_run.proofs.desk.Desk.open_for.Given as goal
+use Rattle.kalah_run.proofs.desk.Desk.open.Given as goal
 
 abbrev pub invariant-loop : goal.invariant-loop
 invariant-loop l = record {
