@@ -24,11 +24,6 @@ use Rattle.std.proofs.lemmas.List.Sums.{sum_by-cons}
 
 -- ==== What writes a number, what it is read as, and its text
 
--- ---- digits
-
-is_digit : (byte : ℕ) → is_ascii_digit byte ≡ true → IsAsciiDigit byte
-is_digit byte passes = grind (arith, nat_tests)
-
 -- ---- reading
 
 -- the bytes are a text of the number, and what follows it
@@ -52,7 +47,8 @@ pub number_is_written : (bytes : List ℕ) (found : ℕ × List ℕ) → number_
 number_is_written [] found e = absurd cc
 number_is_written (first ∷ rest) found e =
     let read = cond_some (is_ascii_digit first) (number_from (first - 48) rest) found e in
-    subst (λ (f : ℕ × List ℕ). WritesNumber (first ∷ rest) f.0 f.1) read.1 (digits_written first rest (is_digit first read.0))
+    let digit : IsAsciiDigit first = grind (arith, nat_tests, read.0) in
+    subst (λ (f : ℕ × List ℕ). WritesNumber (first ∷ rest) f.0 f.1) read.1 (digits_written first rest digit)
 
 -- no digit follows a number that ends before these bytes
 abbrev pub EndsNumber : List ℕ → Type 0
@@ -313,9 +309,6 @@ suffix_is_read rule = grind arith
 suffix_is_written : (bytes : List ℕ) (rule : Rule) → rule_of bytes ≡ Some rule → bytes ≡ suffix_of rule
 suffix_is_written bytes rule e = grind (arith, nat_tests)
 
-suffix_ends : (rule : Rule) → EndsNumber (suffix_of rule)
-suffix_ends rule = grind arith
-
 -- ---- positions
 
 abbrev pub made : Found → Found → Rule → Position
@@ -338,18 +331,12 @@ line_of_sides {text} {rest} {own} {other} {rule} own_read mark other_read rule_r
       other_side = subst (λ (houses : List ℕ). IsSide second.text houses other.1) (sym second.all) second.side;
     }
 
-pub sides_are_written : (text rest : List ℕ) {own other : Found} {mark : ℕ} {rule : Rule} → side_at text ≡ Some own →
-    own.2 ≡ mark ∷ rest → mark ≡ space → side_at rest ≡ Some other → rule_of other.2 ≡ Some rule →
-    written_of text ≡ Some (made own other rule)
+-- two sides with a space between them, and what follows, are read as the suffix is
+pub sides_are_read : (text rest : List ℕ) {own other : Found} {mark : ℕ} {read : Option Rule} → side_at text ≡ Some own →
+    own.2 ≡ mark ∷ rest → mark ≡ space → side_at rest ≡ Some other → rule_of other.2 ≡ read →
+    written_of text ≡ (read >>= λ rule. Some (made own other rule))
 unfolding written_of
-sides_are_written text rest own_read mark is other_read rule_read = rw (own_read, mark, is, other_read, rule_read) refl
-
--- a side, a space and a side without such a suffix write no line
-pub sides_are_no_line : (text rest : List ℕ) {own other : Found} {mark : ℕ} → side_at text ≡ Some own
-    → own.2 ≡ mark ∷ rest →
-    mark ≡ space → side_at rest ≡ Some other → rule_of other.2 ≡ None → written_of text ≡ None
-unfolding written_of
-sides_are_no_line text rest own_read mark is other_read none = rw (own_read, mark, is, other_read, none) refl
+sides_are_read text rest own_read mark is other_read rule_read = rw (own_read, mark, is, other_read, rule_read) refl
 
 -- what is read after the first side is a space, the other side and a suffix
 rest_is_written : (text : List ℕ) (houses : List ℕ) (store : ℕ) (rest : List ℕ) (p : Position) →
@@ -381,7 +368,7 @@ line_is_written text p line =
     rw (
       parts,
       side_is_read line.own_text p.own p.own_store (space ∷ rest) line.own_side (λ digit. omega (arith, digit)),
-      side_is_read line.other_text p.other p.other_store (suffix_of p.rule) line.other_side (suffix_ends p.rule),
+      side_is_read line.other_text p.other p.other_store (suffix_of p.rule) line.other_side (grind arith),
       suffix_is_read p.rule,
     ) refl
 

@@ -2,5 +2,4 @@ pub mod Line
 pub mod Side
 pub mod LineFault
 pub mod Reading
-pub mod ParsedLine
 pub mod LineLaws

@@ -1,17 +1,19 @@
 //! Position lines read.
-ghost use Rattle.std.specs.Prelude.{◌≡◌, ◌≤◌, IfOk, IfErr, Ok};
+ghost use Rattle.std.specs.Prelude.{◌≡◌, ◌≤◌, length, IfOk, IfErr, IfSome, IfNone, Ok, Some, None};
 ghost use Rattle.kalah_rules.specs.Limits.{most_in_store};
 ghost use Rattle.kalah_rules.specs.Position.{Position};
 ghost use Rattle.kalah_jobs.specs.Line.Line.{without_cr, Reads, HasFault, line_text_of};
-ghost use Rattle.kalah_jobs.specs.Line.Reading.{reading_of_text, reading_of};
+ghost use Rattle.kalah_jobs.specs.Line.Reading.{admitted, reading_of_text, reading_of, rule_of, written_of};
+ghost use Rattle.kalah_jobs.specs.Line.Side.{Show};
+ghost use Rattle.kalah_jobs.specs.Limits.{most_line_bytes};
 
 #[cfg(test)]
 mod tests;
 
 use crate::limits::MOST_LINE_BYTES;
 use crate::line::line_fault::LineFault;
-use crate::line::parsed_line::ParsedLine;
-use kalah_rules::Board;
+use crate::line::side::Side;
+use kalah_rules::{Board, MOST_HOUSES, Rule};
 
 // Returns the line without one CR at its end, if it has one.
 #[inline(always)]
@@ -25,6 +27,53 @@ fn drop_cr(line: &[u8]) -> &[u8]
     }
 }
 
+// Returns the rule that the suffix of a line, which stands after the second side, names.
+fn read_rule(suffix: &[u8]) -> Option<Rule>
+    ensures { result ≡ rule_of suffix.now }
+{
+    match suffix {
+        [] => Some(Rule::Classic),
+        [b' ', b'e'] => Some(Rule::EmptyCapture),
+        _ => None,
+    }
+}
+
+// Returns the board of two sides and a rule. If it is not within the limits, fails with `Houses` if the sides differ or are too
+// long, otherwise with `Seeds`.
+#[inline(always)]
+fn board_of(own: &Side, other: &Side, rule: Rule) -> Result<Board, LineFault>
+    ensures { (p : Position) → Show own.now other.now rule p → result ≡ admitted p }
+{
+    if own.left_out == 0 && other.left_out == 0 {
+        let board = Board::of_rows(&own.row, own.store, &other.row, other.store, rule);
+        if let Some(board) = board {
+            return Ok(board);
+        }
+    }
+    if own.len() != other.len() || own.len() > MOST_HOUSES {
+        return Err(LineFault::Houses);
+    }
+    Err(LineFault::Seeds)
+}
+
+// Returns the position that a text writes by two sides, with one space between them, and the suffix of its rule, or its fault.
+#[tactic(auto, unfolding(crate::specs::Line::Reading::written_of))]
+#[inline(always)]
+fn read_sides(text: &[u8]) -> Option<Result<Board, LineFault>>
+    requires { length text.now ≤ most_line_bytes }
+    ensures read { IfSome result (λ read. (p : Position) × ((read ≡ admitted p) × (written_of text.now ≡ Some p))) }
+    ensures none { IfNone result (written_of text.now ≡ None) }
+{
+    let (own, rest) = Side::take(text)?;
+    let (mark, rest) = rest.split_first()?;
+    if *mark != b' ' {
+        return None;
+    }
+    let (other, rest) = Side::take(rest)?;
+    let rule = read_rule(rest)?;
+    Some(board_of(&own, &other, rule))
+}
+
 // Returns the position of a line whose CR is dropped, or its first fault.
 #[inline(always)]
 fn read_text(text: &[u8]) -> Result<Board, LineFault>
@@ -33,8 +82,8 @@ fn read_text(text: &[u8]) -> Result<Board, LineFault>
     if text.len() > MOST_LINE_BYTES {
         return Err(LineFault::Long);
     }
-    match ParsedLine::read(text) {
-        Some(line) => line.board(),
+    match read_sides(text) {
+        Some(read) => read,
         None if text.is_empty() => Err(LineFault::Empty),
         None => Err(LineFault::Shape),
     }
