@@ -1,7 +1,6 @@
 pub mod Player
 pub mod Answer
 pub mod Output
-pub mod Stream
 pub mod Sink
 pub mod Counts
 pub mod Picture

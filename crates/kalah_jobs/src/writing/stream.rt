@@ -2,7 +2,6 @@
 ghost use Rattle.std.specs.Prelude.{◌≡◌, false, true, OnOk};
 ghost use Rattle.std.specs.Io.KnownBytes.{Appends};
 ghost use Rattle.kalah_jobs.specs.Writing.Sink.{AppendsPrefix};
-ghost use Rattle.kalah_jobs.specs.Writing.Stream.{stream_failed, stream_flushed, stream_writer};
 
 use crate::Sink;
 use std::io;
@@ -68,9 +67,9 @@ pub struct Stream<W> {
 impl<W> Stream<W> {
     /// Makes a stream with no failed call.
     pub fn new(writer: W) -> Stream<W>
-        ensures writer { stream_writer result ≡ writer }
-        ensures fresh { stream_failed result ≡ false }
-        ensures flushed { stream_flushed result ≡ true }
+        ensures writer { result.writer ≡ writer }
+        ensures fresh { result.has_failed ≡ false }
+        ensures flushed { result.is_flushed ≡ true }
     {
         Stream {
             writer,
@@ -81,7 +80,7 @@ impl<W> Stream<W> {
 
     /// Returns the writer.
     pub fn into_inner(self) -> W
-        ensures { result ≡ stream_writer self }
+        ensures { result ≡ self.writer }
     {
         let Stream {
             writer,
@@ -94,9 +93,9 @@ impl<W> Stream<W> {
 
 impl<W: Write> Sink for Stream<W> {
     ghost state = { λ s. record {
-      written = W.contents (stream_writer s);
-      has_failed = stream_failed s;
-      is_flushed = stream_flushed s;
+      written = W.contents s.writer;
+      has_failed = s.has_failed;
+      is_flushed = s.is_flushed;
       may_buffer = true;
     } };
 
