@@ -21,7 +21,8 @@ use Rattle.std.specs.List.{list_any}
 use Rattle.clap.proofs.WalkLemmas.{list_any-map}
 use Rattle.kalah_jobs.specs.Files.NamedBytes.{NamedBytes}
 use Rattle.kalah_jobs.specs.declared.files.question.Question.{Question}
-use Rattle.kalah_jobs.specs.Writing.Output.{TallyState, output_to}
+use Rattle.kalah_jobs.specs.Writing.Output.{output_to}
+use Rattle.kalah_jobs.specs.declared.writing.tally.Tally.{Tally}
 use Rattle.kalah_run.specs.Batch.Answering.{AnswersAll, AnswersBatch}
 use Rattle.kalah_run.specs.declared.batch.run_fault.RunFault.{RunFault}
 use Rattle.kalah_run.specs.declared.batch.run_fault.RunFault.TheVariants as fault
@@ -159,7 +160,7 @@ module _ {O : Type 0} (state : O → SinkState) {status : ExitStatus} {may_give 
   module _ {old new : O} (files : List NamedBytes) (named : map (λ file. file.name) files ≡ names)
       (given : All (λ file. may_give (file_named file.name) file.bytes) files) where
     -- each line was answered
-    pub files_answered : {tally : TallyState} → AnswersAll state (output_to question files) files old new tally
+    pub files_answered : {tally : Tally} → AnswersAll state (output_to question files) files old new tally
         → list_any has_line_feed names ≡ false → status ≢ Failed → (status ≡ Clean) ↔ (tally.faults ≡ 0)
         → AnswersFiles state old new status may_give question names
     files_answered does one_line went clean = record {
@@ -171,7 +172,7 @@ module _ {O : Type 0} (state : O → SinkState) {status : ExitStatus} {may_give 
         whole = λ _. does.written;
       };
       one_line = λ _. one_line;
-      clean = λ _. subst (λ (tally : TallyState). (status ≡ Clean) ↔ (tally.faults ≡ 0)) does.counted clean;
+      clean = λ _. subst (λ (tally : Tally). (status ≡ Clean) ↔ (tally.faults ≡ 0)) does.counted clean;
       ends = record {
         failed = λ has. absurd (let both : true ≡ false = sym has ∙ does.sound in cc);
         unchanged = λ failed. absurd (went failed);

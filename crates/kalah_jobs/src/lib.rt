@@ -41,4 +41,5 @@ pub use writing::position_text::{line_text, step_text, write_step, write_valued_
 pub use writing::shown::write_values;
 pub use writing::sink::{Sink, flush_unless_failed, write_unless_failed};
 pub use writing::stream::{Stream, write_pieces};
+pub use writing::tally::Tally;
 pub use writing::variation::{write_next_house, write_variation_start};

@@ -13,4 +13,5 @@ pub(crate) mod stack_text;
 pub(crate) mod steps;
 pub(crate) mod steps_in_line;
 pub(crate) mod stream;
+pub(crate) mod tally;
 pub(crate) mod variation;

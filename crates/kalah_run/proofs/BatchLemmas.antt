@@ -27,7 +27,8 @@ use Rattle.kalah_jobs.specs.declared.collecting.refusal.Refusal.{Refusal}
 use Rattle.kalah_jobs.specs.Writing.Answer.{answer_line}
 use Rattle.kalah_jobs.specs.Collecting.CollectorState.{ArrivalsState, state_of, front, HasEnded, with_one_taken, new_files, after_take}
 use Rattle.kalah_jobs.specs.Collecting.CollectorEvents.{Offers, Takes, answered_line}
-use Rattle.kalah_jobs.specs.Writing.Output.{text_of_line, text_of_file, text_of_jobs, taken_output, output_to, output_of_jobs, names_of, tally_of, TallyState, is_faulty_job}
+use Rattle.kalah_jobs.specs.Writing.Output.{text_of_line, text_of_file, text_of_jobs, taken_output, output_to, output_of_jobs, names_of, tally_of, is_faulty_job}
+use Rattle.kalah_jobs.specs.declared.writing.tally.Tally.{Tally}
 use Rattle.kalah_jobs.proofs.CollectingLemmas.{state_same, state_other, files_many, lines_are, start, taken_is, new_taken, fronts_full, gets_each_job_once, as_many_as_numbers, kept_by_offer, kept_by_take}
 use Rattle.kalah_jobs.specs.Collecting.Held.{Kept}
 use Rattle.kalah_jobs.specs.Files.Lines.{line_feed}
@@ -788,7 +789,7 @@ starts_none old new bytes none start = appends_none old new (take start.0 bytes)
 -- what a batch promises
 module _ {W : Type 0} (state : W → SinkState) (question : Question) (files : List NamedBytes) (old : W) where
   -- if the sink was given the answers to all lines, and either all is flushed or a write failed
-  pub answered : {jobs : List (List Entry)} → MakesJobs question files (Ok jobs) → (new : W) (result : Result TallyState RunFault)
+  pub answered : {jobs : List (List Entry)} → MakesJobs question files (Ok jobs) → (new : W) (result : Result Tally RunFault)
       → WasGivenSince (state old) (state new) (output_to question files)
       → IfOk result (λ tally. tally ≡ counts_of jobs) → OnOk result (((state new).has_failed ≡ false) × ((state new).is_flushed ≡ true))
       → IfErr result (λ e. (e ≡ Write) × ((state new).has_failed ≡ true))
@@ -824,9 +825,9 @@ module _ (question : Question) (files : List NamedBytes) (none : lines_in_all fi
   no_tally : tally_of files ≡ record { lines = 0; faults = 0 }
   no_tally =
       sym (counted_tally question files)
-      ∙ ap (λ (l : List Job). let c : TallyState = record { lines = length l; faults = count_by is_faulty_job l } in c) no_jobs
+      ∙ ap (λ (l : List Job). let c : Tally = record { lines = length l; faults = count_by is_faulty_job l } in c) no_jobs
 
-  pub nothing_answered : {W : Type 0} (state : W → SinkState) (old new : W) (result : Result TallyState RunFault)
+  pub nothing_answered : {W : Type 0} (state : W → SinkState) (old new : W) (result : Result Tally RunFault)
       → AnswersBatch state (output_to question files) files old new result → AnswersNothing (state old).written (state new).written result
   nothing_answered state old new (Ok tally) is = record {
     unwritten = appends_none _ _ _ no_output is.written;

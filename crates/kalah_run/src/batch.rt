@@ -26,9 +26,8 @@ use crate::batch::open_batch::OpenBatch;
 use crate::batch::request::{BatchRequest, Rest};
 use crate::batch::run_fault::RunFault;
 use crate::batch::watch::{NoWatch, Watch};
-use kalah_jobs::{FileText, Jobs, Question, Sink, flush_unless_failed};
+use kalah_jobs::{FileText, Jobs, Question, Sink, Tally, flush_unless_failed};
 use std::alloc::Global;
-use std::marker::Model;
 use std::sync::Wait;
 use std::sync::atomic::Rule;
 use std::thread::Threads;
@@ -38,25 +37,6 @@ struct Ended;
 
 impl Rule for Ended {
     ghost invariant = { λ _. Unit {0} };
-}
-
-/// How many lines a batch has answered.
-#[derive(Clone, Copy, Debug, PartialEq, Eq)]
-pub struct Tally {
-    /// The number of lines that were answered.
-    pub lines: u32,
-    /// The number of lines that were answered by a fault.
-    pub faults: u32,
-}
-
-impl Model for Tally {
-    ghost use Rattle.kalah_jobs.specs.Writing.Output.{TallyState};
-
-    ghost Value = { TallyState };
-
-    ghost view = { λ t. record { lines = t.lines; faults = t.faults } };
-
-    ghost inverse = { λ t. record { lines = t.lines; faults = t.faults } };
 }
 
 /// Answers what is asked of every line of the files. It writes the answer to each, in the order of files and lines, once it is ready

@@ -3,6 +3,7 @@ use Rattle.std.specs.Prelude.{◌≡◌, ℕ, List, [], ◌∷◌, ◌++◌, len
 use Rattle.std.specs.List.{flat_map, enumerate_from}
 use Rattle.kalah_jobs.specs.declared.files.entry.Entry.{Entry}
 use Rattle.kalah_jobs.specs.declared.writing.answer.Taken.{Taken}
+use Rattle.kalah_jobs.specs.declared.writing.tally.Tally.{Tally}
 use Rattle.kalah_jobs.specs.Files.NamedBytes.{NamedBytes}
 use Rattle.kalah_jobs.specs.Files.Lines.{line_feed, lines_of}
 use Rattle.kalah_jobs.specs.Files.Entry.{entry_of, entry_to}
@@ -38,11 +39,7 @@ abbrev pub is_faulty : List ℕ → Bool
 is_faulty line = is_faulty_entry (entry_of line)
 
 -- the number of lines answered, and the number of faults among them
-pub record TallyState : Type 0 where
-  pub lines : ℕ
-  pub faults : ℕ
-
-unfoldable pub tally_of : List NamedBytes → TallyState
+unfoldable pub tally_of : List NamedBytes → Tally
 tally_of files = record {
   lines = sum_by (λ file. length (lines_of file.bytes)) files;
   faults = sum_by (λ file. count_by is_faulty (lines_of file.bytes)) files;

@@ -4,10 +4,11 @@ use Rattle.std.specs.List.{flat_map, enumerate_from}
 use Rattle.kalah_jobs.specs.declared.files.question.Question.{Question}
 use Rattle.kalah_jobs.specs.Files.Lines.{line_feed, lines_of}
 use Rattle.kalah_jobs.specs.Files.NamedBytes.{NamedBytes}
-use Rattle.kalah_jobs.specs.Writing.Output.{line_output, output_of, output_to, TallyState, tally_of}
+use Rattle.kalah_jobs.specs.Writing.Output.{line_output, output_of, output_to, tally_of}
+use Rattle.kalah_jobs.specs.declared.writing.tally.Tally.{Tally}
 
 -- what two batches count together
-abbrev pub counted_together : TallyState → TallyState → TallyState
+abbrev pub counted_together : Tally → Tally → Tally
 counted_together one other = record { lines = one.lines + other.lines; faults = one.faults + other.faults }
 
 -- the output for files is the output for the first of them, followed by the output for the others; the counts of lines
@@ -27,7 +28,7 @@ abbrev pub output_from : ℕ → Question → List ℕ → List ℕ → List ℕ
 output_from number question name bytes = flat_map (line_output question name) (enumerate_from number (lines_of bytes))
 
 -- what is counted of a file with these bytes, for any name
-abbrev pub tally_in : List ℕ → TallyState
+abbrev pub tally_in : List ℕ → Tally
 tally_in bytes = tally_of (record { name = []; bytes = bytes } ∷ [])
 
 -- the lines of two parts of a file are those of the first and then those of the second, and so are their answers: the lines of

@@ -7,7 +7,8 @@ use Rattle.kalah_jobs.specs.Files.Jobs.{AreFew, lines_in_all}
 use Rattle.kalah_jobs.specs.declared.files.entry.Entry.{Entry}
 use Rattle.kalah_jobs.specs.Files.JobList.{job_list}
 use Rattle.kalah_jobs.specs.Files.NamedBytes.{NamedBytes}
-use Rattle.kalah_jobs.specs.Writing.Output.{TallyState, tally_of, is_faulty_job, output_to}
+use Rattle.kalah_jobs.specs.Writing.Output.{tally_of, is_faulty_job, output_to}
+use Rattle.kalah_jobs.specs.declared.writing.tally.Tally.{Tally}
 use Rattle.kalah_jobs.specs.declared.files.jobs.JobsFault.{JobsFault}
 use Rattle.kalah_jobs.specs.declared.files.jobs.JobsFault.TheVariants as jobs
 use Rattle.kalah_run.specs.declared.batch.run_fault.RunFault.{RunFault}
@@ -21,11 +22,11 @@ run_fault_of jobs.TooManyLines = TooManyLines
 run_fault_of jobs.OutOfMemory = OutOfMemory
 
 -- the lines of these jobs, and those of them that are answered by a fault
-abbrev pub counts_of : List (List Entry) → TallyState
+abbrev pub counts_of : List (List Entry) → Tally
 counts_of jobs = record { lines = length (job_list jobs); faults = count_by is_faulty_job (job_list jobs) }
 
 -- The gate hears of the job of each line, unless the batch failed otherwise than by a write.
-abbrev pub HearsAll : (ℕ → Bool) → List NamedBytes → Result TallyState RunFault → Type 0
+abbrev pub HearsAll : (ℕ → Bool) → List NamedBytes → Result Tally RunFault → Type 0
 HearsAll knows files result = IfErr result (λ e. e ≡ Write) → (job : ℕ) → job < lines_in_all files → knows job ≡ true
 
 -- The lines of these files have this output, and a sink was `old` before they were answered and is `new` afterwards.
@@ -35,7 +36,7 @@ module _ {W : Type 0} (state : W → SinkState) (output : List ℕ) (files : Lis
   IsUntouched = (new ≡ old) × ((state new).has_failed ≡ false)
 
   -- the output was written, and nothing else, all of it is flushed, and lines and faults are counted
-  pub record AnswersAll (tally : TallyState) : Type 0 where
+  pub record AnswersAll (tally : Tally) : Type 0 where
     pub few : AreFew files
     pub written : Appends (state old).written (state new).written output
     pub sound : (state new).has_failed ≡ false
@@ -43,7 +44,7 @@ module _ {W : Type 0} (state : W → SinkState) (output : List ℕ) (files : Lis
     pub counted : tally ≡ tally_of files
 
   -- what each result says
-  abbrev pub AnswersBatch : Result TallyState RunFault → Type 0
+  abbrev pub AnswersBatch : Result Tally RunFault → Type 0
   AnswersBatch (Ok tally) = AnswersAll tally
   AnswersBatch (Err TooManyFiles) = (most_files < length files) × IsUntouched
   AnswersBatch (Err TooManyLines) = (length files ≤ most_files) × (most_lines < lines_in_all files) × IsUntouched
@@ -55,13 +56,13 @@ module _ {W : Type 0} (state : W → SinkState) (output : List ℕ) (files : Lis
 -- ==== The result of a batch whose files have no line
 
 -- Nothing is written, and no line and no fault is counted, unless one of three faults comes instead.
-pub record AnswersNothing (old new : Option (List ℕ)) (result : Result TallyState RunFault) : Type 0 where
+pub record AnswersNothing (old new : Option (List ℕ)) (result : Result Tally RunFault) : Type 0 where
   pub unwritten : Keeps old new
   pub uncounted : IfOk result (λ tally. tally ≡ record { lines = 0; faults = 0 })
   pub fault : IfErr result (λ e. (e ≡ TooManyFiles) ⊎ (e ≡ OutOfMemory) ⊎ (e ≡ Write))
 
 -- So it is with every batch that keeps its promises, for each question and a sink of any kind.
 abbrev pub NoLineIsAnswered : {W : Type 0} → (W → SinkState) → Type 0
-NoLineIsAnswered {W} state = (question : Question) (files : List NamedBytes) (old new : W) (result : Result TallyState RunFault)
+NoLineIsAnswered {W} state = (question : Question) (files : List NamedBytes) (old new : W) (result : Result Tally RunFault)
     → AnswersBatch state (output_to question files) files old new result → lines_in_all files ≡ 0
     → AnswersNothing (state old).written (state new).written result

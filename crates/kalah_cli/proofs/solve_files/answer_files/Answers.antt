@@ -1,5 +1,4 @@
-use Rattle.std.proofs.Common.{◌∙◌, ap, refl, sym}
-use Rattle.kalah_jobs.specs.Writing.Output.{TallyState}
+use Rattle.std.proofs.Common.{refl}
 use Rattle.kalah_cli.proofs.RunLemmas.{ended_err, files_answered, files_failed}
 use Rattle.kalah_cli.proofs.solve_files.answer_files.Goals as goal
 
@@ -11,9 +10,9 @@ returns-in_err-tally g c =
 pub returns-then-tally-eq0 : goal.returns-then-tally-eq0
 returns-then-tally-eq0 g c =
     files_answered _ c.args.files.now c.requires.named c.requires.given c.in_ok-tally.ensures.answers c.requires.one_line (λ e. cc)
-    ((λ _. sym (ap (λ (t : TallyState). t.faults) c.tally.view_is) ∙ c.if-tally-eq0.true), (λ _. refl))
+    ((λ _. c.if-tally-eq0.true), (λ _. refl))
 
 pub returns : goal.returns
 returns g c =
     files_answered _ c.args.files.now c.requires.named c.requires.given c.in_ok-tally.ensures.answers c.requires.one_line (λ e. cc)
-    ((λ e. cc), (λ none. absurd (c.if-tally-eq0.false (ap (λ (t : TallyState). t.faults) c.tally.view_is ∙ none))))
+    ((λ e. cc), (λ none. absurd (c.if-tally-eq0.false none)))
