@@ -1,21 +1,16 @@
 -- What `kalah moves` and `kalah play` print of a move.
-use Rattle.std.specs.Prelude.{ℕ, ℤ, List, [], ◌∷◌, ◌++◌, Bool, Option, None, Some, flat_map, if◌then◌else◌}
+use Rattle.std.specs.Prelude.{ℕ, ℤ, List, [], ◌∷◌, ◌++◌, Bool, Option, None, flat_map, if◌then◌else◌}
 use Rattle.kalah_rules.specs.Position.{Position}
 use Rattle.kalah_rules.specs.Play.{legal_houses, position_after, step_of}
 use Rattle.kalah_rules.specs.declared.step.Step.{Step}
 use Rattle.kalah_jobs.specs.Line.Line.{step_text_of}
 use Rattle.kalah_jobs.specs.Files.Lines.{line_feed}
 use Rattle.kalah_jobs.specs.Writing.Picture.{picture_of}
-use Rattle.kalah_jobs.specs.Writing.Variation.{value_after}
+use Rattle.kalah_jobs.specs.Writing.Variation.{value_suffix}
 
 -- the picture of a position, if boards are drawn
 abbrev pub board_lines : Bool → Position → List ℕ
 board_lines boards p = if boards then picture_of p else []
-
--- what stands after a move: a space and a value, if there is one
-abbrev pub value_suffix : Option ℤ → List ℕ
-value_suffix None = []
-value_suffix (Some value) = value_after value
 
 -- the line of a move, with this value or none, and below it the position after it, if boards are drawn
 abbrev pub move_lines : Bool → Option ℤ → ℕ → Step → List ℕ

@@ -1,13 +1,11 @@
 //! `kalah moves LINE`.
-ghost use Rattle.std.specs.Prelude.{◌≡◌, [], ◌∷◌, ◌++◌};
+ghost use Rattle.std.specs.Prelude.{◌≡◌};
 ghost use Rattle.kalah_rules.specs.Play.{position_after};
-ghost use Rattle.kalah_jobs.specs.Files.Lines.{line_feed};
-ghost use Rattle.kalah_jobs.specs.Line.Line.{step_text_of};
 ghost use Rattle.kalah_jobs.specs.Writing.Sink.{WasGiven};
 ghost use Rattle.kalah_cli.specs.Ends.{IsPrinted};
-ghost use Rattle.kalah_cli.specs.Moves.{board_lines, move_lines, moves_output, value_suffix};
+ghost use Rattle.kalah_cli.specs.Moves.{board_lines, move_lines, moves_output};
 
-use kalah_jobs::{Sink, flush_unless_failed, write_picture, write_step, write_valued_step};
+use kalah_jobs::{Sink, flush_unless_failed, write_picture, write_step};
 use kalah_rules::{Board, Step};
 
 // Returns the board that a step leads to.
@@ -30,16 +28,6 @@ pub(crate) fn write_board<O: Sink>(board: &Board, boards: bool, out: &mut O)
     }
 }
 
-// Writes the line of a move, with a value after it or without.
-fn write_line<O: Sink>(house: u8, step: &Step, value: Option<i32>, out: &mut O)
-    ensures { WasGiven O.state out.old out.new (step_text_of house step.now ++ (value_suffix value ++ line_feed ∷ [])) }
-{
-    match value {
-        Some(value) => write_valued_step(out, house, step, value),
-        None => write_step(out, house, step),
-    }
-}
-
 // Writes the line of a move, and below it the board after it, if boards are drawn.
 pub(crate) fn write_move<O: Sink>(
     house: u8,
@@ -50,7 +38,7 @@ pub(crate) fn write_move<O: Sink>(
 )
     ensures { WasGiven O.state out.old out.new (move_lines boards value house step.now) }
 {
-    write_line(house, step, value, out);
+    write_step(out, house, step, value);
     write_board(board_after(step), boards, out);
 }
 

@@ -37,7 +37,7 @@ pub use writing::answer_line::{answer_text, write_answer, write_answer_unless_fa
 pub use writing::counts::{write_total, write_ways};
 pub use writing::laws::{files_are_their_jobs, files_split_between_lines, output_splits_by_files};
 pub use writing::picture::write_picture;
-pub use writing::position_text::{line_text, step_text, write_step, write_valued_step};
+pub use writing::position_text::{line_text, step_text, write_step};
 pub use writing::shown::write_values;
 pub use writing::sink::{Sink, flush_unless_failed, write_unless_failed};
 pub use writing::stream::{Stream, write_pieces};

@@ -1,5 +1,5 @@
 -- How a variation is printed: a move, what it is worth, and the moves of best play after it.
-use Rattle.std.specs.Prelude.{ℕ, ℤ, List, ◌++◌, codes, decimal}
+use Rattle.std.specs.Prelude.{ℕ, ℤ, List, [], ◌++◌, Option, None, Some, codes, decimal}
 use Rattle.std.specs.Fmt.{signed_decimal}
 use Rattle.kalah_solve.specs.declared.solver.move_values.MoveValue.{MoveValue}
 
@@ -11,6 +11,7 @@ variation_start v = decimal v.house ++ (codes "  " ++ (signed_decimal v.value ++
 abbrev pub next_house : ℕ → List ℕ
 next_house house = codes " " ++ decimal house
 
--- ` -4`: what a move or a position is worth, after a text
-abbrev pub value_after : ℤ → List ℕ
-value_after value = codes " " ++ signed_decimal value
+-- ` -4`, or nothing: what a move or a position is worth, after a text
+abbrev pub value_suffix : Option ℤ → List ℕ
+value_suffix None = []
+value_suffix (Some value) = codes " " ++ signed_decimal value

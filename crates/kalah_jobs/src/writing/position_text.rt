@@ -7,7 +7,7 @@ ghost use Rattle.kalah_rules.specs.Position.{IsWithinLimits, side_length};
 ghost use Rattle.kalah_jobs.specs.Files.Lines.{line_feed};
 ghost use Rattle.kalah_jobs.specs.Line.Line.{Reads, suffix_of, side_text, line_text_of, word_of_step, step_text_of};
 ghost use Rattle.kalah_jobs.specs.Writing.Player.{houses_of, store_of};
-ghost use Rattle.kalah_jobs.specs.Writing.Variation.{value_after};
+ghost use Rattle.kalah_jobs.specs.Writing.Variation.{value_suffix};
 
 use crate::writing::player::Player;
 use crate::writing::sink::{Sink, write_unless_failed};
@@ -124,23 +124,25 @@ pub fn step_text(alloc: Global, h: u8, step: &Step) -> Result<String, AllocError
     String::from_str(alloc, text_of_step(h, step, "").as_str())
 }
 
-/// Writes the text of a move, as `step_text` returns it, and a line feed. It allocates nothing. If the sink has failed it is not called.
-/// If it fails, a prefix of the line was written, and nothing else.
-pub fn write_step<W: Sink>(out: &mut W, h: u8, step: &Step)
-    ensures { WasGiven W.state out.old out.new (step_text_of h step.now ++ line_feed ∷ []) }
-{
-    write_unless_failed(out, text_of_step(h, step, "\n").bytes());
-}
-
-/// Writes the text of a move, as `step_text` returns it, a space, a value and a line feed. It allocates nothing. If the sink has failed it
-/// is not called. If it fails, a prefix of the line was written, and nothing else.
-pub fn write_valued_step<W: Sink>(out: &mut W, h: u8, step: &Step, value: i32)
-    ensures { WasGiven W.state out.old out.new (step_text_of h step.now ++ (value_after value ++ line_feed ∷ [])) }
+// Returns a space and the value, if there is one, and a line feed.
+fn line_end(value: Option<i32>) -> StackText
+    ensures end { result ≡ value_suffix value ++ line_feed ∷ [] }
+    ensures short { length result ≤ 13 }
 {
     let mut text = StackText::new();
     text.prepend("\n");
-    text.prepend_margin(value);
-    text.prepend(" ");
+    if let Some(value) = value {
+        text.prepend_margin(value);
+        text.prepend(" ");
+    }
+    text
+}
+
+/// Writes the text of a move, as `step_text` returns it, a space and the value, if there is one, and a line feed.
+pub fn write_step<W: Sink>(out: &mut W, h: u8, step: &Step, value: Option<i32>)
+    ensures { WasGiven W.state out.old out.new (step_text_of h step.now ++ (value_suffix value ++ line_feed ∷ [])) }
+{
+    let mut text = line_end(value);
     prepend_step(&mut text, h, step);
     write_unless_failed(out, text.bytes());
 }

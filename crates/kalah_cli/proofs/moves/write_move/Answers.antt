@@ -4,7 +4,8 @@ use Rattle.kalah_jobs.specs.Line.Line.{step_text_of}
 use Rattle.kalah_jobs.specs.Files.Lines.{line_feed}
 use Rattle.kalah_jobs.specs.Writing.Sink.{WasGiven}
 use Rattle.kalah_jobs.proofs.WritingLemmas.{given_then}
-use Rattle.kalah_cli.specs.Moves.{board_lines, value_suffix}
+use Rattle.kalah_jobs.specs.Writing.Variation.{value_suffix}
+use Rattle.kalah_cli.specs.Moves.{board_lines}
 use Rattle.kalah_cli.proofs.moves.write_move.Goals as goal
 
 pub returns : goal.returns
@@ -15,4 +16,4 @@ returns g c =
     subst (WasGiven g.O.Sink.state c.args.out.now c.write_board.new.out)
     (ap (λ p. (move ++ (value ++ line_feed ∷ [])) ++ board_lines c.args.boards p) c.board_after.ensures
     ∙ append_assoc move (value ++ line_feed ∷ []) below ∙ ap (λ text. move ++ text) (append_assoc value (line_feed ∷ []) below))
-    (given_then _ _ _ _ _ _ c.write_line.ensures c.write_board.ensures)
+    (given_then _ _ _ _ _ _ c.write_step.ensures c.write_board.ensures)
