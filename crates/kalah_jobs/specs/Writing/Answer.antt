@@ -17,23 +17,16 @@ use Rattle.kalah_jobs.specs.declared.writing.answer.Answer.{Answer}
 use Rattle.kalah_jobs.specs.declared.writing.answer.Answer.TheVariants.{Best, Over, Values, Steps, Fault}
 use Rattle.kalah_jobs.specs.declared.writing.answer.Taken.{Taken}
 
--- the final margin of a game that is over, otherwise the margin of best play and the lowest-numbered best house
-abbrev pub answer_of_position : position.Position → Answer
-answer_of_position p = if is_over p then Over (final_margin p) else Best (worth p) (best_house p)
+-- the final margin of a game that is over, otherwise this answer
+abbrev pub unless_over : position.Position → Answer → Answer
+unless_over p answer = if is_over p then Over (final_margin p) else answer
 
--- the final margin of a game that is over, otherwise each legal house with the value of its move
-abbrev pub answer_of_values : position.Position → Answer
-answer_of_values p = if is_over p then Over (final_margin p) else Values (values_of p)
-
--- the final margin of a game that is over, otherwise the steps of the position
-abbrev pub answer_of_steps : position.Position → Answer
-answer_of_steps p = if is_over p then Over (final_margin p) else Steps p
-
--- the answer to what a line says, and is asked
+-- The answer to what a line says, and is asked: the margin of best play and the lowest-numbered best house, each legal house with the
+-- value of its move, or the steps of the position.
 unfoldable pub answer_of : Entry → Answer
-answer_of (Position p) = answer_of_position p
-answer_of (ValuesOf p) = answer_of_values p
-answer_of (StepsOf p) = answer_of_steps p
+answer_of (Position p) = unless_over p (Best (worth p) (best_house p))
+answer_of (ValuesOf p) = unless_over p (Values (values_of p))
+answer_of (StepsOf p) = unless_over p (Steps p)
 answer_of (Bad fault) = Fault fault
 
 -- the line was not read
