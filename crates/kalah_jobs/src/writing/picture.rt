@@ -72,8 +72,7 @@ fn picture(board: &Board) -> StackText
 
 /// Draws a board in three lines. The first has the houses of the other player, from the last to the first. The second has the stores,
 /// with the mover's at the right. The third has the houses of the mover, from the first to the last. Each number is right-aligned in
-/// a column of four bytes. It allocates nothing. If the sink has failed it is not called. If it fails, a prefix of the picture was
-/// written, and nothing else.
+/// a column of four bytes.
 pub fn write_picture<W: Sink>(out: &mut W, board: &Board)
     ensures { WasGiven W.state out.old out.new (picture_of board.now) }
 {

@@ -64,8 +64,6 @@ fn line_below(board: &Board, values: &MoveValues) -> StackText
 /// Writes the line below the picture of a board. It has what each move is worth, from `values`, at the right of the column of its
 /// house. Nothing stands below a house that may not be moved, or after the last value. If the game is over, the line is
 /// `over, margin M`.
-///
-/// It allocates nothing. If the sink has failed it is not called. If it fails, a prefix of the line was written, and nothing else.
 pub fn write_values<W: Sink>(out: &mut W, board: &Board, values: &MoveValues)
     requires { values.now ≡ values_of board.now }
     ensures { WasGiven W.state out.old out.new (values_line board.now ++ line_feed ∷ []) }

@@ -6,8 +6,7 @@ use crate::writing::sink::{Sink, write_unless_failed};
 use crate::writing::stack_text::StackText;
 use kalah_solve::MoveValue;
 
-/// Writes how the line of a variation begins, as `2  -4  2`: the house of its first move, the value of that move, and the house again. It
-/// allocates nothing. If the sink has failed it is not called. If it fails, a prefix of the text was written, and nothing else.
+/// Writes how the line of a variation begins, as `2  -4  2`: the house of its first move, the value of that move, and the house again.
 pub fn write_variation_start<W: Sink>(out: &mut W, value: MoveValue)
     ensures { WasGiven W.state out.old out.new (variation_start value) }
 {
@@ -20,8 +19,7 @@ pub fn write_variation_start<W: Sink>(out: &mut W, value: MoveValue)
     write_unless_failed(out, text.bytes());
 }
 
-/// Writes a space and the next house of a variation. It allocates nothing. If the sink has failed it is not called. If it fails, a prefix
-/// of the text was written, and nothing else.
+/// Writes a space and the next house of a variation.
 pub fn write_next_house<W: Sink>(out: &mut W, house: u8)
     ensures { WasGiven W.state out.old out.new (next_house house) }
 {
