@@ -84,10 +84,6 @@ pub all_read_more : (lines more line : List ℕ) → EndsWithItsLine lines → l
 all_read_more lines more line ends one =
     simp ((files_split_between_lines.parts lines more ends).lines, one, list_any-append, both_read)
 
-pub none_unread : are_all_read [] ≡ true
-unfolding lines_of
-none_unread = refl
-
 -- ---- as many bytes as are kept
 
 -- a line is at most one byte longer than without its CR
@@ -152,16 +148,13 @@ one_line_read Values other (Ok p) = cond_both (is_over p) _ _ IsOfOneLine (λ _.
 one_line_read Values other (Err fault) = tt
 one_line_read Steps other r = absurd (other refl)
 
-one_line_asked : (question : Question) → question ≢ Steps → (line : List ℕ) → IsOfOneLine (answer_of (entry_to question line))
-unfolding entry_to
-one_line_asked question other line = one_line_read question other (reading_of line)
-
 -- where no steps are asked an answer line is the place, and then the answer
 line_parts : (question : Question) → question ≢ Steps → (name : List ℕ) (number : ℕ) (line : List ℕ) →
     line_output question name (number, line) ≡ place_text name number ++ reply question line
+unfolding entry_to
 line_parts question other name number line =
     let answer = answer_of (entry_to question line) in
-    ap (λ l. l ++ line_feed ∷ []) (one_line_parts name number answer (λ p e. subst IsOfOneLine e (one_line_asked question other line)))
+    ap (λ l. l ++ line_feed ∷ []) (one_line_parts name number answer (λ p e. subst IsOfOneLine e (one_line_read question other (reading_of line))))
     ∙ append_assoc (place_text name number) (joined_text answer) (line_feed ∷ [])
 
 lines_parts : (question : Question) → question ≢ Steps → (name : List ℕ) (number : ℕ) (lines : List (List ℕ)) →
@@ -195,6 +188,7 @@ pub record Underway (question : Question) (before now old new : Option (List ℕ
 
 pub nothing_read : (question : Question) (before old : Option (List ℕ)) (line : List ℕ) → line ≡ [] →
     Underway question before before old old line true
+unfolding lines_of
 nothing_read question before old line empty = record {
   lines = [];
   part = [];
@@ -203,7 +197,7 @@ nothing_read question before old line empty = record {
   kept = empty;
   taken = Consumes-nil before;
   written = subst (Appends old old) (sym (no_answers question)) (Appends-nil old);
-  status = sym none_unread;
+  status = refl;
 }
 
 -- what is underway goes on, or ends

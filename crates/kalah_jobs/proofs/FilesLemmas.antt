@@ -205,10 +205,6 @@ lines_are_one = record { some = are_lines_of; one = no_others }
 
 -- ==== Each line has one entry
 
-says : (line : List ℕ) → Says line (entry_of line)
-unfolding entry_to
-says line = grind (arith, is_reading line)
-
 says_once : (line : List ℕ) (entry : Entry) → Says line entry → entry ≡ entry_of line
 unfolding entry_to
 says_once line (Position p) is = ap (entry_of_reading BestMove) (sym (only_reading line (Ok p) is))
@@ -216,14 +212,12 @@ says_once line (Bad fault) is = ap (entry_of_reading BestMove) (sym (only_readin
 says_once line entry is = absurd is
 
 pub entries_are_one : EntriesAreOne
-entries_are_one = record { some = says; one = says_once }
+unfolding entry_to
+entries_are_one = record { some = λ line. grind (arith, is_reading line); one = says_once }
 
 -- ==== The number of jobs before each file, and the place of a line in the list of jobs
 
 -- ---- counts
-
-job_count-cons : (entries : List Entry) (jobs : List (List Entry)) → job_count (entries ∷ jobs) ≡ length entries + job_count jobs
-job_count-cons entries jobs = sum_by-cons length entries jobs
 
 -- of the results of f as many pass a test as there are elements whose result does
 pub count_map : {A X : Type 0} (p : X → Bool) (f : A → X) (xs : List A) → count_by p (map f xs) ≡ count_by (λ x. p (f x)) xs
@@ -244,9 +238,6 @@ count_flat {X} q (r ∷ rs) = omega (
 abbrev pub all_entries : List (List Entry) → List Entry
 all_entries jobs = flat_map (λ own. own) jobs
 
-pub length-all_entries : (jobs : List (List Entry)) → length (all_entries jobs) ≡ job_count jobs
-length-all_entries jobs = length-flat_map (λ (own : List Entry). own) jobs
-
 entries_of_file : (f k : ℕ) (own : List Entry) → map (λ (o : Job). o.entry) (file_jobs f k own) ≡ own
 entries_of_file f k [] = refl
 entries_of_file f k (e ∷ own) = ap (λ others. e ∷ others) (entries_of_file f (suc k) own)
@@ -263,7 +254,8 @@ entries_of_jobs jobs = entries_from 0 jobs
 -- there are as many jobs as lines
 pub length-job_list : (jobs : List (List Entry)) → length (job_list jobs) ≡ job_count jobs
 length-job_list jobs =
-    sym (length-map (job_list jobs) (λ (o : Job). o.entry)) ∙ ap length (entries_of_jobs jobs) ∙ length-all_entries jobs
+    sym (length-map (job_list jobs) (λ (o : Job). o.entry)) ∙ ap length (entries_of_jobs jobs)
+    ∙ length-flat_map (λ (own : List Entry). own) jobs
 
 -- ---- the place of a line in the list of jobs
 
@@ -300,7 +292,7 @@ slice_get-jobs_from f (suc g) k (entries ∷ jobs) e is =
       slice_get-jobs_from (suc f) g k jobs e is,
       length-map (file_jobs f 0 entries) (λ (o : Job). o.entry),
       entries_of_file f 0 entries,
-      job_count-cons entries (take g jobs),
+      sum_by-cons length entries (take g jobs),
     )
 
 -- line k of file f comes after the jobs of the files before f
@@ -328,7 +320,7 @@ job_count-jobs_to question [] = refl
 job_count-jobs_to question (file ∷ files) =
     omega (
       arith,
-      job_count-cons (entries_to question file.bytes) (jobs_to question files),
+      sum_by-cons length (entries_to question file.bytes) (jobs_to question files),
       sum_by-cons lines_in file files,
       length-entries_to question file.bytes,
       job_count-jobs_to question files,

@@ -159,18 +159,6 @@ pub ruleset parts_written = (left_all, left_whole, left_kept, left_part)
 
 -- ==== The lines of several moves
 
-pub one_move_more : (one : ℕ → List ℕ) (moves : List ℕ) (i house : ℕ) → i < length moves → house ≡ get_or moves i 0
-    → flat_map one (take (i + 1) moves) ≡ flat_map one (take i moves) ++ one house
-one_move_more one moves i house within is =
-    ap (flat_map one) (take_more moves i 0 within ∙ ap (λ h. take i moves ++ h ∷ []) (sym is))
-    ∙ sym (flat_map_more one [] (take i moves) house)
-
--- the first moves, and then the others
-pub first_moves : (one : ℕ → List ℕ) (moves others : List ℕ) (i : ℕ) → moves ≡ others →
-    flat_map one (take i moves) ++ flat_map one (drop i moves) ≡ flat_map one others
-first_moves one moves others i same =
-    sym (flat_map-append one (take i moves) (drop i moves)) ∙ ap (flat_map one) (take-append-drop i moves ∙ same)
-
 -- a place after the first isn't the first
 later : (i : ℕ) → (suc i == 0) ≡ false
 later i = ne_eqb (suc i) 0 (λ e. omega (arith, e))
@@ -276,12 +264,15 @@ module _ {O : Type 0} (state : O → SinkState) where
     -- the text of one more element was given
     pub given_more : (new : O) (element : ℕ) → i < length elements → element ≡ get_or elements i 0
         → WasGiven state between new (one element) → WasGiven state old new (flat_map one (take (i + 1) elements))
-    given_more new element within is more = subst (WasGiven state old new) (sym (one_move_more one elements i element within is))
+    given_more new element within is more = subst (WasGiven state old new)
+        (flat_map_more one [] (take i elements) element
+        ∙ ap (flat_map one) (ap (λ e. take i elements ++ e ∷ []) is ∙ sym (take_more elements i 0 within)))
         (given_then old between new (flat_map one (take i elements)) (one element) so_far more)
 
     -- a call had failed, so the sink was given all
     pub given_cut : (state between).has_failed ≡ true → WasGiven state old between (flat_map one all)
-    given_cut failed = subst (WasGiven state old between) (first_moves one elements all i same)
+    given_cut failed = subst (WasGiven state old between)
+        (sym (flat_map-append one (take i elements) (drop i elements)) ∙ ap (flat_map one) (take-append-drop i elements ∙ same))
         (given_then old between between (flat_map one (take i elements)) (flat_map one (drop i elements)) so_far
         (given_off between (flat_map one (drop i elements)) failed))
 
@@ -475,31 +466,16 @@ lines_by_entries question text n name k (line ∷ lines) under =
     ap₂ (λ (l m : List ℕ). l ++ m) (sym (under (record { line = k; answer = answer_of (entry_to question line) })))
     (lines_by_entries question text n name (k + 1) lines under)
 
-file_by_entries : (question : Question) (text : ℕ → Taken → List ℕ) (n : ℕ) (file : NamedBytes) → IsUnder text n file.name
-    → file_output question file ≡ text_of_file text (n, entries_to question file.bytes)
-unfolding entries_to
-file_by_entries question text n file under = lines_by_entries question text n file.name 0 (lines_of file.bytes) under
-
 -- the files from number n on
 files_by_entries : (question : Question) (text : ℕ → Taken → List ℕ) (n : ℕ) (files : List NamedBytes)
     → ((m i : ℕ) → m ≡ n + i → i < length files → IsUnder text m (get_or (names_of files) i []))
     → flat_map (file_output question) files ≡ flat_map (text_of_file text) (enumerate_from n (jobs_to question files))
+unfolding entries_to
 files_by_entries question text n [] under = refl
 files_by_entries question text n (file ∷ files) under =
-    ap₂ (λ (l m : List ℕ). l ++ m) (file_by_entries question text n file (under n 0 (omega arith) (omega arith)))
+    ap₂ (λ (l m : List ℕ). l ++ m)
+    (lines_by_entries question text n file.name 0 (lines_of file.bytes) (under n 0 (omega arith) (omega arith)))
     (files_by_entries question text (n + 1) files (λ m i is low. under m (suc i) (omega arith) (omega arith)))
-
-same_output : (question : Question) (files : List NamedBytes) →
-    output_to question files ≡ output_of_jobs (names_of files) (jobs_to question files)
-unfolding output_to
-same_output question files =
-    files_by_entries question (taken_output (names_of files)) 0 files
-    (λ m i is low taken. ap (λ j. answer_line (get_or (names_of files) j []) taken ++ line_feed ∷ [])
-    (let e : m ≡ i = omega arith in e))
-
-same_lines : (question : Question) (files : List NamedBytes) → (tally_of files).lines ≡ length (job_list (jobs_to question files))
-unfolding tally_of
-same_lines question files = sym (length-job_list (jobs_to question files) ∙ job_count-jobs_to question files)
 
 -- a line is answered by a fault for each question
 faults_of_lines : (question : Question) (lines : List (List ℕ)) →
@@ -522,13 +498,16 @@ faults_of_files question (file ∷ files) =
       sum_by-append (λ entry. cond (is_faulty_entry entry) 1 0) (entries_to question file.bytes) (all_entries (jobs_to question files)),
     )
 
-same_faults : (question : Question) (files : List NamedBytes) →
-    (tally_of files).faults ≡ count_by is_faulty_job (job_list (jobs_to question files))
-unfolding tally_of
-same_faults question files = faults_of_files question files ∙ sym (faulty_jobs (jobs_to question files))
-
 pub files_are_their_jobs : FilesAreTheirJobs
-files_are_their_jobs = record { output = same_output; lines = same_lines; faults = same_faults }
+unfolding output_to tally_of
+files_are_their_jobs = record {
+  output = λ question files.
+      files_by_entries question (taken_output (names_of files)) 0 files
+      (λ m i is low taken. ap (λ j. answer_line (get_or (names_of files) j []) taken ++ line_feed ∷ [])
+      (let e : m ≡ i = omega arith in e));
+  lines = λ question files. sym (length-job_list (jobs_to question files) ∙ job_count-jobs_to question files);
+  faults = λ question files. faults_of_files question files ∙ sym (faulty_jobs (jobs_to question files));
+}
 
 -- ==== Files and parts of files in sequence
 
@@ -541,20 +520,15 @@ counts lines faults = record { lines = lines; faults = faults }
 
 -- ---- files
 
-output_of_both : (question : Question) (first others : List NamedBytes) →
-    output_to question (first ++ others) ≡ output_to question first ++ output_to question others
-unfolding output_to
-output_of_both question first others = flat_map-append (file_output question) first others
-
-tally_of_both : (first others : List NamedBytes) → tally_of (first ++ others) ≡ counted_together (tally_of first) (tally_of others)
-unfolding tally_of
-tally_of_both first others =
-    ap₂ counts
-    (sum_by-append (λ (file : NamedBytes). length (lines_of file.bytes)) first others)
-    (sum_by-append (λ (file : NamedBytes). count_by is_faulty (lines_of file.bytes)) first others)
-
 pub output_splits_by_files : OutputSplitsByFiles
-output_splits_by_files = record { asked = output_of_both; best_moves = output_of_both BestMove; counts = tally_of_both }
+unfolding output_to tally_of
+output_splits_by_files = record {
+  asked = λ question first others. flat_map-append (file_output question) first others;
+  best_moves = λ first others. flat_map-append (file_output BestMove) first others;
+  counts = λ first others. ap₂ counts
+      (sum_by-append (λ (file : NamedBytes). length (lines_of file.bytes)) first others)
+      (sum_by-append (λ (file : NamedBytes). count_by is_faulty (lines_of file.bytes)) first others);
+}
 
 -- ---- lines
 
@@ -563,15 +537,9 @@ onto_first-append : (byte : ℕ) (lines more : List (List ℕ)) → 0 < length l
 onto_first-append byte [] more some = absurd (omega arith)
 onto_first-append byte (line ∷ lines) more some = refl
 
--- a line feed by itself is one line without bytes, and no bytes have no lines
-one_feed : lines_of (line_feed ∷ []) ≡ [] ∷ []
-unfolding lines_of
-one_feed = refl
-
 lines_of_both : (front second : List ℕ) → lines_of ((front ++ line_feed ∷ []) ++ second) ≡ lines_of
     (front ++ line_feed ∷ []) ++ lines_of second
-lines_of_both [] second =
-    lines_of-feed line_feed second refl ∙ ap (λ (lines : List (List ℕ)). lines ++ lines_of second) (sym one_feed)
+lines_of_both [] second = unfold lines_of in lines_of-feed line_feed second refl
 lines_of_both (byte ∷ front) second = elim (cases_eq byte line_feed) [
   | inl feed ↦ simp (lines_of-feed, lines_of_both front second)
   | inr other ↦
@@ -591,34 +559,15 @@ enumerate_from-append number (line ∷ lines) more =
     let e : number + 1 + length lines ≡ number + suc (length lines) = omega arith in
     simp (enumerate_from-append (number + 1) lines more, e)
 
--- what is written for two parts, of which the first ends with its line, is what is written for each
-output_split : (first second : List ℕ) → EndsWithItsLine first → (number : ℕ) (question : Question) (name : List ℕ) →
-    output_from number question name (first ++ second)
-    ≡ output_from number question name first ++ output_from (number + length (lines_of first)) question name second
-output_split first second ends number question name =
-    simp (lines_split first second ends, enumerate_from-append number (lines_of first) (lines_of second), flat_map-append)
-
-whole_file : (question : Question) (file : NamedBytes) → output_to question (file ∷ []) ≡ output_from 0 question file.name file.bytes
-unfolding output_to
-whole_file question file = append-nil (file_output question file)
-
-whole_tally : (file : NamedBytes) → tally_of (file ∷ []) ≡ tally_in file.bytes
-unfolding tally_of
-whole_tally file = refl
-
--- they are counted together
-tally_split : (first second : List ℕ) → EndsWithItsLine first
-    → tally_in (first ++ second) ≡ counted_together (tally_in first) (tally_in second)
-unfolding tally_of
-tally_split first second ends = simp (lines_split first second ends, zero-add, length-append, sum_by-append)
-
 pub files_split_between_lines : FilesSplitBetweenLines
+unfolding output_to tally_of
 files_split_between_lines = record {
-  whole = whole_file;
-  counted = whole_tally;
+  whole = λ question file. append-nil (file_output question file);
+  counted = λ file. refl;
   parts = λ first second ends. record {
     lines = lines_split first second ends;
-    output = output_split first second ends;
-    counts = tally_split first second ends;
+    output = λ number question name.
+        simp (lines_split first second ends, enumerate_from-append number (lines_of first) (lines_of second), flat_map-append);
+    counts = simp (lines_split first second ends, zero-add, length-append, sum_by-append);
   };
 }

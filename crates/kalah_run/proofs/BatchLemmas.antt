@@ -174,19 +174,16 @@ module _ (text : ℕ → Taken → List ℕ) (jobs : List (List Entry)) where
             ∙ ap (flat_map T) (take-append-drop m (job_list jobs)) ∙ texts_from 0 jobs,
       )
 
-  written_none : written_upto text jobs 0 0 ≡ []
-  unfolding written_upto
-  written_none = refl
-
   -- nothing was offered and nothing taken
   pub progress_start : (begun : SinkState) → IsUnderWay text jobs [] (new_files jobs) 0 begun begun
+  unfolding written_upto
   progress_start begun =
       record {
         kept = start jobs;
         before = λ g low. absurd (omega arith);
         later = λ g high. new_taken jobs g;
         written = subst (λ (l : List ℕ). WasGivenSince begun begun l)
-            (sym (ap (λ n. written_upto text jobs 0 n) (new_taken jobs 0) ∙ written_none)) (since_none begun);
+            (sym (ap (λ n. written_upto text jobs 0 n) (new_taken jobs 0))) (since_none begun);
       }
 
 -- a step of a batch that is under way
@@ -667,11 +664,6 @@ nothing_drawn nothing draws = ⊎_elim (λ is. inl (subst HasDrawnNothing (sym i
 
 -- ==== What stands written when a batch has ended
 
-texts_are_output : (files : List NamedBytes) (jobs : List (List Entry))
-    → text_of_jobs (text_of files) jobs ≡ output_of_jobs (names_of files) jobs
-unfolding text_of
-texts_are_output files jobs = refl
-
 -- What was got so far is written as far as it is ready, and the calling thread keeps its passes of the queue and of the desk.
 pub record AreCollected (desk : DeskState) (output : OrderedOutput) (begun out : SinkState) (before now : CallerPasses)
     (r : OrderedOutput) : Type 0 where
@@ -739,10 +731,11 @@ pub has_collected : {desk : DeskState} {output r : OrderedOutput} {begun out lat
     → (length now.get_pass.got ≡ job_count output.jobs.now) ⊎ IsLeft (rest_of before.rest_pass) later.has_failed
     → Keeps out.written later.written → (later.has_failed ≡ false → out.has_failed ≡ false)
     → HasCollected desk output begun later before after
+unfolding text_of
 has_collected {output = output} {r} {begun} {later = later} {before} {now} so_far is all_got keeps sound =
     let written = still_written keeps sound so_far.progress.0 in
     let whole : text_of_jobs (text_of output.files.now) r.jobs.now ≡ whole_output output =
-    ap (λ l. text_of_jobs (text_of output.files.now) l) written.of_jobs ∙ texts_are_output output.files.now output.jobs.now in
+    ap (λ l. text_of_jobs (text_of output.files.now) l) written.of_jobs in
     rw is (record {
       queue = so_far.queue;
       workers = so_far.workers;
