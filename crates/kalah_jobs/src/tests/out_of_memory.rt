@@ -34,10 +34,7 @@ fn texts_of_positions_and_moves(rt: HostRuntime) -> Result<(), Fail> {
         assert!(rt; text.as_str() == line);
         assert!(rt; board.is_legal(2));
         let step = board.apply(2);
-        let text = match step_text(alloc, 2, &step) {
-            Ok(text) => text,
-            Err(_) => step_text(alloc, 2, &step)?,
-        };
+        let text = step_text(alloc, 2, &step).or_else(|_| step_text(alloc, 2, &step))?;
         assert!(rt; text.as_str() == want);
     }
     mark(alloc, "after all")
@@ -63,10 +60,11 @@ fn texts_of_answers(rt: HostRuntime) -> Result<(), Fail> {
     let alloc = rt.alloc();
     for (answer, want) in answers() {
         let taken = Taken { line: 1, answer };
-        let text = match answer_text(alloc, "name of a file", &taken) {
-            Ok(text) => text,
-            Err(_) => answer_text(alloc, "name of a file", &taken)?,
-        };
+        let text = answer_text(alloc, "name of a file", &taken).or_else(|_| answer_text(
+            alloc,
+            "name of a file",
+            &taken,
+        ))?;
         assert!(rt; text.as_str().strip_prefix("name of a file:2 ") == Some(want));
     }
     mark(alloc, "after all")
@@ -98,10 +96,10 @@ fn lines_are_read_without_memory(rt: HostRuntime) -> Result<(), Fail> {
 // The writer has all its room.
 #[test]
 fn answers_are_written_without_memory(rt: HostRuntime) -> Result<(), Fail> {
-    let room = match Vec::<u8>::with_capacity(rt.alloc(), 100) {
-        Ok(room) => room,
-        Err(_) => Vec::with_capacity(rt.alloc(), 100)?,
-    };
+    let room = Vec::<u8>::with_capacity(rt.alloc(), 100).or_else(|_| Vec::with_capacity(
+        rt.alloc(),
+        100,
+    ))?;
     mark(rt.alloc(), "before the calls without memory")?;
     let mut out = Stream::new(room);
     for (answer, _) in answers() {

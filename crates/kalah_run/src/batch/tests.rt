@@ -12,6 +12,7 @@ use std::process::Abort;
 use std::sync::Wait;
 use std::sync::atomic::AtomicU32;
 use std::sync::atomic::Ordering::SeqCst;
+use std::thread;
 use std::thread::Threads;
 
 const ONE_AND_TWO: &str = "1/0 1/0\n2/0 2/0";
@@ -87,6 +88,17 @@ impl Gate for Counting {
     fn after(&self, _job: u32) {
         self.sent.fetch_add(1, SeqCst);
     }
+}
+
+// Waits until the counter is at least `count`. Gives up after ten million turns, and returns whether it is.
+fn comes_to(counter: &AtomicU32, count: u32) -> bool {
+    for _ in 0..10_000_000u32 {
+        if counter.load(SeqCst) >= count {
+            return true;
+        }
+        thread::yield_now();
+    }
+    false
 }
 
 // The tally of a batch of this many lines, none of which is answered by a fault.

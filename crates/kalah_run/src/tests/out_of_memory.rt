@@ -97,10 +97,7 @@ fn a_desk_closed_before_all_is_drawn(rt: HostRuntime) -> Result<(), Fail> {
 
 // The outcomes of two lines of two files.
 pub(crate) fn two_outcomes(alloc: Global) -> Result<(Outcome, Outcome), AllocError> {
-    let table = match Table::new(alloc, 16) {
-        Ok(table) => table,
-        Err(_) => Table::new(alloc, 16)?,
-    };
+    let table = Table::new(alloc, 16).or_else(|_| Table::new(alloc, 16))?;
     let mut solver = Solver::new(table);
     let first = Outcome::of(0, 3, Entry::Bad(LineFault::Long), &mut solver);
     let second = Outcome::of(1, 4, Entry::Bad(LineFault::Seeds), &mut solver);

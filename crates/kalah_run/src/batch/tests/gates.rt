@@ -1,17 +1,16 @@
 //! Batches in which workers wait for one another: jobs are solved in parallel, drawn by any free worker, and written
 //! while later ones are under way. The watch learns of an answer once it is written.
-use super::{ONE_AND_TWO, answers, are, file_of, lines_are_answered, request_of, tally_of};
+use super::{
+    ONE_AND_TWO, answers, are, comes_to, file_of, lines_are_answered, request_of, tally_of,
+};
 use crate::{Gate, Rest, Watch, answer_batch};
 use kalah_jobs::{FileText, Question, Stream};
 use std::alloc::Global;
+use std::io;
 use std::io::Write;
 use std::process::Abort;
 use std::sync::atomic::Ordering::SeqCst;
 use std::sync::atomic::{AtomicBool, AtomicU32};
-use std::{io, thread};
-
-// How often a gate tests what it waits for.
-const TURNS: u32 = 10_000_000;
 
 /// Counts events, for which threads wait, and whether one gave up waiting.
 #[derive(Drop)]
@@ -30,13 +29,9 @@ impl Events {
 
     // Waits until there were `count` events.
     fn wait_for(&self, count: u32) {
-        for _ in 0..TURNS {
-            if self.count.load(SeqCst) >= count {
-                return;
-            }
-            thread::yield_now();
+        if !comes_to(&self.count, count) {
+            self.gave_up.store(true, SeqCst);
         }
-        self.gave_up.store(true, SeqCst);
     }
 
     // Adds an event.

@@ -16,10 +16,7 @@ fn answer_of<R: Abort + Threads + Wait + Sync>(
     alloc: Global,
     files: &[FileText],
 ) -> Result<Result<Tally, RunFault>, Fail> {
-    let room = match Vec::<u8>::with_capacity(alloc, 1024) {
-        Ok(room) => room,
-        Err(_) => Vec::with_capacity(alloc, 1024)?,
-    };
+    let room = Vec::<u8>::with_capacity(alloc, 1024).or_else(|_| Vec::with_capacity(alloc, 1024))?;
     let mut out = Stream::new(room);
     let answer = solve_batch(rt, alloc, files, 2, 16, &OpenGate, &mut out);
     let text = if answer.is_ok() { ANSWERS } else { "" };
@@ -31,10 +28,7 @@ fn answer_of<R: Abort + Threads + Wait + Sync>(
 #[test]
 fn a_batch_of_two_workers(rt: HostRuntime) -> Result<(), Fail> {
     let alloc = rt.alloc();
-    let files = match four_files(alloc) {
-        Ok(files) => files,
-        Err(_) => four_files(alloc)?,
-    };
+    let files = four_files(alloc).or_else(|_| four_files(alloc))?;
     let mut answer = answer_of(&rt, alloc, files.as_slice())?;
     if let Err(fault) = answer {
         assert!(rt; fault == RunFault::OutOfMemory || fault == RunFault::NoWorker);

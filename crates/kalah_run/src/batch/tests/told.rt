@@ -1,5 +1,5 @@
 //! What the gate observes: each job once, before it is solved and afterwards, and that an outcome is sent only once there is room for it.
-use super::{Counting, file_of, lines_are_answered, same_lines};
+use super::{Counting, comes_to, file_of, lines_are_answered, same_lines};
 use crate::limits::QUEUE_CAPACITY;
 use crate::{Gate, solve_batch};
 use kalah_jobs::Stream;
@@ -7,7 +7,7 @@ use std::io::Write;
 use std::sync::atomic::Ordering::SeqCst;
 use std::sync::atomic::{AtomicBool, AtomicU32, AtomicU64};
 use std::time::CpuClock;
-use std::{hint, io, thread};
+use std::{hint, io};
 
 /// Counts the calls for each job: there is one before it, and then one after it.
 #[derive(Drop)]
@@ -109,20 +109,12 @@ fn a_job_is_solved_between_the_calls_for_it(rt: HostRuntime) {
 // The number of outcomes that are got, or wait in the queue, while the first line is written.
 pub(super) const ROOM: u32 = QUEUE_CAPACITY + 1;
 
-// How often the writer tests what it waits for.
-const TURNS: u32 = 10_000_000;
-
 // How many turns the test waits for a job to be sent though there is no room.
 const A_WHILE: u32 = 1_000_000;
 
 // Waits until this many jobs have begun, and a while longer.
 pub(super) fn wait_for_begun(gate: &Counting, jobs: u32) {
-    for _ in 0..TURNS {
-        if gate.begun.load(SeqCst) >= jobs {
-            break;
-        }
-        thread::yield_now();
-    }
+    let _ = comes_to(&gate.begun, jobs);
     for _ in 0..A_WHILE {
         hint::spin_loop();
     }
