@@ -28,7 +28,7 @@ mod subcommands;
 mod terminal;
 mod tips;
 
-use failure::Failure;
+use failure::{Failure, report_end};
 use fused::Fused;
 use prompt_stream::PromptStream;
 use run::run_words;
@@ -50,23 +50,17 @@ fn words_of(rt: &HostRuntime) -> Result<Vec<String>, Failure<'static>> {
 
 fn main(rt: HostRuntime) -> ExitCode {
     let mut err = rt.stderr();
-    let failure = match words_of(&rt) {
-        Ok(words) => {
-            if words.is_empty() {
-                // There is not even the program's name: it ends without a message.
-                return ExitCode::from(ExitStatus::Failed.code());
+    let ended = match words_of(&rt) {
+        // There is not even the program's name: it ends without a message.
+        Ok(words) if words.is_empty() => Ok(ExitStatus::Failed),
+        Ok(words) => match BufWriter::new(rt.alloc(), Fused::new(io::writer(&rt))) {
+            Ok(out) => {
+                let mut out = PromptStream::new(out);
+                Ok(run_words(&rt, rt.alloc(), words, &mut out, &mut err))
             }
-            match BufWriter::new(rt.alloc(), Fused::new(io::writer(&rt))) {
-                Ok(out) => {
-                    let mut out = PromptStream::new(out);
-                    let status = run_words(&rt, rt.alloc(), words, &mut out, &mut err);
-                    return ExitCode::from(status.code());
-                }
-                Err(_) => Failure::OutOfMemory,
-            }
-        }
-        Err(failure) => failure,
+            Err(_) => Err(Failure::OutOfMemory),
+        },
+        Err(failure) => Err(failure),
     };
-    failure.report(false, &mut err);
-    ExitCode::from(ExitStatus::Failed.code())
+    ExitCode::from(report_end(ended, false, &mut err).code())
 }
