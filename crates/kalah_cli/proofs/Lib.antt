@@ -3,6 +3,5 @@ pub mod CommandLemmas
 pub mod RequestLemmas
 pub mod RunLemmas
 pub mod GameLemmas
-pub mod FilesLemmas
 pub mod KnownLemmas
 pub mod ShowLemmas

@@ -1,5 +1,5 @@
 -- What the program has done for a request.
-use Rattle.std.proofs.Common.{◌≡◌, ◌≢◌, ◌∙◌, ℕ, List, Bool, true, false, Option, refl, sym, subst, [], ◌∷◌, ap, map, inl, ◌≤◌, ◌-◌, ◌^◌, arith, inr, append-nil}
+use Rattle.std.proofs.Common.{◌≡◌, ◌≢◌, ◌∙◌, ◌++◌, ℕ, List, Bool, true, false, Option, refl, sym, subst, [], ◌∷◌, ap, map, inl, ◌≤◌, ◌-◌, ◌^◌, arith, inr, append-nil}
 use Rattle.std.specs.Prelude.{◌↔◌, All, IfOk, IsErr, IsErrOf, Result, Ok, Err, None, Some, ◌==◌, if◌then◌else◌}
 use Rattle.std.proofs.lemmas.Bool.{false_from_ne_true}
 use Rattle.kalah_rules.specs.Position.{Position}
@@ -27,9 +27,9 @@ use Rattle.kalah_run.specs.Batch.Answering.{AnswersAll, AnswersBatch}
 use Rattle.kalah_run.specs.declared.batch.run_fault.RunFault.{RunFault}
 use Rattle.kalah_run.specs.declared.batch.run_fault.RunFault.TheVariants as fault
 use Rattle.kalah_cli.specs.SolveFiles.{AnswersFiles, has_line_feed}
-use Rattle.kalah_cli.specs.Sources.{Source, any_bytes, file_named}
+use Rattle.kalah_cli.specs.Sources.{MayBeLeft, Source, any_bytes, file_named}
 use Rattle.std.specs.Io.Buffered.{reader_buffer, reader_capacity, reader_inner, reader_remaining}
-use Rattle.std.specs.Io.KnownBytes.{prepend_known}
+use Rattle.std.specs.Io.KnownBytes.{Consumes, IsAtEnd, prepend_known}
 use Rattle.std.specs.declared.io.buffered.BufReader.{BufReader}
 use Rattle.std.proofs.KnownBytes.{Keeps-refl}
 use Rattle.kalah_jobs.specs.Asking.{IsAnswered, IsBegun, IsCutOff}
@@ -127,6 +127,14 @@ module _ {O : Type 0} (state : O → SinkState) {status : ExitStatus} where
     )
 
 -- ---- what is answered of files
+
+-- bytes that are all that a reader had left
+pub read_whole : (may_give : List ℕ → Type 0) (old new : Option (List ℕ)) (bytes : List ℕ) → MayBeLeft may_give old
+    → Consumes old new bytes
+    → IsAtEnd new → may_give bytes
+read_whole may_give None new bytes may taken end = may bytes
+read_whole may_give (Some all) None bytes may taken end = absurd taken
+read_whole may_give (Some all) (Some left) bytes may taken end = subst may_give (taken ∙ ap (λ l. bytes ++ l) end ∙ append-nil bytes) may
 
 -- one of the names has a line feed exactly when one of their texts has
 pub texts_have_line_feed : (names : List (Bor (List ℕ)))
