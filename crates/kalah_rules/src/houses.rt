@@ -1,6 +1,7 @@
 //! The houses of a board without the stores, as numbers.
 ghost use Rattle.std.specs.Prelude.{◌≡◌, ◌<◌, ◌≤◌, ◌^◌, ◌↔◌, length, sum, IsSome, IfSome, IsTrue, Some};
 ghost use Rattle.kalah_rules.specs.Position.{HousesState, seeds, seeds_in_houses, is_over, storeless, without_seeds, IsWithinHouses};
+ghost use Rattle.kalah_rules.specs.Play.{legal_houses};
 ghost use Rattle.kalah_rules.specs.Cells.{CanBeHouses, houses_from};
 ghost use Rattle.kalah_rules.specs.Key.{number_of, key_of, variant_of, IsKey};
 
@@ -17,6 +18,7 @@ use crate::houses::numbers::{
     variant_number,
 };
 use crate::limits::{MOST_HOUSES, MOST_SEEDS};
+use crate::moves::Moves;
 use crate::rule::Rule;
 use std::marker::Model;
 
@@ -225,6 +227,24 @@ impl Houses {
         ensures { result ≡ is_over (storeless self.now) }
     {
         self.own_row() == 0 || self.other_row() == 0
+    }
+
+    /// Returns the mover's houses that may be moved, in ascending order: those that hold seeds, or none if the game is over.
+    pub fn legal(&self) -> Moves
+        ensures moves { result ≡ legal_houses (storeless self.now) }
+        ensures limits { IsWithinHouses self.now }
+    {
+        let m = self.m();
+        let mut moves = Moves::none();
+        if self.is_over() {
+            return moves;
+        }
+        for h in 1..m + 1 {
+            if self.own(h) > 0 {
+                moves.push(h);
+            }
+        }
+        moves
     }
 
     // Returns the number of seeds that each player has in houses at the end of a game: the mover's, and the other player's.

@@ -1,5 +1,5 @@
 //! The numbers of ways to play on.
-ghost use Rattle.std.specs.Prelude.{◌≡◌, ◌≤◌, ◌<◌, ◌^◌, length, Contains};
+ghost use Rattle.std.specs.Prelude.{◌≡◌, ◌≤◌, ◌<◌, ◌^◌, Contains};
 ghost use Rattle.kalah_rules.specs.Position.{storeless};
 ghost use Rattle.kalah_rules.specs.Play.{legal_houses};
 ghost use Rattle.kalah_rules.specs.Limits.{most_depth, most_houses};
@@ -15,23 +15,6 @@ use crate::houses::sowings::Sowings;
 use crate::step::HousesStep;
 
 impl Houses {
-    // Returns the number of legal moves.
-    fn legal_count(&self) -> u64
-        ensures count { result ≡ length (legal_houses (storeless self.now)) }
-        ensures few { result ≤ most_houses }
-    {
-        if self.is_over() {
-            return 0;
-        }
-        let mut count = 0;
-        for h in 1..self.m() + 1 {
-            if self.own(h) > 0 {
-                count += 1;
-            }
-        }
-        count
-    }
-
     // Returns the number of ways to play on for `depth` moves. The last moves are counted and not played.
     #[cycle(ways)]
     fn ways(&self, sowings: &Sowings, depth: u8) -> u64
@@ -42,17 +25,13 @@ impl Houses {
         if depth == 0 {
             return 1;
         }
+        let moves = self.legal();
         if depth == 1 {
-            return self.legal_count();
-        }
-        if self.is_over() {
-            return 0;
+            return moves.len() as u64;
         }
         let mut sum = 0;
-        for h in 1..self.m() + 1 {
-            if self.own(h) > 0 {
-                sum += self.ways_by(sowings, h, depth - 1);
-            }
+        for i in 0..moves.len() {
+            sum += self.ways_by(sowings, moves.get(i), depth - 1);
         }
         sum
     }

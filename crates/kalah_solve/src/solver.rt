@@ -1,7 +1,6 @@
 //! The solver: the worth of positions, by a search with a table.
 ghost use Rattle.std.specs.Prelude.{◌≡◌, ◌≤◌, IfOk, false};
 ghost use Rattle.kalah_rules.specs.Position.{is_over, storeless, IsWithinHouses};
-ghost use Rattle.kalah_rules.specs.Play.{legal_houses};
 ghost use Rattle.kalah_solve.specs.Solver.Worth.{best_house, houses_worth};
 ghost use Rattle.kalah_solve.specs.Table.Entries.{most_entries, empty_table};
 ghost use Rattle.kalah_solve.specs.Bounds.Won.{won};
@@ -17,7 +16,7 @@ use crate::bounds::seed_bounds::won_of;
 use crate::bounds::window::Window;
 use crate::search::Search;
 use crate::table::Table;
-use kalah_rules::{Board, House, Houses, Moves};
+use kalah_rules::{Board, House, Houses};
 use std::alloc::{AllocError, Allocator, Global};
 
 /// The worth of a position to the player to move, and the house that attains it.
@@ -76,7 +75,7 @@ impl<A: Allocator + Clone> Solver<A> {
         let houses = board.houses();
         let best = self.houses_worth(&houses);
         let beta = won_of(best, houses.seeds());
-        let house = self.best_house(&houses, &board.legal(), beta);
+        let house = self.best_house(&houses, beta);
         let margin = best + (board.own_store() as i32 - board.other_store() as i32);
         Verdict::Best { margin, house }
     }
@@ -91,13 +90,12 @@ impl<A: Allocator + Clone> Solver<A> {
     }
 
     // Returns the lowest-numbered house that wins as many seeds as best play. If all but the last fall short, it is the last.
-    fn best_house(&mut self, houses: &Houses, moves: &Moves, beta: u8) -> u8
-        requires limits { IsWithinHouses houses.now }
-        requires moves { moves.now ≡ legal_houses (storeless houses.now) }
+    fn best_house(&mut self, houses: &Houses, beta: u8) -> u8
         requires going { is_over (storeless houses.now) ≡ false }
         requires best { beta ≡ won houses.now }
         ensures { result ≡ best_house (storeless houses.now) }
     {
+        let moves = houses.legal();
         let last = moves.len() - 1;
         for i in 0..last {
             let h = moves.get(i);

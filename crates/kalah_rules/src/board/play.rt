@@ -26,16 +26,7 @@ impl Board {
         ensures moves { result ≡ legal_houses self.now }
         ensures limits { IsWithinLimits self.now }
     {
-        let mut moves = Moves::none();
-        if self.is_over() {
-            return moves;
-        }
-        for h in 1..self.m() + 1 {
-            if self.own(h) > 0 {
-                moves.push(h);
-            }
-        }
-        moves
+        self.houses.legal()
     }
 
     /// Plays the mover's house `h`, which must be legal, and returns the board after the move, with how play goes on.

@@ -9,10 +9,10 @@ use Rattle.kalah_solve.proofs.SearchLemmas.{enough_of, short_of}
 use Rattle.kalah_solve.proofs.solver.Solver.best_house.Goals as goal
 
 pub overflow_sub-last : goal.overflow_sub-last
-overflow_sub-last g c = omega (arith, ap length c.requires.moves, legal_some (storeless c.args.houses.now) c.requires.going)
+overflow_sub-last g c = omega (arith, ap length c.legal-moves.ensures.moves, legal_some (storeless c.args.houses.now) c.requires.going)
 
 pub get-requires : goal.get-requires
-get-requires g c = omega (arith, ap length c.requires.moves, legal_some (storeless c.args.houses.now) c.requires.going)
+get-requires g c = omega (arith, ap length c.legal-moves.ensures.moves, legal_some (storeless c.args.houses.now) c.requires.going)
 
 -- the house that is looked at is a legal house
 looked_at : (moves legal : List ℕ) (i count house : ℕ) → count ≡ length moves → i < count - 1 → house ≡ get_or moves i 0
@@ -30,31 +30,31 @@ legal_within {a} {i} {h} w at =
 
 pub new-requires-clause-first : goal.new-requires-clause-first
 new-requires-clause-first g c =
-    (legal_within c.requires.limits (looked_at _ _ _ _ _ c.len-last.ensures c.loop-i-test.true c.get-h.ensures c.requires.moves)).0
+    (legal_within c.legal-moves.ensures.limits (looked_at _ _ _ _ _ c.len-last.ensures c.loop-i-test.true c.get-h.ensures c.legal-moves.ensures.moves)).0
 
 pub new-requires-clause-last : goal.new-requires-clause-last
 new-requires-clause-last g c =
-    (legal_within c.requires.limits (looked_at _ _ _ _ _ c.len-last.ensures c.loop-i-test.true c.get-h.ensures c.requires.moves)).1
+    (legal_within c.legal-moves.ensures.limits (looked_at _ _ _ _ _ c.len-last.ensures c.loop-i-test.true c.get-h.ensures c.legal-moves.ensures.moves)).1
 
 pub returns-then-move_reaches : goal.returns-then-move_reaches
 returns-then-move_reaches g c =
     let enough = enough_of _ _ _ c.if-move_reaches.ensures refl in
-    let at = looked_at _ _ _ _ _ c.len-last.ensures c.loop-i-test.true (c.new.ensures ∙ c.get-h.ensures) c.requires.moves in
-    sym c.new.ensures ∙ at.1 ∙ root_found c.args.houses.now c.requires.limits c.loop-i.i at.0 c.loop-i.invariant
+    let at = looked_at _ _ _ _ _ c.len-last.ensures c.loop-i-test.true (c.new.ensures ∙ c.get-h.ensures) c.legal-moves.ensures.moves in
+    sym c.new.ensures ∙ at.1 ∙ root_found c.args.houses.now c.legal-moves.ensures.limits c.loop-i.i at.0 c.loop-i.invariant
     (rw (← at.1, ← c.requires.best) enough)
 
 pub loop-i-preserved : goal.loop-i-preserved
 loop-i-preserved g c =
     let less = short_of _ _ _ c.if-move_reaches.ensures refl in
-    let at = looked_at _ _ _ _ _ c.len-last.ensures c.loop-i-test.true (c.new.ensures ∙ c.get-h.ensures) c.requires.moves in
-    root_short c.args.houses.now c.requires.limits c.loop-i.i at.0 c.loop-i.invariant (rw (← at.1, ← c.requires.best) less)
+    let at = looked_at _ _ _ _ _ c.len-last.ensures c.loop-i-test.true (c.new.ensures ∙ c.get-h.ensures) c.legal-moves.ensures.moves in
+    root_short c.args.houses.now c.legal-moves.ensures.limits c.loop-i.i at.0 c.loop-i.invariant (rw (← at.1, ← c.requires.best) less)
 
 pub returns : goal.returns
 returns g c =
     let a = c.args.houses.now in
-    let many = ap length c.requires.moves in
+    let many = ap length c.legal-moves.ensures.moves in
     let some = legal_some (storeless a) c.requires.going in
     let last = c.len-last.result - 1 in
-    let place = c.get.ensures ∙ ap (λ xs. get_or xs last 0) c.requires.moves in
-    place ∙ root_last a c.requires.limits last c.requires.going (omega arith)
+    let place = c.get.ensures ∙ ap (λ xs. get_or xs last 0) c.legal-moves.ensures.moves in
+    place ∙ root_last a c.legal-moves.ensures.limits last c.requires.going (omega arith)
     (λ k low. c.loop-i.invariant k (omega arith))

@@ -1,6 +1,5 @@
 use Rattle.std.proofs.Common.{arith, rules, sym, ap, ◌∙◌, ◌≡◌, w32, SFits}
 use Rattle.std.proofs.lemmas.Int.{ints, to_z-of_z}
-use Rattle.kalah_rules.specs.Play.{legal_houses}
 use Rattle.kalah_rules.specs.Position.{HousesState, houses_in, storeless}
 use Rattle.kalah_rules.proofs.PackedLemmas.{houses_within}
 use Rattle.kalah_solve.specs.Solver.Worth.{houses_worth, best_house}
@@ -20,9 +19,6 @@ returns-then-is_over-clause-best_play g c =
 -- ---- the game goes on
 pub houses_worth-best-requires-clause-limits : goal.houses_worth-best-requires-clause-limits
 houses_worth-best-requires-clause-limits g c = rw c.houses-houses.ensures (houses_within _ c.is_over.ensures.limits)
-
-pub best_house-house-requires-clause-moves : goal.best_house-house-requires-clause-moves
-best_house-house-requires-clause-moves g c = c.legal.ensures.moves ∙ sym (ap (λ (a : HousesState). legal_houses (storeless a)) c.houses-houses.ensures)
 
 pub won_of-beta-requires : goal.won_of-beta-requires
 won_of-beta-requires g c =

@@ -1,7 +1,7 @@
 use Rattle.std.proofs.Common.{◌≡◌, ◌-◌, filter, nat_lt}
 use Rattle.std.specs.List.{range_with_len}
 use Rattle.kalah_rules.specs.Position.{seeds}
-use Rattle.kalah_rules.proofs.board.Board.legal.Given as goal
+use Rattle.kalah_rules.proofs.houses.Houses.legal.Given as goal
 
 abbrev pub invariant-loop-h : goal.invariant-loop-h
 invariant-loop-h l = l.moves ≡ filter (λ i. nat_lt 0 (seeds l.self.own i)) (range_with_len 1 (l.h - 1))
