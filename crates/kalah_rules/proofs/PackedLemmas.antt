@@ -10,7 +10,7 @@ use Rattle.std.proofs.lemmas.Bool.Decides.{nat_tests}
 use Rattle.kalah_rules.specs.Position.{Position, HousesState, IsWithinHouses, side_length, seeds, opposite, seeds_in_houses, storeless, IsWithinLimits, is_over, swapped, houses_in, with_stores, without_seeds}
 use Rattle.kalah_rules.specs.Lap.{HoldsSeeds, lifted}
 use Rattle.kalah_rules.specs.Sowing.{lap_length, own_distance, other_distance, store_distance, sow, sown, last_distance, is_again, captures, can_capture, captured, after}
-use Rattle.kalah_rules.proofs.PlayLemmas.{set_less, sow_side, sow_keeps, sow_other_store, own_distance_past, own_distance_back, last_house_own, last_house_store, last_house_other, after_at, legal_holds, after_nearer, sum-zeros, with_more, after_of_houses, legal_going}
+use Rattle.kalah_rules.proofs.PlayLemmas.{set_less, sow_side, sow_keeps, own_distance_past, own_distance_back, last_house_own, last_house_store, last_house_other, after_at, legal_holds, after_nearer, sum-zeros, with_more, after_of_houses, legal_going}
 use Rattle.kalah_rules.specs.Key.{number_of, rule_bit}
 use Rattle.kalah_rules.specs.Packed.{IsPackedPosition, ones, unpacked, IsPacked}
 use Rattle.kalah_rules.specs.declared.houses.play.RowNumbers.{RowNumbers}
@@ -35,11 +35,6 @@ pub record KeepsSeeds (p q : Position) : Type 0 where
   pub side : length q.own ≡ length p.own
   pub other_side : length q.other ≡ length p.other
   pub rule : q.rule ≡ p.rule
-
--- a sowing keeps the rule
-sow_rule : (p : Position) (h k : ℕ) → (sow p h k).rule ≡ p.rule
-unfolding sow
-sow_rule p h k = refl
 
 -- rows from which houses are taken
 taken_off : (rows x y : ℕ) {own other own_new other_new : ℕ} → rows % 2 ^ 30 ≡ own → rows / 2 ^ 30 ≡ other →
@@ -104,15 +99,16 @@ module _ (a : HousesState) (h : ℕ) (w : IsWithinHouses a) (holds : HoldsSeeds 
 
   -- a sowing loses no seed
   pub sown_keeps : KeepsSeeds (storeless a) q
+  unfolding sow
   sown_keeps =
-      let side = sow_side _ h _ in
+      let side = sow_side (storeless a) h (seeds a.own h) in
       let keeps = sow_keeps (storeless a) h holds.first holds.last w.same_side (seeds a.own h) in
       record {
         play = omega arith;
-        other_store = sow_other_store _ h _;
+        other_store = refl;
         side = side.0;
         other_side = side.1 ∙ sym w.same_side;
-        rule = sow_rule _ h _;
+        rule = refl;
       }
 
   -- the own row after the sowing
@@ -173,10 +169,6 @@ module _ (a : HousesState) (h : ℕ) (w : IsWithinHouses a) (holds : HoldsSeeds 
   into_store rows house own_more ends rows_are house_is own_more_is =
       let gains = gains_into_store _ _ _ holds.first holds.last ends in
       rows_show _ 1 (sown_rows _ house _ rows_are house_is (omega arith)) (omega arith)
-
-  -- a sowing brings few seeds to the store
-  pub store_few : q.own_store ≤ 31
-  store_few = omega (arith, sown_keeps.play)
 
   -- a house read off the numbers
   pub read_own : (r : RowNumbers) (i bit : ℕ) → IsPackedPosition r q → 1 ≤ i → i ≤ length a.own → bit ≡ 5 * (i - 1) →
@@ -321,12 +313,19 @@ none_captured rule r seeds count told shows = grind (arith, and_le_r)
 pub across_within : {m : ℕ} (h c : ℕ) (s : Sowing) → IsSowing m h c s → m ≤ 6 → s.across_bit < 64
 across_within {m} h c s sowing few = grind arith
 
+-- rows after a sowing, and what came to the store
+abbrev pub rows_sown : ℕ → Sowing → RowNumbers
+rows_sown rows s = record { rows = (rows + (2 ^ 64 - s.loses)) % 2 ^ 64; store = s.store }
+
 -- the rows after the move are those of the sowing, less what is captured
-pub move_leaves : {a : HousesState} {h : ℕ} {s : Sowing} {r : RowNumbers} {rule : Rule} {captured_seeds count : ℕ}
-    → IsWithinHouses a →
-    HoldsSeeds (storeless a) h → IsSowing (length a.own) h (seeds a.own h) s → IsPackedPosition r (sown (storeless a) h) → rule ≡ a.rule →
-    HasCaptured rule r s.last_mask s.last_seed s.across_bit captured_seeds count → LeavesRows r captured_seeds count (after (storeless a) h)
-move_leaves {a} {h} {s} {r} {rule} {captured_seeds} {count} w holds sowing shows same has_captured =
+pub move_leaves : {a : HousesState} {h rows seeds variant : ℕ} {s : Sowing} {rule : Rule} {captured_seeds count : ℕ}
+    → IsPackOf a rows seeds variant → HoldsSeeds (storeless a) h → IsSowing (length a.own) h (position.seeds a.own h) s → s.loses < 2 ^ 64
+    → rule ≡ a.rule → HasCaptured rule (rows_sown rows s) s.last_mask s.last_seed s.across_bit captured_seeds count →
+    LeavesRows (rows_sown rows s) captured_seeds count (after (storeless a) h)
+move_leaves {a} {h} {rows} {s = s} {captured_seeds = captured_seeds} {count} pack holds sowing fits same has_captured =
+    let r = rows_sown rows s in
+    let w = pack.limits in
+    let shows = rows_show a h w holds _ _ (sown_less a h w holds _ _ pack.rows_are fits sowing.loses) sowing.store in
     let place = last_place _ h _ in
     let told = rw same at has_captured in
     elim (cases_lt _ place) [

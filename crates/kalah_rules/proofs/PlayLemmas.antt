@@ -259,10 +259,6 @@ pub sow_side : (p : Position) (h k : ℕ) → (side_length (sow p h k) ≡ side_
 unfolding sow
 sow_side p h k = omega (arith, length-row_of)
 
-pub sow_other_store : (p : Position) (h k : ℕ) → (sow p h k).other_store ≡ p.other_store
-unfolding sow
-sow_other_store p h k = refl
-
 -- q has one seed more than p in its own store and houses together
 pub record AddsOne (p q : Position) : Type 0 where
   pub houses : seeds_in_houses q ≤ seeds_in_houses p + 1

@@ -25,10 +25,10 @@ impl Houses {
         if depth == 0 {
             return 1;
         }
-        let moves = self.legal();
         if depth == 1 {
-            return moves.len() as u64;
+            return self.legal().len() as u64;
         }
+        let moves = self.legal();
         let mut sum = 0;
         for i in 0..moves.len() {
             sum += self.ways_by(sowings, moves.get(i), depth - 1);

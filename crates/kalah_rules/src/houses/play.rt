@@ -3,7 +3,7 @@ ghost use Rattle.std.specs.Prelude.{◌≡◌, ◌+◌, ◌-◌, ◌*◌, ◌<�
 ghost use Rattle.kalah_rules.specs.Position.{storeless, seeds, IsWithinHouses};
 ghost use Rattle.kalah_rules.specs.Lap.{HoldsSeeds};
 ghost use Rattle.kalah_rules.specs.Play.{legal_houses};
-ghost use Rattle.kalah_rules.specs.Sowing.{sown, captures, after, is_again};
+ghost use Rattle.kalah_rules.specs.Sowing.{captures, after, is_again};
 ghost use Rattle.kalah_rules.specs.Sowings.{IsSowing};
 
 use crate::houses::Houses;
@@ -40,21 +40,6 @@ impl Houses {
     ghost use Rattle.kalah_rules.specs.Packed.{IsPackedPosition};
     ghost use Rattle.kalah_rules.specs.HousesStep.{houses_step};
 
-    // Returns the rows after this house is sown, before a capture.
-    #[inline(always)]
-    fn sow(&self, house: House, sowing: Sowing) -> RowNumbers
-        requires holds { HoldsSeeds (storeless self.now) house }
-        requires sowing { IsSowing (length self.now.own) house (seeds self.now.own house) sowing }
-        ensures shows { IsPackedPosition result (sown (storeless self.now) house) }
-        ensures few { result.store ≤ 31 }
-        ensures limits { IsWithinHouses self.now }
-    {
-        RowNumbers {
-            rows: self.rows.wrapping_sub(sowing.loses),
-            store: sowing.store as u32,
-        }
-    }
-
     // Returns the rows after the move of this house: those of its sowing, less what the last seed captures.
     #[inline(always)]
     fn after(&self, house: House, sowing: Sowing) -> RowNumbers
@@ -62,14 +47,14 @@ impl Houses {
         requires sowing { IsSowing (length self.now.own) house (seeds self.now.own house) sowing }
         ensures { IsPackedPosition result (after (storeless self.now) house) }
     {
-        let sown = self.sow(house, sowing);
-        let single = sown.rows & sowing.last_mask == sowing.last_seed;
-        let across = (sown.rows >> sowing.across_bit) % 32;
+        let rows = self.rows.wrapping_sub(sowing.loses);
+        let single = rows & sowing.last_mask == sowing.last_seed;
+        let across = (rows >> sowing.across_bit) % 32;
         let at_stake = sowing.last_seed + (across << sowing.across_bit);
         let (seeds, count) = captured_seeds(self.rule(), single, across, at_stake);
         RowNumbers {
-            rows: sown.rows - seeds,
-            store: sown.store + count as u32,
+            rows: rows - seeds,
+            store: sowing.store as u32 + count as u32,
         }
     }
 

@@ -19,12 +19,12 @@ ways-returns-then-depth-eq0-clause-ways t c =
 pub ways-returns-then-depth-eq1-clause-ways : goal.ways-returns-then-depth-eq1-clause-ways
 ways-returns-then-depth-eq1-clause-ways t c =
     let one : c.args.depth ≡ 1 = omega arith in
-    rw one (c.len.ensures ∙ ap length c.legal-moves.ensures.moves ∙ sym (ways_one (storeless c.args.self.now)))
+    rw one (c.len.ensures ∙ ap length c.legal.ensures.moves ∙ sym (ways_one (storeless c.args.self.now)))
 
 pub ways-returns-then-depth-eq1-clause-small : goal.ways-returns-then-depth-eq1-clause-small
 ways-returns-then-depth-eq1-clause-small t c =
     let one : c.args.depth ≡ 1 = omega arith in
-    rw one (omega (arith, few_moves c.legal-moves.ensures.moves c.legal-moves.ensures.limits))
+    rw one (omega (arith, few_moves c.legal.ensures.moves c.legal.ensures.limits))
 
 pub ways-ways_by-sum-requires : goal.ways-ways_by-sum-requires
 ways-ways_by-sum-requires t c =
