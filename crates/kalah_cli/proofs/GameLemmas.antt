@@ -12,7 +12,7 @@ use Rattle.kalah_rules.specs.declared.step.Step.TheVariants as step
 use Rattle.kalah_rules.specs.declared.step.Step.{Step}
 use Rattle.kalah_solve.specs.Solver.BestPlay.{Game, Policy, follow}
 use Rattle.kalah_solve.specs.Solver.BestPlay.Game.{is_at_end, moves_on, passes_turn}
-use Rattle.kalah_solve.specs.Solver.Verdict.{IsSmallBest, TellsBestMove, verdict_of}
+use Rattle.kalah_solve.specs.Solver.Verdict.{IsSmallBest, StatesBestMove, verdict_of}
 use Rattle.kalah_solve.specs.Solver.Worth.{best_house, value_of_move, worth}
 use Rattle.kalah_solve.specs.declared.solver.Verdict.TheVariants.{Best, Over}
 use Rattle.std.proofs.lemmas.List.Elements.{Contains-push}
@@ -27,7 +27,7 @@ use Rattle.kalah_solve.specs.declared.solver.move_values.MoveValue.{MoveValue}
 use Rattle.kalah_cli.specs.Game.{IsNextMove, PlaysBestGames, VariationsEndWithTheirValue, best_game, best_moves, game_played, game_text, move_text, value_shown}
 use Rattle.kalah_cli.specs.Play.{MayBegin}
 use Rattle.kalah_cli.specs.Moves.{board_lines}
-use Rattle.kalah_cli.specs.Solver.{Begins, Begun, IsOfVariations, IsShown}
+use Rattle.kalah_cli.specs.Solver.{Begins, GameStart, IsOfVariations, IsShown}
 use Rattle.kalah_cli.specs.declared.game.Form.{Form}
 use Rattle.kalah_cli.specs.declared.game.Form.TheVariants.{Houses, Lines}
 use Rattle.kalah_cli.specs.Solver.IsShown.{begins, moves}
@@ -189,7 +189,7 @@ no_text form (Some h) p may over = absurd (let both : true ≡ false = sym over 
 
 -- the verdict tells the next move, by a margin of thirty-two bits
 pub next_told : (form : Form) (first : Option ℕ) (p : Position) {margin : ℤ} {house : ℕ} → MayBegin first p → IsSmallBest margin house
-    → TellsBestMove p margin house → Best margin house ≡ verdict_of p
+    → StatesBestMove p margin house → Best margin house ≡ verdict_of p
     → IsNextMove form first p (value_shown form (to_z w32 (of_z w32 margin))) (unwrap_or first house)
 next_told form first p {margin} {house} may small told is =
     let best = best_told p margin house told.going is in
@@ -239,13 +239,13 @@ variations_end p h even legal =
 
 module _ {O : Type 0} (state : O → SinkState) where
   -- the first one, once it was given
-  pub shown_first : {game : Begun O} {boards values : Bool} {p : Position} {old new : O}
+  pub shown_first : {game : GameStart O} {boards values : Bool} {p : Position} {old new : O}
       → game ≡ record { form = Lines boards values; first = p; sink = old } → WasGiven state old new (board_lines boards p)
       → IsShown state game new p
   shown_first {p = p} {new = new} begun given = subst (λ game. IsShown state game new p) (sym begun) (begins (refl, given))
 
   -- the one after the first move of a variation, once its line began
-  pub shown_after : {game now : Begun O} {p q : Position} {between new : O} (v : MoveValue)
+  pub shown_after : {game now : GameStart O} {p q : Position} {between new : O} (v : MoveValue)
       → IsOfVariations state game p between → WasGiven state between new (variation_start v)
       → q ≡ position_after (step_of p v.house) → now ≡ game → IsShown state now new q
   shown_after {game} {now} {p} {q} {between} {new} v below given next same =
@@ -259,7 +259,7 @@ module _ {O : Type 0} (state : O → SinkState) where
       )))
 
   -- more of the variations was given
-  pub variations_go_on : {game now : Begun O} {p : Position} {between new : O} (text : List ℕ) → now ≡ game
+  pub variations_go_on : {game now : GameStart O} {p : Position} {between new : O} (text : List ℕ) → now ≡ game
       → IsOfVariations state game p between → WasGiven state between new text
       → IsOfVariations state now p new
   variations_go_on {game} {now} {p} {between} {new} text same below given = rw same (record {
@@ -271,14 +271,14 @@ module _ {O : Type 0} (state : O → SinkState) where
   })
 
   -- how a game began, after a flush
-  begins_flushed : (game : Begun O) (form : Form) (p : Position) (between new : O) → Begins state game form between p
+  begins_flushed : (game : GameStart O) (form : Form) (p : Position) (between new : O) → Begins state game form between p
       → WasGiven state between new [] → Begins state game form new p
   begins_flushed game (Lines boards values) p between new (is, given) flushed =
       (is, given_flushed state _ _ _ _ given flushed)
   begins_flushed game Houses p between new (o, v, below, given, next) flushed =
       (o, v, below, given_flushed state _ _ _ _ given flushed, next)
 
-  module _ {game : Begun O} {p : Position} {between new : O} (shown : IsShown state game between p) where
+  module _ {game : GameStart O} {p : Position} {between new : O} (shown : IsShown state game between p) where
     -- one that was shown, after a flush
     pub shown_flushed : WasGiven state between new [] → IsShown state game new p
     shown_flushed flushed = by shown flushed where
@@ -287,7 +287,7 @@ module _ {O : Type 0} (state : O → SinkState) where
       by (moves o q h shown given) flushed = moves o q h shown (given_flushed state _ _ _ _ given flushed)
 
     -- the next one, once its move was given
-    pub shown_next : {now : Begun O} {form : Form} {s : Step} {q : Position} (h : ℕ) → game.form ≡ form → s ≡ step_of p h
+    pub shown_next : {now : GameStart O} {form : Form} {s : Step} {q : Position} (h : ℕ) → game.form ≡ form → s ≡ step_of p h
         → q ≡ position_after s → now ≡ game → WasGiven state between new (move_text form (value_shown form (worth p)) h (step_of p h))
         → IsShown state now new q
     shown_next h written_in step next same given = rw (same, next, step)

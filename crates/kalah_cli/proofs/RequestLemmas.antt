@@ -11,7 +11,7 @@ use Rattle.clap.proofs.OnLiterals.{clap_on_literals}
 use Rattle.kalah_jobs.specs.declared.files.question.Question.{Question}
 use Rattle.kalah_jobs.specs.declared.files.question.Question.TheVariants.{BestMove, Steps, Values}
 use Rattle.kalah_cli.specs.Command.{file_rule, kalah_app, table_rule, workers_rule}
-use Rattle.kalah_cli.specs.Request.{AreMatches, MayHaveNumber, name_of_question, number_written, is_set, number_given, Asked, IsTakenAs, about_line}
+use Rattle.kalah_cli.specs.Request.{AreMatches, MayHaveNumber, name_of_question, number_written, is_set, number_given, Asked, IsAcceptedAs, about_line}
 use Rattle.kalah_cli.specs.Runs.{IsPlainWord}
 use Rattle.kalah_cli.specs.declared.request.LineCommand.TheVariants.{Moves}
 use Rattle.kalah_cli.proofs.ClapLemmas.{Given, HasOf, IsUsableIn, accepted_in, arg_in, given_in, row_by_id, taken_has, cases_Option}
@@ -144,11 +144,11 @@ flag_read E f id r absent value = elim (cases_Option (one_of id (rows_of f))) [
 -- ---- how the command line reads arguments, as laws over the definitions
 
 -- equal arguments ask for the same
-pub taken_at : {words given : List Text} {a : Asked} → words ≡ given → IsTakenAs given a → IsTakenAs words a
-taken_at {a = a} same taken = subst (λ ws. IsTakenAs ws a) (sym same) taken
+pub taken_at : {words given : List Text} {a : Asked} → words ≡ given → IsAcceptedAs given a → IsAcceptedAs words a
+taken_at {a = a} same taken = subst (λ ws. IsAcceptedAs ws a) (sym same) taken
 
 -- arguments are accepted as one request
-pub taken_once : (words : List Text) (a b : Asked) → IsTakenAs words a → IsTakenAs words b → a ≡ b
+pub taken_once : (words : List Text) (a b : Asked) → IsAcceptedAs words a → IsAcceptedAs words b → a ≡ b
 taken_once words a b p q =
     let x = p.1 in
     let y = q.1 in
@@ -156,7 +156,7 @@ taken_once words a b p q =
 
 -- `moves` and a plain argument are accepted as the moves of that line, with no boards
 pub moves_taken : (name line : Text) → IsPlainWord line
-    → IsTakenAs (name ∷ codes "moves" ∷ line ∷ []) (about_line (Moves false) line)
+    → IsAcceptedAs (name ∷ codes "moves" ∷ line ∷ []) (about_line (Moves false) line)
 unfolding clap_on_literals
 moves_taken name [] plain = absurd plain
 moves_taken name (x ∷ xs) plain =

@@ -13,7 +13,7 @@ use Rattle.kalah_jobs.specs.Writing.Picture.{picture_of}
 use Rattle.kalah_jobs.specs.Writing.Shown.{shown_of, values_line}
 use Rattle.kalah_jobs.proofs.WritingLemmas.{given_then}
 use Rattle.kalah_cli.specs.Show.{of_rank, rank_in}
-use Rattle.kalah_cli.specs.Solver.{Begun, IsOfVariations}
+use Rattle.kalah_cli.specs.Solver.{GameStart, IsOfVariations}
 use Rattle.kalah_cli.specs.declared.game.Form.TheVariants.{Houses}
 
 -- what is found among the values of houses is the value of one of them
@@ -40,7 +40,7 @@ ranked_is_legal p values rank v same is =
 
 module _ {O : Type 0} (state : O → SinkState) where
   -- the picture and the line below it were given, and variations may follow
-  pub variations_begin : {game now : Begun O} {p : Position} {old between new : O}
+  pub variations_begin : {game now : GameStart O} {p : Position} {old between new : O}
       → game ≡ record { form = Houses; first = p; sink = old } → now ≡ game → WasGiven state old between (picture_of p)
       → WasGiven state between new (values_line p ++ line_feed ∷ []) → IsOfVariations state now p new
   unfolding shown_of

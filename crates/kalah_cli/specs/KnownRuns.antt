@@ -5,7 +5,7 @@ use Rattle.kalah_jobs.specs.Asking.{answers_to, are_all_read}
 use Rattle.kalah_jobs.specs.Files.NamedBytes.{NamedBytes}
 use Rattle.kalah_jobs.specs.Writing.Output.{output_to, tally_of}
 use Rattle.kalah_jobs.specs.declared.files.question.Question.{Question}
-use Rattle.kalah_cli.specs.Request.{IsTakenAs, answers, ask}
+use Rattle.kalah_cli.specs.Request.{IsAcceptedAs, answers, ask}
 use Rattle.kalah_cli.specs.Sources.{bytes_on}
 use Rattle.kalah_cli.specs.declared.status.ExitStatus.{ExitStatus}
 use Rattle.kalah_cli.specs.declared.status.ExitStatus.TheVariants.{Clean, Failed}
@@ -28,8 +28,8 @@ module _ (status : ExitStatus) (output : List ℕ) where
   pub record AnswersWhatIsKnown (disk : List NamedBytes) (typed : List ℕ) (words : List Text) : Type 0 where
     -- `solve`, `values` and `steps`, with any options and names: the named files, in order, each with its bytes on the disk
     pub files : (question : Question) (workers table : ℕ) (progress : Bool) (names : List Text)
-        → IsTakenAs words (answers question workers table progress names) → status ≢ Failed
+        → IsAcceptedAs words (answers question workers table progress names) → status ≢ Failed
         → (files : List NamedBytes) × (AreOn disk names files × IsAnswerTo question files)
     -- `ask`, with any options: all lines that were typed
-    pub lines : (question : Question) (table : ℕ) → IsTakenAs words (ask question table) → status ≢ Failed
+    pub lines : (question : Question) (table : ℕ) → IsAcceptedAs words (ask question table) → status ≢ Failed
         → IsAnswerToLines question typed

@@ -122,8 +122,8 @@ abbrev pub words_ask : List Text → Option Asked
 words_ask words = option_and_then matches_ask (subcommand_of kalah_app words)
 
 -- the command line accepts the arguments, without a fault, as asking for this
-abbrev pub IsTakenAs : List Text → Asked → Type 0
-IsTakenAs words a = (fault_of kalah_app words ≡ []) × (words_ask words ≡ Some a)
+abbrev pub IsAcceptedAs : List Text → Asked → Type 0
+IsAcceptedAs words a = (fault_of kalah_app words ≡ []) × (words_ask words ≡ Some a)
 
 -- the command line refuses the arguments
 abbrev pub IsRefused : List Text → Type 0

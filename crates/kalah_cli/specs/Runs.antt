@@ -9,7 +9,7 @@ use Rattle.kalah_jobs.specs.Line.Line.{Reads}
 use Rattle.kalah_jobs.specs.Writing.Sink.{SinkState}
 use Rattle.kalah_cli.specs.Line.{MayPrint, command_output}
 use Rattle.kalah_cli.specs.Moves.{moves_output}
-use Rattle.kalah_cli.specs.Request.{Asked, AsksNot, IsRefused, IsTakenAs, about_line, answers, ask, conflict}
+use Rattle.kalah_cli.specs.Request.{Asked, AsksNot, IsRefused, IsAcceptedAs, about_line, answers, ask, conflict}
 use Rattle.kalah_cli.specs.Ask.{AnswersInput}
 use Rattle.kalah_cli.specs.SolveFiles.{AnswersFiles}
 use Rattle.kalah_cli.specs.Sources.{MayBeLeft, Source, standard_input}
@@ -40,7 +40,7 @@ module _ {O : Type 0} (state : O → SinkState) (old new : O) (status : ExitStat
 
   -- accepted arguments: the program does what they ask for, or it fails without output
   abbrev pub DoesWhatIsAsked : List Text → Type 0
-  DoesWhatIsAsked words = (a : Asked) → IsTakenAs words a → Does a ⊎ FailsWithoutOutput old new status
+  DoesWhatIsAsked words = (a : Asked) → IsAcceptedAs words a → Does a ⊎ FailsWithoutOutput old new status
 
 -- ---- what a run promises for its arguments
 

@@ -21,15 +21,15 @@ abbrev pub HasTable : ℕ → Solver Global → Type 0
 HasTable capacity solver = solver.search.table ≡ empty_table capacity
 
 -- a game as it began: how its moves are written, the first position, and the sink before any of it was written
-pub record Begun (O : Type 0) : Type 0 where
+pub record GameStart (O : Type 0) : Type 0 where
   pub form : Form
   pub first : Position
   pub sink : O
 
-abbrev pub begun : {O : Type 0} → GameSolver O → Begun O
+abbrev pub begun : {O : Type 0} → GameSolver O → GameStart O
 begun s = record { form = s.form; first = s.first; sink = s.sink.value }
 
-module _ {O : Type 0} (state : O → SinkState) (game : Begun O) where
+module _ {O : Type 0} (state : O → SinkState) (game : GameStart O) where
   -- the variations of this position are written: the sink was given the picture, what each move is worth, and maybe more
   pub record IsOfVariations (p : Position) (new : O) : Type 0 where
     pub form : game.form ≡ Houses

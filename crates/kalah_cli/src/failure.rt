@@ -24,7 +24,7 @@ pub(crate) enum Failure<'a> {
     OutOfMemory,
     NoWorker,
     /// The game can't begin with this house, which may not be moved.
-    Unmoved(u8),
+    IllegalHouse(u8),
     /// A read of the standard input failed.
     StandardInput,
     /// A write to the standard output failed.
@@ -44,7 +44,7 @@ impl Failure<'_> {
                 write_escaped(name, on_terminal, err);
                 b"\n"
             }
-            Failure::Unmoved(house) => {
+            Failure::IllegalHouse(house) => {
                 let _ = write!(err, "kalah: house {house}");
                 b" can't be moved\n"
             }

@@ -20,7 +20,7 @@ impl<W> Fused<W> {
     /// Makes the writer, with no failed call.
     pub(crate) fn new(writer: W) -> Fused<W>
         ensures writer { result.writer ≡ writer }
-        ensures fresh { result.has_failed ≡ false }
+        ensures not_failed { result.has_failed ≡ false }
     {
         Fused {
             writer,

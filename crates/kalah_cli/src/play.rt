@@ -13,7 +13,7 @@ use kalah_rules::Board;
 use std::alloc::Global;
 
 // Returns the house that the game should begin with, if it may not be moved.
-fn unmoved_house(board: &Board, first: Option<u8>) -> Option<u8>
+fn illegal_house(board: &Board, first: Option<u8>) -> Option<u8>
     ensures some { IfSome result (λ h. (first ≡ Some h) × (MayBegin first board.now → ⊥)) }
     ensures none { IfNone result (MayBegin first board.now) }
 {
@@ -26,7 +26,7 @@ fn unmoved_house(board: &Board, first: Option<u8>) -> Option<u8>
 /// Prints the game that best play leads to from a board, each move as soon as it is found. If `first` is a house, its move comes first,
 /// and then the game of best play after it. If `values`, each move has the margin of best play of the position that it is made in.
 ///
-/// Fails, and writes nothing, with `Unmoved` if that house may not be moved, or with `OutOfMemory` if memory was refused. Memory is
+/// Fails, and writes nothing, with `IllegalHouse` if that house may not be moved, or with `OutOfMemory` if memory was refused. Memory is
 /// requested before anything is written, except for what the table takes as it grows.
 #[inline(never)] // Only this command's stack holds its solver.
 pub(crate) fn run_play<O: Sink>(
@@ -43,8 +43,8 @@ pub(crate) fn run_play<O: Sink>(
         (λ _. out.new ≡ out.old) }
     ensures begins { OnOk result (MayBegin first board.now) }
 {
-    if let Some(h) = unmoved_house(board, first) {
-        return Err(Failure::Unmoved(h));
+    if let Some(h) = illegal_house(board, first) {
+        return Err(Failure::IllegalHouse(h));
     }
     let form = Form::Lines { boards, values };
     let Ok(mut solver) = GameSolver::new(alloc, table, board, form, out) else {

@@ -18,7 +18,7 @@ impl<W: Write + Drop> PromptStream<W> {
     /// Makes the sink over a buffered writer, with no failed call.
     pub(crate) fn new(writer: BufWriter<W>) -> PromptStream<W>
         ensures writer { result.writer ≡ writer }
-        ensures fresh { result.has_failed ≡ false }
+        ensures not_failed { result.has_failed ≡ false }
     {
         PromptStream {
             writer,

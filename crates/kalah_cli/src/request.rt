@@ -5,7 +5,7 @@ ghost use Rattle.clap.specs.declared.error.kind.ErrorKind.TheVariants.{OutOfMemo
 ghost use Rattle.kalah_solve.specs.Table.Entries.{most_entries};
 ghost use Rattle.kalah_run.specs.Limits.{IsTableSize};
 ghost use Rattle.kalah_cli.specs.Command.{kalah_app};
-ghost use Rattle.kalah_cli.specs.Request.{AreMatches, IsInRange, IsTakenAs, MayHaveNumber, name_of_question, files_ask, flags_ask, is_set, matches_ask, number_given, number_or, request_asks};
+ghost use Rattle.kalah_cli.specs.Request.{AreMatches, IsInRange, IsAcceptedAs, MayHaveNumber, name_of_question, files_ask, flags_ask, is_set, matches_ask, number_given, number_or, request_asks};
 
 use crate::command::command;
 use clap::{ArgMatches, Error};
@@ -95,7 +95,7 @@ fn number_or(found: &ArgMatches<'_>, id: &str, default: u32) -> u32
 }
 
 // Returns the small number of an argument, if it has one.
-fn given_byte(found: &ArgMatches<'_>, id: &str) -> Option<u8>
+fn byte_given(found: &ArgMatches<'_>, id: &str) -> Option<u8>
     requires { MayHaveNumber id.now 0 255 (rows_of (found_of found.now)) }
     ensures { result ≡ number_given id.now (rows_of (found_of found.now)) }
 {
@@ -178,7 +178,7 @@ fn requested<'a>(alloc: Global, name: &str, found: &ArgMatches<'a>) -> Result<Re
             table: number_or(found, "table", DEFAULT_ENTRIES),
             boards: is_set(found, "boards"),
             values: is_set(found, "values"),
-            first: given_byte(found, "first"),
+            first: byte_given(found, "first"),
         },
         "show" => LineCommand::Show {
             table: number_or(found, "table", DEFAULT_ENTRIES),
@@ -186,7 +186,7 @@ fn requested<'a>(alloc: Global, name: &str, found: &ArgMatches<'a>) -> Result<Re
             lines: is_set(found, "lines"),
         },
         "count" => LineCommand::Count {
-            depth: given_byte(found, "depth").unwrap(),
+            depth: byte_given(found, "depth").unwrap(),
         },
         _ => unreachable!(),
     };
@@ -200,7 +200,7 @@ fn requested<'a>(alloc: Global, name: &str, found: &ArgMatches<'a>) -> Result<Re
 /// error and its text: help or the version was asked for, an argument is wrong, or memory was refused.
 pub(crate) fn parse<'a, S: AsStr>(alloc: Global, words: &'a [S]) -> Result<Request<'a>, Error>
     ensures taken { IfOk result
-        (λ r. IsTakenAs (map S.text words.entry.now) (request_asks r)) }
+        (λ r. IsAcceptedAs (map S.text words.entry.now) (request_asks r)) }
     ensures range { IfOk result IsInRange }
     ensures kinds { FailsBy (fault_of kalah_app (map S.text words.entry.now)) result }
 {

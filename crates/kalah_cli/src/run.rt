@@ -7,7 +7,7 @@ ghost use Rattle.kalah_jobs.specs.declared.files.question.Question.{Question};
 ghost use Rattle.kalah_cli.specs.Ask.{StopsBetweenLines};
 ghost use Rattle.kalah_cli.specs.Ends.{FailsWithoutOutput, IsPrinted, ended_by};
 ghost use Rattle.kalah_cli.specs.Game.{PlaysBestGames, VariationsEndWithTheirValue};
-ghost use Rattle.kalah_cli.specs.Request.{Asked, IsInRange, IsTakenAs, ask, request_asks, texts_of};
+ghost use Rattle.kalah_cli.specs.Request.{Asked, IsInRange, IsAcceptedAs, ask, request_asks, texts_of};
 ghost use Rattle.kalah_cli.specs.Runs.{Does, DoesWhatIsAsked, IsOfNoInput, MovesByItsWords, RefusesArguments, version_line};
 
 use crate::ask::run_ask;
@@ -134,9 +134,9 @@ pub fn run_words<R: Sources + Clock + Terminal + Threads + Wait + Sync, O: Sink,
     ensures refused { RefusesArguments O.state (texts_of words.items) out.old out.new result }
     // If a write failed, the program failed. If it failed for another cause, nothing was written, except for answers of `ask`.
     ensures failed { (O.state out.new).has_failed ≡ true → result ≡ ExitStatus.Failed }
-    ensures unchanged { ((a : Asked) → IsTakenAs (texts_of words.items) a → IsOfNoInput a) → result ≡ ExitStatus.Failed
+    ensures unchanged { ((a : Asked) → IsAcceptedAs (texts_of words.items) a → IsOfNoInput a) → result ≡ ExitStatus.Failed
         → (O.state out.new).has_failed ≡ false → out.new ≡ out.old }
-    ensures stopped { (question : Question) (table : ℕ) → IsTakenAs (texts_of words.items) (ask question table) → result ≡ ExitStatus.Failed
+    ensures stopped { (question : Question) (table : ℕ) → IsAcceptedAs (texts_of words.items) (ask question table) → result ≡ ExitStatus.Failed
         → (O.state out.new).has_failed ≡ false → StopsBetweenLines question (O.state out.old).written (O.state out.new).written }
     // If it did not, all that was written is flushed.
     ensures all_flushed { result ≢ ExitStatus.Failed → (O.state out.old).is_flushed ≡ true → (O.state out.new).is_flushed ≡ true }

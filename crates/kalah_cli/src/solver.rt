@@ -1,7 +1,7 @@
 //! The solvers of `ask`, `play` and `show`.
 ghost use Rattle.std.specs.Prelude.{◌≡◌, IfOk, true};
 ghost use Rattle.kalah_solve.specs.Solver.MoveValues.{values_of};
-ghost use Rattle.kalah_solve.specs.Solver.Verdict.{IsSmallVerdict, TellsBestPlay, verdict_of};
+ghost use Rattle.kalah_solve.specs.Solver.Verdict.{IsSmallVerdict, StatesBestPlay, verdict_of};
 ghost use Rattle.kalah_jobs.specs.Writing.Sink.{WasGiven};
 ghost use Rattle.kalah_jobs.specs.Writing.Picture.{picture_of};
 ghost use Rattle.kalah_run.specs.Limits.{IsTableSize};
@@ -62,7 +62,7 @@ impl<O: Sink> GameSolver<O> {
         requires shown { IsShown O.state (begun self.old) _out.now board.now }
         ensures begun { begun self.new ≡ begun self.old }
         ensures verdict { result ≡ verdict_of board.now }
-        ensures best_play { TellsBestPlay board.now result }
+        ensures best_play { StatesBestPlay board.now result }
         ensures small { IsSmallVerdict result }
     {
         self.solver.solve(board)

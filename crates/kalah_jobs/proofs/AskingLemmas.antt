@@ -36,18 +36,18 @@ use Rattle.kalah_jobs.specs.Writing.Sink.{AppendsPrefix}
 -- ---- the lines of a piece
 
 -- a piece that ends is one line
-pub lines_of_ended : (piece : List ℕ) → HasNoLineFeed piece → lines_of (piece ++ line_feed ∷ []) ≡ piece ∷ []
+pub feed_ends_one_line : (piece : List ℕ) → HasNoLineFeed piece → lines_of (piece ++ line_feed ∷ []) ≡ piece ∷ []
 unfolding lines_of
-lines_of_ended piece none = lines_of-ended piece [] none
+feed_ends_one_line piece none = lines_of-ended piece [] none
 
 -- a piece that isn't empty is one line if nothing follows
-lines_of_open : (byte : ℕ) (piece : List ℕ) → HasNoLineFeed (byte ∷ piece) → lines_of (byte ∷ piece) ≡ (byte ∷ piece) ∷ []
-lines_of_open byte piece none = lines_of-open (byte ∷ piece) none (λ e. cc)
+rest_is_one_line : (byte : ℕ) (piece : List ℕ) → HasNoLineFeed (byte ∷ piece) → lines_of (byte ∷ piece) ≡ (byte ∷ piece) ∷ []
+rest_is_one_line byte piece none = lines_of-open (byte ∷ piece) none (λ e. cc)
 
 -- a piece is one line at most
 pub one_line : (piece : List ℕ) → HasNoLineFeed piece → length (lines_of piece) ≤ 1
 one_line [] none = rw (lines_of-empty [] refl) (omega arith)
-one_line (byte ∷ piece) none = rw (lines_of_open byte piece none) (omega arith)
+one_line (byte ∷ piece) none = rw (rest_is_one_line byte piece none) (omega arith)
 
 -- ---- the answers
 
@@ -127,13 +127,13 @@ pub last_reply_is : (question : Question) (piece : List ℕ) → HasNoLineFeed p
     → answers_to question piece ≡ last_reply question (take kept_bytes piece)
 last_reply_is question [] none = no_answers question
 last_reply_is question (byte ∷ piece) none =
-    answers_to_one question (byte ∷ piece) (byte ∷ piece) (lines_of_open byte piece none) ∙ sym (kept_reply question (byte ∷ piece))
+    answers_to_one question (byte ∷ piece) (byte ∷ piece) (rest_is_one_line byte piece none) ∙ sym (kept_reply question (byte ∷ piece))
 
 pub last_read : (lines piece : List ℕ) → EndsWithItsLine lines → HasNoLineFeed piece
     → are_all_read (lines ++ piece) ≡ (are_all_read lines && is_last_read (take kept_bytes piece))
 last_read lines [] ends none = ap are_all_read (append-nil lines) ∙ sym (and-true (are_all_read lines))
 last_read lines (byte ∷ piece) ends none =
-    all_read_more lines (byte ∷ piece) (byte ∷ piece) ends (lines_of_open byte piece none)
+    all_read_more lines (byte ∷ piece) (byte ∷ piece) ends (rest_is_one_line byte piece none)
     ∙ ap (λ b. are_all_read lines && not b) (sym (kept_faulty (byte ∷ piece)))
 
 -- ---- the law
@@ -204,14 +204,14 @@ nothing_read question before old line empty = record {
 module _ {question : Question} {before now old new : Option (List ℕ)} {line : List ℕ} {all_read : Bool}
     (u : Underway question before now old new line all_read) where
   -- what was written is kept
-  still_written : (kept : Option (List ℕ)) → Keeps new kept → Appends old kept (answers_to question u.lines)
-  still_written kept keeps = Appends-kept old new kept (answers_to question u.lines) u.written keeps
+  answers_kept : (kept : Option (List ℕ)) → Keeps new kept → Appends old kept (answers_to question u.lines)
+  answers_kept kept keeps = Appends-kept old new kept (answers_to question u.lines) u.written keeps
 
   -- what was written is kept, and more is written
   more_written : (kept more : Option (List ℕ)) (bytes : List ℕ) → Keeps new kept → Appends kept more bytes →
       Appends old more (answers_to question u.lines ++ bytes)
   more_written kept more bytes keeps appends =
-      Appends-trans old kept more (answers_to question u.lines) bytes (still_written kept keeps) appends
+      Appends-trans old kept more (answers_to question u.lines) bytes (answers_kept kept keeps) appends
 
   more_taken : (next : Option (List ℕ)) (bytes : List ℕ) → Consumes now next bytes →
       Consumes before next (u.lines ++ (u.part ++ bytes))
@@ -240,7 +240,7 @@ module _ {question : Question} {before now old new : Option (List ℕ)} {line : 
     unended = All-push IsNoFeed u.part byte u.unended other;
     kept = ap (λ l. take kept_bytes (l ++ byte ∷ [])) u.kept ∙ kept_more u.part byte;
     taken = more_taken next (byte ∷ []) taken;
-    written = still_written kept keeps;
+    written = answers_kept kept keeps;
     status = u.status;
   }
 
@@ -250,7 +250,7 @@ module _ {question : Question} {before now old new : Option (List ℕ)} {line : 
       → Underway question before next old more [] (all_read && is_read)
   line_read {next} {more} {is_read} kept end keeps tells read =
       let whole : List ℕ = u.part ++ line_feed ∷ [] in
-      let one = lines_of_ended u.part u.unended in
+      let one = feed_ends_one_line u.part u.unended in
       record {
         lines = u.lines ++ whole;
         part = [];
@@ -274,7 +274,7 @@ module _ {question : Question} {before now old new : Option (List ℕ)} {line : 
     ended = u.ended;
     unended = u.unended;
     taken = Consumes-kept before now next (u.lines ++ u.part) u.taken left;
-    written = still_written kept keeps;
+    written = answers_kept kept keeps;
   }
 
   -- nothing more was read or written
@@ -286,7 +286,7 @@ module _ {question : Question} {before now old new : Option (List ℕ)} {line : 
     one = one_line u.part u.unended;
     taken = Consumes-kept before now next (u.lines ++ u.part) u.taken left;
     count = 0;
-    written = subst (Appends old kept) (sym (append-nil (answers_to question u.lines))) (still_written kept keeps);
+    written = subst (Appends old kept) (sym (append-nil (answers_to question u.lines))) (answers_kept kept keeps);
   }
 
   -- as much was read as makes one line at most, and its answer was begun
@@ -308,7 +308,7 @@ module _ {question : Question} {before now old new : Option (List ℕ)} {line : 
   pub begun_line : {next more : Option (List ℕ)} (kept : Option (List ℕ)) → Consumes now next (line_feed ∷ []) → Keeps new kept
       → AppendsPrefix kept more (reply question line) → IsBegun question before next old more
   begun_line {next} kept end =
-      let one = lines_of_ended u.part u.unended in
+      let one = feed_ends_one_line u.part u.unended in
       begun kept (u.part ++ line_feed ∷ []) (reply question line) (rw one (omega arith)) (more_taken next (line_feed ∷ []) end)
       (reply_whole ∙ sym (answers_to_one question (u.part ++ line_feed ∷ []) u.part one))
 

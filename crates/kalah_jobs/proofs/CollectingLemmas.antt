@@ -3,7 +3,7 @@ use Rattle.std.proofs.Common.{◌≡◌, ◌⊎◌, ℕ, zero, suc, ◌+◌, ◌
 use Rattle.std.specs.Prelude.{Option, Some, None, is_some, sum_by, count_by, nat_lt, IsSome, Contains, Result, Ok, Err, sum, not, slice_get, IsOk}
 use Rattle.std.proofs.lemmas.Bool.{false≢true, lt-ltb, cases_eq, cases_Bool}
 use Rattle.kalah_jobs.specs.declared.writing.answer.Answer.{Answer}
-use Rattle.kalah_jobs.specs.Collecting.CollectorState.{front_of, ArrivalsState, no_file, state_of, line_count, came_for, HasLinesOf, with_answer, with_one_taken, after_offer, after_take, new_files, front, IsNext, HasEnded}
+use Rattle.kalah_jobs.specs.Collecting.CollectorState.{front_of, ArrivalsState, no_file, state_of, line_count, arrived_for, HasLinesOf, with_answer, with_one_taken, after_offer, after_take, new_files, front, IsNext, HasEnded}
 use Rattle.std.specs.Coded.{Coded, codes}
 use base.Stored.{Gv, gnil, gnum, gcons}
 use Rattle.kalah_jobs.specs.declared.files.job.Job.{Job}
@@ -23,7 +23,7 @@ use Rattle.kalah_jobs.specs.Collecting.Refusals.{IsWanted, IsRefusedFor, Answers
 use Rattle.kalah_jobs.specs.Collecting.Held.{IsOffered, HoldsOffered, Kept}
 use Rattle.std.proofs.lemmas.List.FromFn.{fill_by_all, length-range_with_len, length-map-range_with_len, get_or-map-range_with_len, length-enumerate_from, get_or-enumerate_from}
 use Rattle.kalah_jobs.specs.declared.writing.answer.Taken.{Taken}
-use Rattle.kalah_jobs.specs.Collecting.CollectorEvents.{Event, Offered, Took, Offers, Gives, offers, takes, with_taken, Came, answered_line, answered_lines}
+use Rattle.kalah_jobs.specs.Collecting.CollectorEvents.{Event, Offered, Took, Offers, Gives, offers, takes, with_taken, HasArrived, answered_line, answered_lines}
 use Rattle.kalah_jobs.specs.Collecting.CollectorLaw.{Runs, KeepsItsLaw}
 use Rattle.kalah_jobs.specs.declared.files.entry.Entry.TheVariants.{Bad}
 use Rattle.kalah_jobs.specs.declared.line.line_fault.LineFault.TheVariants.{Empty}
@@ -171,15 +171,15 @@ rows_count : (n : ℕ) (rows : List (List ℕ)) (q : ℕ → Bool) → ((x : ℕ
     sum_by (count_by q) rows ≡ count_by q (range_with_len 0 n)
 rows_count n rows q once =
     let flat : List ℕ = flat_map (λ r. r) rows in
-    let times : (x : ℕ) → count_by (λ y. y == x) flat ≡ (if nat_lt x n then 1 else 0) = λ x. count_flat (λ y. y == x) rows ∙ once x in
+    let times_offered : (x : ℕ) → count_by (λ y. y == x) flat ≡ (if nat_lt x n then 1 else 0) = λ x. count_flat (λ y. y == x) rows ∙ once x in
     let worth : ℕ → ℕ = λ x. cond (q x) 1 0 in
     let many : length (map worth (range_with_len 0 n)) ≡ n = length-map-range_with_len worth 0 n in
     sym (count_flat q rows)
     ∙ by_class (λ y. y) q flat (map worth (range_with_len 0 n))
     (λ k d within. let z = get_or flat k d in
     let some = rw (eq-eqb z z refl) at (get_or-le-sum_by (λ y. cond (y == z) 1 0) flat k d within) in
-    let low : z < n = grind (arith, times z, some, nat_tests) in omega (arith, many))
-    (λ x low. class_of_number q x flat ∙ ap (λ c. if q x then c else 0) (times x ∙ rw (lt-ltb x n (omega (arith, low, many))) refl)
+    let low : z < n = grind (arith, times_offered z, some, nat_tests) in omega (arith, many))
+    (λ x low. class_of_number q x flat ∙ ap (λ c. if q x then c else 0) (times_offered x ∙ rw (lt-ltb x n (omega (arith, low, many))) refl)
     ∙ sym (get_or-map-range_with_len worth 0 n x x 0 (omega (arith, low, many)) (omega arith)))
     ∙ sum-map worth (range_with_len 0 n)
 
@@ -235,11 +235,11 @@ each_file files f s low P here others g = elim (cases_eq g f) [
 -- after an answer for one line, what holds of that line, and of each other as it was, holds of each
 each_line : (files : List ArrivalsState) (o : Job) (a : Answer) → o.file < length files → o.line < line_count (state_of files o.file) →
     (P : ℕ → ℕ → Option Answer → Type 0) → P o.file o.line (Some a) →
-    ((f k : ℕ) → ((f ≡ o.file) × (k ≡ o.line) → ⊥) → P f k (came_for (state_of files f) k)) → (f k : ℕ)
-    → P f k (came_for (state_of (after_offer files o.file o.line a) f) k)
+    ((f k : ℕ) → ((f ≡ o.file) × (k ≡ o.line) → ⊥) → P f k (arrived_for (state_of files f) k)) → (f k : ℕ)
+    → P f k (arrived_for (state_of (after_offer files o.file o.line a) f) k)
 each_line files o a file_low line_low P here others =
     let s : ArrivalsState = state_of files o.file in
-    each_file files o.file (with_answer s o.line a) file_low (λ f new. (k : ℕ) → P f k (came_for new k))
+    each_file files o.file (with_answer s o.line a) file_low (λ f new. (k : ℕ) → P f k (arrived_for new k))
     (λ k. elim (cases_eq k o.line) [
       | inl same ↦ rw (same, get_or-set_same s.arrived o.line (Some a) None line_low) here
       | inr other ↦ rw (get_or-set_other s.arrived o.line k (Some a) None other) (others o.file k (λ h. other h.1))
@@ -311,7 +311,7 @@ file_there files f k low = grind (arith, get_or_past files f no_file)
 -- if a line is offered with its entry and refused, it had come before
 pub refused_came : (jobs : List (List Entry)) (files : List ArrivalsState) (f k : ℕ) (e : Entry) (r : Refusal) → HasLinesOf jobs files →
     entry_at jobs f k ≡ Some e
-    → IsRefusedFor jobs files (line_job f k e) r → IsSome (came_for (state_of files f) k)
+    → IsRefusedFor jobs files (line_job f k e) r → IsSome (arrived_for (state_of files f) k)
 refused_came jobs files f k e r h is refused =
     grind (
       arith,
@@ -332,7 +332,7 @@ holds_refused jobs past files o r holds refused = record {
     | inl old ↦ holds.came f k e is old
     | inr new ↦
         let full = refused_came jobs files f k e r holds.counts is (subst (λ (u : Job). IsRefusedFor jobs files u r) new refused) in
-        let v = some_value (came_for (state_of files f) k) full in
+        let v = some_value (arrived_for (state_of files f) k) full in
         let w = holds.only f k v.0 v.1 in
         cc (v.1, w.is, w.at, is)
   ];
@@ -348,9 +348,9 @@ holds_take jobs past files f low holds =
       counts = counts_set files f taken refl ∙ holds.counts;
       came = each_file files f taken low
           (λ g new. (k : ℕ) (e : Entry) → entry_at jobs g k ≡ Some e → Contains past (line_job g k e)
-          → came_for new k ≡ Some (answer_of e))
+          → arrived_for new k ≡ Some (answer_of e))
           (holds.came f) (λ g other. holds.came g);
-      only = each_file files f taken low (λ g new. (k : ℕ) (a : Answer) → came_for new k ≡ Some a → IsOffered jobs past g k a)
+      only = each_file files f taken low (λ g new. (k : ℕ) (a : Answer) → arrived_for new k ≡ Some a → IsOffered jobs past g k a)
           (holds.only f) (λ g other. holds.only g);
     }
 
@@ -473,7 +473,7 @@ runs jobs past (Took g (Some t) ∷ events) files after run kept =
 -- ---- new files
 
 -- no answer has come for new files
-new_none : (jobs : List (List Entry)) (f k : ℕ) → came_for (state_of (new_files jobs) f) k ≡ None
+new_none : (jobs : List (List Entry)) (f k : ℕ) → arrived_for (state_of (new_files jobs) f) k ≡ None
 new_none [] f k = refl
 new_none (entries ∷ jobs) zero k = grind (arith, get_or-replicate, get_or_past, length-replicate)
 new_none (entries ∷ jobs) (suc f) k = new_none jobs f k
@@ -511,10 +511,10 @@ pub law_holds : KeepsItsLaw
 law_holds jobs events files run =
     let all = runs jobs [] events (new_files jobs) files run (start jobs) in
     let holds = all.0.offered in
-    let came : (f k : ℕ) → Came jobs events f k → IsSome (came_for (state_of files f) k) =
+    let came : (f k : ℕ) → HasArrived jobs events f k → IsSome (arrived_for (state_of files f) k) =
     λ f k c. grind (arith, c, holds.came f k) in
-    let only : (f k : ℕ) → IsSome (came_for (state_of files f) k) → Came jobs events f k =
-    λ f k here. let v = some_value (came_for (state_of files f) k) here in let w = holds.only f k v.0 v.1 in rw w.at w.offered in
+    let only : (f k : ℕ) → IsSome (arrived_for (state_of files f) k) → HasArrived jobs events f k =
+    λ f k here. let v = some_value (arrived_for (state_of files f) k) here in let w = holds.only f k v.0 v.1 in rw w.at w.offered in
     record {
       counts = holds.counts;
       came = λ f k. (only f k, came f k);
@@ -534,21 +534,21 @@ pub ruleset new_counts = (new_lines, take_all)
 
 -- ---- how often an offer stands in a list
 
-abbrev times : Job → List Job → ℕ
-times o xs = count_by (same_job o) xs
+abbrev times_offered : Job → List Job → ℕ
+times_offered o xs = count_by (same_job o) xs
 
 -- what stands in a list is found in it
-contains_from_times : (o : Job) (xs : List Job) → 0 < times o xs → Contains xs o
+contains_from_times : (o : Job) (xs : List Job) → 0 < times_offered o xs → Contains xs o
 contains_from_times o [] some = absurd (omega arith)
 contains_from_times o (x ∷ xs) some = elim (cases_Bool (same_job o x)) [
   | inl same ↦ (0, omega arith, same_job_means o x same)
   | inr other ↦
-      let later : 0 < times o xs = grind (arith, count_by-cons (same_job o) x xs) in
+      let later : 0 < times_offered o xs = grind (arith, count_by-cons (same_job o) x xs) in
       Contains-append_right (x ∷ []) xs o (contains_from_times o xs later)
 ]
 
 -- what is found in a list stands in it
-times_from_contains : (o : Job) (xs : List Job) → Contains xs o → 0 < times o xs
+times_from_contains : (o : Job) (xs : List Job) → Contains xs o → 0 < times_offered o xs
 times_from_contains o xs has =
     let least = get_or-le-sum_by (λ x. cond (same_job o x) 1 0) xs has.0 o has.1 in
     grind (arith, nat_tests, has.2, least, same_itself o.entry)
@@ -563,14 +563,14 @@ hit e None some = absurd (omega arith)
 hit e (Some at) some = grind (arith, same_means e at)
 
 -- at its place in a file's lines, and nowhere else
-file_times : (o : Job) (f k : ℕ) (entries : List Entry) → times o (file_jobs f k entries)
+file_times : (o : Job) (f k : ℕ) (entries : List Entry) → times_offered o (file_jobs f k entries)
     ≡ (if o.file == f && not (nat_lt o.line k) then hits o.entry (slice_get entries (o.line - k)) else 0)
 file_times o f k [] = grind arith
 file_times o f k (e ∷ entries) =
     grind (arith, nat_tests, file_times o f (suc k) entries, count_by-cons (same_job o) (line_job f k e) (file_jobs f (suc k) entries))
 
 -- at its place in the files' lines
-jobs_times : (o : Job) (f : ℕ) (jobs : List (List Entry)) → times o (jobs_from f jobs)
+jobs_times : (o : Job) (f : ℕ) (jobs : List (List Entry)) → times_offered o (jobs_from f jobs)
     ≡ (if not (nat_lt o.file f) then hits o.entry (entry_at jobs (o.file - f) o.line) else 0)
 jobs_times o f [] = grind arith
 jobs_times o f (entries ∷ jobs) =
@@ -578,7 +578,7 @@ jobs_times o f (entries ∷ jobs) =
     grind (arith, nat_tests, all, file_times o f 0 entries, jobs_times o (suc f) jobs)
 
 -- an offer stands among the jobs once if it is one of them, and else never
-job_times : (o : Job) (jobs : List (List Entry)) → times o (job_list jobs) ≡ hits o.entry (entry_at jobs o.file o.line)
+job_times : (o : Job) (jobs : List (List Entry)) → times_offered o (job_list jobs) ≡ hits o.entry (entry_at jobs o.file o.line)
 job_times o jobs = grind (arith, nat_tests, jobs_times o 0 jobs)
 
 -- ---- each job once, in any order
@@ -596,7 +596,7 @@ module _ {jobs : List (List Entry)} {past : List Job} {files : List ArrivalsStat
   -- it is refused for nothing
   not_refused : (r : Refusal) → IsRefusedFor jobs files o r → ⊥
   not_refused r refused =
-      let once : times o past + times o rest + 1 ≡ hits o.entry (entry_at jobs o.file o.line) =
+      let once : times_offered o past + times_offered o rest + 1 ≡ hits o.entry (entry_at jobs o.file o.line) =
       grind (
         arith,
         nat_tests,
@@ -608,7 +608,7 @@ module _ {jobs : List (List Entry)} {past : List Job} {files : List ArrivalsStat
       ) in
       let is = hit o.entry (entry_at jobs o.file o.line) (omega (arith, once)) in
       let full = refused_came jobs files o.file o.line o.entry r holds.counts is.0 refused in
-      let v = some_value (came_for (state_of files o.file) o.line) full in
+      let v = some_value (arrived_for (state_of files o.file) o.line) full in
       let w = holds.only o.file o.line v.0 v.1 in
       let same : w.entry ≡ o.entry = cc (w.at, is.0) in
       omega (arith, once, is.1, times_from_contains o past (rw same at w.offered))

@@ -7,7 +7,7 @@ use Rattle.std.proofs.lemmas.Bool.Decides.{nat_tests, eqb_tells}
 use Rattle.std.proofs.lemmas.Option.{cond_some}
 use Rattle.std.proofs.lemmas.Fmt.{decimal_digit, decimal_step, length-decimal-le}
 use Rattle.kalah_jobs.specs.Line.Line.{IsNumber, comma, slash, AreHouses, IsSide, space, suffix_of, IsLineOf, without_cr, HasSidesInLimits, Reads, Holds, HasFault, side_text, line_text_of, carriage_return}
-use Rattle.kalah_jobs.specs.Line.Reading.{number_from, number_at, ◌>>=◌, Found, store_at, house_followed, side_from, side_at, rule_of, position_from, written_of, admitted, admitted_if_written, reading_of}
+use Rattle.kalah_jobs.specs.Line.Reading.{number_from, number_at, ◌>>=◌, SideRead, store_at, house_followed, side_from, side_at, rule_of, position_from, written_of, admitted, admitted_if_written, reading_of}
 use Rattle.std.proofs.lemmas.List.{nil_from_length}
 use Rattle.kalah_jobs.specs.Line.Side.{AreKept}
 use Rattle.kalah_jobs.specs.declared.line.side.Side.{Side}
@@ -97,7 +97,7 @@ test_some b r y e = grind arith
 -- ---- what is read is written
 
 -- the bytes go on with more houses of the side that was found, its store, and what follows it
-pub record WritesSide (houses bytes : List ℕ) (found : Found) : Type 0 where
+pub record WritesSide (houses bytes : List ℕ) (found : SideRead) : Type 0 where
   pub text : List ℕ
   pub more : List ℕ
   pub parts : bytes ≡ text ++ found.2
@@ -112,7 +112,7 @@ are_more text first rest n (m ∷ more) parts number others = (first, (rest, (pa
 
 module _ {houses bytes : List ℕ} {n : ℕ} where
   -- a store after a house
-  store_written : {rest : List ℕ} {found : Found} → WritesNumber bytes n (slash ∷ rest) →
+  store_written : {rest : List ℕ} {found : SideRead} → WritesNumber bytes n (slash ∷ rest) →
       store_at (houses ++ n ∷ []) rest ≡ Some found → WritesSide houses bytes found
   store_written {rest} {found} house e =
       let read = bind_some (number_at rest) (λ store. Some (houses ++ n ∷ [], store.0, store.1)) found e in
@@ -135,7 +135,7 @@ module _ {houses bytes : List ℕ} {n : ℕ} where
       })
 
   -- more houses after a house
-  others_written : {rest : List ℕ} {found : Found} → WritesNumber bytes n (comma ∷ rest) →
+  others_written : {rest : List ℕ} {found : SideRead} → WritesNumber bytes n (comma ∷ rest) →
       WritesSide (houses ++ n ∷ []) rest found → WritesSide houses bytes found
   others_written {rest} {found} house others = record {
     text = house.text ++ comma ∷ others.text;
@@ -156,7 +156,7 @@ module _ {houses bytes : List ℕ} {n : ℕ} where
   }
 
   -- what is read after a house is its store, or a comma and more houses
-  house_written : (i : ℕ) (rest : List ℕ) (found : Found) → WritesNumber bytes n rest →
+  house_written : (i : ℕ) (rest : List ℕ) (found : SideRead) → WritesNumber bytes n rest →
       ((next : List ℕ) → side_from i (houses ++ n ∷ []) next ≡ Some found → WritesSide (houses ++ n ∷ []) next found) →
       house_followed (store_at (houses ++ n ∷ [])) (side_from i (houses ++ n ∷ [])) rest ≡ Some found →
       WritesSide houses bytes found
@@ -172,7 +172,7 @@ module _ {houses bytes : List ℕ} {n : ℕ} where
         others_written (subst (λ (m : ℕ). WritesNumber bytes n (m ∷ rest)) is house) (further rest read.1)
   ]
 
-side_from_written : (i : ℕ) (houses bytes : List ℕ) (found : Found) → side_from i houses bytes ≡ Some found →
+side_from_written : (i : ℕ) (houses bytes : List ℕ) (found : SideRead) → side_from i houses bytes ≡ Some found →
     WritesSide houses bytes found
 side_from_written zero houses bytes found e = absurd cc
 side_from_written (suc i) houses bytes found e =
@@ -182,7 +182,7 @@ side_from_written (suc i) houses bytes found e =
     house_written i read.0.1 found (number_is_written bytes read.0 read.1.0)
     (λ next. side_from_written i (houses ++ read.0.0 ∷ []) next found) read.1.1
 
-pub side_is_written : (bytes : List ℕ) (found : Found) → side_at bytes ≡ Some found → WritesSide [] bytes found
+pub side_is_written : (bytes : List ℕ) (found : SideRead) → side_at bytes ≡ Some found → WritesSide [] bytes found
 unfolding side_at
 side_is_written bytes found e = side_from_written (length bytes) [] bytes found e
 
@@ -224,7 +224,7 @@ side_is_read text houses store following side ends =
     _ [] (omega (arith, length-append side.houses_text (slash ∷ (side.store_text ++ following)))))
 
 -- the bytes after a side are fewer
-pub side_shorter : (bytes : List ℕ) {found : Found} → side_at bytes ≡ Some found → length found.2 ≤ length bytes
+pub side_shorter : (bytes : List ℕ) {found : SideRead} → side_at bytes ≡ Some found → length found.2 ≤ length bytes
 side_shorter bytes {found} e =
     let side = side_is_written bytes found e in
     omega (arith, ap length side.parts, length-append side.text found.2)
@@ -311,11 +311,11 @@ suffix_is_written bytes rule e = grind (arith, nat_tests)
 
 -- ---- positions
 
-abbrev pub made : Found → Found → Rule → Position
+abbrev pub made : SideRead → SideRead → Rule → Position
 made own other rule = record { own = own.0; own_store = own.1; other = other.0; other_store = other.1; rule = rule }
 
 -- a side, a space, a side and a suffix write a line
-line_of_sides : {text rest : List ℕ} {own other : Found} {rule : Rule} → side_at text ≡ Some own → own.2 ≡ space ∷ rest →
+line_of_sides : {text rest : List ℕ} {own other : SideRead} {rule : Rule} → side_at text ≡ Some own → own.2 ≡ space ∷ rest →
     side_at rest ≡ Some other → rule_of other.2 ≡ Some rule → IsLineOf text (made own other rule)
 line_of_sides {text} {rest} {own} {other} {rule} own_read mark other_read rule_read =
     let first = side_is_written text own own_read in
@@ -332,7 +332,7 @@ line_of_sides {text} {rest} {own} {other} {rule} own_read mark other_read rule_r
     }
 
 -- two sides with a space between them, and what follows, are read as the suffix is
-pub sides_are_read : (text rest : List ℕ) {own other : Found} {mark : ℕ} {read : Option Rule} → side_at text ≡ Some own →
+pub sides_are_read : (text rest : List ℕ) {own other : SideRead} {mark : ℕ} {read : Option Rule} → side_at text ≡ Some own →
     own.2 ≡ mark ∷ rest → mark ≡ space → side_at rest ≡ Some other → rule_of other.2 ≡ read →
     written_of text ≡ (read >>= λ rule. Some (made own other rule))
 unfolding written_of
@@ -343,7 +343,7 @@ rest_is_written : (text : List ℕ) (houses : List ℕ) (store : ℕ) (rest : Li
     side_at text ≡ Some (houses, store, rest) → position_from houses store rest ≡ Some p → IsLineOf text p
 rest_is_written text houses store [] p own e = absurd cc
 rest_is_written text houses store (mark ∷ rest) p own e =
-    let with_rule = λ (other : Found). rule_of other.2 >>= λ rule. Some (made (houses, store, mark ∷ rest) other rule) in
+    let with_rule = λ (other : SideRead). rule_of other.2 >>= λ rule. Some (made (houses, store, mark ∷ rest) other rule) in
     let read = test_some (mark == space) (side_at rest >>= with_rule) p e in
     let other = bind_some (side_at rest) with_rule p read.1 in
     let rule = bind_some (rule_of other.0.2) (λ rule. Some (made (houses, store, mark ∷ rest) other.0 rule)) p other.1.1 in
@@ -355,7 +355,7 @@ rest_is_written text houses store (mark ∷ rest) p own e =
 pub written_is_line : (text : List ℕ) (p : Position) → written_of text ≡ Some p → IsLineOf text p
 unfolding written_of
 written_is_line text p e =
-    let own = bind_some (side_at text) (λ (own : Found). position_from own.0 own.1 own.2) p e in
+    let own = bind_some (side_at text) (λ (own : SideRead). position_from own.0 own.1 own.2) p e in
     rest_is_written text own.0.0 own.0.1 own.0.2 p own.1.0 own.1.1
 
 -- what is written is read

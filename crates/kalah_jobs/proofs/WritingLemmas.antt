@@ -39,13 +39,12 @@ use Rattle.kalah_jobs.specs.declared.writing.answer.Taken.{Taken}
 use Rattle.kalah_jobs.specs.Files.NamedBytes.{NamedBytes}
 use Rattle.kalah_jobs.specs.Files.Entry.{entry_to}
 use Rattle.kalah_jobs.specs.declared.files.question.Question.{Question}
-use Rattle.kalah_jobs.specs.Files.JobList.{job_list}
 use Rattle.kalah_jobs.specs.Files.Jobs.{entries_to, jobs_to}
-use Rattle.kalah_jobs.specs.Writing.Output.{line_output, file_output, output_to, is_faulty, tally_of, text_of_line, text_of_file, taken_output, output_of_jobs, names_of, is_faulty_job, FilesAreTheirJobs}
+use Rattle.kalah_jobs.specs.Writing.Output.{line_output, file_output, output_to, is_faulty, tally_of, text_of_line, text_of_file, taken_output, names_of, FilesAreTheirJobs}
 use Rattle.kalah_jobs.specs.declared.writing.tally.Tally.{Tally}
 use Rattle.kalah_jobs.proofs.FilesLemmas.{asked_fault, faulty_jobs, all_entries, count_map, length-job_list, job_count-jobs_to, lines_of-feed, lines_of-byte, length-lines_of}
 use Rattle.kalah_jobs.specs.declared.files.question.Question.TheVariants.{BestMove}
-use Rattle.kalah_jobs.specs.Writing.Splitting.{counted_together, OutputSplitsByFiles, EndsWithItsLine, output_from, tally_in, FilesSplitBetweenLines}
+use Rattle.kalah_jobs.specs.Writing.Splitting.{OutputSplitsByFiles, EndsWithItsLine, FilesSplitBetweenLines}
 
 -- ==== How long the parts of lines are at most
 

@@ -10,7 +10,7 @@ use Rattle.kalah_rules.specs.Sowing.{row_of, lap_length, gain, own_distance, oth
 use Rattle.kalah_rules.proofs.PlayLemmas.{range_more, length-row_of, same_as_row, row_of_same, seeds-set_same, seeds-set_other, sum-zeros}
 use Rattle.kalah_rules.specs.Key.{number_of, cells, rule_bit, rows_number, key_of, variant_of, side_at, houses_at, IsKey}
 use Rattle.kalah_rules.specs.Packed.{ones, up_to, unpacked, IsPacked, IsPackedRow}
-use Rattle.kalah_rules.specs.Sowings.{own_gained, other_gained, store_gained}
+use Rattle.kalah_rules.specs.Sowings.{own_gains, other_gains, store_gains}
 use Rattle.std.proofs.lemmas.Grind.{same_number_lists}
 use Rattle.std.proofs.Math.Seq.{take-append_seam, drop-append_seam}
 use Rattle.std.proofs.lemmas.List.Folds.{sum_by-replicate}
@@ -133,7 +133,7 @@ other_lap m h r j low high j_low = grind arith
 pub own_sown : (xs : List ℕ) (h c : ℕ) → 1 ≤ h → h ≤ length xs →
     number_of
     (row_of (length xs) (λ i. (if i == h then 0 else seeds xs i) + gain (lap_length (length xs)) c (own_distance (length xs) h i)))
-    + 32 ^ (h - 1) * seeds xs h ≡ number_of xs + own_gained (length xs) h c
+    + 32 ^ (h - 1) * seeds xs h ≡ number_of xs + own_gains (length xs) h c
 own_sown xs h c low high =
     let plus = number_of-plus (length xs) (λ i. if i == h then 0 else seeds xs i)
     (λ i. gain (lap_length (length xs)) c (own_distance (length xs) h i)) in
@@ -144,7 +144,7 @@ own_sown xs h c low high =
 -- what it adds to the other row
 pub other_sown : (ys : List ℕ) (h c : ℕ) →
     number_of (row_of (length ys) (λ j. seeds ys j + gain (lap_length (length ys)) c (other_distance (length ys) h j)))
-    ≡ number_of ys + other_gained (length ys) h c
+    ≡ number_of ys + other_gains (length ys) h c
 other_sown ys h c =
     let plus = number_of-plus (length ys) (seeds ys) (λ j. gain (lap_length (length ys)) c (other_distance (length ys) h j)) in
     let kept = ap number_of (sym (same_as_row ys _ (seeds ys) refl (omega arith))) in
@@ -152,7 +152,7 @@ other_sown ys h c =
 
 module _ (m h c : ℕ) (low : 1 ≤ h) (high : h ≤ m) where
   -- what the own row gains, and one seed more in each house up to the one that is emptied
-  pub own_gain : own_gained m h c + ones h ≡ c / lap_length m * ones m + number_of (row_of m (up_to (h + c % lap_length m)))
+  pub own_gain : own_gains m h c + ones h ≡ c / lap_length m * ones m + number_of (row_of m (up_to (h + c % lap_length m)))
       + number_of (row_of m (up_to (h + c % lap_length m - lap_length m)))
   own_gain =
       let q = c / lap_length m in
@@ -170,7 +170,7 @@ module _ (m h c : ℕ) (low : 1 ≤ h) (high : h ≤ m) where
       omega arith
 
   -- what the other row gains
-  pub other_gain : other_gained m h c ≡ c / lap_length m * ones m + number_of (row_of m (up_to (h + c % lap_length m - (m + 1))))
+  pub other_gain : other_gains m h c ≡ c / lap_length m * ones m + number_of (row_of m (up_to (h + c % lap_length m - (m + 1))))
   other_gain =
       let q = c / lap_length m in
       let gains : ℕ → ℕ = λ j. gain (lap_length m) c (other_distance m h j) in
@@ -182,7 +182,7 @@ module _ (m h c : ℕ) (low : 1 ≤ h) (high : h ≤ m) where
       omega arith
 
   -- what the store gains
-  pub store_gain : store_gained m h c ≡ c / lap_length m + (if nat_lt m (h + c % lap_length m) then 1 else 0)
+  pub store_gain : store_gains m h c ≡ c / lap_length m + (if nat_lt m (h + c % lap_length m) then 1 else 0)
   store_gain = grind arith
 
 -- one seed in each of fewer houses is no larger number
@@ -194,13 +194,13 @@ ones_le a (suc b) h = elim (cases_eq a (suc b)) [
 ]
 
 -- a row moved up by a few houses fits sixty-four bits
-pub moved_small : (k x : ℕ) → k ≤ 5 → x < 2 ^ 30 → x * 32 ^ k % 2 ^ 64 ≡ 32 ^ k * x
-moved_small k x h few = up_to_five (λ k. x * 32 ^ k % 2 ^ 64 ≡ 32 ^ k * x) k h
+pub moved_whole : (k x : ℕ) → k ≤ 5 → x < 2 ^ 30 → x * 32 ^ k % 2 ^ 64 ≡ 32 ^ k * x
+moved_whole k x h few = up_to_five (λ k. x * 32 ^ k % 2 ^ 64 ≡ 32 ^ k * x) k h
     (omega arith) (omega arith) (omega arith) (omega arith) (omega arith) (omega arith)
 
 -- a few seeds moved past the own row fit sixty-four bits
-pub moved_far : (k x : ℕ) → k ≤ 5 → x < 32 → x * (2 ^ 30 * 32 ^ k) % 2 ^ 64 ≡ 2 ^ 30 * (32 ^ k * x)
-moved_far k x h few = up_to_five (λ k. x * (2 ^ 30 * 32 ^ k) % 2 ^ 64 ≡ 2 ^ 30 * (32 ^ k * x)) k h
+pub moved_far_whole : (k x : ℕ) → k ≤ 5 → x < 32 → x * (2 ^ 30 * 32 ^ k) % 2 ^ 64 ≡ 2 ^ 30 * (32 ^ k * x)
+moved_far_whole k x h few = up_to_five (λ k. x * (2 ^ 30 * 32 ^ k) % 2 ^ 64 ≡ 2 ^ 30 * (32 ^ k * x)) k h
     (omega arith) (omega arith) (omega arith) (omega arith) (omega arith) (omega arith)
 
 -- the seeds of a house are few bits of its row
@@ -324,8 +324,8 @@ key_says {a} {k} h e =
     }
 
 -- the key of houses within the limits is a key
-pub key_holds : {a : HousesState} {k : ℕ} → IsWithinHouses a → key_of a ≡ k → IsKey k
-key_holds {a} h e =
+pub key_is_key : {a : HousesState} {k : ℕ} → IsWithinHouses a → key_of a ≡ k → IsKey k
+key_is_key {a} h e =
     let says = key_says h e in
     rw (says.side, says.own_cells, says.other_cells) (record {
       some_house = h.some_house;
@@ -472,7 +472,7 @@ module _ (k : ℕ) (rule : Rule) (bit : rule_bit rule ≡ k / 2 ^ 63) where
   pub of_key_found : (o : Option HousesState) → (IsSome o ↔ IsKey k) → IfSome o (λ a. a ≡ parts) → (a : HousesState)
       → IsWithinHouses a →
       key_of a ≡ k → o ≡ Some a
-  of_key_found None valid value a h e = grind (arith, key_holds)
+  of_key_found None valid value a h e = grind (arith, key_is_key)
   of_key_found (Some b) valid value a h e = ap Some (value ∙ houses_of_key _ _ _ h e bit)
 
 -- two values of houses with one key are one

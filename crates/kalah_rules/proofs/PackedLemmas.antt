@@ -10,14 +10,14 @@ use Rattle.std.proofs.lemmas.Bool.Decides.{nat_tests}
 use Rattle.kalah_rules.specs.Position.{Position, HousesState, IsWithinHouses, side_length, seeds, opposite, seeds_in_houses, storeless, IsWithinLimits, is_over, swapped, houses_in, with_stores, without_seeds}
 use Rattle.kalah_rules.specs.Lap.{HoldsSeeds, lifted}
 use Rattle.kalah_rules.specs.Sowing.{lap_length, own_distance, other_distance, store_distance, sow, sown, last_distance, is_again, captures, can_capture, captured, after}
-use Rattle.kalah_rules.proofs.PlayLemmas.{set_less, sow_side, sow_keeps, own_distance_past, own_distance_back, last_house_own, last_house_store, last_house_other, after_at, legal_holds, after_nearer, sum-zeros, with_more, after_of_houses, legal_going}
+use Rattle.kalah_rules.proofs.PlayLemmas.{sum-set_zero, sow_side, sow_keeps, own_distance_past, own_distance_back, last_house_own, last_house_store, last_house_other, after_at, legal_holds, after_nearer, sum-zeros, with_more, after_of_houses, legal_going}
 use Rattle.kalah_rules.specs.Key.{number_of, rule_bit}
 use Rattle.kalah_rules.specs.Packed.{IsPackedPosition, ones, unpacked, IsPacked}
 use Rattle.kalah_rules.specs.declared.houses.play.RowNumbers.{RowNumbers}
 use Rattle.kalah_rules.specs.declared.rule.Rule.{Rule}
 use Rattle.kalah_rules.specs.declared.houses.sowings.Sowing.{Sowing}
-use Rattle.kalah_rules.specs.Sowings.{own_gained, other_gained, store_gained, last_place, IsLastHouse, IsSowing, IsSowingCell, AreSowings}
-use Rattle.kalah_rules.proofs.KeyLemmas.{number_of-small, pow_five, pow_other, low_cell, moved_far, placed_small, number_of-set, number_of-all, number_of-up_to, read_seeds, own_sown, other_sown, own_gain, other_gain, ones_le, IsPackOf, pack_of, rows_of_pack, packed_as, sum-zero, number_of-zero}
+use Rattle.kalah_rules.specs.Sowings.{own_gains, other_gains, store_gains, last_place, IsLastHouse, IsSowing, IsSowingCell, AreSowings}
+use Rattle.kalah_rules.proofs.KeyLemmas.{number_of-small, pow_five, pow_other, low_cell, moved_far_whole, placed_small, number_of-set, number_of-all, number_of-up_to, read_seeds, own_sown, other_sown, own_gain, other_gain, ones_le, IsPackOf, pack_of, rows_of_pack, packed_as, sum-zero, number_of-zero}
 use Rattle.std.proofs.lemmas.List.{length-replicate, get_or-set_same, get_or-set_other}
 use Rattle.kalah_rules.specs.Play.{legal_houses, step_to, step_of}
 use Rattle.kalah_rules.specs.Measure.{IsNearerEnd}
@@ -83,9 +83,9 @@ one_seed_at rows k =
 
 -- what a sowing of c seeds of house h adds if it ends in the store without a lap
 record GainsIntoStore (m h c : ℕ) : Type 0 where
-  own : own_gained m h c + ones h ≡ ones m
-  other : other_gained m h c ≡ 0
-  store : store_gained m h c ≡ 1
+  own : own_gains m h c + ones h ≡ ones m
+  other : other_gains m h c ≡ 0
+  store : store_gains m h c ≡ 1
 
 -- such a sowing gives each later own house and the store one seed, and the other player none
 gains_into_store : (m h c : ℕ) → 1 ≤ h → h ≤ m → c + h ≡ m + 1 → GainsIntoStore m h c
@@ -112,17 +112,17 @@ module _ (a : HousesState) (h : ℕ) (w : IsWithinHouses a) (holds : HoldsSeeds 
       }
 
   -- the own row after the sowing
-  pub own_is : number_of q.own + 32 ^ (h - 1) * seeds a.own h ≡ number_of a.own + own_gained (length a.own) h (seeds a.own h)
+  pub own_is : number_of q.own + 32 ^ (h - 1) * seeds a.own h ≡ number_of a.own + own_gains (length a.own) h (seeds a.own h)
   unfolding sow
   own_is = own_sown _ _ _ holds.first holds.last
 
   -- the other row
-  pub other_is : number_of q.other ≡ number_of a.other + other_gained (length a.own) h (seeds a.own h)
+  pub other_is : number_of q.other ≡ number_of a.other + other_gains (length a.own) h (seeds a.own h)
   unfolding sow
   other_is = rw w.same_side at (other_sown a.other h (seeds a.own h))
 
   -- what comes to the store
-  pub store_is : q.own_store ≡ store_gained (length a.own) h (seeds a.own h)
+  pub store_is : q.own_store ≡ store_gains (length a.own) h (seeds a.own h)
   unfolding sow
   store_is = omega arith
 
@@ -145,20 +145,20 @@ module _ (a : HousesState) (h : ℕ) (w : IsWithinHouses a) (holds : HoldsSeeds 
   -- both rows without the house's seeds, and with what they gain
   pub sown_rows : (rows house gains : ℕ) → rows ≡ number_of a.own + 2 ^ 30 * number_of a.other
       → house ≡ 32 ^ (h - 1) * seeds a.own h →
-      gains ≡ own_gained (length a.own) h (seeds a.own h) + 2 ^ 30 * other_gained (length a.own) h (seeds a.own h) →
+      gains ≡ own_gains (length a.own) h (seeds a.own h) + 2 ^ 30 * other_gains (length a.own) h (seeds a.own h) →
       rows - house + gains ≡ number_of q.own + 2 ^ 30 * number_of q.other
   sown_rows rows house gains rows_are house_is gains_are = omega (arith, own_is, other_is, lifted_is)
 
   -- after a sowing the rows are both rows, less what they lose
   pub sown_less : (rows loses : ℕ) → rows ≡ number_of a.own + 2 ^ 30 * number_of a.other → loses < 2 ^ 64 →
-      (loses + (own_gained (length a.own) h (seeds a.own h) + 2 ^ 30 * other_gained (length a.own) h (seeds a.own h))) % 2 ^ 64
+      (loses + (own_gains (length a.own) h (seeds a.own h) + 2 ^ 30 * other_gains (length a.own) h (seeds a.own h))) % 2 ^ 64
       ≡ 32 ^ (h - 1) * seeds a.own h →
       (rows + (2 ^ 64 - loses)) % 2 ^ 64 ≡ number_of q.own + 2 ^ 30 * number_of q.other
   sown_less rows loses rows_are loses_small loses_is = omega (arith, own_is, other_is, own_small, other_small)
 
   -- rows and a store with what a sowing adds show the position after it
   pub rows_show : (rows store : ℕ) → rows ≡ number_of q.own + 2 ^ 30 * number_of q.other →
-      store ≡ store_gained (length a.own) h (seeds a.own h) → IsPackedPosition (record { rows = rows; store = store }) q
+      store ≡ store_gains (length a.own) h (seeds a.own h) → IsPackedPosition (record { rows = rows; store = store }) q
   rows_show rows store rows_are store_is' = omega (arith, own_small, store_is)
 
   -- a house whose last seed falls into the store without a lap
@@ -220,7 +220,7 @@ module _ (a : HousesState) (h : ℕ) (w : IsWithinHouses a) (holds : HoldsSeeds 
             let other_set = number_of-set q.other (j - 1) 0 (omega (arith, w.same_side)) in
             let one_at : 32 ^ (i - 1) * seeds q.own i ≡ 32 ^ (i - 1) * 1 = ap (λ n. 32 ^ (i - 1) * n) one in
             let y : seeds q.other j * 2 ^ across % 2 ^ 64 ≡ 2 ^ 30 * (32 ^ (j - 1) * seeds q.other j) =
-            rw (opposite_is, pow_other (j - 1)) (moved_far _ _ far (omega arith)) in
+            rw (opposite_is, pow_other (j - 1)) (moved_far_whole _ _ far (omega arith)) in
             let is : captured_seeds ≡ 32 ^ (i - 1) + 2 ^ 30 * (32 ^ (j - 1) * seeds q.other j) = both.0 ∙ omega (arith, y, at.seed) in
             let off = taken_off r.rows (32 ^ (i - 1)) (32 ^ (j - 1) * seeds q.other j) shows.own shows.other (omega arith) (omega arith) in
             record {
@@ -233,7 +233,7 @@ module _ (a : HousesState) (h : ℕ) (w : IsWithinHouses a) (holds : HoldsSeeds 
 -- a capture keeps what a sowing keeps
 captured_keeps : {p q : Position} (o : Option ℕ) → KeepsSeeds p q → KeepsSeeds p (captured q o)
 captured_keeps None k = k
-captured_keeps {p} {q} (Some i) k = grind (arith, cases_Bool, set_less, length-set)
+captured_keeps {p} {q} (Some i) k = grind (arith, cases_Bool, sum-set_zero, length-set)
 
 -- a move keeps all that
 pub after_keeps : (a : HousesState) (h : ℕ) → IsWithinHouses a → HoldsSeeds (storeless a) h
@@ -350,7 +350,7 @@ captured_fits {m} h c x s sowing side small = elim (cases_lt m (last_place m h c
       let at = sowing.own own in
       let seed : s.last_seed < 2 ^ 30 = omega (arith, at.seed, placed_small (i - 1) 1 (omega arith) (omega arith)) in
       let there : x * 2 ^ s.across_bit % 2 ^ 64 ≡ 2 ^ 30 * (32 ^ (m - i) * x) =
-      rw (at.across, pow_other (m - i)) (moved_far _ _ (omega arith) small) in
+      rw (at.across, pow_other (m - i)) (moved_far_whole _ _ (omega arith) small) in
       omega (arith, placed_small (m - i) x (omega arith) small)
 ]
 

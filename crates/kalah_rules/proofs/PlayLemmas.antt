@@ -48,8 +48,8 @@ pub fall_step : (w a b k d e : ℕ) {w' : ℕ} → w + a ≤ b + k * d → w' �
 fall_step w a b k d e before more near = omega arith
 
 -- a list with one number set to 0 has that much less
-pub set_less : (xs : List ℕ) (k : ℕ) → sum (slice_set xs k 0) + slice_index xs k ≡ sum xs
-set_less xs k = grind (arith, sum_by-set, set_past, get_or_past)
+pub sum-set_zero : (xs : List ℕ) (k : ℕ) → sum (slice_set xs k 0) + slice_index xs k ≡ sum xs
+sum-set_zero xs k = grind (arith, sum_by-set, set_past, get_or_past)
 
 -- a weighted sum is bounded if its first term and the rest are
 pub distance_step : (fx r n x s : ℕ) {t sxs : ℕ} → t ≡ fx + r → fx ≤ x * n → r ≤ n * s → sxs ≡ x + s → t ≤ n * sxs
@@ -480,13 +480,13 @@ module _ (p : Position) (h : ℕ) (holds : HoldsSeeds p h) (same : length p.othe
   houses_fall far = grind (arith, sow_keeps, sown_store)
 
 -- a capture leaves fewer seeds in houses
-captures_fall : (q : Position) (i : ℕ) → seeds q.own i ≡ 1 → seeds_in_houses (capture q i) < seeds_in_houses q
-captures_fall q i one = omega (arith, set_less)
+capture_leaves_fewer : (q : Position) (i : ℕ) → seeds q.own i ≡ 1 → seeds_in_houses (capture q i) < seeds_in_houses q
+capture_leaves_fewer q i one = omega (arith, sum-set_zero)
 
 -- where the last seed falls there are fewer seeds in houses, or nothing changes
-captured_falls : (q : Position) (o : Option ℕ) → (seeds_in_houses (captured q o) < seeds_in_houses q) ⊎ (captured q o ≡ q)
-captured_falls q None = inr refl
-captured_falls q (Some i) = grind (arith, captures_fall)
+captured_leaves_no_more : (q : Position) (o : Option ℕ) → (seeds_in_houses (captured q o) < seeds_in_houses q) ⊎ (captured q o ≡ q)
+captured_leaves_no_more q None = inr refl
+captured_leaves_no_more q (Some i) = grind (arith, capture_leaves_fewer)
 
 -- a sowing brings the game nearer to its end
 sown_nearer : (p : Position) (h : ℕ) → HoldsSeeds p h → length p.other ≡ side_length p → IsNearerEnd (sown p h) p
@@ -495,7 +495,7 @@ sown_nearer p h holds same = grind (arith, houses_fall, sow_keeps, distance_fall
 -- a move brings the game nearer to its end
 pub after_nearer : (p : Position) (h : ℕ) → HoldsSeeds p h → HasEqualSides p → IsNearerEnd (after p h) p
 unfolding after
-after_nearer p h holds even = grind (arith, sown_nearer, captured_falls)
+after_nearer p h holds even = grind (arith, sown_nearer, captured_leaves_no_more)
 
 capture_side : (q : Position) (o : Option ℕ) → (side_length (captured q o) ≡ side_length q)
     × (length (captured q o).other ≡ length q.other)

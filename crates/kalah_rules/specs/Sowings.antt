@@ -5,16 +5,16 @@ use Rattle.kalah_rules.specs.Sowing.{lap_length, row_of, gain, own_distance, sto
 use Rattle.kalah_rules.specs.declared.houses.sowings.Sowing.{Sowing}
 
 -- what the own row gains if c seeds are sown from house h, on sides of m houses
-abbrev pub own_gained : ℕ → ℕ → ℕ → ℕ
-own_gained m h c = number_of (row_of m (λ i. gain (lap_length m) c (own_distance m h i)))
+abbrev pub own_gains : ℕ → ℕ → ℕ → ℕ
+own_gains m h c = number_of (row_of m (λ i. gain (lap_length m) c (own_distance m h i)))
 
 -- what the other row gains
-abbrev pub other_gained : ℕ → ℕ → ℕ → ℕ
-other_gained m h c = number_of (row_of m (λ j. gain (lap_length m) c (other_distance m h j)))
+abbrev pub other_gains : ℕ → ℕ → ℕ → ℕ
+other_gains m h c = number_of (row_of m (λ j. gain (lap_length m) c (other_distance m h j)))
 
 -- what the own store gains
-abbrev pub store_gained : ℕ → ℕ → ℕ → ℕ
-store_gained m h c = gain (lap_length m) c (store_distance m h)
+abbrev pub store_gains : ℕ → ℕ → ℕ → ℕ
+store_gains m h c = gain (lap_length m) c (store_distance m h)
 
 -- the place of the last seed: own house i has place i, the own store place m + 1, and the other player's houses follow
 abbrev pub last_place : ℕ → ℕ → ℕ → ℕ
@@ -34,8 +34,8 @@ pub record IsNoHouse (bits lowest begin : ℕ) : Type 0 where
 
 -- how c seeds of house h are sown: what both rows lose, modulo 2 ^ 64, what the store gains, and where the last seed falls
 pub record IsSowing (m h c : ℕ) (s : Sowing) : Type 0 where
-  pub loses : (s.loses + (own_gained m h c + 2 ^ 30 * other_gained m h c)) % 2 ^ 64 ≡ 32 ^ (h - 1) * c
-  pub store : s.store ≡ store_gained m h c
+  pub loses : (s.loses + (own_gains m h c + 2 ^ 30 * other_gains m h c)) % 2 ^ 64 ≡ 32 ^ (h - 1) * c
+  pub store : s.store ≡ store_gains m h c
   pub again : s.again ≡ (last_place m h c == m + 1)
   pub own : last_place m h c ≤ m → IsLastHouse m (last_place m h c) s.last_mask s.last_seed s.across_bit
   pub elsewhere : m < last_place m h c → IsNoHouse s.last_mask s.last_seed s.across_bit

@@ -304,10 +304,10 @@ written_on is same_files same_jobs on =
     }
 
 -- what an output has written stays if nothing more is written
-pub still_written : {files : List NamedBytes} {jobs : List (List Entry)} {past : List Job} {begun out later : SinkState}
+pub written_kept : {files : List NamedBytes} {jobs : List (List Entry)} {past : List Job} {begun out later : SinkState}
     {r : OrderedOutput} → Keeps out.written later.written → (later.has_failed ≡ false → out.has_failed ≡ false)
     → HasWritten files jobs past begun out r → HasWritten files jobs past begun later r
-still_written keeps sound is = record {
+written_kept keeps sound is = record {
   of_files = is.of_files;
   of_jobs = is.of_jobs;
   progress = record {
@@ -637,9 +637,9 @@ module _ {G : Type 0} {knows : G → ℕ → Bool} {shared : SharedWork G} {befo
   passes_fit left left' same is room = omega (arith, is, run.as_many, room, as_many_left left left' same)
 
   -- all passes of the desk are back
-  pub all_back : {passes : ℕ} {back : List PassState} (left left' : Option PassState) → rest_of left' ≡ rest_of left
+  pub passes_are_back : {passes : ℕ} {back : List PassState} (left left' : Option PassState) → rest_of left' ≡ rest_of left
       → back ≡ passes_of after ++ pass_in left' → length before + length (pass_in left) ≡ passes → length back ≡ passes
-  all_back left left' same is all =
+  passes_are_back left left' same is all =
       let many = ap length is ∙ length-append (passes_of after) (pass_in left') in
       omega (arith, many, length-map after (λ (w : Worker). w.pass), run.as_many, all, as_many_left left left' same)
 
@@ -672,10 +672,10 @@ pub record AreCollected (desk : DeskState) (output : OrderedOutput) (begun out :
   pub draws : DrawsOnlyTheRest desk out.has_failed before.rest_pass now.rest_pass
   pub progress : HasWritten output.files.now output.jobs.now (outcomes_in now.get_pass.got) begun out r × Waits r
 
-pub none_collected : {desk : DeskState} {output r : OrderedOutput} {begun out : SinkState} {before : CallerPasses}
+pub collected_at_start : {desk : DeskState} {output r : OrderedOutput} {begun out : SinkState} {before : CallerPasses}
     → before.get_pass.got ≡ [] → IfSome before.rest_pass (IsPassAt desk) → IsNew output → WritesReady output begun r out
     → AreCollected desk output begun out before before r
-none_collected {output = output} {begun = begun} none own new writes = record {
+collected_at_start {output = output} {begun = begun} none own new writes = record {
   queue = refl;
   workers = refl;
   draws = record { own = own; rest = refl; same = inl refl };
@@ -698,7 +698,7 @@ module _ {desk : DeskState} {Ended : Type 0} {output r : OrderedOutput} {begun o
       → AreCollected desk output begun more before next written
   one_collected {outcome} gave {more} {offered} {written} got files jobs current offers sound writes =
       let is = got.got.2 in
-      let was = still_written got.keeps got.sound so_far.progress.0 in
+      let was = written_kept got.keeps got.sound so_far.progress.0 in
       let more_got : outcomes_in next.get_pass.got ≡ outcomes_in now.get_pass.got ++ outcome ∷ [] =
       ap (λ (p : GetPassState). outcomes_in p.got) is ∙ map-append (λ (p : ℕ × Job). p.1) now.get_pass.got ((got.got.0, outcome) ∷ []) in
       record {
@@ -720,7 +720,7 @@ module _ {desk : DeskState} {Ended : Type 0} {output r : OrderedOutput} {begun o
       queue = ap (λ (p : GetPassState). p.queue) got.got ∙ so_far.queue;
       workers = ap (λ (p : GetPassState). p.workers) got.got ∙ so_far.workers;
       draws = draws_on (draws_still _ got.sound so_far.draws) got.draws;
-      progress = (rw got.got (still_written got.keeps got.sound so_far.progress.0), so_far.progress.1);
+      progress = (rw got.got (written_kept got.keeps got.sound so_far.progress.0), so_far.progress.1);
     },
     (sym so_far.draws.rest ∙ got.left.0.0, got.left.0.1),
   )
@@ -733,7 +733,7 @@ pub has_collected : {desk : DeskState} {output r : OrderedOutput} {begun out lat
     → HasCollected desk output begun later before after
 unfolding text_of
 has_collected {output = output} {r} {begun} {later = later} {before} {now} so_far is all_got keeps sound =
-    let written = still_written keeps sound so_far.progress.0 in
+    let written = written_kept keeps sound so_far.progress.0 in
     let whole : text_of_jobs (text_of output.files.now) r.jobs.now ≡ whole_output output =
     ap (λ l. text_of_jobs (text_of output.files.now) l) written.of_jobs in
     rw is (record {

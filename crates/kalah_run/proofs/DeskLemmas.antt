@@ -29,15 +29,15 @@ use Rattle.std.specs.List.{range_with_len}
 -- ==== Sums over the rows of all seats, and facts of each row: after a change of one seat's view, and after a new seat
 
 -- how often x stands in a row
-abbrev pub times : ℕ → DrawnRow → ℕ
-times x r = count_by (λ y. y == x) r.numbers
+abbrev pub times_in_row : ℕ → DrawnRow → ℕ
+times_in_row x r = count_by (λ y. y == x) r.numbers
 
 -- how often x stands in the rows, as a sum over the rows
-pub times_rows : (x : ℕ) (rows : List DrawnRow) → times_in x (drawn_numbers rows) ≡ sum_by (times x) rows
+pub times_rows : (x : ℕ) (rows : List DrawnRow) → times_in x (drawn_numbers rows) ≡ sum_by (times_in_row x) rows
 times_rows x [] = refl
 times_rows x (r ∷ rs) =
     let mine = sum_by-cons (λ numbers. count_by (λ y. y == x) numbers) r.numbers (drawn_numbers rs) in
-    omega (arith, times_rows x rs, mine, sum_by-cons (times x) r rs)
+    omega (arith, times_rows x rs, mine, sum_by-cons (times_in_row x) r rs)
 
 -- a sum, after a change of one term
 pub sum_set : {X : Type 0} (f : X → ℕ) (xs : List X) (k : ℕ) (v w : X) → get_elem? xs k ≡ some v
@@ -127,7 +127,7 @@ Ascends r = AllPairs (λ x y. x < y) r.numbers
 
 -- rows with the same numbers, each as often, deal the same
 deals_alike : {total drawn : ℕ} {rows others : List DrawnRow} → DealsEachOnce total drawn rows → drawn_in others ≡ drawn_in rows
-    → ((x : ℕ) → sum_by (times x) others ≡ sum_by (times x) rows) → All Ascends others → (0 < spent_in others → drawn ≡ total)
+    → ((x : ℕ) → sum_by (times_in_row x) others ≡ sum_by (times_in_row x) rows) → All Ascends others → (0 < spent_in others → drawn ≡ total)
     → DealsEachOnce total drawn others
 deals_alike {rows = rows} {others} deals drawn same ascending spent = record {
   within = deals.within;
@@ -165,8 +165,8 @@ stands_below : (views : List DeskView) (seat total number : ℕ) (r : DrawnRow) 
 stands_below views seat total number r plan_total at lawful k d within =
     let x : ℕ = get_or r.numbers k d in
     let here : cond (x == x) 1 0 ≤ count_by (λ y. y == x) r.numbers = get_or-le-sum_by (λ y. cond (y == x) 1 0) r.numbers k d within in
-    let mine : sum_by (times x) (r ∷ []) ≤ sum_by (times x) (all_rows views) =
-    rows_at (times x) views seat (Drawing total number r) at in
+    let mine : sum_by (times_in_row x) (r ∷ []) ≤ sum_by (times_in_row x) (all_rows views) =
+    rows_at (times_in_row x) views seat (Drawing total number r) at in
     below x (drawn_in (all_rows views)) (count_by (λ y. y == x) r.numbers) here
     (omega (arith, times_rows x (all_rows views), lawful.each_once x))
   where
@@ -174,8 +174,8 @@ stands_below views seat total number r plan_total at lawful k d within =
     below x c n here few = grind (arith, nat_tests)
 
 -- what is to stand once, with one number more
-one_more : (x c n : ℕ) → n ≡ c → (if nat_lt x c then 1 else 0) + cond (n == x) 1 0 ≡ (if nat_lt x (c + 1) then 1 else 0)
-one_more x c n same = grind (arith, nat_tests)
+once_more : (x c n : ℕ) → n ≡ c → (if nat_lt x c then 1 else 0) + cond (n == x) 1 0 ≡ (if nat_lt x (c + 1) then 1 else 0)
+once_more x c n same = grind (arith, nat_tests)
 
 -- no pass is spent, or all numbers are drawn
 none_or_all : {total : ℕ} {rows : List DrawnRow} → AreLawful total rows → (spent_in rows ≡ 0) ⊎ (drawn_in rows ≡ total)
@@ -224,12 +224,12 @@ module _ {S : Type 0} (plan : DeskPlan) (s : State S DeskView) (seat total numbe
           within = omega arith;
           count = refl;
           each_once = λ x.
-              let t : sum_by (times x) (all_rows (set s.views seat w)) ≡ sum_by (times x) (all_rows s.views) + cond (n == x) 1 0 =
-              omega (arith, rows_set (times x) s.views seat v w at, sum_by_push (λ y. cond (y == x) 1 0) numbers n) in
+              let t : sum_by (times_in_row x) (all_rows (set s.views seat w)) ≡ sum_by (times_in_row x) (all_rows s.views) + cond (n == x) 1 0 =
+              omega (arith, rows_set (times_in_row x) s.views seat v w at, sum_by_push (λ y. cond (y == x) 1 0) numbers n) in
               times_rows x (all_rows (set s.views seat w))
               ∙ t
               ∙ ap (λ k. k + cond (n == x) 1 0) (sym (times_rows x (all_rows s.views)) ∙ kept.lawful.each_once x)
-              ∙ one_more x (drawn_in (all_rows s.views)) n found
+              ∙ once_more x (drawn_in (all_rows s.views)) n found
               ∙ ap (λ c. if nat_lt x c then 1 else 0) (sym drawn);
           ascending = stays_ascending w (All-cons Ascends (drawn_row (numbers ++ n ∷ []) false) [] rises (All-nil Ascends));
           spent = λ some_spent. absurd (omega arith);
@@ -254,7 +254,7 @@ module _ {S : Type 0} (plan : DeskPlan) (s : State S DeskView) (seat total numbe
       let spent : spent_in (all_rows (set s.views seat w)) ≡ spent_in (all_rows s.views) + 1 =
       omega (arith, rows_set (λ r. cond r.spent 1 0) s.views seat v w at) in (
         subst (λ c. DealsEachOnce plan.total c (all_rows (set s.views seat w))) (sym drawn)
-            (deals_alike kept.lawful drawn (λ x. omega (arith, rows_set (times x) s.views seat v w at))
+            (deals_alike kept.lawful drawn (λ x. omega (arith, rows_set (times_in_row x) s.views seat v w at))
             (stays_ascending w (All-cons Ascends (drawn_row numbers true) [] ascends (All-nil Ascends))) (λ some_spent. full)),
         omega arith,
       )
@@ -402,15 +402,15 @@ kept_alike plan s after kept words same passes fits =
       word = words ∙ kept.word ∙ ap (λ m. m ∷ []) (omega (arith, drawn, spent));
       passes = passes ∙ kept.passes;
       lawful = subst (λ c. DealsEachOnce plan.total c (all_rows after.views)) (sym drawn)
-          (deals_alike kept.lawful drawn (λ x. same (times x) refl) (all_from Ascends after.views (λ seat v at. (fits seat v at).1))
+          (deals_alike kept.lawful drawn (λ x. same (times_in_row x) refl) (all_from Ascends after.views (λ seat v at. (fits seat v at).1))
           (λ some_spent. kept.lawful.spent (omega arith)));
       totals = λ seat v at. (fits seat v at).0;
     }
 
 -- the empty desk
-pub begins : {S : Type 0} (plan : DeskPlan) → plan.total ≤ most_lines → plan.passes ≤ most_passes
+pub opening_is_lawful : {S : Type 0} (plan : DeskPlan) → plan.total ≤ most_lines → plan.passes ≤ most_passes
     → IsLawful {S = S} plan (opening (0 ∷ []) [] (opening_view plan))
-begins plan total passes = record {
+opening_is_lawful plan total passes = record {
   few = (total, passes);
   word = refl;
   passes = sum_by-cons passes_in (opening_view plan) [] ∙ omega arith;
@@ -451,9 +451,9 @@ hands_out {S} plan seat v total handed_out left is some_left = rw is (λ s kept 
     (each_set (Fits plan) s.views seat a (mine, All-nil Ascends) (λ j u other there. fitting plan s kept j u there))
     (mine, All-cons Ascends (drawn_row [] false) [] none (All-nil Ascends))))
 
-pub one_pass_more : (desk : DeskState) (count : ℕ) (passes : List PassState) (p : PassState) → AreNewPasses desk count passes
+pub draw_pass_more : (desk : DeskState) (count : ℕ) (passes : List PassState) (p : PassState) → AreNewPasses desk count passes
     → p ≡ new_pass desk count → AreNewPasses desk (count + 1) (passes ++ p ∷ [])
-one_pass_more desk count passes p handed_out is = (
+draw_pass_more desk count passes p handed_out is = (
   omega (arith, length-append passes (p ∷ []), handed_out.0),
   λ k d within. ⊎_elim
       (λ (old : k < count). get_or_append_left passes (p ∷ []) d k (omega (arith, handed_out.0)) ∙ handed_out.1 k d old)
@@ -467,7 +467,7 @@ deals_but_last : (total drawn : ℕ) (rows : List DrawnRow) (r : DrawnRow) → r
     → DealsEachOnce total drawn (rows ++ r ∷ []) → DealsEachOnce total drawn rows
 deals_but_last total drawn rows r empty deals = deals_alike deals
     (omega (arith, sum_by_push (λ (x : DrawnRow). length x.numbers) rows r, ap length empty))
-    (λ x. omega (arith, sum_by_push (times x) rows r, ap (λ (l : List ℕ). count_by (λ y. y == x) l) empty))
+    (λ x. omega (arith, sum_by_push (times_in_row x) rows r, ap (λ (l : List ℕ). count_by (λ y. y == x) l) empty))
     (λ k d within. subst Ascends (get_or_append_left rows (r ∷ []) d k within)
     (deals.ascending k d (omega (arith, within, length-append rows (r ∷ [])))))
     (λ some. deals.spent (omega (arith, some, sum_by_push (λ (x : DrawnRow). if x.spent then 1 else 0) rows r)))

@@ -13,7 +13,7 @@ use Rattle.kalah_run.specs.declared.queue.rule.QueueView.TheVariants.{Getting, P
 use Rattle.atomic_table.specs.Seated.{TableId}
 use Rattle.kalah_run.specs.Queue.States.{PutPassState, ArePassesFrom, Accounts, outcomes_in}
 use Rattle.crossbeam_queue.specs.Fifo.{Pushes, Pops, Forks, Held, Merges, Learns}
-use Rattle.kalah_run.specs.Queue.Rule.{Fits, FitsPut, FitsGet, IsLawful, IsWholeAndInOrder, first_view, after_making_one, one_made, after_put, after_reclaiming_sent, IsGot, Tells}
+use Rattle.kalah_run.specs.Queue.Rule.{Fits, FitsPut, FitsGet, IsLawful, IsWholeAndInOrder, first_view, after_making_one, one_made, after_put, after_reclaiming_sent, IsGot, KnowsSent}
 use Rattle.std.proofs.lemmas.Bool.{cases_lt}
 
 -- ==== What the pairs determine of one worker, and of all
@@ -107,11 +107,11 @@ known_in (Getting made got known) = known
 known_in _ = []
 
 -- the pass of the next worker goes last
-pub one_pass_more : (id : TableId) (n : ℕ) (ps : List PutPassState) (p : PutPassState) → ArePassesFrom id n ps → p.queue ≡ id
+pub put_pass_more : (id : TableId) (n : ℕ) (ps : List PutPassState) (p : PutPassState) → ArePassesFrom id n ps → p.queue ≡ id
     → p.number ≡ n + length ps
     → ArePassesFrom id n (ps ++ p ∷ [])
-one_pass_more id n [] p h q is = (q, omega arith, tt)
-one_pass_more id n (x ∷ xs) p h q is = (h.0, h.1, one_pass_more id (suc n) xs p h.2 q (omega arith))
+put_pass_more id n [] p h q is = (q, omega arith, tt)
+put_pass_more id n (x ∷ xs) p h q is = (h.0, h.1, put_pass_more id (suc n) xs p h.2 q (omega arith))
 
 -- the passes to put to one queue are all of that queue
 pub all_are_of : (id : TableId) (n : ℕ) (ps : List PutPassState) → ArePassesFrom id n ps → All (λ p. p.queue ≡ id) ps
@@ -143,8 +143,8 @@ lawful {taken = taken} {made = made} {known = known} inside closed held e size f
 
 -- ---- a queue is made
 
-pub begins : IsLawful [] (first_view ∷ [])
-begins =
+pub new_queue_is_lawful : IsLawful [] (first_view ∷ [])
+new_queue_is_lawful =
     let fits : FitsGet [] [] 0 1 0 0 [] [] = record {
       foremost = refl;
       count = refl;
@@ -334,7 +334,7 @@ merges place other {made = made} {got} {known} {sent = sent} e e' is = rw e (rw 
 -- ---- what the pass to get learns of the queue
 
 pub tells : (place : ℕ) {v : QueueView} {made : ℕ} {got : List (ℕ × Job)} {known : List (List Job)} → v ≡ Getting made got known
-    → Learns IsLawful place v (Tells v)
+    → Learns IsLawful place v (KnowsSent v)
 tells place {made = made} {got} {known} e = rw e (λ items views h at.
     let mine : FitsGet (pairs h) h.taken h.closed (length views) place made got known =
     h.fits place (Getting made got known) at in
@@ -349,11 +349,11 @@ reclaimed getting putting is = is ∙ λ i. after_reclaiming_sent (getting i) (p
 -- once it has reclaimed all, it learns what all workers have sent
 pub whole_when_reclaimed : {v : QueueView} {made left : ℕ} {got : List (ℕ × Job)} {known all : List (List Job)}
     (rest : List (List Job))
-    → v ≡ Getting made got known → length rest ≡ 0 → known ++ rest ≡ all → Held left (Tells v)
+    → v ≡ Getting made got known → length rest ≡ 0 → known ++ rest ≡ all → Held left (KnowsSent v)
     → (inside : List (ℕ × Job)) × (length inside ≡ left) × Accounts made all (got ++ inside)
 whole_when_reclaimed (x ∷ xs) getting none whole held = absurd (omega arith)
 whole_when_reclaimed {made = made} {got = got} {known} [] getting none whole held =
-    let told : Tells (Getting made got known) held.0 = subst (λ (u : QueueView). Tells u held.0) getting held.2 in (
+    let told : KnowsSent (Getting made got known) held.0 = subst (λ (u : QueueView). KnowsSent u held.0) getting held.2 in (
       told.0,
       sym (length-map told.0 (λ (p : ℕ × Job). p.1)) ∙ ap (λ (l : List Job). length l) told.1 ∙ held.1,
       subst (λ (sent : List (List Job)). Accounts made sent (got ++ told.0)) (sym (append-nil known) ∙ whole) told.2,

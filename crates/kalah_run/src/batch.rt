@@ -62,7 +62,7 @@ pub fn answer_batch<R: Threads + Wait + Sync, G: Gate, V: Watch, W: Sink>(
     watch: &mut V,
     out: &mut W,
 ) -> Result<Tally, RunFault>
-    requires fresh { (W.state out.old).has_failed ≡ false }
+    requires not_failed { (W.state out.old).has_failed ≡ false }
 
     // What Ok means, what was written in any case, and when each fault comes: a field for each.
     ensures answers { AnswersBatch W.state (output_to request.now.question request.now.files.now)
@@ -110,7 +110,7 @@ pub fn solve_batch<R: Threads + Wait + Sync, G: Gate, W: Sink>(
 ) -> Result<Tally, RunFault>
     requires workers { AreWorkers workers }
     requires table { IsTableSize table }
-    requires fresh { (W.state out.old).has_failed ≡ false }
+    requires not_failed { (W.state out.old).has_failed ≡ false }
 
     // As in `answer_batch`.
     ensures answers { AnswersBatch W.state (output_of files.now) files.now out.old out.new result }

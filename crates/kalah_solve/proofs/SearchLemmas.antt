@@ -63,12 +63,12 @@ module _ (marks h : ℕ) (is : IsLastMark marks h) where
   last_marked = top_cell _ _ is.low is.high
 
   -- what is left was marked before
-  pub left_before : (i : ℕ) → 0 < cell (marks - 32 ^ (h - 1)) i → 0 < cell marks i
-  left_before i some = grind (arith, cases_eq, last_marked, others_stay)
+  pub marked_before : (i : ℕ) → 0 < cell (marks - 32 ^ (h - 1)) i → 0 < cell marks i
+  marked_before i some = grind (arith, cases_eq, last_marked, others_stay)
 
   -- each other unmarked house was unmarked before
-  pub gone_before : (i : ℕ) → i ≢ h - 1 → cell (marks - 32 ^ (h - 1)) i ≡ 0 → cell marks i ≡ 0
-  gone_before i other none = omega (arith, others_stay)
+  pub unmarked_before : (i : ℕ) → i ≢ h - 1 → cell (marks - 32 ^ (h - 1)) i ≡ 0 → cell marks i ≡ 0
+  unmarked_before i other none = omega (arith, others_stay)
 
 -- without the last mark the number is lower
 pub marks_fall : {marks h : ℕ} → IsLastMark marks h → marks - 32 ^ (h - 1) < marks
@@ -435,7 +435,7 @@ each_unmarked a {marks} {h} P last here each i may gone = elim (cases_eq i h) [
   | inr other ↦
       let first = (legal_holds (storeless a) i may).first in
       let place : i - 1 ≢ h - 1 = omega arith in
-      each i may place (gone_before marks h last (i - 1) place gone)
+      each i may place (unmarked_before marks h last (i - 1) place gone)
 ]
 
 -- each house with a priority waits, and each other one that may be moved wins at most `most` seeds, or ends in the store, or is
@@ -472,11 +472,11 @@ module _ {a : HousesState} {most marks h : ℕ} {priorities : List ℕ} {turns :
   }
 
 -- before any was played
-pub played_none : {a : HousesState} {most marks : ℕ} {priorities : List ℕ} {turns : List HousesState} → length priorities ≡ 8
+pub played_at_start : {a : HousesState} {most marks : ℕ} {priorities : List ℕ} {turns : List HousesState} → length priorities ≡ 8
     → length turns ≡ 6 →
     ((k : ℕ) → get_or priorities k 0 ≡ 0) →
     ((i : ℕ) → (0 < cell marks i) ↔ ((0 < get_or a.own i 0) × ¬ EndsInStore a (i + 1))) → ArePlayed a most marks priorities turns
-played_none {a} cells slots empty marked = record {
+played_at_start {a} cells slots empty marked = record {
   waiting = record { cells = cells; each = λ k some. absurd (omega arith) };
   slots = slots;
   others = λ i may gone none apart. absurd (
@@ -506,7 +506,7 @@ into_store_legal {a} i w going inside ends =
 -- what holds of each marked house holds of those that stay marked
 pub each_fewer : (P : ℕ → Type 0) {marks h : ℕ} → IsLastMark marks h → ((i : ℕ) → 0 < cell marks i → P (i + 1)) →
     (i : ℕ) → 0 < cell (marks - 32 ^ (h - 1)) i → P (i + 1)
-each_fewer P {marks} {h} last each i some = each i (left_before marks h last i some)
+each_fewer P {marks} {h} last each i some = each i (marked_before marks h last i some)
 
 -- what holds of each marked house holds of the last one
 pub each_last : (P : ℕ → Type 0) {marks h : ℕ} → IsLastMark marks h → ((i : ℕ) → 0 < cell marks i → P (i + 1)) → P h
@@ -534,10 +534,10 @@ UnmarkedWinAtMost a most marks = (h : ℕ) → Contains (legal_houses (storeless
     → WinsAtMost a most h
 
 -- as long as all of them are marked
-pub unmarked_none : (a : HousesState) (most marks : ℕ)
+pub unmarked_at_start : (a : HousesState) (most marks : ℕ)
     → ((i : ℕ) → (0 < cell marks i) ↔ ((i < length a.own) × EndsInStore a (i + 1))) →
     UnmarkedWinAtMost a most marks
-unmarked_none a most marks marked h may ends gone = absurd (
+unmarked_at_start a most marks marked h may ends gone = absurd (
     let holds = legal_holds (storeless a) h may in
     let at : h ≡ h - 1 + 1 = omega arith in
     let some = (marked _).1 (omega arith, subst (EndsInStore a) at ends) in
@@ -570,12 +570,12 @@ turn_at {a} {most} {priorities} {turns} {priority} w untried found some =
     record { place = omega arith; priority = rw same here; turn = rw same turn }
 
 -- before any move with a priority was tried: all others were
-pub untried_first : {a : HousesState} {beta others new : ℕ} {priorities : List ℕ} {turns : List HousesState} (again : ℕ)
+pub untried_at_start : {a : HousesState} {beta others new : ℕ} {priorities : List ℕ} {turns : List HousesState} (again : ℕ)
     → length priorities ≡ 8 →
     AreWaiting a beta others priorities turns → ((h : ℕ) → Contains (legal_houses (storeless a)) h → EndsInStore a h
     → WinsAtMost a again h) →
     others < beta → new ≡ max again others → AreUntried a new priorities turns
-untried_first again cells are ends short new_is = grind arith
+untried_at_start again cells are ends short new_is = grind arith
 
 -- one move more was tried
 pub untried_fewer : {a : HousesState} {most new : ℕ} {priorities : List ℕ} {turns : List HousesState} (at bound : ℕ)

@@ -16,11 +16,11 @@ use Rattle.kalah_solve.specs.Solver.Worth.{worth, value_of_move, best_house, hou
 use Rattle.std.specs.List.{range_with_len}
 use Rattle.std.proofs.lemmas.List.{get_or_default, map-id, take_more_set, length-set}
 use Rattle.std.proofs.lemmas.Simd.{map-map}
-use Rattle.kalah_solve.specs.Solver.Verdict.{verdict_of, IsSmallBest, TellsBestPlay}
+use Rattle.kalah_solve.specs.Solver.Verdict.{verdict_of, IsSmallBest, StatesBestPlay}
 use Rattle.kalah_solve.specs.declared.solver.Verdict.TheVariants.{Best, Over}
 use Rattle.kalah_solve.specs.declared.solver.Verdict.{Verdict}
 use Rattle.std.proofs.lemmas.List.Elements.{All-map, All-from_get_or, Contains-get_or}
-use Rattle.kalah_solve.specs.Solver.MoveValues.{TellMoves, ValueIsWorthOfMove, WorthOfMoveIsOne, ValuesTellVerdict, move_value, values_of, no_value}
+use Rattle.kalah_solve.specs.Solver.MoveValues.{StateValues, ValueIsWorthOfMove, WorthOfMoveIsOne, ValuesTellVerdict, move_value, values_of, no_value}
 use Rattle.kalah_solve.specs.declared.solver.move_values.MoveValue.{MoveValue}
 use Rattle.kalah_rules.proofs.PackedLemmas.{houses_within, is_over-swapped}
 use Rattle.kalah_solve.specs.Bounds.Intervals.{least_margin, most_margin, clamped}
@@ -66,7 +66,6 @@ ends_within (suc n) mine theirs m t p even few = elim (cases_Bool _) [
       ]
 ]
 
--- the law on games that end
 pub strategies_play_a_game : StrategiesPlayAGame
 strategies_play_a_game mine theirs m t p even = ends_within (moves_left p) mine theirs m t p even (omega arith)
 
@@ -84,7 +83,6 @@ ends_in_time {mine} {theirs} {p} m t even (passes_turn {h = h} {final = final} g
     let inner = ends_in_time t m (swapped_equal_sides _ (after_equal_sides p h)) rest in
     record { over = is_over-swapped final ∙ inner.over; short = omega arith }
 
--- the law on how games end
 pub games_end : GamesEnd
 games_end p houses final even game = ends_in_time (same_policy _) (same_policy _) even game
 
@@ -122,7 +120,6 @@ game_is_one {mine} {theirs} {p} m t (passes_turn {h = h} going has turn rest)
     let same = game_is_one t m rest (subst (λ x. Game theirs mine (swapped (after p x)) houses final) e rest') in
     (cc same.0, ap swapped same.1)
 
--- the law on one game
 pub the_game_is_one : StrategiesPlayOneGame
 the_game_is_one mine theirs p houses others final other one two = game_is_one (follow_one mine) (follow_one theirs) one two
 
@@ -185,11 +182,9 @@ best_secures p even = λ houses final game. (game_is_bounded (strategy_within be
 pub best_holds : (p : Position) → HasEqualSides p → HoldsTo best_house p (worth p)
 best_holds p even = λ houses final game. (game_is_bounded (same_policy _) (strategy_within best_is_strategy) even game).high best_plays
 
--- the law that always moving the best house is best play
 pub best_house_is_best_play : BestHouseIsBestPlay
 best_house_is_best_play = grind (arith, best_is_strategy, best_secures, best_holds)
 
--- the law on the worth
 pub worth_is_best : WorthIsBestPlay
 worth_is_best p even = grind (arith, best_is_strategy, best_secures, best_holds)
 
@@ -207,7 +202,6 @@ module _ (mine theirs : Strategy) (m : IsStrategy mine) (t : IsStrategy theirs) 
       let game = strategies_play_a_game mine _ m t p even in
       (game.0, game.1, game.2, holds _ game.1 (widened (strategy_within m) (same_policy _) even game.2))
 
--- the law on two strategies
 pub best_against_strategies : BestPlayAgainstStrategies
 best_against_strategies = record {
   secured = λ p even. (
@@ -232,7 +226,6 @@ secured_at_most p v w even a b =
     let same = ap final_margin (the_game_is_one _ b.held.0 p low.0 _ low.1 _ low.2 high.2).1 in
     omega (arith, ints, low.3)
 
--- the law on one margin
 pub best_play_is_one : BestPlayIsOne
 best_play_is_one p v w even a b = omega (arith, ints, secured_at_most p v w even a b, secured_at_most p w v even b a)
 
@@ -280,7 +273,6 @@ best_lowest p h going is_legal attains =
     lowest_of (λ k. int_eq (value_of_move p k) (worth p)) (λ i. nat_lt 0 (seeds p.own i)) 1 (side_length p) h (legal_houses p) ascending
     is_legal (eq_yes _ _ attains)
 
--- the law that the best house is the lowest
 pub best_is_lowest : BestHouseIsLowest
 best_is_lowest p even going = record {
   is_legal = (best_found _ even going).0;
@@ -292,9 +284,8 @@ best_is_lowest p even going = record {
 pub best_house_lowest : (p : Position) (h : ℕ) → is_over p ≡ false → IsBestMove p h (worth p) → best_house p ≤ h
 best_house_lowest p h going is = best_lowest _ _ going is.legal (attains_if_best _ _ is)
 
--- the law on best moves
-pub best_moves : BestMovesAttain
-best_moves p h even going = (λ is. (is.legal, attains_if_best _ _ is), λ is. attaining_is_best _ _ even is.0 is.1)
+pub best_moves_attain : BestMovesAttain
+best_moves_attain p h even going = (λ is. (is.legal, attains_if_best _ _ is), λ is. attaining_is_best _ _ even is.0 is.1)
 
 -- ==== The verdict states best play, and no other does
 
@@ -316,15 +307,15 @@ small_best p margin house limits is_legal is_small =
     record { small = is_small; first = holds.first; last = omega arith }
 
 -- the verdict states how best play ends
-pub verdict_tells : (p : Position) (v : Verdict) → HasEqualSides p → v ≡ verdict_of p → TellsBestPlay p v
+pub verdict_tells : (p : Position) (v : Verdict) → HasEqualSides p → v ≡ verdict_of p → StatesBestPlay p v
 verdict_tells p v even is =
-    let tells = cond_both (is_over p) _ _ (TellsBestPlay p)
+    let tells = cond_both (is_over p) _ _ (StatesBestPlay p)
     (λ over. record { over = over; final = refl; best_play = rw (worth_of_over p over) at (worth_is_best p even) })
     (λ going. record { going = going; best = best_move p even going; lowest = λ h is. best_house_lowest p h going is }) in
-    subst (λ u. TellsBestPlay p u) (sym is) tells
+    subst (λ u. StatesBestPlay p u) (sym is) tells
 
 -- each verdict that states how best play ends is the verdict
-verdict_told : (p : Position) (v : Verdict) → HasEqualSides p → TellsBestPlay p v → v ≡ verdict_of p
+verdict_told : (p : Position) (v : Verdict) → HasEqualSides p → StatesBestPlay p v → v ≡ verdict_of p
 verdict_told p (Best margin house) even tells =
     let margin_is = best_play_is_one p margin _ even tells.best.best_play (worth_is_best p even) in
     let low = best_house_lowest p house tells.going (rw margin_is at tells.best) in
@@ -333,17 +324,14 @@ verdict_told p (Best margin house) even tells =
     cc (margin_is, house_is)
 verdict_told p (Over margin) even tells = cc
 
--- the law on one verdict
 pub verdict_is_one : BestVerdictIsOne
 verdict_is_one p v w even one other = grind (arith, verdict_told)
 
 -- ==== What a move secures, and that the values of the moves determine the verdict
 
--- the law on the value of a move
 pub value_is_worth : ValueIsWorthOfMove
 value_is_worth p h even going is_legal = move_worth p h
 
--- the law on one value
 pub worth_of_move_is_one : WorthOfMoveIsOne
 worth_of_move_is_one p h v w even going a b = move_worth_is_one a b
 
@@ -358,7 +346,7 @@ tell_none : (p : Position) → All (λ (v : MoveValue). IsWorthOfMove p v.house 
 tell_none p = grind arith
 
 -- the values of the moves are what these secure; if the game is over there are none
-pub values_tell : {p : Position} → HasEqualSides p → TellMoves p (values_of p)
+pub values_tell : {p : Position} → HasEqualSides p → StateValues p (values_of p)
 values_tell {p} even = record {
   houses = houses_of p _;
   worth = elim (cases_Bool (is_over p)) [
@@ -379,7 +367,6 @@ first_with p m (x ∷ xs) = elim (cases_Bool (int_eq (value_of_move p x) m)) [
   | inr later ↦ rw later (first_with p m xs)
 ]
 
--- the law on the verdict
 pub values_tell_verdict : ValuesTellVerdict
 values_tell_verdict p even going =
     grind (arith, map-map, worth_of_going, first_with)

@@ -1,5 +1,5 @@
 -- What a table keeps, and where endings and houses stand in it.
-use Rattle.std.proofs.Common.{◌≡◌, ◌≢◌, ℕ, zero, suc, ◌+◌, ◌*◌, ◌/◌, ◌%◌, ◌^◌, ◌-◌, ◌<◌, ◌≤◌, inl, inr, arith, sym, refl, ap, List, [], ◌∷◌, ◌++◌, length, get_or, drop, length-append, ◌∙◌, lit<, lit≤, true, eqb-true, Option, Some, None, Result, Ok, Err, nat_eq, IfSome, IsSome, IsOk, OnOk, OnErr, ◌⊎◌, subst, pow_mono, sum, slice_set, slice_index, false, Contains, max, ◌↔◌}
+use Rattle.std.proofs.Common.{◌≡◌, ◌≢◌, ℕ, zero, suc, ◌+◌, ◌*◌, ◌/◌, ◌%◌, ◌^◌, ◌-◌, ◌<◌, ◌≤◌, inl, inr, arith, sym, refl, ap, List, [], ◌∷◌, ◌++◌, length, get_or, drop, length-append, ◌∙◌, lit<, lit≤, eqb-true, Option, Some, None, Result, Ok, Err, nat_eq, IfSome, IsSome, IsOk, OnOk, OnErr, ◌⊎◌, subst, pow_mono, sum, slice_set, slice_index, false, Contains, max, ◌↔◌}
 use Rattle.std.proofs.Math.Nat.{add-mul-div_right, div-div-eq-div-mul, div-lt_iff_lt-mul, mul_comm}
 use Rattle.std.proofs.lemmas.Nat.{pow_pos, pow-add, mul-le}
 use Rattle.std.proofs.lemmas.Bool.{cases_lt, cases_eq}
@@ -344,27 +344,27 @@ pairs_more pairs i v inside before is k below few = grind (arith, cases_eq, get_
 -- ---- the words of different variants are different
 
 -- the ways to choose 0, 1, .. of one thing more
-abbrev one_more : ℕ → List ℕ → List ℕ
-one_more before [] = []
-one_more before (w ∷ ws) = (before + w) ∷ one_more w ws
+abbrev next_row : ℕ → List ℕ → List ℕ
+next_row before [] = []
+next_row before (w ∷ ws) = (before + w) ∷ next_row w ws
 
 -- the ways to choose 0 to 12 of n things
 abbrev choose_row : ℕ → List ℕ
 choose_row zero = 1 ∷ 0 ∷ 0 ∷ 0 ∷ 0 ∷ 0 ∷ 0 ∷ 0 ∷ 0 ∷ 0 ∷ 0 ∷ 0 ∷ 0 ∷ []
-choose_row (suc n) = one_more 0 (choose_row n)
+choose_row (suc n) = next_row 0 (choose_row n)
 
 -- it is as long
-one_more_long : (before : ℕ) (ws : List ℕ) → length (one_more before ws) ≡ length ws
-one_more_long before [] = refl
-one_more_long before (w ∷ ws) = ap suc (one_more_long w ws)
+next_row_long : (before : ℕ) (ws : List ℕ) → length (next_row before ws) ≡ length ws
+next_row_long before [] = refl
+next_row_long before (w ∷ ws) = ap suc (next_row_long w ws)
 
 length-choose_row : (n : ℕ) → length (choose_row n) ≡ 13
 length-choose_row zero = refl
-length-choose_row (suc n) = one_more_long 0 _ ∙ length-choose_row n
+length-choose_row (suc n) = next_row_long 0 _ ∙ length-choose_row n
 
 -- each is a sum of two
 one_more_at : (before : ℕ) (ws : List ℕ) (k : ℕ) → suc k < length ws →
-    get_or (one_more before ws) (suc k) 0 ≡ get_or ws k 0 + get_or ws (suc k) 0
+    get_or (next_row before ws) (suc k) 0 ≡ get_or ws k 0 + get_or ws (suc k) 0
 one_more_at before [] k inside = refl
 one_more_at before (w ∷ []) k inside = omega arith
 one_more_at before (w ∷ v ∷ ws) zero inside = refl
@@ -373,9 +373,9 @@ one_more_at before (w ∷ v ∷ ws) (suc k) inside = one_more_at w (v ∷ ws) k 
 none_at : (k : ℕ) → get_or (choose_row zero) (suc k) 0 ≡ 0
 none_at k = grind arith
 
-one_more_first : (before : ℕ) (ws : List ℕ) → 1 ≤ length ws → get_or (one_more before ws) 0 0 ≡ before + get_or ws 0 0
-one_more_first before [] some = omega arith
-one_more_first before (w ∷ ws) some = refl
+next_row_first : (before : ℕ) (ws : List ℕ) → 1 ≤ length ws → get_or (next_row before ws) 0 0 ≡ before + get_or ws 0 0
+next_row_first before [] some = omega arith
+next_row_first before (w ∷ ws) some = refl
 
 -- cell k has the ways to choose k of n
 choose_row_is : (n k : ℕ) → k < 13 → get_or (choose_row n) k 0 ≡ choose n k
@@ -384,7 +384,7 @@ choose_row_is zero zero few = refl
 choose_row_is zero (suc k) few = none_at k
 choose_row_is (suc n) zero few =
     let some : 1 ≤ length (choose_row n) = omega (arith, length-choose_row n) in
-    omega (arith, one_more_first, choose_row_is n zero few)
+    omega (arith, next_row_first, choose_row_is n zero few)
 choose_row_is (suc n) (suc k) few =
     let inside : suc k < length (choose_row n) = omega (arith, length-choose_row n, few) in
     omega (arith, one_more_at, choose_row_is n k (omega (arith, few)), choose_row_is n (suc k) few)
@@ -454,8 +454,8 @@ stored_is_won word a states within few some = states a within few refl some
 -- ---- the steps on them
 
 -- words that are all empty are true
-pub begins : (n : ℕ) → AreTrueWords (replicate n 0)
-begins n i = grind (arith, cases_lt, get_or-replicate, states_nothing, get_or_past, length-replicate)
+pub zeros_are_true : (n : ℕ) → AreTrueWords (replicate n 0)
+zeros_are_true n i = grind (arith, cases_lt, get_or-replicate, states_nothing, get_or_past, length-replicate)
 
 -- a new seat may write into each word what is true
 pub writes : (slots i word : ℕ) → StoresWon i word →
@@ -481,8 +481,8 @@ pub record IsMost (a : HousesState) (marks most : ℕ) : Type 0 where
   pub all : (i : ℕ) → Contains (legal_houses (storeless a)) i → cell marks (i - 1) ≡ 0 → won_by_step (houses_step a i) ≤ most
 
 -- 0, while all houses with seeds are marked
-pub most_of_none : {a : HousesState} {marks : ℕ} → ((i : ℕ) → (0 < cell marks i) ↔ (0 < get_or a.own i 0)) → IsMost a marks 0
-most_of_none {a} marked = record {
+pub most_at_start : {a : HousesState} {marks : ℕ} → ((i : ℕ) → (0 < cell marks i) ↔ (0 < get_or a.own i 0)) → IsMost a marks 0
+most_at_start {a} marked = record {
   reached = omega arith;
   all = λ i has gone. absurd (let some = (marked _).1 (legal_holds (storeless a) i has).some in omega arith);
 }
@@ -503,10 +503,10 @@ pub most_all : (a : HousesState) (marks most : ℕ) → IsWithinHouses a → IsM
 most_all a marks most w is full = omega (arith, (won_of_houses w).few)
 
 -- once no house is marked, best play wins the most of those tried
-pub most_won : (a : HousesState) (marks most : ℕ) → IsWithinHouses a → is_over (storeless a) ≡ false → IsMost a marks most
+pub won_is_most : (a : HousesState) (marks most : ℕ) → IsWithinHouses a → is_over (storeless a) ≡ false → IsMost a marks most
     → marks ≡ 0
     → most ≡ won a
-most_won a marks most w going is none = grind (arith, won_reached, cell_none)
+won_is_most a marks most w going is none = grind (arith, won_reached, cell_none)
 
 -- ==== What a table keeps, over the list of its entries
 

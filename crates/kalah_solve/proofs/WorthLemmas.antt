@@ -1,6 +1,6 @@
 -- What positions, moves and steps are worth.
 use Rattle.kalah_rules.specs.declared.step.Step.TheVariants as board
-use Rattle.std.proofs.Common.{zero, suc, ◌≡◌, ℕ, ◌+◌, ◌<◌, ◌≤◌, inl, inr, List, [], ◌∷◌, length, get_or, arith, sym, ◌∙◌, refl, ap, IsTrue, ◌-◌, Bool, true, false, Contains, map, filter, find, unwrap_or, ℤ, if◌then◌else◌, pos, ◌≤ℤ◌, ◌<ℤ◌, sum, neg_ℤ, ◌||◌, ◌+ℤ◌, ◌-ℤ◌, fold, int_eq}
+use Rattle.std.proofs.Common.{zero, suc, ◌≡◌, ℕ, ◌+◌, ◌<◌, ◌≤◌, inl, inr, List, [], ◌∷◌, length, get_or, arith, sym, ◌∙◌, refl, ap, IsTrue, ◌-◌, Bool, true, false, Contains, map, filter, find, unwrap_or, ℤ, if◌then◌else◌, pos, ◌≤ℤ◌, ◌<ℤ◌, sum, neg_ℤ, ◌+ℤ◌, ◌-ℤ◌, fold, int_eq}
 use Rattle.std.specs.List.{range_with_len}
 use Rattle.std.proofs.lemmas.Bool.{cases_Bool, cases_lt, cond_both}
 use Rattle.std.proofs.lemmas.Int.{fold-int_max_reached, ints, fold-int_max_bounds}
@@ -11,7 +11,7 @@ use Rattle.kalah_solve.specs.Solver.Worth.{greatest, worth, best_house, value_by
 use Rattle.std.proofs.lemmas.Bool.Decides.{Decides-int_eq}
 use Rattle.kalah_rules.specs.Position.{Position, IsWithinLimits, is_over, final_margin, HasEqualSides, seeds_in_houses, swapped, swept, houses_in, storeless, HousesState, IsWithinHouses}
 use Rattle.kalah_rules.specs.Play.{legal_houses, step_of}
-use Rattle.kalah_rules.proofs.PlayLemmas.{all_range, legal_holds, holds_legal, sum-zeros, after_equal_sides, after_fewer, moves_left-swapped, with_more, after_with_more, is_with_more, legal_going}
+use Rattle.kalah_rules.proofs.PlayLemmas.{all_range, legal_holds, holds_legal, sum-zeros, after_equal_sides, after_fewer, moves_left-swapped, with_more, after_with_more, is_with_more}
 use Rattle.std.proofs.lemmas.List.Sums.{sum_by-le}
 use Rattle.kalah_rules.specs.Sowing.{after, is_again}
 use Rattle.kalah_rules.specs.Measure.{moves_left}
@@ -87,10 +87,10 @@ lowest_of t g a n h xs is has passes = grind (arith, find_lowest)
 -- ==== The greatest of some values, and the test whether two numbers are equal
 
 -- no value is above the greatest
-pub value_le : (f : ℕ → ℤ) (xs : List ℕ) (k : ℕ) → k < length xs → f (get_or xs k 0) ≤ℤ greatest (map f xs)
-value_le f [] k within = absurd (omega arith)
-value_le f (x ∷ xs) zero within = (fold-int_max_bounds (f x) (map f xs) _ refl).0
-value_le f (x ∷ xs) (suc k) within =
+pub greatest_is_most : (f : ℕ → ℤ) (xs : List ℕ) (k : ℕ) → k < length xs → f (get_or xs k 0) ≤ℤ greatest (map f xs)
+greatest_is_most f [] k within = absurd (omega arith)
+greatest_is_most f (x ∷ xs) zero within = (fold-int_max_bounds (f x) (map f xs) _ refl).0
+greatest_is_most f (x ∷ xs) (suc k) within =
     rw (get_or-map f xs k 0 _ (omega arith)) at ((fold-int_max_bounds (f x) (map f xs) _ refl).1 k (pos 0)
     (omega (arith, length-map xs f)))
 
@@ -130,25 +130,25 @@ value_same : (v w : Position → ℤ) (p : Position) (h : ℕ) → v (after p h)
 value_same v w p h again turn = cc
 
 -- one move more, if the game goes on
-pub worth_more : (n : ℕ) (p : Position) → is_over p ≡ false
+pub worth_within-going : (n : ℕ) (p : Position) → is_over p ≡ false
     → worth_within (suc n) p ≡ greatest (map (value_by (worth_within n) p) (legal_houses p))
 unfolding worth_within
-worth_more n p going = cc
+worth_within-going n p going = cc
 
 -- the final margin, if it does not
-pub worth_over : (n : ℕ) (p : Position) → is_over p ≡ true → worth_within n p ≡ final_margin p
+pub worth_within-over : (n : ℕ) (p : Position) → is_over p ≡ true → worth_within n p ≡ final_margin p
 unfolding worth_within
-worth_over zero p over = refl
-worth_over (suc n) p over = cc
+worth_within-over zero p over = refl
+worth_within-over (suc n) p over = cc
 
 -- two counts that are high enough give the same worth
 pub worth_same : (n k : ℕ) (p : Position) → HasEqualSides p → moves_left p ≤ n → moves_left p ≤ k
     → worth_within n p ≡ worth_within k p
-worth_same zero k p even n_high k_high = grind (arith, over_at_end, worth_over)
-worth_same (suc n) zero p even n_high k_high = grind (arith, over_at_end, worth_over)
+worth_same zero k p even n_high k_high = grind (arith, over_at_end, worth_within-over)
+worth_same (suc n) zero p even n_high k_high = grind (arith, over_at_end, worth_within-over)
 worth_same (suc n) (suc k) p even n_high k_high = elim (cases_Bool _) [
-  | inl over ↦ worth_over _ p over ∙ sym (worth_over _ p over)
-  | inr going ↦ worth_more n p going ∙ ap greatest (map_same _ (value_by (worth_within k) p)
+  | inl over ↦ worth_within-over _ p over ∙ sym (worth_within-over _ p over)
+  | inr going ↦ worth_within-going n p going ∙ ap greatest (map_same _ (value_by (worth_within k) p)
       _ (λ h is_legal.
       let fewer = after_fewer p h (legal_holds p h is_legal) even in
       let next_even = after_equal_sides p h in
@@ -156,10 +156,9 @@ worth_same (suc n) (suc k) p even n_high k_high = elim (cases_Bool _) [
       value_same (worth_within n) (worth_within k) p h
       (worth_same n k _ next_even (omega arith) (omega arith))
       (worth_same n k _ (omega arith) (omega arith) (omega arith))))
-      ∙ sym (worth_more k p going)
+      ∙ sym (worth_within-going k p going)
 ]
 
--- the law on the count
 pub worth_count : CountPlaysNoPart
 unfolding worth
 worth_count p n even high = worth_same _ _ _ even high (omega arith)
@@ -167,7 +166,7 @@ worth_count p n even high = worth_same _ _ _ even high (omega arith)
 -- the margin of a position that is over
 pub worth_of_over : (p : Position) → is_over p ≡ true → worth p ≡ final_margin p
 unfolding worth
-worth_of_over p over = worth_over _ _ over
+worth_of_over p over = worth_within-over _ _ over
 
 -- the margin of any other is the greatest value over the legal houses
 pub worth_of_going : (p : Position) → HasEqualSides p → is_over p ≡ false
@@ -175,7 +174,7 @@ pub worth_of_going : (p : Position) → HasEqualSides p → is_over p ≡ false
 unfolding worth
 worth_of_going p even going =
     worth_same (moves_left p) (suc (moves_left p)) p even (omega arith) (omega arith)
-    ∙ worth_more _ _ going
+    ∙ worth_within-going _ _ going
     ∙ ap greatest (map_same (value_by (worth_within (moves_left p)) p) (value_of_move p) (legal_houses p) (λ h is_legal.
     let fewer = after_fewer p h (legal_holds p h is_legal) even in
     let next_even = after_equal_sides p h in
@@ -195,12 +194,12 @@ abbrev step_by : Bool → Bool → Position → Step
 step_by b a q = if b then board.Over (swept q) else (if a then board.Again q else board.Turn (swapped q))
 
 -- what a step states: the game is over, and the houses are swept; the mover moves again; or the turn passes, and the sides are swapped
-abbrev pub StatesEnding : Bool → Bool → Position → Step → Type 0
-StatesEnding over again q (board.Over e) = (over ≡ true) × (e ≡ swept q)
-StatesEnding over again q (board.Again e) = (over ≡ false) × (again ≡ true) × (e ≡ q)
-StatesEnding over again q (board.Turn e) = (over ≡ false) × (again ≡ false) × (e ≡ swapped q)
+abbrev pub StatesStep : Bool → Bool → Position → Step → Type 0
+StatesStep over again q (board.Over e) = (over ≡ true) × (e ≡ swept q)
+StatesStep over again q (board.Again e) = (over ≡ false) × (again ≡ true) × (e ≡ q)
+StatesStep over again q (board.Turn e) = (over ≡ false) × (again ≡ false) × (e ≡ swapped q)
 
-pub step_states : (over again : Bool) (q : Position) (s : Step) → s ≡ step_by over again q → StatesEnding over again q s
+pub step_states : (over again : Bool) (q : Position) (s : Step) → s ≡ step_by over again q → StatesStep over again q s
 step_states true again q s is = rw is (refl, refl)
 step_states false true q s is = rw is (refl, refl, refl)
 step_states false false q s is = rw is (refl, refl, refl)
@@ -286,9 +285,8 @@ pub value_most : (p : Position) (h : ℕ) → HasEqualSides p → is_over p ≡ 
     → value_of_move p h ≤ℤ worth p
 value_most p h even going has =
     let at = get_or_default _ has.0 0 h has.1 ∙ has.2 in
-    rw (worth_of_going p even going) (rw at at (value_le (value_of_move p) _ has.0 has.1))
+    rw (worth_of_going p even going) (rw at at (greatest_is_most (value_of_move p) _ has.0 has.1))
 
--- the law on the worth in plain words
 pub worth_is_most : WorthIsMostOfMoves
 worth_is_most p even going = record {
   reached = (best_house p, (best_found _ even going).0, best_attains even going);
@@ -348,15 +346,15 @@ worth_zero p = refl
 worth_with_more : (n a b : ℕ) (p : Position) → worth_within n (with_more a b p) ≡ worth_within n p +ℤ (pos a -ℤ pos b)
 worth_with_more zero a b p = simp (worth_zero, final_with_more)
 worth_with_more (suc n) a b p = elim (cases_Bool _) [
-  | inl over ↦ worth_over (suc n) _ over ∙ final_with_more a b p
-      ∙ ap (λ z. z +ℤ (pos a -ℤ pos b)) (sym (worth_over _ p over))
+  | inl over ↦ worth_within-over (suc n) _ over ∙ final_with_more a b p
+      ∙ ap (λ z. z +ℤ (pos a -ℤ pos b)) (sym (worth_within-over _ p over))
   | inr going ↦
-      worth_more n _ going
+      worth_within-going n _ going
       ∙ greatest_shift _ (value_by (worth_within n) p) _ (legal_houses p)
       (legal_some p going)
       (λ h. value_with_more (worth_within n) (worth_within n) a b p h (worth_with_more n a b _)
       (worth_with_more n b a _))
-      ∙ ap (λ z. z +ℤ (pos a -ℤ pos b)) (sym (worth_more n p going))
+      ∙ ap (λ z. z +ℤ (pos a -ℤ pos b)) (sym (worth_within-going n p going))
 ]
 
 -- the worth is shifted by what was added
@@ -368,7 +366,6 @@ worth_shift a b p = worth_with_more _ a b p
 pub worth_of_houses : (p : Position) → worth p ≡ houses_worth (houses_in p) +ℤ (pos p.own_store -ℤ pos p.other_store)
 worth_of_houses p = ap worth (is_with_more p) ∙ worth_shift _ p.other_store _
 
--- the law on stores and worth
 pub worth_by_stores : (p : Position) → worth p ≡ pos p.own_store -ℤ pos p.other_store +ℤ houses_worth (houses_in p)
 worth_by_stores p = omega (arith, ints, worth_of_houses p)
 

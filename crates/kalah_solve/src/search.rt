@@ -1,5 +1,5 @@
-//! The search. It closes in on what houses are worth by tests whether the mover wins at least a number of seeds. Margins are used at
-//! the root and among the entries; the tests count seeds that the mover wins.
+//! The search: alpha-beta, fail-soft. It closes in on what houses are worth by null windows, which test whether the mover wins at least
+//! a number of seeds. Margins are used at the root and among the entries.
 ghost use Rattle.std.specs.Prelude.{◌≡◌, ◌↔◌, ℕ, ◌+◌, ◌-◌, ◌≤◌, ◌<◌, false, IsTrue, max, min, IfOk, Contains, slice_index};
 ghost use Rattle.kalah_rules.specs.Position.{is_over, storeless, seeds_in_houses};
 ghost use Rattle.kalah_rules.specs.Play.{legal_houses};

@@ -4,7 +4,7 @@ ghost use Rattle.kalah_rules.specs.Position.{is_over, storeless, IsWithinHouses}
 ghost use Rattle.kalah_solve.specs.Solver.Worth.{best_house, houses_worth};
 ghost use Rattle.kalah_solve.specs.Table.Entries.{most_entries, empty_table};
 ghost use Rattle.kalah_solve.specs.Bounds.Won.{won};
-ghost use Rattle.kalah_solve.specs.Solver.Verdict.{verdict_of, TellsBestPlay, IsSmallVerdict};
+ghost use Rattle.kalah_solve.specs.Solver.Verdict.{verdict_of, StatesBestPlay, IsSmallVerdict};
 
 pub(crate) mod laws;
 pub(crate) mod move_values;
@@ -60,11 +60,11 @@ impl<A: Allocator + Clone> Solver<A> {
     /// Returns what the position is worth to the player to move. That is the final margin of a game that is over, otherwise the margin
     /// of best play with the lowest-numbered best house. What the table learns on the way is kept for later positions. If there is no
     /// memory for an entry, it is left out.
-    // In line, as a worker calls it once a line.
+    // Inlined, since each line needs one call.
     #[inline(always)]
     pub fn solve(&mut self, board: &Board) -> Verdict
         ensures verdict { result ≡ verdict_of board.now }
-        ensures best_play { TellsBestPlay board.now result }
+        ensures best_play { StatesBestPlay board.now result }
         ensures small { IsSmallVerdict result }
     {
         if board.is_over() {

@@ -1,4 +1,4 @@
-//! A bounded table of what is known of houses.
+//! The transposition table: what is known of houses.
 ghost use Rattle.std.specs.Prelude.{◌≡◌, ◌≤◌, ◌⊎◌, length, min, nat_eq, IfOk, IfSome, IsSome, Some, false};
 ghost use Rattle.std.specs.Map.{lookup};
 ghost use Rattle.kalah_rules.specs.Key.{key_of, variant_of};
@@ -34,7 +34,7 @@ pub fn limit_of_tables()
 /// The most slots that a table has until all are laid out: they are made at once, and stay near the processor.
 const FIRST_SLOTS: u32 = 8_192;
 
-/// What is known of houses: entries, slots and endings. Contracts see the entries: intervals that hold the worth of houses, by their
+/// A transposition table, of entries, slots and endings. Contracts see the entries: intervals that hold the worth of houses, by their
 /// keys. If the table is full, a new entry replaces the least recently used one.
 #[derive(Drop)]
 pub struct Table<A: Allocator + Clone = Global> {

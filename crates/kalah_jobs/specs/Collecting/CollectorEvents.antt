@@ -64,14 +64,14 @@ takes f (Offered o gave ∷ events) = takes f events
 takes f (Took g gave ∷ events) = with_taken f g gave (takes f events)
 
 -- line k of file f was offered with its entry
-abbrev pub Came : List (List Entry) → List Event → ℕ → ℕ → Type 0
-Came jobs events f k = IsSomeAnd (entry_at jobs f k) (λ e. Contains (offers events) (line_job f k e))
+abbrev pub HasArrived : List (List Entry) → List Event → ℕ → ℕ → Type 0
+HasArrived jobs events f k = IsSomeAnd (entry_at jobs f k) (λ e. Contains (offers events) (line_job f k e))
 
 -- n is the greatest number, at most the count of lines of file f, with all lines below it come
 pub record IsFront (jobs : List (List Entry)) (events : List Event) (f n : ℕ) : Type 0 where
   pub within : n ≤ length (entries_of jobs f)
-  pub below : (k : ℕ) → k < n → Came jobs events f k
-  pub greatest : (m : ℕ) → m ≤ length (entries_of jobs f) → ((k : ℕ) → k < m → Came jobs events f k) → m ≤ n
+  pub below : (k : ℕ) → k < n → HasArrived jobs events f k
+  pub greatest : (m : ℕ) → m ≤ length (entries_of jobs f) → ((k : ℕ) → k < m → HasArrived jobs events f k) → m ≤ n
 
 -- a line with its number and the answer of its entry
 abbrev pub answered_line : ℕ × Entry → Taken

@@ -2,8 +2,8 @@
 use Rattle.std.specs.Prelude.{◌≡◌, ℕ, ◌≤◌, ◌↔◌, List, [], ◌∷◌, take, IsSome}
 use Rattle.kalah_jobs.specs.declared.files.entry.Entry.{Entry}
 use Rattle.kalah_jobs.specs.Files.JobList.{entries_of}
-use Rattle.kalah_jobs.specs.Collecting.CollectorState.{ArrivalsState, state_of, new_files, front, came_for, HasLinesOf}
-use Rattle.kalah_jobs.specs.Collecting.CollectorEvents.{Event, Offered, Took, Offers, Takes, takes, Came, IsFront, answered_lines}
+use Rattle.kalah_jobs.specs.Collecting.CollectorState.{ArrivalsState, state_of, new_files, front, arrived_for, HasLinesOf}
+use Rattle.kalah_jobs.specs.Collecting.CollectorEvents.{Event, Offered, Took, Offers, Takes, takes, HasArrived, IsFront, answered_lines}
 
 -- the files after an event
 abbrev pub Happens : List (List Entry) → List ArrivalsState → Event → List ArrivalsState → Type 0
@@ -19,7 +19,7 @@ Runs jobs files (e ∷ events) after = (between : List ArrivalsState) × Happens
 -- as far as they came without a gap, and what was taken are its first lines, each with the answer of its entry.
 pub record Meets (jobs : List (List Entry)) (events : List Event) (files : List ArrivalsState) : Type 0 where
   pub counts : HasLinesOf jobs files
-  pub came : (f k : ℕ) → IsSome (came_for (state_of files f) k) ↔ Came jobs events f k
+  pub came : (f k : ℕ) → IsSome (arrived_for (state_of files f) k) ↔ HasArrived jobs events f k
   pub furthest : (f : ℕ) → IsFront jobs events f (front (state_of files f))
   pub taken : (f : ℕ) → takes f events ≡ take (state_of files f).taken (answered_lines (entries_of jobs f))
   pub taken_within : (f : ℕ) → (state_of files f).taken ≤ front (state_of files f)

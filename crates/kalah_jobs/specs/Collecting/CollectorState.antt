@@ -14,8 +14,8 @@ abbrev pub line_count : ArrivalsState → ℕ
 line_count s = length s.arrived
 
 -- the answer that came for line k, if one came
-abbrev pub came_for : ArrivalsState → ℕ → Option Answer
-came_for s k = slice_index_or s.arrived k None
+abbrev pub arrived_for : ArrivalsState → ℕ → Option Answer
+arrived_for s k = slice_index_or s.arrived k None
 
 -- the number of lines before the first that is missing
 abbrev pub front_of : List (Option Answer) → ℕ
@@ -63,7 +63,7 @@ with_one_taken s = record { arrived = s.arrived; taken = s.taken + 1 }
 pub record IsNext (s : ArrivalsState) (gave : Taken) : Type 0 where
   pub ready : s.taken < front s
   pub first : gave.line ≡ s.taken
-  pub came : came_for s gave.line ≡ Some gave.answer
+  pub came : arrived_for s gave.line ≡ Some gave.answer
 
 -- no line of the file is ready that was not taken
 abbrev pub HasNoNext : ArrivalsState → Type 0

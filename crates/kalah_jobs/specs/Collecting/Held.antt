@@ -5,7 +5,7 @@ use Rattle.kalah_jobs.specs.declared.writing.answer.Answer.{Answer}
 use Rattle.kalah_jobs.specs.Writing.Answer.{answer_of}
 use Rattle.kalah_jobs.specs.declared.files.job.Job.{Job}
 use Rattle.kalah_jobs.specs.Files.JobList.{entry_at, line_job}
-use Rattle.kalah_jobs.specs.Collecting.CollectorState.{ArrivalsState, state_of, came_for, front, HasLinesOf}
+use Rattle.kalah_jobs.specs.Collecting.CollectorState.{ArrivalsState, state_of, arrived_for, front, HasLinesOf}
 
 -- line k of file f is one of the jobs, the answer is that of its entry, and it was offered with that entry
 pub record IsOffered (jobs : List (List Entry)) (past : List Job) (f k : ℕ) (answer : Answer) : Type 0 where
@@ -18,8 +18,8 @@ pub record IsOffered (jobs : List (List Entry)) (past : List Job) (f k : ℕ) (a
 pub record HoldsOffered (jobs : List (List Entry)) (past : List Job) (files : List ArrivalsState) : Type 0 where
   pub counts : HasLinesOf jobs files
   pub came : (f k : ℕ) (e : Entry) → entry_at jobs f k ≡ Some e → Contains past (line_job f k e) →
-      came_for (state_of files f) k ≡ Some (answer_of e)
-  pub only : (f k : ℕ) (a : Answer) → came_for (state_of files f) k ≡ Some a → IsOffered jobs past f k a
+      arrived_for (state_of files f) k ≡ Some (answer_of e)
+  pub only : (f k : ℕ) (a : Answer) → arrived_for (state_of files f) k ≡ Some a → IsOffered jobs past f k a
 
 -- What was offered has come, and no more was taken than is ready.
 pub record Kept (jobs : List (List Entry)) (past : List Job) (files : List ArrivalsState) : Type 0 where

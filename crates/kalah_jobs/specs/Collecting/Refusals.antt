@@ -5,7 +5,7 @@ use Rattle.kalah_jobs.specs.declared.collecting.refusal.Refusal.{Refusal}
 use Rattle.kalah_jobs.specs.declared.collecting.refusal.Refusal.TheVariants.{NoSuchFile, FileEnded, NoSuchLine, WrongPosition, Double}
 use Rattle.kalah_jobs.specs.declared.files.job.Job.{Job}
 use Rattle.kalah_jobs.specs.Files.JobList.{entry_at}
-use Rattle.kalah_jobs.specs.Collecting.CollectorState.{ArrivalsState, state_of, line_count, came_for, HasEnded}
+use Rattle.kalah_jobs.specs.Collecting.CollectorState.{ArrivalsState, state_of, line_count, arrived_for, HasEnded}
 
 -- the offer is of a file that is there
 abbrev pub HasFile : List ArrivalsState → Job → Type 0
@@ -25,7 +25,7 @@ HasEntry jobs files o = HasLine files o × (entry_at jobs o.file o.line ≡ Some
 
 -- the offer has its line's entry, and is the first of it: none of the refusals holds
 abbrev pub IsWanted : List (List Entry) → List ArrivalsState → Job → Type 0
-IsWanted jobs files o = HasEntry jobs files o × (came_for (state_of files o.file) o.line ≡ None)
+IsWanted jobs files o = HasEntry jobs files o × (arrived_for (state_of files o.file) o.line ≡ None)
 
 -- the refusal holds, and none of those before it
 abbrev pub IsRefusedFor : List (List Entry) → List ArrivalsState → Job → Refusal → Type 0
@@ -33,7 +33,7 @@ IsRefusedFor jobs files o NoSuchFile = length files ≤ o.file
 IsRefusedFor jobs files o FileEnded = HasFile files o × HasEnded (state_of files o.file)
 IsRefusedFor jobs files o NoSuchLine = HasOpenFile files o × (line_count (state_of files o.file) ≤ o.line)
 IsRefusedFor jobs files o WrongPosition = HasLine files o × (entry_at jobs o.file o.line ≢ Some o.entry)
-IsRefusedFor jobs files o Double = HasEntry jobs files o × IsSome (came_for (state_of files o.file) o.line)
+IsRefusedFor jobs files o Double = HasEntry jobs files o × IsSome (arrived_for (state_of files o.file) o.line)
 
 -- An offer that is wanted meets no refusal, and no offer meets two: so each is answered in one way only.
 pub record AnswersInOneWay : Type 0 where

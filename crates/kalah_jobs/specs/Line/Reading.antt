@@ -27,30 +27,30 @@ number_at [] = None
 number_at (byte ∷ rest) = if is_ascii_digit byte then Some (number_from (byte - zero_digit) rest) else None
 
 -- what a side is read as: its houses, its store and the bytes after it
-abbrev pub Found : Type 0
-Found = List ℕ × ℕ × List ℕ
+abbrev pub SideRead : Type 0
+SideRead = List ℕ × ℕ × List ℕ
 
 -- the side of these houses whose store stands at the front of the bytes
-abbrev pub store_at : List ℕ → List ℕ → Option Found
+abbrev pub store_at : List ℕ → List ℕ → Option SideRead
 store_at houses bytes = do
   store ← number_at bytes
   Some (houses, store.0, store.1)
 
 -- what follows a house: the store after a slash, or more houses after a comma
-abbrev pub house_followed : (List ℕ → Option Found) → (List ℕ → Option Found) → List ℕ → Option Found
+abbrev pub house_followed : (List ℕ → Option SideRead) → (List ℕ → Option SideRead) → List ℕ → Option SideRead
 house_followed store more [] = None
 house_followed store more (mark ∷ rest) =
     if mark == slash then store rest else (if mark == comma then more rest else None)
 
 -- the side that begins with these houses and goes on, by at most `n` houses, at the front of the bytes
-abbrev pub side_from : ℕ → List ℕ → List ℕ → Option Found
+abbrev pub side_from : ℕ → List ℕ → List ℕ → Option SideRead
 side_from zero houses bytes = None
 side_from (suc n) houses bytes = do
   house ← number_at bytes
   house_followed (store_at (houses ++ house.0 ∷ [])) (side_from n (houses ++ house.0 ∷ [])) house.1
 
 -- the side at the front of the bytes
-unfoldable pub side_at : List ℕ → Option Found
+unfoldable pub side_at : List ℕ → Option SideRead
 side_at bytes = side_from (length bytes) [] bytes
 
 -- the rule that what stands after the second side names

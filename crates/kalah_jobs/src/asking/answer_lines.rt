@@ -34,7 +34,7 @@ fn answer_each<I: Read + Drop, O: Sink>(
         (O.state out.old).written (O.state out.new).written }
     ensures failed { (O.state out.new).has_failed ≡ true ↔ IsErrOf result AskFault.Write }
     ensures all_flushed { (O.state out.new).has_failed ≡ false → (O.state out.new).is_flushed ≡ true }
-    // After a read fault no byte is left to give, of the most that a `u64` counts.
+    // After a failed read the reader gives no further byte.
     ensures none_left { IsErrOf result AskFault.Read → input.new.budget ≡ 0 }
 {
     let mut line = LineHead::new();

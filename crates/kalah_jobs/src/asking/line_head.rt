@@ -6,24 +6,24 @@ use crate::limits::MOST_LINE_BYTES;
 use std::marker::Model;
 
 /// The number of bytes of a line that are kept: one more than the longest allowed line has with its CR.
-const ROOM: usize = MOST_LINE_BYTES + 2;
+const KEPT_BYTES: usize = MOST_LINE_BYTES + 2;
 
 /// The first bytes of a line: enough to determine its entry, however long it is. Contracts see it as these bytes.
 #[derive(Drop)]
 pub(crate) struct LineHead {
-    bytes: [u8; ROOM],
+    bytes: [u8; KEPT_BYTES],
     len: usize,
 }
 
 impl Model for LineHead {
     ghost use Rattle.std.specs.Prelude.{◌≡◌, ◌≤◌, ℕ, List, length, take};
-    ghost use Rattle.kalah_jobs.specs.declared.asking.line_head.TheConstants.{ROOM};
+    ghost use Rattle.kalah_jobs.specs.declared.asking.line_head.TheConstants.{KEPT_BYTES};
 
     ghost Value = { List ℕ };
 
     ghost view = { λ h. take h.len h.bytes };
 
-    ghost invariant = { λ h. (length h.bytes ≡ ROOM) × (h.len ≤ ROOM) };
+    ghost invariant = { λ h. (length h.bytes ≡ KEPT_BYTES) × (h.len ≤ KEPT_BYTES) };
 }
 
 impl LineHead {
@@ -32,7 +32,7 @@ impl LineHead {
         ensures { result ≡ [] }
     {
         LineHead {
-            bytes: [0; ROOM],
+            bytes: [0; KEPT_BYTES],
             len: 0,
         }
     }
@@ -41,7 +41,7 @@ impl LineHead {
     pub(crate) fn push(&mut self, byte: u8)
         ensures { self.new ≡ take kept_bytes (self.old ++ byte ∷ []) }
     {
-        if self.len < ROOM {
+        if self.len < KEPT_BYTES {
             self.bytes[self.len] = byte;
             self.len += 1;
         }

@@ -1,6 +1,6 @@
 //! The answers that have come for one file.
 ghost use Rattle.std.specs.Prelude.{◌≡◌, ◌+◌, ◌<◌, ◌≤◌, ◌↔◌, ◌==◌, IfOk, IsTrue, IsSome, MatchOption, MatchBool, None, length};
-ghost use Rattle.kalah_jobs.specs.Collecting.CollectorState.{new_file, line_count, front, front_of, came_for, with_answer, HasEnded, with_one_taken, IsNext, HasNoNext};
+ghost use Rattle.kalah_jobs.specs.Collecting.CollectorState.{new_file, line_count, front, front_of, arrived_for, with_answer, HasEnded, with_one_taken, IsNext, HasNoNext};
 ghost use Rattle.kalah_jobs.specs.Limits.{most_lines};
 
 use crate::writing::answer::{Answer, Taken};
@@ -10,7 +10,7 @@ use std::marker::Model;
 /// The answers that have come for the lines of a file.
 #[derive(Drop)]
 pub(crate) struct Arrivals {
-    slots: Vec<Option<Answer>>,
+    arrived: Vec<Option<Answer>>,
     ready: u32,
     taken: u32,
 }
@@ -22,9 +22,9 @@ impl Model for Arrivals {
 
     ghost Value = { ArrivalsState };
 
-    ghost view = { λ a. record { arrived = a.slots.items; taken = a.taken } };
+    ghost view = { λ a. record { arrived = a.arrived.items; taken = a.taken } };
 
-    ghost invariant = { λ a. (a.ready ≡ front_of a.slots.items) × (a.taken ≤ a.ready) × (length a.slots.items ≤ most_lines) };
+    ghost invariant = { λ a. (a.ready ≡ front_of a.arrived.items) × (a.taken ≤ a.ready) × (length a.arrived.items ≤ most_lines) };
 }
 
 impl Arrivals {
@@ -34,9 +34,9 @@ impl Arrivals {
         requires { lines ≤ most_lines }
         ensures { IfOk result (λ a. a ≡ new_file lines) }
     {
-        let slots = vec![in alloc; None; lines as usize]?;
+        let arrived = vec![in alloc; None; lines as usize]?;
         Ok(Arrivals {
-            slots,
+            arrived,
             ready: 0,
             taken: 0,
         })
@@ -46,42 +46,42 @@ impl Arrivals {
     pub(crate) fn ended(&self) -> bool
         ensures { IsTrue result ↔ HasEnded self.now }
     {
-        self.ready as usize == self.slots.len()
+        self.ready as usize == self.arrived.len()
     }
 
     // Returns whether every line was taken.
     pub(crate) fn all_taken(&self) -> bool
         ensures { result ≡ (self.now.taken == line_count self.now) }
     {
-        self.taken as usize == self.slots.len()
+        self.taken as usize == self.arrived.len()
     }
 
     // Returns whether there is a line of this number.
     pub(crate) fn has_line(&self, line: u32) -> bool
         ensures { IsTrue result ↔ line < line_count self.now }
     {
-        (line as usize) < self.slots.len()
+        (line as usize) < self.arrived.len()
     }
 
     // Returns whether the answer of a line has come.
-    pub(crate) fn has_come(&self, line: u32) -> bool
+    pub(crate) fn has_arrived(&self, line: u32) -> bool
         requires { line < line_count self.now }
-        ensures { MatchBool result (IsSome (came_for self.now line)) (came_for self.now line ≡ None) }
+        ensures { MatchBool result (IsSome (arrived_for self.now line)) (arrived_for self.now line ≡ None) }
     {
-        self.slots[line as usize].is_some()
+        self.arrived[line as usize].is_some()
     }
 
     // Stores the answer of a line, and returns how many lines became ready.
     pub(crate) fn accept(&mut self, line: u32, answer: Answer) -> u32
         requires within { line < line_count self.old }
-        requires first { came_for self.old line ≡ None }
+        requires first { arrived_for self.old line ≡ None }
         ensures kept { self.new ≡ with_answer self.old line answer }
         ensures more_ready { front self.new ≡ front self.old + result }
     {
-        self.slots[line as usize] = Some(answer);
+        self.arrived[line as usize] = Some(answer);
         let before = self.ready;
-        while (self.ready as usize) < self.slots.len()
-            && self.slots[self.ready as usize].is_some()
+        while (self.ready as usize) < self.arrived.len()
+            && self.arrived[self.ready as usize].is_some()
         {
             self.ready += 1;
         }
@@ -98,7 +98,7 @@ impl Arrivals {
             return None;
         }
         let line = self.taken;
-        match self.slots[line as usize] {
+        match self.arrived[line as usize] {
             None => unreachable!(),
             Some(answer) => {
                 self.taken += 1;

@@ -87,7 +87,7 @@ impl Collector {
         if !is_same_entry(jobs.entry(f, line), &outcome.entry()) {
             return Some(Refusal::WrongPosition);
         }
-        if file.has_come(line) {
+        if file.has_arrived(line) {
             return Some(Refusal::Double);
         }
         None

@@ -9,7 +9,7 @@ pub(crate) const LINE_FEED: u8 = b'\n';
 const BLOCK: usize = 255;
 
 // The bytes that are compared between two tests of the end.
-const STEP: usize = 8;
+const STRIDE: usize = 8;
 
 // Returns the index of the first line feed of `bytes[from..from + count]`, if there is one.
 #[inline(always)]
@@ -38,11 +38,11 @@ pub(crate) fn first_line(bytes: &[u8]) -> (&[u8], &[u8])
     ensures shorter { length result.1.now < length bytes.now }
 {
     let mut from = 0;
-    while bytes.len() - from >= STEP {
-        if let Some(feed) = feed_among(bytes, from, STEP) {
+    while bytes.len() - from >= STRIDE {
+        if let Some(feed) = feed_among(bytes, from, STRIDE) {
             return (&bytes[..feed], &bytes[feed + 1..]);
         }
-        from += STEP;
+        from += STRIDE;
     }
     match feed_among(bytes, from, bytes.len() - from) {
         Some(feed) => (&bytes[..feed], &bytes[feed + 1..]),

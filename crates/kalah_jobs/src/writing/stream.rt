@@ -68,7 +68,7 @@ impl<W> Stream<W> {
     /// Makes a stream with no failed call.
     pub fn new(writer: W) -> Stream<W>
         ensures writer { result.writer ≡ writer }
-        ensures fresh { result.has_failed ≡ false }
+        ensures not_failed { result.has_failed ≡ false }
         ensures flushed { result.is_flushed ≡ true }
     {
         Stream {

@@ -96,7 +96,7 @@ pub(super) fn seeds_at(row: u64, house: House) -> u64
 
 // Returns a row with `seeds` seeds in this house, and none elsewhere.
 #[inline(always)]
-#[tactic(auto, using(crate::proofs::KeyLemmas::pow_five, crate::proofs::KeyLemmas::moved_small))]
+#[tactic(auto, using(crate::proofs::KeyLemmas::pow_five, crate::proofs::KeyLemmas::moved_whole))]
 pub(super) fn row_with(house: House, seeds: u64) -> u64
     requires { seeds < 32 }
     ensures { result ≡ 32 ^ (house - 1) * seeds }

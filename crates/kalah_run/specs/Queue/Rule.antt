@@ -100,9 +100,9 @@ after_reclaiming_sent (Getting made got known) other = Getting made got (known +
 after_reclaiming_sent view other = view
 
 -- what was got, followed by what the queue holds, is all that is known
-abbrev pub Tells : QueueView → List Job → Type 0
-Tells (Getting made got known) items = (inside : List (ℕ × Job)) × (outcomes_in inside ≡ items) × Accounts made known (got ++ inside)
-Tells _ items = Unit {0}
+abbrev pub KnowsSent : QueueView → List Job → Type 0
+KnowsSent (Getting made got known) items = (inside : List (ℕ × Job)) × (outcomes_in inside ≡ items) × Accounts made known (got ++ inside)
+KnowsSent _ items = Unit {0}
 
 -- ==== The rule of the results queue, in plain words
 

@@ -40,7 +40,7 @@ impl<'a, E: Rule> Receiver<'a, E> {
     }
 
     /// If the output has failed and the rest is to be left, draws all jobs that are left, so that no worker can. Returns whether that is
-    /// so. From then on a worker sends one outcome at most, that of the job under way.
+    /// so. From then on a worker sends at most one outcome more, that of the job under way.
     #[inline(always)]
     pub(crate) fn leave_after(&mut self, has_failed: bool, desk: &Desk) -> bool
         requires { IfSome self.old.passes.rest_pass (IsPassAt desk.now) }

@@ -25,6 +25,6 @@ pub struct BatchRequest<'a> {
 pub enum Rest {
     /// They are solved, and the gate is called for each.
     Solve,
-    /// A worker begins at most one further job. Jobs under way are finished.
+    /// They are left. A worker sends at most one outcome more, that of the job under way.
     Leave,
 }

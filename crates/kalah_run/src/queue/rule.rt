@@ -72,9 +72,9 @@ impl protocol::Join<QueueView> for Reclaims {
 pub struct LeftInside;
 
 impl protocol::Lesson<Outcome, QueueView> for LeftInside {
-    ghost use Rattle.kalah_run.specs.Queue.Rule.{Tells};
+    ghost use Rattle.kalah_run.specs.Queue.Rule.{KnowsSent};
 
-    ghost fact = { Tells };
+    ghost fact = { KnowsSent };
 }
 
 pub(crate) type RuledQueue = RuledArrayQueue<Outcome, QueueView, WholeAndInOrder>;

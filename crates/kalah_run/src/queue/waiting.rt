@@ -20,7 +20,7 @@ use std::sync::atomic::Ordering::SeqCst;
 
 /// A pause that spins takes this many steps of its backoff; each step is twice as long as the one before. Each try reads what the
 /// other side changes, and so delays it: a full queue moves on faster if it isn't tried after each outcome.
-const STEPS: u32 = 6;
+const PAUSE_SPINS: u32 = 6;
 
 /// The threads that wait for the same event, such as room in a queue. They are woken sequentially: a wake-up wakes one, and none if
 /// one is under way. A thread that was woken, and got what it waited for, wakes the next. So room for
@@ -94,7 +94,7 @@ impl<'a> Waiting<'a> {
             self.was_announced = true;
             self.waiters.announced.store(1, SeqCst);
         } else {
-            for _ in 0..STEPS {
+            for _ in 0..PAUSE_SPINS {
                 self.backoff.snooze();
             }
         }

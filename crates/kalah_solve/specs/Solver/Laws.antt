@@ -5,7 +5,7 @@ use Rattle.kalah_rules.specs.Play.{legal_houses}
 use Rattle.kalah_rules.specs.Measure.{moves_left}
 use Rattle.kalah_solve.specs.Solver.Worth.{greatest, worth_within, worth, value_of_move, best_house, houses_worth}
 use Rattle.kalah_solve.specs.Solver.BestPlay.{Strategy, IsStrategy, follow, Game, Secures, HoldsTo, IsBestPlay, IsBestMove}
-use Rattle.kalah_solve.specs.Solver.Verdict.{TellsBestPlay}
+use Rattle.kalah_solve.specs.Solver.Verdict.{StatesBestPlay}
 use Rattle.kalah_solve.specs.declared.solver.Verdict.{Verdict}
 
 -- a game that is over is worth its final margin
@@ -107,4 +107,4 @@ BestMovesAttain = (p : Position) (h : ℕ) → HasEqualSides p → is_over p ≡
 
 -- only one verdict states best play
 abbrev pub BestVerdictIsOne : Type 0
-BestVerdictIsOne = (p : Position) (v w : Verdict) → HasEqualSides p → TellsBestPlay p v → TellsBestPlay p w → v ≡ w
+BestVerdictIsOne = (p : Position) (v w : Verdict) → HasEqualSides p → StatesBestPlay p v → StatesBestPlay p w → v ≡ w

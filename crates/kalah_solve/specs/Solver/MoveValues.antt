@@ -23,7 +23,7 @@ abbrev pub values_of : Position → List MoveValue
 values_of p = map (move_value p) (legal_houses p)
 
 -- the houses are the legal ones, in ascending order, each with what its move gets in best play
-pub record TellMoves (p : Position) (values : List MoveValue) : Type 0 where
+pub record StateValues (p : Position) (values : List MoveValue) : Type 0 where
   pub houses : map (λ v. v.house) values ≡ legal_houses p
   pub worth : All (λ v. IsWorthOfMove p v.house v.value) values
 

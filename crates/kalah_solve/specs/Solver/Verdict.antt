@@ -22,18 +22,18 @@ IsSmallVerdict (Best margin house) = IsSmallBest margin house
 IsSmallVerdict (Over margin) = IsSmallMargin margin
 
 -- the game goes on, and the house is the lowest-numbered best house, which secures the margin of best play
-pub record TellsBestMove (p : Position) (margin : ℤ) (house : ℕ) : Type 0 where
+pub record StatesBestMove (p : Position) (margin : ℤ) (house : ℕ) : Type 0 where
   pub going : is_over p ≡ false
   pub best : IsBestMove p house margin
   pub lowest : (h : ℕ) → IsBestMove p h margin → house ≤ h
 
 -- the game is over with the margin
-pub record TellsEnd (p : Position) (margin : ℤ) : Type 0 where
+pub record StatesEnd (p : Position) (margin : ℤ) : Type 0 where
   pub over : is_over p ≡ true
   pub final : margin ≡ final_margin p
   pub best_play : IsBestPlay p margin
 
 -- the verdict states the margin of best play and the lowest-numbered best house, or the margin of a game that is over
-abbrev pub TellsBestPlay : Position → Verdict → Type 0
-TellsBestPlay p (Best margin house) = TellsBestMove p margin house
-TellsBestPlay p (Over margin) = TellsEnd p margin
+abbrev pub StatesBestPlay : Position → Verdict → Type 0
+StatesBestPlay p (Best margin house) = StatesBestMove p margin house
+StatesBestPlay p (Over margin) = StatesEnd p margin

@@ -3,7 +3,7 @@ ghost use Rattle.std.specs.Prelude.{◌≡◌, Contains};
 ghost use Rattle.kalah_rules.specs.Position.{IsSmallMargin};
 ghost use Rattle.kalah_rules.specs.Play.{legal_houses};
 ghost use Rattle.kalah_solve.specs.Solver.Worth.{worth, value_of_move};
-ghost use Rattle.kalah_solve.specs.Solver.MoveValues.{move_value, values_of, TellMoves};
+ghost use Rattle.kalah_solve.specs.Solver.MoveValues.{move_value, values_of, StateValues};
 
 use super::Solver;
 use crate::solver::move_values::{MoveValue, MoveValues};
@@ -16,7 +16,7 @@ impl<A: Allocator + Clone> Solver<A> {
     /// there is no memory for an entry, it is left out.
     pub fn values(&mut self, board: &Board) -> MoveValues
         ensures values { result ≡ values_of board.now }
-        ensures best_play { TellMoves board.now result }
+        ensures best_play { StateValues board.now result }
     {
         let moves = board.legal();
         let mut values = MoveValues::none();

@@ -15,13 +15,13 @@ use std::marker::Model;
 const LEAST_SLOTS: u32 = 1024;
 
 // The factor of the tag in a slot: it begins at bit 10.
-const TAG: u64 = 1024;
+const TAG_UNIT: u64 = 1024;
 
 // The factor by which a key is mixed.
 const MIX: u64 = 0x9E37_79B9_7F4A_7C15;
 
 // The number of tags.
-const TAGS: u64 = 0x40_0000_0000_0000;
+const TAG_COUNT: u64 = 0x40_0000_0000_0000;
 
 // What is known of some houses that have this slot, as one number. From bit 10 on it has the tag of their key, and below that the most
 // and the least that the mover wins. Initially it holds what is known of all houses.
@@ -40,7 +40,7 @@ impl Slot {
         ensures most { stored_most result ≡ bounds.most }
     {
         Slot {
-            stored: TAG * tag + 32 * bounds.most as u64 + bounds.least as u64,
+            stored: TAG_UNIT * tag + 32 * bounds.most as u64 + bounds.least as u64,
         }
     }
 
@@ -51,8 +51,8 @@ impl Slot {
         ensures least { IfSome result (λ s. s.least ≡ stored_least self) }
         ensures most { IfSome result (λ s. s.most ≡ stored_most self) }
     {
-        let bounds = self.stored.wrapping_sub(TAG * tag);
-        if bounds >= TAG {
+        let bounds = self.stored.wrapping_sub(TAG_UNIT * tag);
+        if bounds >= TAG_UNIT {
             return None;
         }
         Some(SeedBounds {
@@ -105,7 +105,7 @@ fn tag_of(mixed: u64) -> u64
     ensures tag { result ≡ tag_of mixed }
     ensures small { result < 2 ^ 54 }
 {
-    mixed % TAGS
+    mixed % TAG_COUNT
 }
 
 impl<A: Allocator> DirectTable<A> {

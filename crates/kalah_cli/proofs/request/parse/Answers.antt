@@ -4,7 +4,7 @@ use Rattle.std.specs.Prelude.{option_and_then}
 use Rattle.std.proofs.lemmas.Result.{IfOk-weaker}
 use Rattle.clap.proofs.CallerLemmas.{some_of_text}
 use Rattle.clap.proofs.FaultLemmas.{failed_up, fails_by_memory}
-use Rattle.kalah_cli.specs.Request.{IsTakenAs, matches_ask, request_asks}
+use Rattle.kalah_cli.specs.Request.{IsAcceptedAs, matches_ask, request_asks}
 use Rattle.kalah_cli.proofs.RequestLemmas.{faulty, pair_got, parsed}
 use Rattle.kalah_cli.proofs.request.parse.Goals as goal
 
@@ -29,7 +29,7 @@ returns-clause-taken g c =
     let read = parsed _ words _ c.in_ok-command.ensures c.in_ok-matches.ensures.kinds
     (λ simple. (c.in_ok-matches.ensures.matches simple).1) in
     let same = pair_got _ _ _ _ _ _ c.unwrap.result c.subcommand.ensures.name c.subcommand.ensures.rows c.unwrap.ensures in
-    IfOk-weaker c.requested.result _ (λ r. IsTakenAs words (request_asks r))
+    IfOk-weaker c.requested.result _ (λ r. IsAcceptedAs words (request_asks r))
     (λ r asked. (read.none, ap (option_and_then matches_ask) (sym read.same ∙ same) ∙ asked)) c.requested.ensures.asked
 
 pub returns-clause-kinds : goal.returns-clause-kinds

@@ -14,8 +14,8 @@ number_or-requires c = record {
   default = (omega arith, omega arith);
 }
 
-pub given_byte-requires : goal.given_byte-requires
-given_byte-requires c = may_have_number (codes "first") 0 255 (rw c.in-play.is at c.requires) refl refl (omega arith) (omega arith)
+pub byte_given-requires : goal.byte_given-requires
+byte_given-requires c = may_have_number (codes "first") 0 255 (rw c.in-play.is at c.requires) refl refl (omega arith) (omega arith)
 
 pub number_given-requires : goal.number_given-requires
 number_given-requires c = may_have_number (codes "table") 1 most_entries (rw c.in-ask.is at c.requires) refl refl (omega arith)
@@ -27,12 +27,12 @@ number_or-requires-in-show c = record {
   default = (omega arith, omega arith);
 }
 
-pub given_byte-requires-in-count : goal.given_byte-requires-in-count
-given_byte-requires-in-count c = may_have_number (codes "depth") 0 255 (rw c.in-count.is at c.requires) refl refl (omega arith)
+pub byte_given-requires-in-count : goal.byte_given-requires-in-count
+byte_given-requires-in-count c = may_have_number (codes "depth") 0 255 (rw c.in-count.is at c.requires) refl refl (omega arith)
     (omega arith)
 
 pub unwrap-requires : goal.unwrap-requires
-unwrap-requires c = ap is_some c.given_byte-in-count.ensures
+unwrap-requires c = ap is_some c.byte_given-in-count.ensures
     ∙ ap (λ o. is_some (option_map number_written o)) ((given (codes "depth") (rw c.in-count.is at c.requires) refl refl).one refl)
 
 pub line_of-requires : goal.line_of-requires
@@ -53,7 +53,7 @@ returns-clause-range c = elim c.match-name.branch [
   | in-show w ↦ rw w.command-is w.number_or-in-show.ensures.range
   | in-count w ↦
       let depth : IfSome (Some w.unwrap.result) (λ n. (0 ≤ n) × (n ≤ most_depth)) =
-      subst (λ o. IfSome o (λ n. (0 ≤ n) × (n ≤ most_depth))) (sym w.given_byte-in-count.ensures ∙ w.unwrap.ensures)
+      subst (λ o. IfSome o (λ n. (0 ≤ n) × (n ≤ most_depth))) (sym w.byte_given-in-count.ensures ∙ w.unwrap.ensures)
       (in_range 0 most_depth (one_of (codes "depth") (rows_of (found_of c.args.found.now)))
       (may_have_number (codes "depth") 0 most_depth (rw w.in-count.is at c.requires) refl refl (omega arith) (omega arith))) in
       rw w.command-is depth.1

@@ -4,7 +4,7 @@ use Rattle.clap.specs.declared.error.kind.ErrorKind.TheVariants.{DisplayHelp, Di
 use Rattle.kalah_cli.specs.Ask.{StopsBetweenLines}
 use Rattle.kalah_cli.specs.Command.{kalah_app}
 use Rattle.kalah_cli.specs.Ends.{FailsWithoutOutput}
-use Rattle.kalah_cli.specs.Request.{Asked, AsksNot, IsTakenAs, ask, request_asks, texts_of}
+use Rattle.kalah_cli.specs.Request.{Asked, AsksNot, IsAcceptedAs, ask, request_asks, texts_of}
 use Rattle.kalah_cli.specs.Runs.{Does}
 use Rattle.kalah_cli.proofs.RunLemmas.{stops_at_once, by_words, no_request, run_ends, run_fails, run_flushes}
 use Rattle.kalah_cli.proofs.RequestLemmas.{taken_at, taken_once}
@@ -16,11 +16,11 @@ use Rattle.kalah_cli.proofs.run.run_words.Goals as goal
 -- ---- the arguments are accepted
 
 -- as the request
-request_taken : (g : Over) (c : After-drop-words g) → IsTakenAs (texts_of c.args.words.items) (request_asks c.in-Ok.request)
+request_taken : (g : Over) (c : After-drop-words g) → IsAcceptedAs (texts_of c.args.words.items) (request_asks c.in-Ok.request)
 request_taken g c = taken_at (ap texts_of (sym c.as_slice.ensures.value)) c.in-Ok.ensures.taken
 
 -- what they are taken as is done, since they are taken as nothing else
-does : (g : Over) (c : After-drop-words g) (a : Asked) → IsTakenAs (texts_of c.args.words.items) a
+does : (g : Over) (c : After-drop-words g) (a : Asked) → IsAcceptedAs (texts_of c.args.words.items) a
     → Does g.O.Sink.state c.args.out.now c.run_request-ended.new.out c.report_end.result (g.R.Sources.may_give c.args.rt.now) a
 does g c a taken =
     subst (Does g.O.Sink.state c.args.out.now c.run_request-ended.new.out c.report_end.result (g.R.Sources.may_give c.args.rt.now))
@@ -80,7 +80,7 @@ without_output g c help version = rw c.report_end-in-Err.ensures (c.refuse-ended
     (no_request DisplayVersion (texts_of c.args.words.items) c.in-Err.error (λ e. cc) (has_kind g c) version))
 
 -- as arguments that are accepted are not
-failed : (g : Over) (c : After-drop-words-2 g) (a : Asked) → IsTakenAs (texts_of c.args.words.items) a
+failed : (g : Over) (c : After-drop-words-2 g) (a : Asked) → IsAcceptedAs (texts_of c.args.words.items) a
     → FailsWithoutOutput c.args.out.now c.refuse-ended.new.out c.report_end-in-Err.result
 failed g c a taken = without_output g c (subst (IsAmong DisplayHelp) taken.0) (subst (IsAmong DisplayVersion) taken.0)
 

@@ -10,7 +10,7 @@ pub returns-in_err-run-clause-answers : goal.returns-in_err-run-clause-answers
 returns-in_err-run-clause-answers g c =
     let jobs = c.in_ok-jobs.ensures in
     let fault : c.from_residual-in_err-run.result ≡ Err NoWorker = search rules in
-    let sound : (g.W.Sink.state c.run.new.out).has_failed ≡ false = grind (arith, c.in_err-run.ensures.untouched, c.requires.fresh) in
+    let sound : (g.W.Sink.state c.run.new.out).has_failed ≡ false = grind (arith, c.in_err-run.ensures.untouched, c.requires.not_failed) in
     rw fault (
       jobs.0,
       omega (arith, c.if-total-gt0.true, c.total.ensures.lines, as_many_jobs _ _ _ jobs.1),

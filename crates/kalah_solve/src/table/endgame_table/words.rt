@@ -10,7 +10,8 @@ use kalah_rules::{Houses, Rule};
 use std::alloc::{AllocError, Allocator};
 
 // The index of the first word of those variants of a rule that have m houses a side. A variant has an ending of up to 9 seeds for each way to
-// choose 2m of 2m + 9 things, and a word for each sixteen of them, rounded up. The last one is past all.
+// choose 2m of 2m + 9 things, and a word for each sixteen of them, rounded up. The last one is where they end; no
+// variant begins there.
 const FIRST_WORDS: [u32; 8] = [0, 0, 4, 49, 362, 1_882, 7_656, RULE_WORDS];
 
 // The number of words for all variants of a rule.
@@ -84,7 +85,7 @@ pub(super) fn with_stored(word: u64, at: u32, stored: u64) -> u64
 }
 
 // Makes this many words, with no ending known. Fails only if memory was refused.
-#[tactic(auto, using(crate::proofs::TableLemmas::begins))]
+#[tactic(auto, using(crate::proofs::TableLemmas::zeros_are_true))]
 pub(super) fn empty_words<A: Allocator + Clone>(
     alloc: A,
     count: usize,

@@ -4,14 +4,14 @@ use Rattle.std.specs.Prelude.{Some}
 use Rattle.std.proofs.KnownBytes.{Keeps-refl}
 use Rattle.kalah_jobs.specs.declared.files.job.Job.{Job}
 use Rattle.kalah_run.specs.Batch.Running.{MayHaveGot}
-use Rattle.kalah_run.proofs.BatchLemmas.{failed_still, got_after, got_by, has_collected, none_collected, one_collected, one_longer, rest_left}
+use Rattle.kalah_run.proofs.BatchLemmas.{failed_still, got_after, got_by, has_collected, collected_at_start, one_collected, one_longer, rest_left}
 use Rattle.kalah_run.proofs.batch.running.collect.Given as given
 use Rattle.kalah_run.proofs.batch.running.collect.Goals as goal
 use Rattle.kalah_run.proofs.batch.running.collect.Goals.{in-Some, in-None+in-Some-flush_and_get, else-loop-test, then-loop-test+in-None+in-None-flush_and_get}
 
 pub loop-init : goal.loop-init
 loop-init g c = record {
-  collected = none_collected c.requires.first c.requires.own c.requires.new c.write.ensures.writes;
+  collected = collected_at_start c.requires.first c.requires.own c.requires.new c.write.ensures.writes;
   all = ap (λ (l : List (ℕ × Job)). length l) c.requires.first;
   few_tries = omega arith;
 }

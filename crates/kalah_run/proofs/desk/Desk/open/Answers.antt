@@ -1,12 +1,12 @@
 use Rattle.std.proofs.Common.{◌∙◌, ◌+◌, List, [], rules, ap, arith, subst, sym}
-use Rattle.kalah_run.proofs.DeskLemmas.{begins, hands_out, one_pass_more}
+use Rattle.kalah_run.proofs.DeskLemmas.{opening_is_lawful, hands_out, draw_pass_more}
 use Rattle.kalah_run.specs.Desk.Rule.{after_handing_out, pass_handed_out}
 use Rattle.kalah_run.specs.Desk.States.{DeskState, PassState, AreNewPasses, number_in, row_in, total_in}
 use Rattle.kalah_run.specs.declared.desk.rule.DeskView.TheVariants.{Opening}
 use Rattle.kalah_run.proofs.desk.Desk.open.Goals as goal
 
 pub of_words-requires : goal.of_words-requires
-of_words-requires c = begins _ (search rules) (search rules)
+of_words-requires c = opening_is_lawful _ (search rules) (search rules)
 
 pub split_seat-seat-requires : goal.split_seat-seat-requires
 split_seat-seat-requires c = (search rules, search rules, hands_out _ _ _ _ _ _ (ap (λ m. m.0) c.loop.invariant.opener) (omega arith))
@@ -28,7 +28,7 @@ loop-preserved c =
           ∙ ap (λ n. (Opening c.in_ok-table.table.shared.key.total (c.loop.counter + 1) n, [])) (omega arith);
       room = search rules;
       handed_out = subst (λ (l : List PassState). AreNewPasses desk (c.loop.counter + 1) l) (sym c.push_reserved.ensures.items)
-          (one_pass_more desk _ _ _ so_far.handed_out (λ i. let v = (me i).0 in record {
+          (draw_pass_more desk _ _ _ so_far.handed_out (λ i. let v = (me i).0 in record {
             desk = id i;
             total = total_in v;
             number = number_in v;

@@ -2,11 +2,11 @@ use Rattle.std.proofs.lemmas.Grind.{common_steps}
 use Rattle.std.proofs.Common.{rules, arith, ◌≡◌, [], ap, ◌∙◌}
 use Rattle.std.proofs.lemmas.List.Elements.{All-push}
 use Rattle.kalah_run.specs.Queue.Rule.{sent_in, after_making_one, one_made}
-use Rattle.kalah_run.proofs.QueueLemmas.{begins, forks, one_pass_more}
+use Rattle.kalah_run.proofs.QueueLemmas.{new_queue_is_lawful, forks, put_pass_more}
 use Rattle.kalah_run.proofs.queue.ResultsQueue.open.Goals as goal
 
 pub ruled-requires-clause-rule : goal.ruled-requires-clause-rule
-ruled-requires-clause-rule c = begins
+ruled-requires-clause-rule c = new_queue_is_lawful
 
 pub another-theirs-requires-clause-rule : goal.another-theirs-requires-clause-rule
 another-theirs-requires-clause-rule c = forks _ c.loop.invariant.made
@@ -19,7 +19,7 @@ loop-preserved c =
       made = views.0 ∙ ap after_making_one so_far.made;
       count = search rules;
       room = omega arith;
-      passes = rw c.push_reserved.ensures.items (one_pass_more _ 0 _ _ so_far.passes (search rules) (search rules));
+      passes = rw c.push_reserved.ensures.items (put_pass_more _ 0 _ _ so_far.passes (search rules) (search rules));
       unsent =
           rw c.push_reserved.ensures.items (All-push (λ p. p.sent ≡ []) _ _ so_far.unsent
           (ap sent_in (views.1 ∙ ap one_made so_far.made)));

@@ -3,7 +3,7 @@ use Rattle.std.proofs.lemmas.List.Sums.{sum_by-set}
 use Rattle.kalah_rules.specs.declared.step.HousesStep.TheVariants.{Turn}
 use Rattle.kalah_solve.specs.Solver.GoingOn.{GoesOn}
 use Rattle.kalah_solve.specs.Search.{EndsInStore, WinsAtMost}
-use Rattle.kalah_solve.proofs.SearchLemmas.{cell_none, marks_fall, move_enough, turn_enough, turn_at_most, turn_of, turn_at, waits_there, reply_fits, bound_up_to, bound_left, low_more, played_none, played_more, played_bound, into_store_legal, seeded_is_legal, moves_fewer, last_legal, each_fewer, each_last, unmarked_none, unmarked_more, untried_first, untried_fewer, none_untried}
+use Rattle.kalah_solve.proofs.SearchLemmas.{cell_none, marks_fall, move_enough, turn_enough, turn_at_most, turn_of, turn_at, waits_there, reply_fits, bound_up_to, bound_left, low_more, played_at_start, played_more, played_bound, into_store_legal, seeded_is_legal, moves_fewer, last_legal, each_fewer, each_last, unmarked_at_start, unmarked_more, untried_at_start, untried_fewer, none_untried}
 use Rattle.kalah_solve.proofs.WorthLemmas.{goes_on, leads_by, step_falls}
 use Rattle.kalah_solve.proofs.BoundsLemmas.{won_of_houses}
 use Rattle.kalah_solve.proofs.search.Search.+search.Goals as goal
@@ -142,7 +142,7 @@ bound_into_store-loop-untried-init g t c =
         legal = λ i some. let both = (marks.marked i).0 some in into_store_legal _ marks.limits c.requires.going both.0 both.1;
       };
       ends = λ i some. ((marks.marked i).0 some).1;
-      tried = unmarked_none _ _ _ marks.marked;
+      tried = unmarked_at_start _ _ _ marks.marked;
     }
 
 pub bound_into_store-play_into_store-requires-clause-legal : goal.bound_into_store-play_into_store-requires-clause-legal
@@ -199,7 +199,7 @@ try_remaining-loop-untried-init g t c =
     record {
       low = λ enough. refl;
       may = record { are = marks.marks; legal = λ i some. seeded_is_legal _ marks.limits c.requires.going ((marks.marked i).0 some).0 };
-      played = played_none (search rules) (search rules) c.requires.none marks.marked;
+      played = played_at_start (search rules) (search rules) c.requires.none marks.marked;
     }
 
 pub try_remaining-try_move-requires : goal.try_remaining-try_move-requires
@@ -257,7 +257,7 @@ explore-loop-priority-init g t c =
     let others = c.try_remaining-remaining.ensures in
     let most_is : c.max-most.result ≡ max c.bound_into_store-into_store.result c.try_remaining-remaining.result =
     search (rules, c.max-most.ensures) in
-    let untried = untried_first _ (search rules) others
+    let untried = untried_at_start _ (search rules) others
     (c.bound_into_store-into_store.ensures.upper c.if-beta-into_store.false) c.if-beta-remaining.false most_is in
     record {
       low = omega arith;

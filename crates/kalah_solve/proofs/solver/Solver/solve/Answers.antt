@@ -1,8 +1,8 @@
 use Rattle.std.proofs.Common.{arith, rules, sym, ap, ◌∙◌, ◌≡◌, w32, SFits}
 use Rattle.std.proofs.lemmas.Int.{ints, to_z-of_z}
-use Rattle.kalah_rules.specs.Position.{HousesState, houses_in, storeless}
+use Rattle.kalah_rules.specs.Position.{HousesState, storeless}
 use Rattle.kalah_rules.proofs.PackedLemmas.{houses_within}
-use Rattle.kalah_solve.specs.Solver.Worth.{houses_worth, best_house}
+use Rattle.kalah_solve.specs.Solver.Worth.{best_house}
 use Rattle.kalah_solve.specs.declared.solver.Verdict.TheVariants.{Best, Over}
 use Rattle.kalah_solve.proofs.SolverLemmas.{verdict_by, verdict_of_over, small_best, told_margin, told_fits, told_small, told_worth, verdict_tells}
 use Rattle.kalah_solve.proofs.WorthLemmas.{best_of_houses, best_found, board_equal_sides}

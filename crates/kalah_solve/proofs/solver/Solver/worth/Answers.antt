@@ -1,10 +1,7 @@
-use Rattle.std.proofs.Common.{rules, sym, ap, ◌∙◌, ◌≡◌, w32, SFits, to_z-of_z}
-use Rattle.kalah_rules.specs.Position.{houses_in}
+use Rattle.std.proofs.Common.{rules, sym, ◌∙◌, w32, SFits, to_z-of_z}
 use Rattle.kalah_rules.proofs.PackedLemmas.{houses_within}
-use Rattle.kalah_solve.specs.Solver.Worth.{houses_worth}
 use Rattle.kalah_solve.proofs.SolverLemmas.{told_fits, told_small, told_worth}
 use Rattle.kalah_solve.proofs.WorthLemmas.{worth_of_over}
-use Rattle.kalah_solve.proofs.solver.Solver.worth.Given.{Over}
 use Rattle.kalah_solve.proofs.solver.Solver.worth.Goals as goal
 
 pub returns-then-is_over-clause-worth : goal.returns-then-is_over-clause-worth

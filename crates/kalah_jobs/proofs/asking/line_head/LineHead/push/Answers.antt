@@ -3,19 +3,19 @@ use Rattle.std.proofs.lemmas.List.{length-take-le, take_all, take-append-le, tak
 use Rattle.kalah_jobs.specs.Asking.{kept_bytes}
 use Rattle.kalah_jobs.proofs.asking.line_head.LineHead.push.Goals as goal
 
-pub returns-then-self-lt-ROOM : goal.returns-then-self-lt-ROOM
-returns-then-self-lt-ROOM c =
+pub returns-then-self-lt-KEPT_BYTES : goal.returns-then-self-lt-KEPT_BYTES
+returns-then-self-lt-KEPT_BYTES c =
     let head = take c.self.inside.len c.self.inside.bytes in
-    let short = c.if-self-lt-ROOM.true in
+    let short = c.if-self-lt-KEPT_BYTES.true in
     let kept = length-take-le c.self.inside.len c.self.inside.bytes (omega (arith, c.self.invariant)) in
     let size = length-append head (c.args.byte ∷ []) in
     take_more_set c.self.inside.bytes c.self.inside.len c.args.byte (omega (arith, c.self.invariant, short))
     ∙ sym (take_all kept_bytes (head ++ c.args.byte ∷ []) (omega (arith, size, kept, short)))
     ∙ ap (λ l. take kept_bytes (l ++ c.args.byte ∷ [])) c.self.view_is
 
-pub returns-else-self-lt-ROOM : goal.returns-else-self-lt-ROOM
-returns-else-self-lt-ROOM c =
-    let full = c.if-self-lt-ROOM.false in
+pub returns-else-self-lt-KEPT_BYTES : goal.returns-else-self-lt-KEPT_BYTES
+returns-else-self-lt-KEPT_BYTES c =
+    let full = c.if-self-lt-KEPT_BYTES.false in
     let kept = length-take-le c.self.inside.len c.self.inside.bytes (omega (arith, c.self.invariant)) in
     let size = ap length c.self.view_is in
     sym (take-append-le kept_bytes c.args.self.now (c.args.byte ∷ []) (omega (arith, size, kept, full))

@@ -5,11 +5,11 @@ use Rattle.kalah_jobs.proofs.collecting.arrivals.Arrivals.accept.Given as goal
 
 abbrev pub invariant-loop-self : goal.invariant-loop-self
 invariant-loop-self l = record {
-  slots : l.self-inside.slots.items ≡ set l.fn.self.arrived l.line (Some l.fn.answer);
+  arrived : l.self-inside.arrived.items ≡ set l.fn.self.arrived l.line (Some l.fn.answer);
   taken : l.self-inside.taken ≡ l.fn.self.taken;
   low : l.before ≤ l.self-inside.ready;
-  within : l.self-inside.ready ≤ front_of l.self-inside.slots.items;
+  within : l.self-inside.ready ≤ front_of l.self-inside.arrived.items;
 }
 
 abbrev pub decreases-loop-self : goal.decreases-loop-self
-decreases-loop-self l = length l.self-inside.slots.items - l.self-inside.ready
+decreases-loop-self l = length l.self-inside.arrived.items - l.self-inside.ready

@@ -6,7 +6,7 @@ use Rattle.kalah_run.specs.Desk.States.{drawn_rows}
 use Rattle.kalah_run.specs.Queue.States.{GetPassState, outcomes_in}
 use Rattle.kalah_run.specs.Batch.AtWork.{passes_of}
 use Rattle.kalah_run.specs.Batch.Leaving.{rest_of, HasDrawnNothing}
-use Rattle.kalah_run.proofs.BatchLemmas.{all_back, each_job_known, each_job_got, nothing_drawn, own_back, passes_fit, puts_back, unless_left}
+use Rattle.kalah_run.proofs.BatchLemmas.{passes_are_back, each_job_known, each_job_got, nothing_drawn, own_back, passes_fit, puts_back, unless_left}
 use Rattle.kalah_run.proofs.DeskLemmas.{deals_to_others}
 use Rattle.kalah_run.proofs.batch.open_batch.OpenBatch.run.Given.{Over}
 use Rattle.kalah_run.proofs.batch.open_batch.OpenBatch.run.Goals as goal
@@ -37,7 +37,7 @@ take_apart-requires-clause-puts_room g c =
     rw (c.in_ok-workers.workers.ok.0 ∙ c.in_ok-workers.ensures.ran.as_many) c.requires.ready.room.puts
 
 pub close-requires-clause-all : goal.close-requires-clause-all
-close-requires-clause-all g c = all_back c.in_ok-workers.ensures.ran _ _
+close-requires-clause-all g c = passes_are_back c.in_ok-workers.ensures.ran _ _
     (c.in_ok-workers.ensures.collected.draws.rest ∙ ap (λ p. rest_of p.rest_pass) c.new-receiver.ensures) c.take_apart.ensures.passes
     c.requires.ready.passes
 

@@ -2,7 +2,7 @@ use Rattle.std.proofs.Common.{arith, rules, ◌-◌, ◌^◌, sym, ◌∙◌}
 use Rattle.kalah_solve.proofs.BoundsLemmas.{won_of_houses}
 use Rattle.kalah_solve.proofs.WorthLemmas.{leads_by}
 use Rattle.kalah_solve.proofs.SearchLemmas.{marks_fall, seeded_is_legal, moves_fewer, last_legal}
-use Rattle.kalah_solve.proofs.TableLemmas.{most_of_none, most_more, most_all, most_won}
+use Rattle.kalah_solve.proofs.TableLemmas.{most_at_start, most_more, most_all, won_is_most}
 use Rattle.kalah_solve.proofs.table.endgame_table.EndgameTable.+exact.Goals as goal
 
 pub most_won-loop-untried-init : goal.most_won-loop-untried-init
@@ -11,7 +11,7 @@ most_won-loop-untried-init g t c =
     let marks = c.filled_houses-untried.ensures in
     record {
       may = record { are = marks.marks; legal = λ i some. seeded_is_legal _ marks.limits c.requires.going ((marks.marked i).0 some) };
-      is = most_of_none marks.marked;
+      is = most_at_start marks.marked;
     }
 
 pub most_won-move_wins-requires : goal.most_won-move_wins-requires
@@ -54,7 +54,7 @@ most_won-loop-untried-smaller g t c =
 
 pub most_won-returns : goal.most_won-returns
 most_won-returns g t c =
-    most_won c.args.houses.now c.loop-untried.untried c.loop-untried.most c.seeds-seeds.ensures.limits c.requires.going c.loop-untried.invariant.is
+    won_is_most c.args.houses.now c.loop-untried.untried c.loop-untried.most c.seeds-seeds.ensures.limits c.requires.going c.loop-untried.invariant.is
     (omega arith)
 
 pub move_wins-won-requires : goal.move_wins-won-requires
