@@ -1,8 +1,10 @@
 -- The ways to play on: stores do not influence them, and how they are summed up.
-use Rattle.std.proofs.Common.{zero, suc, ◌≡◌, ℕ, ◌+◌, ◌*◌, ◌<◌, ◌≤◌, List, [], ◌∷◌, length, arith, ap, ◌∙◌, refl, sym, add-one, ◌^◌, sum_by, Bool, true, false, ◌==◌, if◌then◌else◌, take, get_or}
-use Rattle.std.proofs.lemmas.List.Sums.{sum_by-cons, sum_by_more}
+use Rattle.std.proofs.Common.{zero, suc, ◌≡◌, ℕ, ◌+◌, ◌-◌, ◌*◌, ◌<◌, ◌≤◌, List, [], ◌∷◌, length, arith, ap, ◌∙◌, refl, sym, add-one, ◌++◌, lt-ltb, ◌^◌, append-nil, sum_by, Bool, true, false, filter, nat_lt, ◌==◌, if◌then◌else◌}
+use Rattle.std.specs.List.{range_with_len}
+use Rattle.std.proofs.lemmas.Bool.{le-ltb}
+use Rattle.std.proofs.lemmas.List.Sums.{sum_by_push}
 use Rattle.kalah_rules.specs.Sowing.{after, is_again}
-use Rattle.kalah_rules.specs.Position.{Position, side_length, is_over, houses_in, storeless, HousesState, swept}
+use Rattle.kalah_rules.specs.Position.{Position, seeds, side_length, is_over, houses_in, storeless, HousesState, swept}
 use Rattle.kalah_rules.specs.Play.{legal_houses, position_after, step_to}
 use Rattle.std.proofs.Math.Nat.{mul-le-mul_right, pow-succ', pow-le-pow_right}
 use mir.Val.{bool_byte}
@@ -11,7 +13,7 @@ use Rattle.kalah_rules.specs.HousesStep.{houses_step, houses_step_to}
 use Rattle.kalah_rules.specs.declared.step.HousesStep.{HousesStep}
 use Rattle.kalah_rules.specs.declared.step.HousesStep.TheVariants.{Over, Again, Turn}
 use Rattle.kalah_rules.specs.Ways.{ways, ways_by}
-use Rattle.kalah_rules.proofs.PlayLemmas.{sum-zeros, same_position, length-filter_range, with_more, after_with_more, is_with_more}
+use Rattle.kalah_rules.proofs.PlayLemmas.{sum-zeros, same_position, filter_range_more, length-filter_range, with_more, after_with_more, is_with_more}
 
 -- ---- by their definition
 pub ways_none : (p : Position) → ways 0 p ≡ 1
@@ -24,6 +26,10 @@ ways_suc n p = refl
 
 pub ways_more : (n : ℕ) (p : Position) → ways (n + 1) p ≡ sum_by (ways_by n p) (legal_houses p)
 ways_more n p = simp (add-one, ways_suc)
+
+-- a game that is over has no further way
+pub ways_over : (n : ℕ) (p : Position) → is_over p ≡ true → ways (n + 1) p ≡ 0
+ways_over n p over = ways_more n p ∙ rw over refl
 
 -- the same sum, of numbers that are the same
 sum_same : (f g : ℕ → ℕ) (xs : List ℕ) → ((x : ℕ) → f x ≡ g x) → sum_by f xs ≡ sum_by g xs
@@ -94,35 +100,73 @@ ways_by_of_houses n p h =
 pub legal_few : (p : Position) → length (legal_houses p) ≤ side_length p
 legal_few p = grind (arith, length-filter_range)
 
-sum_ones : (xs : List ℕ) → sum_by (λ x. 1) xs ≡ length xs
-sum_ones [] = refl
-sum_ones (x ∷ xs) = omega (arith, sum_by-cons, sum_ones xs)
+-- a last move is one way
+pub one_way : {depth : ℕ} (p : Position) (h : ℕ) → depth ≡ 1 → (1 ≡ ways_by (depth - 1) p h) × (1 ≤ most_houses ^ (depth - 1))
+one_way p h is = rw is (sym (ways_none _), omega arith)
 
--- with one move there are as many ways as legal moves
-pub ways_one : (p : Position) → ways 1 p ≡ length (legal_houses p)
-ways_one p = ways_suc zero p
-    ∙ sum_same _ _ (legal_houses p) (λ h. ways_none _)
-    ∙ sum_ones _
+-- ---- house by house
+-- the houses before house h that hold seeds
+abbrev pub seeded_before : List ℕ → ℕ → List ℕ
+seeded_before row h = filter (λ i. nat_lt 0 (seeds row i)) (range_with_len 1 (h - 1))
 
--- ---- move by move
--- the ways after the first i of some moves, for n moves more, at most 6 ^ n for each of them
-pub record AreWaysAfter (n : ℕ) (p : Position) (moves : List ℕ) (i total : ℕ) : Type 0 where
-  pub sum : total ≡ sum_by (ways_by n p) (take i moves)
-  pub small : total ≤ i * most_houses ^ n
+seeded_next : (row : List ℕ) (h : ℕ) → 1 ≤ h → seeded_before row (h + 1) ≡ filter (λ i. nat_lt 0 (seeds row i))
+    (range_with_len 1 (h - 1 + 1))
+seeded_next row h low = grind arith
 
--- one move adds the ways after it
-pub after_more : {n : ℕ} {p : Position} {moves : List ℕ} {i total : ℕ} (count h : ℕ) → AreWaysAfter n p moves i total → i < length moves →
-    h ≡ get_or moves i 0 → count ≡ ways_by n p h → count ≤ most_houses ^ n → AreWaysAfter n p moves (i + 1) (total + count)
-after_more {n} {p} {moves} {i} count h before inside at is few =
-    record { sum = grind (arith, sum_by_more (ways_by n p) moves i 0 inside); small = omega (arith, before.small) }
+pub seeded_more : (row : List ℕ) (h : ℕ) → 1 ≤ h → 0 < seeds row h
+    → seeded_before row (h + 1) ≡ seeded_before row h ++ h ∷ []
+seeded_more row h low some = seeded_next row h low
+    ∙ filter_range_more _ 1 (h - 1) h (omega arith)
+    ∙ rw (lt-ltb _ _ some) refl
+
+pub seeded_same : (row : List ℕ) (h : ℕ) → 1 ≤ h → seeds row h ≤ 0 → seeded_before row (h + 1) ≡ seeded_before row h
+seeded_same row h low none = seeded_next row h low
+    ∙ filter_range_more _ 1 (h - 1) h (omega arith)
+    ∙ rw (le-ltb _ _ none) (append-nil _)
+
+-- while the game goes on, all of them are the legal moves
+pub seeded_legal : (p : Position) (h : ℕ) → is_over p ≡ false → h ≡ side_length p + 1 → seeded_before p.own h ≡ legal_houses p
+seeded_legal p h going end = grind arith
+
+-- ---- one house more
+-- the ways after the moves of the houses before house h, for n moves more, at most 6 for each of these moves
+pub record AreWaysBefore (n : ℕ) (p : Position) (h : ℕ) (total : ℕ) : Type 0 where
+  pub sum : total ≡ sum_by (ways_by n p) (seeded_before p.own h)
+  pub small : total ≤ (h - 1) * most_houses ^ n
+
+-- a power of six more
+pub six_more : (n h : ℕ) → 1 ≤ h → (h + 1 - 1) * most_houses ^ n ≡ (h - 1) * most_houses ^ n + most_houses ^ n
+six_more n h low =
+    let suc_of : h + 1 - 1 ≡ suc (h - 1) = omega arith in
+    rw suc_of omega arith
+
+-- before the first house there are none
+pub before_none : (n : ℕ) (p : Position) → AreWaysBefore n p 1 0
+before_none n p = omega arith
+
+-- a house with seeds adds the ways after its move
+pub before_more : {n : ℕ} {p : Position} {h total : ℕ} (count : ℕ) → AreWaysBefore n p h total → 1 ≤ h → 0 < seeds p.own h →
+    count ≡ ways_by n p h → count ≤ most_houses ^ n → AreWaysBefore n p (h + 1) (total + count)
+before_more {n} {p} {h} count before low some is few = grind (arith, sum_by_push, seeded_more, six_more)
+
+-- an empty house adds none
+pub before_same : {n : ℕ} {p : Position} {h total : ℕ} → AreWaysBefore n p h total → 1 ≤ h → seeds p.own h ≤ 0
+    → AreWaysBefore n p (h + 1) total
+before_same {n} {p} {h} before low none = grind (arith, seeded_same)
+
+-- after the last house they are all ways
+pub before_all : {n : ℕ} {p : Position} {h total : ℕ} → AreWaysBefore n p h total → is_over p ≡ false
+    → h ≡ side_length p + 1 →
+    total ≡ ways (n + 1) p
+before_all {n} {p} {h} before going end = grind (arith, ways_more)
 
 -- a sum of at most six powers of six is at most the next one
-pub after_small : {n : ℕ} {p : Position} {moves : List ℕ} {i total : ℕ} → AreWaysAfter n p moves i total → i ≤ 6
-    → total ≤ most_houses ^ (n + 1)
-after_small {n} {i = i} before few =
-    let times = mul-le-mul_right (most_houses ^ n) few in
+pub before_small : {n : ℕ} {p : Position} {h total : ℕ} → AreWaysBefore n p h total → h ≤ 7 → total ≤ most_houses ^ (n + 1)
+before_small {n} {p} {h} before few =
+    let six : h - 1 ≤ 6 = omega arith in
+    let times = mul-le-mul_right (most_houses ^ n) six in
     let power : most_houses ^ (n + 1) ≡ 6 * most_houses ^ n = rw (add-one n) (pow-succ' 6 n) in
-    omega (arith, before.small)
+    omega arith
 
 -- for less than 20 moves that power fits into 64 bits
 pub power_fits : (n : ℕ) → n < most_depth → most_houses ^ (n + 1) ≤ 6 ^ 20

@@ -230,7 +230,6 @@ impl Houses {
     }
 
     /// Returns the mover's houses that may be moved, in ascending order: those that hold seeds, or none if the game is over.
-    #[inline(always)] // Where only their number is used, none is written down.
     pub fn legal(&self) -> Moves
         ensures moves { result ≡ legal_houses (storeless self.now) }
         ensures limits { IsWithinHouses self.now }

@@ -25,13 +25,19 @@ impl Houses {
         if depth == 0 {
             return 1;
         }
-        if depth == 1 {
-            return self.legal().len() as u64;
+        if self.is_over() {
+            return 0;
         }
-        let moves = self.legal();
         let mut sum = 0;
-        for i in 0..moves.len() {
-            sum += self.ways_by(sowings, moves.get(i), depth - 1);
+        for h in 1..self.m() + 1 {
+            if self.own(h) > 0 {
+                let count = if depth == 1 {
+                    1
+                } else {
+                    self.ways_by(sowings, h, depth - 1)
+                };
+                sum += count;
+            }
         }
         sum
     }

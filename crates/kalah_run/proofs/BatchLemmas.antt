@@ -815,16 +815,12 @@ module _ (question : Question) (files : List NamedBytes) (none : lines_in_all fi
   pub since_no_output : (begun : SinkState) → WasGivenSince begun begun (output_to question files)
   since_no_output begun = subst (WasGivenSince begun begun) (sym no_output) (since_none begun)
 
-  no_tally : tally_of files ≡ record { lines = 0; faults = 0 }
-  no_tally =
-      sym (counted_tally question files)
-      ∙ ap (λ (l : List Job). let c : Tally = record { lines = length l; faults = count_by is_faulty_job l } in c) no_jobs
-
   pub nothing_answered : {W : Type 0} (state : W → SinkState) (old new : W) (result : Result Tally RunFault)
       → AnswersBatch state (output_to question files) files old new result → AnswersNothing (state old).written (state new).written result
   nothing_answered state old new (Ok tally) is = record {
     unwritten = appends_none _ _ _ no_output is.written;
-    uncounted = is.counted ∙ no_tally;
+    uncounted = is.counted ∙ sym (counted_tally question files)
+        ∙ ap (λ (l : List Job). let c : Tally = record { lines = length l; faults = count_by is_faulty_job l } in c) no_jobs;
     fault = tt;
   }
   nothing_answered state old new (Err TooManyFiles) is = record { unwritten = left_same state is.1.0; uncounted = tt; fault = inl refl }

@@ -103,9 +103,6 @@ rows_within_passes [] = omega arith
 rows_within_passes (x ∷ xs) =
     omega (arith, rows_within_passes xs, rows_within_one x, sum_by-cons passes_in x xs, length-append (rows_in x) (all_rows xs))
 
-no_passes_no_rows : (views : List DeskView) → sum_by passes_in views ≡ 0 → all_rows views ≡ []
-no_passes_no_rows views no_pass = nil_from_length (all_rows views) (omega (arith, rows_within_passes views))
-
 -- a closing seat that took in all passes has all rows
 pub has_all : (views : List DeskView) (seat : ℕ) (rows : List DrawnRow) → get_elem? views seat ≡ some (Closing rows)
     → length rows ≡ sum_by passes_in views → all_rows views ≡ rows
@@ -113,7 +110,7 @@ has_all [] seat rows at whole = absurd (some-ne-none (Closing rows) (sym at))
 has_all (x ∷ xs) zero rows at whole =
     let is : x ≡ Closing rows = some-injective x (Closing rows) at in
     let part : passes_in x ≡ length rows = ap passes_in is in
-    let rest : all_rows xs ≡ [] = no_passes_no_rows xs (omega (arith, sum_by-cons passes_in x xs)) in
+    let rest : all_rows xs ≡ [] = nil_from_length (all_rows xs) (omega (arith, rows_within_passes xs, sum_by-cons passes_in x xs)) in
     ap (λ u. rows_in u ++ all_rows xs) is ∙ ap (λ l. rows ++ l) rest ∙ append-nil rows
 has_all (x ∷ xs) (suc seat) rows at whole =
     let mine : length rows ≤ sum_by passes_in xs = sum_at passes_in xs seat (Closing rows) at in

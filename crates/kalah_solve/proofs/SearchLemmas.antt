@@ -315,10 +315,7 @@ module _ (a : HousesState) (row : ℕ) (w : IsWithinHouses a) (row_is : row ≡ 
 
 -- ==== The moves that were tried, and those that wait with a priority
 
--- the meaning of a passed test, and of a failed one
-pub enough_of : (r : Bool) (beta x : ℕ) → (IsTrue r ↔ beta ≤ x) → r ≡ true → beta ≤ x
-enough_of r beta x says here = says.0 here
-
+-- the meaning of a failed test
 pub short_of : (r : Bool) (beta x : ℕ) → (IsTrue r ↔ beta ≤ x) → r ≡ false → x < beta
 short_of r beta x says fails = grind arith
 
@@ -357,7 +354,7 @@ module _ {a b : HousesState} {h priority bound seeds left : ℕ} (beta : ℕ) (w
   reply_few = (won_of_houses (turn_leads w turn).limits).few
 
   -- what the reply leaves is a bound of the turn
-  reply_left : IsSoftBound beta (won_by_step (houses_step a h)) (seeds - bound)
+  pub reply_left : IsSoftBound beta (won_by_step (houses_step a h)) (seeds - bound)
   reply_left = rw (turn.step, seeds_are) (bound_left _ _ _ (omega (arith, (turn_leads w turn).kept)) reply_few (rw (left_is, seeds_are) at is))
 
   -- the bound is at most all seeds
@@ -370,10 +367,6 @@ module _ {a b : HousesState} {h priority bound seeds left : ℕ} (beta : ℕ) (w
   -- what is left of them is no more than best play wins, if it is enough
   pub turn_enough : beta ≤ seeds - bound → seeds - bound ≤ won a
   turn_enough = move_enough _ _ _ _ w turn.legal reply_left
-
-  -- otherwise it is no less than the turn wins
-  pub turn_at_most : seeds - bound < beta → WinsAtMost a (seeds - bound) h
-  turn_at_most = reply_left.upper
 
 -- a legal house whose step is a turn, with a priority that names it, is a turn
 pub turn_of : {a : HousesState} {h priority gained : ℕ} {b : HousesState} → IsWithinHouses a

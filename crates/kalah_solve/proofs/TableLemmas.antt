@@ -310,10 +310,6 @@ choice_first i few =
     let one : suc (i / 10) ≡ 1 = omega arith in
     rw (total, one) (choose_one i)
 
--- those of no seeds
-pub choice_none : (i : ℕ) → i % 10 ≡ 0 → choice_at i ≡ 0
-choice_none i none = choose_none _ _ (omega arith)
-
 -- each other is the sum of two before it
 pub choice_next : (i : ℕ) → 10 ≤ i → i % 10 ≢ 0 → choice_at i ≡ choice_at (i - 10) + choice_at (i - 1)
 choice_next i past some =
@@ -520,10 +516,6 @@ found_holds es a k entries within key (Some i) h =
     let entry = entries _ at.1 in
     let same = same_key _ a entry.1 within (entry.2 ∙ sym (eqb-true _ _ at.2) ∙ key) in
     subst (λ b. Encloses i (houses_worth b)) same entry.3
-
--- a use changes only the order
-pub true_promoted : (es : List (ℕ × Interval)) (k : ℕ) → AreTrue es → AreTrue (promoted (nat_eq k) es)
-true_promoted es k entries = λ e h. entries e (Contains-promoted _ es e h)
 
 module _ (c : LruCache ℕ Interval) (a : HousesState) (k : ℕ) (i : Interval) (entries : AreTrue c.entries) (within : IsWithinHouses a)
     (key : k ≡ key_of a) (holds : Encloses i (houses_worth a)) where

@@ -5,8 +5,6 @@ use Rattle.kalah_rules.specs.Play.{legal_houses}
 use Rattle.kalah_rules.specs.HousesStep.{houses_step}
 use Rattle.kalah_rules.specs.declared.step.HousesStep.TheVariants.{Turn}
 use Rattle.kalah_solve.specs.Bounds.Won.{won, won_by_step}
-use Rattle.kalah_solve.specs.declared.search.TriedMove.{TriedMove}
-use Rattle.kalah_solve.specs.declared.search.TriedMove.TheVariants.{Bounded, Waits}
 
 -- a fail-soft bound of a number: from `beta` on the number is no less than the bound, and below `beta` no more
 pub record IsSoftBound (beta number bound : ℕ) : Type 0 where
@@ -26,11 +24,6 @@ pub record IsTurnOf (a : HousesState) (h priority : ℕ) (b : HousesState) : Typ
   pub legal : Contains (legal_houses (storeless a)) h
   pub step : houses_step a h ≡ Turn (seeds_in_houses (storeless a) - seeds_in_houses (storeless b)) b
   pub house : priority % 8 + 1 ≡ h
-
--- what is known of the move of house h once it was played: a bound of what it wins, or a priority with which its turn waits
-abbrev pub IsTriedMove : HousesState → ℕ → ℕ → TriedMove → Type 0
-IsTriedMove a beta h (Bounded bound) = IsSoftBound beta (won_by_step (houses_step a h)) bound
-IsTriedMove a beta h (Waits priority b) = (0 < priority) × IsTurnOf a h priority b
 
 -- each house with a priority waits with its turn, and of the others, but those that end in the store, none wins more than `most`,
 -- unless that is enough

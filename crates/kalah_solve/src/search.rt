@@ -9,8 +9,7 @@ ghost use Rattle.kalah_solve.specs.Solver.Worth.{houses_worth};
 ghost use Rattle.kalah_solve.specs.Solver.GoingOn.{GoesOn, GoesOnAt};
 ghost use Rattle.kalah_solve.specs.Bounds.Intervals.{clamped};
 ghost use Rattle.kalah_solve.specs.Bounds.Won.{won, won_by_step};
-ghost use Rattle.kalah_solve.specs.Search.{IsSoftBound, WinsAtMost, EndsInStore, IsTriedMove, AreWaiting};
-ghost use Rattle.kalah_solve.specs.Table.Entries.{most_entries, empty_table};
+ghost use Rattle.kalah_solve.specs.Search.{IsSoftBound, WinsAtMost, EndsInStore, AreWaiting};
 
 mod known;
 pub(crate) mod move_order;
@@ -26,7 +25,7 @@ use crate::search::move_order::{MoveOrder, Priorities, highest};
 use crate::search::node_counts::{EndingLimit, NodeCounts, SEEDS_THAT_ALWAYS_PAY};
 use crate::table::Table;
 use kalah_rules::{House, Houses, HousesStep};
-use std::alloc::{AllocError, Allocator, Global};
+use std::alloc::{Allocator, Global};
 
 /// What is known of houses with at most this many seeds is kept in their slot, and of others among the entries.
 const MOST_SLOTTED: u8 = 24;
@@ -58,7 +57,7 @@ macro_rules! in_its_variant {
 /// A search with its table. Its results depend on none of its limits.
 #[derive(Drop)]
 pub struct Search<A: Allocator + Clone = Global> {
-    table: Table<A>,
+    pub(crate) table: Table<A>,
     order: MoveOrder,
     // Houses with at most this many seeds are kept in slots.
     most_slotted: u8,
@@ -67,14 +66,6 @@ pub struct Search<A: Allocator + Clone = Global> {
     // Endings with at most this many seeds are looked up.
     ending_limit: EndingLimit,
     counts: NodeCounts,
-}
-
-// What is known of a move once it was played: a bound of what it wins, or that its turn waits to be searched. Then it has the priority
-// of the turn, and the houses from which the other player would move.
-#[derive(Clone, Copy)]
-enum TriedMove {
-    Bounded(u8),
-    Waits(u16, Houses),
 }
 
 impl<A: Allocator + Clone> Search<A> {
@@ -93,16 +84,6 @@ impl<A: Allocator + Clone> Search<A> {
         }
     }
 
-    /// Makes a search with an empty table of its own that shares with this one what is known of endings. Fails with `AllocError` only if
-    /// memory was refused.
-    pub fn sharing_endings(&self, alloc: A, capacity: u32) -> Result<Search<A>, AllocError>
-        requires low { 1 ≤ capacity }
-        requires high { capacity ≤ most_entries }
-        ensures { IfOk result (λ s. s.table ≡ empty_table capacity) }
-    {
-        Ok(Search::new(self.table.sharing_endings(alloc, capacity)?))
-    }
-
     /// Makes a search that keeps every answer among the entries of its table.
     #[cfg(test)]
     pub fn with_all_entries(table: Table<A>) -> Search<A> {
@@ -114,12 +95,6 @@ impl<A: Allocator + Clone> Search<A> {
             ending_limit: EndingLimit::none(),
             counts: NodeCounts::new(),
         }
-    }
-
-    /// Returns the entry of the houses.
-    #[cfg(test)]
-    pub fn entry(&mut self, houses: &Houses) -> Option<Interval> {
-        self.table.look_up(houses)
     }
 
     /// Returns how many nodes there were.
@@ -326,8 +301,8 @@ impl<A: Allocator + Clone> Search<A> {
         most
     }
 
-    // Plays each of the remaining moves once. Returns the most that they win, or a bound that is enough. The turns that wait are
-    // written down, each with its priority, which is 0 for all else.
+    // Plays each of the remaining moves once. Returns the most that they win, or a bound that is enough. The turns that must be searched
+    // wait: they are written down, each with its priority, which is 0 for all else.
     #[inline(always)]
     #[cycle(search)]
     fn try_remaining<const VARIANT: u8>(
@@ -347,42 +322,26 @@ impl<A: Allocator + Clone> Search<A> {
         while untried > 0 {
             let (house, rest) = split_last(untried);
             untried = rest;
-            match self.try_move::<VARIANT>(houses, house, beta) {
-                TriedMove::Waits(priority, next) => {
-                    let at = (priority % 8) as usize;
-                    priorities[at] = priority;
-                    turns[at] = next;
-                }
-                TriedMove::Bounded(bound) => {
-                    if beta <= bound {
-                        return bound;
+            let step = houses.play_by(&self.table.endings.sowings, house);
+            let bound = match step {
+                HousesStep::Turn(gained, next) => {
+                    if gained < beta && next.seeds() > self.ending_limit.seeds {
+                        let priority = self.order.priority(houses.m(), house, gained, &next);
+                        let at = (priority % 8) as usize;
+                        priorities[at] = priority;
+                        turns[at] = next;
+                        continue;
                     }
-                    most = most.max(bound);
+                    self.bound_turn::<VARIANT>(gained, next, beta)
                 }
+                _ => self.bound_step::<VARIANT>(step, beta),
+            };
+            if beta <= bound {
+                return bound;
             }
+            most = most.max(bound);
         }
         most
-    }
-
-    // Plays this house. It waits if it is a turn that must be searched.
-    #[inline(always)]
-    #[cycle(search)]
-    fn try_move<const VARIANT: u8>(&mut self, houses: &Houses, house: House, beta: u8) -> TriedMove
-        requires legal { Contains (legal_houses (storeless houses.now)) house }
-        requires variant { variant_of houses.now ≡ VARIANT }
-        ensures { IsTriedMove houses.now beta house result }
-    {
-        let step = houses.play_by(&self.table.endings.sowings, house);
-        match step {
-            HousesStep::Turn(gained, next) => {
-                if gained < beta && next.seeds() > self.ending_limit.seeds {
-                    let priority = self.order.priority(houses.m(), house, gained, &next);
-                    return TriedMove::Waits(priority, next);
-                }
-                TriedMove::Bounded(self.bound_turn::<VARIANT>(gained, next, beta))
-            }
-            _ => TriedMove::Bounded(self.bound_step::<VARIANT>(step, beta)),
-        }
     }
 
     // Returns a fail-soft bound of what a step wins.

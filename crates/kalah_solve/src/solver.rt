@@ -53,8 +53,8 @@ impl<A: Allocator + Clone> Solver<A> {
         requires high { capacity ≤ most_entries }
         ensures { IfOk result (λ s. s.search.table ≡ empty_table capacity) }
     {
-        let search = self.search.sharing_endings(alloc, capacity)?;
-        Ok(Solver { search })
+        let table = self.search.table.sharing_endings(alloc, capacity)?;
+        Ok(Solver::new(table))
     }
 
     /// Returns what the position is worth to the player to move. That is the final margin of a game that is over, otherwise the margin

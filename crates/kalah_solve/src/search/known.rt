@@ -68,17 +68,17 @@ impl<A: Allocator + Clone> Search<A> {
     // Counts one more node, lets the search grow if that is due, and returns how many of the variant there were before.
     pub(super) fn count_node(&mut self) -> u64 {
         let before = self.counts.nodes();
-        if !self.counts.try_count_node() {
+        if self.counts.count() {
             self.grow();
         }
         before
     }
 
-    // Counts a node, and uses more endings, and all slots.
+    // Uses more endings, and all slots.
     #[cold]
     #[inline(never)]
     fn grow(&mut self) {
-        self.counts.count_at_threshold();
+        self.counts.set_next_threshold();
         self.set_ending_limit();
         self.table.grow();
     }

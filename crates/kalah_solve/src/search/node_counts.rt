@@ -93,8 +93,8 @@ impl NodeCounts {
         self.nodes
     }
 
-    // Sets the number of nodes from which on more may pay.
-    fn set_next_threshold(&mut self) {
+    /// Sets the number of nodes from which on more may pay.
+    pub(super) fn set_next_threshold(&mut self) {
         self.next_threshold = if self.nodes < NODES_FOR_ALL_SLOTS {
             NODES_FOR_ALL_SLOTS
         } else if self.nodes < NODES_FOR_8_SEEDS {
@@ -106,20 +106,12 @@ impl NodeCounts {
         };
     }
 
-    /// Counts one more node, and returns true. If more endings or slots may pay by now, it counts none and returns false.
+    /// Counts one more node, and returns whether more endings or slots may pay by now.
     #[inline(always)]
-    pub(super) fn try_count_node(&mut self) -> bool {
-        if self.nodes >= self.next_threshold {
-            return false;
-        }
-        self.nodes += 1;
-        true
-    }
-
-    /// Counts the node that `try_count_node` did not count.
-    pub(super) fn count_at_threshold(&mut self) {
-        self.set_next_threshold();
-        self.nodes = self.nodes.saturating_add(1);
+    pub(super) fn count(&mut self) -> bool {
+        let before = self.nodes;
+        self.nodes = before.wrapping_add(1); // It never wraps: no search has that many nodes.
+        before >= self.next_threshold
     }
 
     /// Returns how many nodes of all variants there were.

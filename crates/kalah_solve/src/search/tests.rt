@@ -88,7 +88,7 @@ fn answers_after_few_nodes_get_no_entry(rt: HostRuntime) {
     assert!(rt; !houses.is_over());
     for _ in 0..2u8 {
         assert!(rt; search.search(&houses, Window::whole()) == 7);
-        assert!(rt; search.entry(&houses) == None);
+        assert!(rt; search.table.look_up(&houses) == None);
     }
 }
 

@@ -146,7 +146,7 @@ fn windows_leave_intervals(rt: HostRuntime) {
     ] {
         assert!(rt; search.search(&houses, window) == answer, "{lo} {hi}");
         assert!(rt;
-            search.entry(&houses) == Some(Interval { lo, hi }),
+            search.table.look_up(&houses) == Some(Interval { lo, hi }),
             "{lo} {hi}"
         );
     }

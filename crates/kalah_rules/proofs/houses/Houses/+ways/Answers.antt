@@ -1,59 +1,76 @@
-use Rattle.std.proofs.Common.{arith, ap, inl, inr, sym, ◌≡◌, ◌≤◌, ◌+◌, ◌-◌, ◌∙◌, ◌==◌, List, ℕ, Contains, length, sum_by, take_all}
-use Rattle.std.proofs.lemmas.List.Elements.{Contains-get_or}
-use Rattle.kalah_rules.specs.Position.{HousesState, IsWithinHouses, storeless}
-use Rattle.kalah_rules.specs.Play.{legal_houses}
+use Rattle.std.proofs.Common.{arith, inl, inr, sym, ◌≡◌, ◌+◌, ◌-◌, ◌∙◌, ◌==◌, ◌≤◌, ◌^◌}
+use Rattle.kalah_rules.specs.Position.{storeless}
+use Rattle.kalah_rules.specs.Lap.{HoldsSeeds}
+use Rattle.kalah_rules.specs.Limits.{most_houses}
 use Rattle.kalah_rules.specs.Ways.{ways_by}
-use Rattle.kalah_rules.proofs.PlayLemmas.{legal_holds}
-use Rattle.kalah_rules.proofs.WaysLemmas.{one_if, ways_none, ways_one, ways_more, ways_by_step, legal_few, after_more, after_small, power_fits}
+use Rattle.kalah_rules.proofs.PlayLemmas.{holds_legal, legal_holds}
+use Rattle.kalah_rules.proofs.WaysLemmas.{one_if, one_way, ways_none, ways_over, ways_by_step, before_none, before_more, before_same, before_all, before_small, power_fits}
 use Rattle.kalah_rules.proofs.houses.Houses.+ways.Goals as goal
-
--- there are at most six moves
-few_moves : {a : HousesState} {moves : List ℕ} → moves ≡ legal_houses (storeless a) → IsWithinHouses a → length moves ≤ 6
-few_moves {a} are limits = omega (arith, ap length are, legal_few (storeless a), limits.at_most_six)
+use Rattle.kalah_rules.proofs.houses.Houses.+ways.Goals.{ways-then-own-gt0, ways-else-own-gt0, ways-then-depth-eq1, ways-else-depth-eq1}
 
 pub ways-returns-then-depth-eq0-clause-ways : goal.ways-returns-then-depth-eq0-clause-ways
 ways-returns-then-depth-eq0-clause-ways t c =
     let none : c.args.depth ≡ 0 = omega arith in
     rw none (sym (ways_none (storeless c.args.self.now)))
 
-pub ways-returns-then-depth-eq1-clause-ways : goal.ways-returns-then-depth-eq1-clause-ways
-ways-returns-then-depth-eq1-clause-ways t c =
-    let one : c.args.depth ≡ 1 = omega arith in
-    rw one (c.len.ensures ∙ ap length c.legal.ensures.moves ∙ sym (ways_one (storeless c.args.self.now)))
+pub ways-returns-then-is_over-clause-ways : goal.ways-returns-then-is_over-clause-ways
+ways-returns-then-is_over-clause-ways t c =
+    let more : c.args.depth - 1 + 1 ≡ c.args.depth = omega arith in
+    sym (rw more at (ways_over (c.args.depth - 1) (storeless c.args.self.now) (sym c.is_over.ensures ∙ c.if-is_over.true)))
 
-pub ways-returns-then-depth-eq1-clause-small : goal.ways-returns-then-depth-eq1-clause-small
-ways-returns-then-depth-eq1-clause-small t c =
-    let one : c.args.depth ≡ 1 = omega arith in
-    rw one (omega (arith, few_moves c.legal.ensures.moves c.legal.ensures.limits))
+pub ways-loop-h-init : goal.ways-loop-h-init
+ways-loop-h-init t c = before_none (c.args.depth - 1) (storeless c.args.self.now)
 
-pub ways-ways_by-sum-requires : goal.ways-ways_by-sum-requires
-ways-ways_by-sum-requires t c =
-    let has : Contains (legal_houses (storeless c.args.self.now)) c.get.result = rw (c.get.ensures, c.legal-moves.ensures.moves)
-    (Contains-get_or _ c.loop-i.i 0 (omega (arith, ap length c.legal-moves.ensures.moves))) in
+pub ways-ways_by-count-requires : goal.ways-ways_by-count-requires
+ways-ways_by-count-requires t c =
+    let holds : HoldsSeeds (storeless c.args.self.now) c.loop-h.h = record {
+      first = omega arith;
+      last = omega arith;
+      some = omega arith;
+    } in
+    let has = holds_legal _ _ holds (sym c.is_over.ensures ∙ c.if-is_over.false) in
     (omega arith, (has, omega arith))
 
 pub ways-overflow_add-sum : goal.ways-overflow_add-sum
 ways-overflow_add-sum t c =
-    let more = after_more c.ways_by-sum.result c.get.result c.loop-i.invariant (omega arith) c.get.ensures c.ways_by-sum.ensures.ways
-    c.ways_by-sum.ensures.small in
-    let few = few_moves c.legal-moves.ensures.moves c.legal-moves.ensures.limits in
-    omega (arith, after_small more (omega arith), power_fits (c.args.depth - 1) (omega arith))
+    let n = c.args.depth - 1 in
+    let p = storeless c.args.self.now in
+    let counted : (c.if-depth-eq1.count ≡ ways_by n p c.loop-h.h) × (c.if-depth-eq1.count ≤ most_houses ^ n) =
+    elim c.if-depth-eq1.branch [
+      | ways-then-depth-eq1 w ↦ rw w.count-is (one_way p _ (omega (arith, w.if-depth-eq1.true)))
+      | ways-else-depth-eq1 w ↦ rw w.count-is (w.ways_by-count.ensures.ways, w.ways_by-count.ensures.small)
+    ] in
+    let small = before_small (before_more _ c.loop-h.invariant (omega arith) (omega arith) counted.0 counted.1) (omega arith) in
+    omega (arith, power_fits n (omega arith))
 
-pub ways-loop-i-preserved : goal.ways-loop-i-preserved
-ways-loop-i-preserved t c = after_more _ c.get.result c.loop-i.invariant (omega arith) c.get.ensures c.ways_by-sum.ensures.ways
-    c.ways_by-sum.ensures.small
+pub ways-loop-h-preserved : goal.ways-loop-h-preserved
+ways-loop-h-preserved t c =
+    let n = c.args.depth - 1 in
+    let p = storeless c.args.self.now in
+    elim c.if-own-gt0.branch [
+      | ways-then-own-gt0 w ↦
+          let counted : (w.if-depth-eq1.count ≡ ways_by n p c.loop-h.h) × (w.if-depth-eq1.count ≤ most_houses ^ n) =
+          elim w.if-depth-eq1.branch [
+            | ways-then-depth-eq1 v ↦ rw v.count-is (one_way p _ (omega (arith, v.if-depth-eq1.true)))
+            | ways-else-depth-eq1 v ↦ rw v.count-is (v.ways_by-count.ensures.ways, v.ways_by-count.ensures.small)
+          ] in
+          rw w.sum-is (before_more _ c.loop-h.invariant (omega arith) (omega arith) counted.0 counted.1)
+      | ways-else-own-gt0 w ↦
+          rw w.sum-is (before_same c.loop-h.invariant (omega arith)
+          (omega arith))
+    ]
 
 pub ways-returns-clause-ways : goal.ways-returns-clause-ways
 ways-returns-clause-ways t c =
     let more : c.args.depth - 1 + 1 ≡ c.args.depth = omega arith in
-    let all = take_all c.loop-i.i c.legal-moves.result (omega arith) ∙ c.legal-moves.ensures.moves in
-    rw (← more) (c.loop-i.invariant.sum ∙ ap (sum_by (ways_by (c.args.depth - 1) _)) all ∙ sym (ways_more (c.args.depth - 1) _))
+    rw more at (before_all c.loop-h.invariant
+    (sym c.is_over.ensures ∙ c.if-is_over.false) (omega arith))
 
 pub ways-returns-clause-small : goal.ways-returns-clause-small
 ways-returns-clause-small t c =
     let more : c.args.depth - 1 + 1 ≡ c.args.depth = omega arith in
-    let few = few_moves c.legal-moves.ensures.moves c.legal-moves.ensures.limits in
-    rw more at (after_small c.loop-i.invariant (omega arith))
+    rw more at (before_small c.loop-h.invariant
+    (omega arith))
 
 pub ways_by-new-requires-clause-first : goal.ways_by-new-requires-clause-first
 ways_by-new-requires-clause-first t c = (legal_holds (storeless c.args.self.now) c.args.h c.requires.legal).first

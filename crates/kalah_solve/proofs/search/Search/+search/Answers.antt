@@ -1,41 +1,15 @@
 use Rattle.std.proofs.Common.{arith, rules, refl, sym, ◌∙◌, ◌≡◌, ◌+◌, ◌-◌, ◌%◌, subst, length, max}
 use Rattle.std.proofs.lemmas.List.Sums.{sum_by-set}
+use Rattle.kalah_rules.specs.HousesStep.{houses_step}
 use Rattle.kalah_rules.specs.declared.step.HousesStep.TheVariants.{Turn}
 use Rattle.kalah_solve.specs.Solver.GoingOn.{GoesOn}
-use Rattle.kalah_solve.specs.Search.{EndsInStore, WinsAtMost}
-use Rattle.kalah_solve.proofs.SearchLemmas.{cell_none, marks_fall, move_enough, turn_enough, turn_at_most, turn_of, turn_at, waits_there, reply_fits, bound_up_to, bound_left, low_more, played_at_start, played_more, played_bound, into_store_legal, seeded_is_legal, moves_fewer, last_legal, each_fewer, each_last, unmarked_at_start, unmarked_more, untried_at_start, untried_fewer, none_untried}
+use Rattle.kalah_solve.specs.Bounds.Won.{won_by_step}
+use Rattle.kalah_solve.specs.Search.{EndsInStore, IsSoftBound, WinsAtMost}
+use Rattle.kalah_solve.proofs.SearchLemmas.{cell_none, marks_fall, move_enough, turn_enough, reply_left, turn_of, turn_at, waits_there, reply_fits, bound_up_to, bound_left, low_more, played_at_start, played_more, played_bound, into_store_legal, seeded_is_legal, moves_fewer, last_legal, each_fewer, each_last, unmarked_at_start, unmarked_more, untried_at_start, untried_fewer, none_untried}
 use Rattle.kalah_solve.proofs.WorthLemmas.{goes_on, leads_by, step_falls}
 use Rattle.kalah_solve.proofs.BoundsLemmas.{won_of_houses}
 use Rattle.kalah_solve.proofs.search.Search.+search.Goals as goal
-
-pub try_move-bound_step-requires : goal.try_move-bound_step-requires
-try_move-bound_step-requires g t c κs within =
-    let limits = c.play_by-step.ensures.limits in (
-      omega (arith, step_falls c.args.houses.now c.args.house c.play_by-step.result limits c.requires.legal c.play_by-step.ensures.step),
-      (
-        within,
-        (
-          search rules,
-          goes_on _ _ _ _ c.requires.variant limits c.requires.legal
-              c.play_by-step.ensures.step,
-        ),
-      ),
-    )
-
-pub try_move-bound_turn-requires : goal.try_move-bound_turn-requires
-try_move-bound_turn-requires g t c κs within =
-    let limits = c.play_by-step.ensures.limits in
-    let is = sym c.in-Turn.is ∙ c.play_by-step.ensures.step in (
-      omega (arith, step_falls c.args.houses.now c.args.house (Turn c.in-Turn.gained c.in-Turn.next) limits c.requires.legal is),
-      (
-        within,
-        (
-          search rules,
-          goes_on _ _ _ _ c.requires.variant limits
-              c.requires.legal is,
-        ),
-      ),
-    )
+use Rattle.kalah_solve.proofs.search.Search.+search.Goals.{try_remaining-in-Turn+else-gained-beta, try_remaining-in_default}
 
 pub bound_step-overflow_add-result : goal.bound_step-overflow_add-result
 bound_step-overflow_add-result g t c =
@@ -89,9 +63,9 @@ explore-loop-priority-preserved g t c =
     let before = c.loop-priority.invariant in
     let here = before.next c.loop-priority-test.true in
     let turn = waits_there here c.index-waiting-at.is in
-    let takes = turn_at_most c.args.beta c.seeds-seeds.ensures.limits turn c.seeds-seeds.ensures.seeds c.saturating_sub-reply_beta.ensures
-    c.bound_by_search.ensures c.if-beta-bound.false in
-    let untried = untried_fewer (c.loop-priority.priority % 8) _ before.untried here.place takes
+    let left = reply_left c.args.beta c.seeds-seeds.ensures.limits turn c.seeds-seeds.ensures.seeds c.saturating_sub-reply_beta.ensures
+    c.bound_by_search.ensures in
+    let untried = untried_fewer (c.loop-priority.priority % 8) _ before.untried here.place (left.upper c.if-beta-bound.false)
     c.max-most-in-loop-priority.ensures in
     record {
       low = omega arith;
@@ -116,21 +90,6 @@ explore-returns g t c =
           _ c.seeds-seeds.ensures.limits c.requires.going
           is.untried is.highest (omega arith);
     }
-
-pub try_move-priority-priority-requires-clause-few : goal.try_move-priority-priority-requires-clause-few
-try_move-priority-priority-requires-clause-few g t c =
-    let limits = c.play_by-step.ensures.limits in
-    let leads = leads_by _ _ limits c.requires.legal
-    (sym c.in-Turn.is ∙ c.play_by-step.ensures.step) in
-    omega arith
-
-pub try_move-returns-then-seeds-self : goal.try_move-returns-then-seeds-self
-try_move-returns-then-seeds-self g t c =
-    let priority = c.priority-priority in (
-      priority.ensures.some,
-      turn_of c.play_by-step.ensures.limits c.requires.legal
-          (sym c.in-Turn.is ∙ c.play_by-step.ensures.step) priority.ensures.house,
-    )
 
 pub bound_into_store-loop-untried-init : goal.bound_into_store-loop-untried-init
 bound_into_store-loop-untried-init g t c =
@@ -202,29 +161,81 @@ try_remaining-loop-untried-init g t c =
       played = played_at_start (search rules) (search rules) c.requires.none marks.marked;
     }
 
-pub try_remaining-try_move-requires : goal.try_remaining-try_move-requires
-try_remaining-try_move-requires g t c κs within =
-    (omega arith, (within, (search rules, (last_legal c.loop-untried.invariant.may c.split_last-house.ensures.last, c.requires.variant))))
+pub try_remaining-play_by-step-requires : goal.try_remaining-play_by-step-requires
+try_remaining-play_by-step-requires g t c = last_legal c.loop-untried.invariant.may c.split_last-house.ensures.last
+
+pub try_remaining-priority-priority-requires-clause-few : goal.try_remaining-priority-priority-requires-clause-few
+try_remaining-priority-priority-requires-clause-few g t c =
+    let leads = leads_by _ _ c.remaining_houses-untried.ensures.limits
+    (last_legal c.loop-untried.invariant.may c.split_last-house.ensures.last) (sym c.in-Turn.is ∙ c.play_by-step.ensures.step) in
+    omega arith
+
+pub try_remaining-bound_step-bound-requires : goal.try_remaining-bound_step-bound-requires
+try_remaining-bound_step-bound-requires g t c κs within =
+    let a = c.args.houses.now in
+    let h = c.split_last-house.result.0 in
+    let limits = c.remaining_houses-untried.ensures.limits in
+    let has = last_legal c.loop-untried.invariant.may c.split_last-house.ensures.last in (
+      omega (arith, step_falls a h c.play_by-step.result limits has c.play_by-step.ensures.step),
+      (within, (search rules, goes_on _ _ _ _ c.requires.variant limits has c.play_by-step.ensures.step)),
+    )
+
+pub try_remaining-bound_turn-bound-requires : goal.try_remaining-bound_turn-bound-requires
+try_remaining-bound_turn-bound-requires g t c κs within =
+    let a = c.args.houses.now in
+    let h = c.split_last-house.result.0 in
+    let limits = c.remaining_houses-untried.ensures.limits in
+    let has = last_legal c.loop-untried.invariant.may c.split_last-house.ensures.last in
+    let is = sym c.in-Turn.is ∙ c.play_by-step.ensures.step in (
+      omega (arith, step_falls a h (Turn c.in-Turn.gained c.in-Turn.next) limits has is),
+      (within, (search rules, goes_on _ _ _ _ c.requires.variant limits has is)),
+    )
 
 pub try_remaining-returns-then-beta-bound : goal.try_remaining-returns-then-beta-bound
 try_remaining-returns-then-beta-bound g t c =
+    let is : IsSoftBound c.args.beta (won_by_step (houses_step c.args.houses.now c.split_last-house.result.0)) c.match-step.bound =
+    elim c.match-step.branch [
+      | try_remaining-in-Turn+else-gained-beta w ↦ rw (w.bound-is, ← c.play_by-step.ensures.step, w.in-Turn.is) w.bound_turn-bound.ensures
+      | try_remaining-in_default w ↦ rw (w.bound-is, ← c.play_by-step.ensures.step) w.bound_step-bound.ensures
+    ] in
     let has = last_legal c.loop-untried.invariant.may c.split_last-house.ensures.last in
     record {
       lower = move_enough _ _ _ _ c.remaining_houses-untried.ensures.limits has
-          c.in-Bounded.ensures;
+          is;
       waiting = c.loop-untried.invariant.played.waiting.each;
       others = λ short. absurd (omega arith);
     }
 
 pub try_remaining-loop-untried-preserved : goal.try_remaining-loop-untried-preserved
 try_remaining-loop-untried-preserved g t c =
+    let is : IsSoftBound c.args.beta (won_by_step (houses_step c.args.houses.now c.split_last-house.result.0)) c.match-step.bound =
+    elim c.match-step.branch [
+      | try_remaining-in-Turn+else-gained-beta w ↦ rw (w.bound-is, ← c.play_by-step.ensures.step, w.in-Turn.is) w.bound_turn-bound.ensures
+      | try_remaining-in_default w ↦ rw (w.bound-is, ← c.play_by-step.ensures.step) w.bound_step-bound.ensures
+    ] in
     let last = c.split_last-house.ensures.last in
     let before = c.loop-untried.invariant in
-    let new_is : c.max-most.result ≡ max c.loop-untried.most c.in-Bounded.bound = search (rules, c.max-most.ensures) in
+    let new_is : c.max-most.result ≡ max c.loop-untried.most c.match-step.bound = search (rules, c.max-most.ensures) in
+    let takes : WinsAtMost c.args.houses.now c.match-step.bound c.split_last-house.result.0 =
+    is.upper c.if-beta-bound.false in
     rw c.split_last-house.ensures.rest (record {
       low = low_more _ _ _ _ before.low c.if-beta-bound.false new_is;
       may = moves_fewer before.may last;
-      played = played_bound before.played last c.in-Bounded.bound c.max-most.result (c.in-Bounded.ensures.upper c.if-beta-bound.false) new_is;
+      played = played_bound before.played last _ _ takes new_is;
+    })
+
+pub try_remaining-loop-untried-preserved-then-seeds-self : goal.try_remaining-loop-untried-preserved-then-seeds-self
+try_remaining-loop-untried-preserved-then-seeds-self g t c =
+    let last = c.split_last-house.ensures.last in
+    let before = c.loop-untried.invariant in
+    let priority = c.priority-priority in
+    let place : priority.result % 8 ≡ c.split_last-house.result.0 - 1 = omega (arith, priority.ensures.house) in
+    let turn = turn_of c.remaining_houses-untried.ensures.limits (last_legal before.may last) (sym c.in-Turn.is ∙ c.play_by-step.ensures.step)
+    priority.ensures.house in
+    rw (c.split_last-house.ensures.rest, place) (record {
+      low = before.low;
+      may = moves_fewer before.may last;
+      played = played_more before.played last priority.result c.in-Turn.next priority.ensures.some turn;
     })
 
 pub try_remaining-loop-untried-smaller : goal.try_remaining-loop-untried-smaller
@@ -240,17 +251,6 @@ try_remaining-returns g t c =
       waiting = c.loop-untried.invariant.played.waiting.each;
       others = λ short h has. c.loop-untried.invariant.played.others h has (rw none (cell_none (h - 1)));
     }
-
-pub try_remaining-loop-untried-preserved-in-Waits : goal.try_remaining-loop-untried-preserved-in-Waits
-try_remaining-loop-untried-preserved-in-Waits g t c =
-    let last = c.split_last-house.ensures.last in
-    let before = c.loop-untried.invariant in
-    let place : c.in-Waits.priority % 8 ≡ c.split_last-house.result.0 - 1 = omega (arith, c.in-Waits.ensures.1.house) in
-    rw (c.split_last-house.ensures.rest, place) (record {
-      low = before.low;
-      may = moves_fewer before.may last;
-      played = played_more before.played last c.in-Waits.priority c.in-Waits.next c.in-Waits.ensures.0 c.in-Waits.ensures.1;
-    })
 
 pub explore-loop-priority-init : goal.explore-loop-priority-init
 explore-loop-priority-init g t c =

@@ -22,9 +22,6 @@ decreases-bound_into_store g l = 9 * moves_left (storeless l.houses.now) + 3
 abbrev pub decreases-try_remaining : goal.decreases-try_remaining
 decreases-try_remaining g l = 9 * moves_left (storeless l.houses.now) + 3
 
-abbrev pub decreases-try_move : goal.decreases-try_move
-decreases-try_move g l = 9 * moves_left (storeless l.houses.now) + 2
-
 abbrev pub decreases-bound_step : goal.decreases-bound_step
 decreases-bound_step g l = 9 * moves_after l.step + 8
 

@@ -5,7 +5,7 @@ use Rattle.kalah_rules.specs.Play.{legal_houses}
 use Rattle.kalah_rules.proofs.PlayLemmas.{legal_holds}
 use Rattle.kalah_solve.proofs.WorthLemmas.{legal_some}
 use Rattle.kalah_solve.proofs.SolverLemmas.{root_found, root_short, root_last}
-use Rattle.kalah_solve.proofs.SearchLemmas.{enough_of, short_of}
+use Rattle.kalah_solve.proofs.SearchLemmas.{short_of}
 use Rattle.kalah_solve.proofs.solver.Solver.best_house.Goals as goal
 
 pub overflow_sub-last : goal.overflow_sub-last
@@ -38,7 +38,7 @@ new-requires-clause-last g c =
 
 pub returns-then-move_reaches : goal.returns-then-move_reaches
 returns-then-move_reaches g c =
-    let enough = enough_of _ _ _ c.if-move_reaches.ensures refl in
+    let enough = c.if-move_reaches.ensures.0 refl in
     let at = looked_at _ _ _ _ _ c.len-last.ensures c.loop-i-test.true (c.new.ensures ∙ c.get-h.ensures) c.legal-moves.ensures.moves in
     sym c.new.ensures ∙ at.1 ∙ root_found c.args.houses.now c.legal-moves.ensures.limits c.loop-i.i at.0 c.loop-i.invariant
     (rw (← at.1, ← c.requires.best) enough)

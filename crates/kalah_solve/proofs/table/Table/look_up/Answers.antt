@@ -1,10 +1,11 @@
 use Rattle.std.proofs.Common.{◌∙◌, rules, sym}
-use Rattle.kalah_solve.proofs.TableLemmas.{found_holds, true_promoted}
+use Rattle.lru.proofs.CallerLemmas.{Contains-promoted}
+use Rattle.kalah_solve.proofs.TableLemmas.{found_holds}
 use Rattle.kalah_solve.proofs.table.Table.look_up.Goals as goal
 
 pub invariant_of-self : goal.invariant_of-self
 invariant_of-self g c = (
-  rw c.get.follows.holds-at-none (true_promoted c.self.inside.entries.entries c.key-key.result c.self.invariant.0),
+  rw c.get.follows.holds-at-none (λ e h. c.self.invariant.0 e (Contains-promoted _ c.self.inside.entries.entries e h)),
   search rules,
 )
 

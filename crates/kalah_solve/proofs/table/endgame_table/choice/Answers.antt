@@ -1,12 +1,12 @@
 use Rattle.std.proofs.Common.{arith, sym, ◌-◌}
-use Rattle.kalah_solve.proofs.TableLemmas.{choice_first, choice_none, choice_next, choice_small}
+use Rattle.kalah_solve.proofs.TableLemmas.{choice_first, choose_none, choice_next, choice_small}
 use Rattle.kalah_solve.proofs.table.endgame_table.choice.Goals as goal
 
 pub returns-then-i-lt-COUNTS : goal.returns-then-i-lt-COUNTS
 returns-then-i-lt-COUNTS c = sym (choice_first _ c.if-i-lt-COUNTS.true)
 
 pub returns-then-i-eq0 : goal.returns-then-i-eq0
-returns-then-i-eq0 c = sym (choice_none _ c.if-i-eq0.true)
+returns-then-i-eq0 c = sym (choose_none _ _ (omega arith))
 
 pub overflow_add-result : goal.overflow_add-result
 overflow_add-result c =
