@@ -54,10 +54,13 @@ fn rank_in(values: &MoveValues, value: MoveValue) -> u8
 fn of_rank(values: &MoveValues, rank: u8) -> Option<MoveValue>
     ensures { result ≡ of_rank values.now rank }
 {
-    values
-        .iter()
-        .find(|v| rank_in(values, **v) == rank)
-        .copied()
+    for i in 0..values.len() {
+        let value = values.get(i);
+        if rank_in(values, value) == rank {
+            return Some(value);
+        }
+    }
+    None
 }
 
 // Writes the line of the move of this rank, if there is one: its house, its value and the houses that are moved from it on, each as soon as

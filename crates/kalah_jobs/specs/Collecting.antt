@@ -1,3 +1,4 @@
+pub mod SideRead
 pub mod OutcomeJob
 pub mod CollectorState
 pub mod Refusals

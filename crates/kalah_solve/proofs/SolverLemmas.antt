@@ -1,6 +1,7 @@
 -- Games, best play, and what a solver says of it.
-use Rattle.std.proofs.Common.{zero, suc, ◌≡◌, ℕ, ◌<◌, ◌≤◌, inl, inr, List, [], ◌∷◌, length, get_or, arith, ap, sym, subst, ◌∙◌, refl, ◌+◌, w32, to_z, of_z, FitsSigned, ◌++◌, take, length-append, length-take-le, false, Contains, ℤ, ◌≤ℤ◌, Bool, if◌then◌else◌, filter, nat_lt, neg_ℤ, true, map, pos, ◌<ℤ◌, All, find, option_map, Some, ◌+ℤ◌, ◌-ℤ◌, replicate, slice_set, int_eq}
+use Rattle.std.proofs.Common.{zero, suc, negsuc, ◌≡◌, ℕ, ◌<◌, ◌≤◌, inl, inr, List, [], ◌∷◌, length, get_or, arith, ap, sym, subst, ◌∙◌, refl, ◌+◌, w32, to_z, of_z, FitsSigned, false, Contains, ℤ, ◌≤ℤ◌, Bool, if◌then◌else◌, filter, nat_lt, neg_ℤ, true, map, pos, ◌<ℤ◌, All, find, option_map, Some, ◌+ℤ◌, ◌-ℤ◌, int_eq, ◌*◌, ◌/◌, ◌%◌, ◌^◌, ◌-◌}
 use Rattle.std.proofs.lemmas.Bool.{both_ways, cases_Bool, cases_eq, cond_both}
+use Rattle.std.proofs.Math.Nat.{pow-succ'}
 use Rattle.kalah_rules.specs.Position.{Position, HasEqualSides, is_over, swapped, final_margin, side_length, seeds, IsWithinLimits, IsSmallMargin, HousesState, IsWithinHouses, houses_in, storeless}
 use Rattle.kalah_rules.specs.Sowing.{after}
 use Rattle.kalah_rules.specs.Play.{legal_houses}
@@ -14,21 +15,20 @@ use Rattle.lru.proofs.Splits.{Contains-head}
 use Rattle.std.proofs.lemmas.Int.{ints, clamps}
 use Rattle.kalah_solve.specs.Solver.Worth.{worth, value_of_move, best_house, houses_worth}
 use Rattle.std.specs.List.{range_with_len}
-use Rattle.std.proofs.lemmas.List.{get_or_default, map-id, take_more_set, length-set}
+use Rattle.std.proofs.lemmas.List.{get_or_default, map-id}
 use Rattle.std.proofs.lemmas.Simd.{map-map}
 use Rattle.kalah_solve.specs.Solver.Verdict.{verdict_of, IsSmallBest, StatesBestPlay}
 use Rattle.kalah_solve.specs.declared.solver.Verdict.TheVariants.{Best, Over}
 use Rattle.kalah_solve.specs.declared.solver.Verdict.{Verdict}
 use Rattle.std.proofs.lemmas.List.Elements.{All-map, All-from_get_or, Contains-get_or}
-use Rattle.kalah_solve.specs.Solver.MoveValues.{StateValues, ValueIsWorthOfMove, WorthOfMoveIsOne, ValuesTellVerdict, move_value, values_of, no_value}
+use Rattle.kalah_solve.specs.Solver.MoveValues.{StateValues, ValueIsWorthOfMove, WorthOfMoveIsOne, ValuesTellVerdict, move_value, values_of, IsMoveValue, digit_of, value_at, number_of, values_in, IsPacked}
 use Rattle.kalah_solve.specs.declared.solver.move_values.MoveValue.{MoveValue}
 use Rattle.kalah_rules.proofs.PackedLemmas.{houses_within, is_over-swapped}
 use Rattle.kalah_solve.specs.Bounds.Intervals.{least_margin, most_margin, clamped}
 use Rattle.kalah_rules.specs.HousesStep.{houses_step}
-use Rattle.kalah_solve.specs.Bounds.Won.{won, won_by_step}
+use Rattle.kalah_solve.specs.Bounds.Won.{won, won_by_step, nat_or_zero}
 use Rattle.kalah_solve.proofs.BoundsLemmas.{worth_low, worth_high, won_of_houses, won_of_move, won_at_most}
 use Rattle.kalah_rules.specs.Limits.{most_houses}
-use Rattle.kalah_rules.specs.Cells.{padded_with, IsSixAtMost}
 
 -- ==== The games that players play
 
@@ -481,21 +481,122 @@ value_small p h limits has =
 pub house_small : (p : Position) (h : ℕ) → IsWithinLimits p → Contains (legal_houses p) h → h ≤ most_houses
 house_small p h limits has = omega (arith, (legal_holds p h has).last)
 
--- ==== One value more in six cells
+-- a legal house with the value of its move
+pub move_value_small : (p : Position) (h : ℕ) → IsWithinLimits p → Contains (legal_houses p) h → IsMoveValue (move_value p h)
+move_value_small p h limits has =
+    record { first = (legal_holds p h has).first; last = house_small p h limits has; small = value_small p h limits has }
 
--- a value put where the padding begins
-set_behind : (xs : List MoveValue) (n : ℕ) (v : MoveValue) →
-    slice_set (xs ++ replicate (suc n) no_value) (length xs) v ≡ (xs ++ v ∷ []) ++ replicate n no_value
-set_behind [] n v = refl
-set_behind (x ∷ xs) n v = ap (λ ys. x ∷ ys) (set_behind xs n v)
+-- ==== Values in a number
 
--- padded values, and one more
-padded_more : (xs : List MoveValue) (v : MoveValue) → length xs < 6
-    → slice_set (padded_with no_value xs) (length xs) v ≡ padded_with no_value (xs ++ v ∷ [])
-padded_more xs v few = grind (arith, length, after, length-append, slice_set, replicate, no_value, set_behind)
+-- an integer from 1 on is a natural number
+nat_again : (z : ℤ) → pos 1 ≤ℤ z → pos (nat_or_zero z) ≡ z
+nat_again (pos n) some = refl
+nat_again (negsuc n) some = grind (arith, ints)
 
--- the cells after a push
-pub six_pushed : (count : ℕ) (cells : List MoveValue) (v : MoveValue) → IsSixAtMost no_value count cells → count < 6 →
-    IsSixAtMost no_value (count + 1) (slice_set cells count v)
-six_pushed count cells v six few =
-    grind (arith, length-take-le, take_more_set, length-set, padded_with, no_value, padded_more, slice_set, take)
+-- a value has one of the digits from 1 to 1,566, and is the one that has it
+pub value_again : (v : MoveValue) → IsMoveValue v → (1 ≤ digit_of v) × (digit_of v < 1567) × (value_at (digit_of v) ≡ v)
+value_again v small =
+    let again : pos (nat_or_zero (v.value +ℤ pos 131)) ≡ v.value +ℤ pos 131 = nat_again _ (omega (arith, ints, small.small.low)) in
+    let few : nat_or_zero (v.value +ℤ pos 131) ≤ 261 = omega (arith, ints, small.small.high) in
+    let some : 1 ≤ nat_or_zero (v.value +ℤ pos 131) = omega (arith, ints, small.small.low) in
+    let house : (digit_of v - 1) / 261 + 1 ≡ v.house = omega (arith, small.first) in
+    let place : (digit_of v - 1) % 261 + 1 ≡ nat_or_zero (v.value +ℤ pos 131) = omega (arith, small.first) in
+    let value : pos ((digit_of v - 1) % 261) -ℤ pos 130 ≡ v.value = omega (arith, ints) in
+    (omega arith, omega (arith, small.last), rw (house, value) refl)
+
+-- a digit is that of its value
+digit_again : (d : ℕ) → 1 ≤ d → d < 1567 → digit_of (value_at d) ≡ d
+digit_again d some few =
+    let up : (pos ((d - 1) % 261) -ℤ pos 130) +ℤ pos 131 ≡ pos ((d - 1) % 261 + 1) = omega (arith, ints) in
+    rw up (omega arith)
+
+-- no value is in 0
+values_none : (n : ℕ) → values_in n 0 ≡ []
+values_none zero = refl
+values_none (suc n) = refl
+
+-- there is at most one for each digit
+pub length_in : (n k : ℕ) → length (values_in n k) ≤ n
+length_in zero k = omega arith
+length_in (suc n) k = grind (arith, length_in n (k / 1567))
+
+-- the value of the lowest digit, and those of the others
+pub values_some : (n k : ℕ) → 0 < k → values_in (suc n) k ≡ value_at (k % 1567) ∷ values_in n (k / 1567)
+values_some n k some = grind arith
+
+-- the lowest digit of a packed number is that of a value, and the other digits are packed
+pub rest_packed : (n k : ℕ) → 0 < k → IsPacked (suc n) k → (1 ≤ k % 1567) × IsPacked n (k / 1567)
+rest_packed n k some packed =
+    let is : digit_of (value_at (k % 1567)) + 1567 * number_of (values_in n (k / 1567)) ≡ k = rw (values_some n k some) at packed in
+    elim (cases_eq (k % 1567) 0) [
+      | inl none ↦
+          let one : digit_of (value_at (k % 1567)) ≡ 1 = rw none refl in
+          (omega arith, omega arith)
+      | inr other ↦
+          let same : digit_of (value_at (k % 1567)) ≡ k % 1567 = digit_again _ (omega arith) (omega arith) in
+          (omega arith, omega arith)
+    ]
+
+-- the digits past the last value are 0
+pub no_more : (n k : ℕ) → IsPacked n k → values_in (suc n) k ≡ values_in n k
+no_more zero k packed = rw (← packed) refl
+no_more (suc n) k packed = elim (cases_eq k 0) [
+  | inl none ↦ rw none refl
+  | inr other ↦
+      let some : 0 < k = omega arith in
+      rw (values_some (suc n) k some, values_some n k some) (ap (λ vs. value_at (k % 1567) ∷ vs) (no_more n _ (rest_packed n k some packed).1))
+]
+
+-- fewer digits are enough for fewer values
+pub has_room : (n k : ℕ) → length (values_in (suc n) k) ≤ n → values_in n k ≡ values_in (suc n) k
+has_room zero k few = elim (cases_eq k 0) [
+  | inl none ↦ rw none refl
+  | inr other ↦
+      let is = values_some 0 k (omega arith) in
+      absurd (omega (arith, ap length is))
+]
+has_room (suc n) k few = elim (cases_eq k 0) [
+  | inl none ↦ rw none refl
+  | inr other ↦
+      let some : 0 < k = omega arith in
+      rw (values_some (suc n) k some, values_some n k some)
+      (ap (λ vs. value_at (k % 1567) ∷ vs) (has_room n _ (omega (arith, ap length (values_some (suc n) k some)))))
+]
+
+-- a packed number with no value is 0
+empty_packed : (n k : ℕ) → IsPacked n k → 0 < k → length (values_in n k) ≤ 0 → ⊥
+empty_packed zero k packed some few = omega (arith, packed)
+empty_packed (suc n) k packed some few = omega (arith, ap length (values_some n k some))
+
+-- few values make a small number
+packed_small : (m n k : ℕ) → IsPacked n k → length (values_in n k) ≤ m → k < 1567 ^ m
+packed_small zero n k packed few = elim (cases_eq k 0) [
+  | inl none ↦ omega arith
+  | inr other ↦ absurd (empty_packed n k packed (omega arith) (omega arith))
+]
+packed_small (suc m) zero k packed few = rw pow-succ' (omega (arith, packed, packed_small m zero 0 refl (omega arith)))
+packed_small (suc m) (suc n) k packed few = elim (cases_eq k 0) [
+  | inl none ↦ rw pow-succ' (omega (arith, packed_small m zero 0 refl (omega arith)))
+  | inr other ↦
+      let some : 0 < k = omega arith in
+      let rest = packed_small m n (k / 1567) (rest_packed n k some packed).1 (omega (arith, ap length (values_some n k some))) in
+      rw pow-succ' (omega arith)
+]
+
+-- one value more, in front of fewer than six
+module _ (v : MoveValue) (k : ℕ) (small : IsMoveValue v) (packed : IsPacked 6 k) (room : length (values_in 6 k) < 6) where
+  pub values_prepended : values_in 6 (digit_of v + 1567 * k) ≡ v ∷ values_in 6 k
+  values_prepended =
+      let again = value_again v small in
+      let low : (digit_of v + 1567 * k) % 1567 ≡ digit_of v = omega arith in
+      let high : (digit_of v + 1567 * k) / 1567 ≡ k = omega arith in
+      rw (values_some 5 (digit_of v + 1567 * k) (omega arith), low, high, again.2, has_room 5 k (omega arith)) refl
+
+  pub packed_prepended : IsPacked 6 (digit_of v + 1567 * k)
+  packed_prepended = rw values_prepended (omega arith)
+
+  pub fits_prepended : digit_of v + 1567 * k < 2 ^ 64
+  fits_prepended =
+      let again = value_again v small in
+      let few = packed_small 5 6 k packed (omega arith) in
+      omega arith

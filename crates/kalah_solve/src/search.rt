@@ -1,6 +1,6 @@
 //! The search: alpha-beta, fail-soft. It closes in on what houses are worth by null windows, which test whether the mover wins at least
 //! a number of seeds. Margins are used at the root and among the entries.
-ghost use Rattle.std.specs.Prelude.{◌≡◌, ◌↔◌, ℕ, ◌+◌, ◌-◌, ◌≤◌, ◌<◌, false, IsTrue, max, min, IfOk, Contains, slice_index};
+ghost use Rattle.std.specs.Prelude.{◌≡◌, ◌↔◌, ℕ, ◌+◌, ◌-◌, ◌≤◌, ◌<◌, false, IsTrue, max, min, Contains, slice_index};
 ghost use Rattle.kalah_rules.specs.Position.{is_over, storeless, seeds_in_houses};
 ghost use Rattle.kalah_rules.specs.Play.{legal_houses};
 ghost use Rattle.kalah_rules.specs.Key.{variant_of};
@@ -127,6 +127,18 @@ impl<A: Allocator + Clone> Search<A> {
             let won = self.table.won::<VARIANT>(*houses);
             return window.clamp(margin_of(won, seeds));
         }
+        self.search_by_tests::<VARIANT>(houses, window)
+    }
+
+    // Does the same for houses that are no ending that is looked up.
+    // Out of line, so that an ending takes few instructions.
+    #[inline(never)]
+    fn search_by_tests<const VARIANT: u8>(&mut self, houses: &Houses, window: Window) -> i32
+        requires going { is_over (storeless houses.now) ≡ false }
+        requires variant { variant_of houses.now ≡ VARIANT }
+        ensures { result ≡ clamped window.lo window.hi (houses_worth houses.now) }
+    {
+        let seeds = houses.seeds();
         let known = self.known_margins(houses);
         let Some(narrow) = window.narrowed(known) else {
             return window.clamp(known.lo as i32);

@@ -90,6 +90,8 @@ impl<A: Allocator + Clone> Solver<A> {
     }
 
     // Returns the lowest-numbered house that wins as many seeds as best play. If all but the last fall short, it is the last.
+    // Inlined, since a call would take longer where there is one move.
+    #[inline(always)]
     fn best_house(&mut self, houses: &Houses, beta: u8) -> u8
         requires going { is_over (storeless houses.now) ≡ false }
         requires best { beta ≡ won houses.now }

@@ -3,12 +3,66 @@ ghost use Rattle.std.specs.Prelude.{◌≡◌, ◌<◌, slice_get, Some};
 ghost use Rattle.kalah_jobs.specs.Files.JobList.{job_list};
 ghost use Rattle.kalah_jobs.specs.Files.Jobs.{job_count};
 ghost use Rattle.kalah_jobs.specs.Writing.Answer.{answer_of};
+ghost use Rattle.kalah_jobs.specs.Collecting.SideRead.{found_of};
 
 use crate::files::entry::Entry;
 use crate::files::jobs::Jobs;
 use crate::writing::answer::Answer;
-use kalah_solve::{Solver, Verdict};
+use kalah_solve::{MoveValues, Solver, Verdict};
 use std::marker::Model;
+
+// What a solver finds for an entry. It holds no board, so that it is kept in registers.
+#[derive(Clone, Copy, Debug, PartialEq, Eq)]
+pub(crate) enum SideRead {
+    // The margin of best play, and the house that attains it.
+    Best { margin: i32, house: u8 },
+    // The margin of a game that is over.
+    Over { margin: i32 },
+    // The value of each move.
+    Values(MoveValues),
+    // Nothing: the entry alone has the answer.
+    Nothing,
+}
+
+impl SideRead {
+    // Finds what the answer to an entry needs beside the entry.
+    #[tactic(auto, unfolding(crate::specs::Writing::Answer::answer_of))]
+    #[inline(always)]
+    pub(crate) fn of(entry: &Entry, solver: &mut Solver) -> SideRead
+        ensures { result ≡ found_of entry.now }
+    {
+        match entry {
+            Entry::Position(board) => match solver.solve(board) {
+                Verdict::Best { margin, house } => SideRead::Best { margin, house },
+                Verdict::Over { margin } => SideRead::Over { margin },
+            },
+            Entry::ValuesOf(board) | Entry::StepsOf(board) if board.is_over() => SideRead::Over {
+                margin: board.returns(),
+            },
+            Entry::ValuesOf(board) => SideRead::Values(solver.values(board)),
+            Entry::StepsOf(_) | Entry::Bad(_) => SideRead::Nothing,
+        }
+    }
+
+    // Returns the answer to the entry that this was found for.
+    #[tactic(auto, unfolding(crate::specs::Writing::Answer::answer_of))]
+    #[inline(always)]
+    pub(crate) fn answer(&self, entry: &Entry) -> Answer
+        requires { self.now ≡ found_of entry.now }
+        ensures { result ≡ answer_of entry.now }
+    {
+        match *self {
+            SideRead::Best { margin, house } => Answer::Best { margin, house },
+            SideRead::Over { margin } => Answer::Over { margin },
+            SideRead::Values(values) => Answer::Values(values),
+            SideRead::Nothing => match entry {
+                Entry::StepsOf(board) => Answer::Steps(*board),
+                Entry::Bad(fault) => Answer::Fault(*fault),
+                Entry::Position(_) | Entry::ValuesOf(_) => unreachable!(),
+            },
+        }
+    }
+}
 
 /// The answer to one line, with the file, the line and the line's entry. Its answer always belongs to
 /// its entry. File and line may be any numbers; a collector refuses an outcome that is none of its jobs.
@@ -17,7 +71,7 @@ pub struct Outcome {
     file: u32,
     line: u32,
     entry: Entry,
-    answer: Answer,
+    found: SideRead,
 }
 
 impl Model for Outcome {
@@ -26,36 +80,16 @@ impl Model for Outcome {
 
     ghost Value = { Job };
 
-    ghost use Rattle.kalah_jobs.specs.Writing.Answer.{answer_of};
+    ghost use Rattle.kalah_jobs.specs.Collecting.SideRead.{found_of};
     ghost use Rattle.kalah_jobs.specs.Collecting.OutcomeJob.{job_of, outcome_of, outcome_again};
 
     ghost view = { job_of };
 
-    ghost invariant = { λ o. o.answer ≡ answer_of o.entry };
+    ghost invariant = { λ o. o.found ≡ found_of o.entry };
 
     ghost inverse = { outcome_of };
 
     ghost inverse_ok = { outcome_again };
-}
-
-// Returns the answer to an entry: the solver's to what is asked of a position, and of a line that was not read its fault.
-#[tactic(auto, unfolding(crate::specs::Writing::Answer::answer_of))]
-#[inline(always)]
-pub(crate) fn answer_to(entry: &Entry, solver: &mut Solver) -> Answer
-    ensures { result ≡ answer_of entry.now }
-{
-    match entry {
-        Entry::Position(board) => match solver.solve(board) {
-            Verdict::Best { margin, house } => Answer::Best { margin, house },
-            Verdict::Over { margin } => Answer::Over { margin },
-        },
-        Entry::ValuesOf(board) | Entry::StepsOf(board) if board.is_over() => Answer::Over {
-            margin: board.returns(),
-        },
-        Entry::ValuesOf(board) => Answer::Values(solver.values(board)),
-        Entry::StepsOf(board) => Answer::Steps(*board),
-        Entry::Bad(fault) => Answer::Fault(*fault),
-    }
 }
 
 impl Outcome {
@@ -64,12 +98,12 @@ impl Outcome {
     pub fn of(file: u32, line: u32, entry: Entry, solver: &mut Solver) -> Outcome
         ensures { result ≡ record { file = file; line = line; entry = entry } }
     {
-        let answer = answer_to(&entry, solver);
+        let found = SideRead::of(&entry, solver);
         Outcome {
             file,
             line,
             entry,
-            answer,
+            found,
         }
     }
 
@@ -80,12 +114,12 @@ impl Outcome {
         ensures { slice_get (job_list jobs.now) n ≡ Some result }
     {
         let (file, line, entry) = jobs.find(n);
-        let answer = answer_to(entry, solver);
+        let found = SideRead::of(entry, solver);
         Outcome {
             file,
             line,
             entry: *entry,
-            answer,
+            found,
         }
     }
 
@@ -114,6 +148,6 @@ impl Outcome {
     pub fn answer(&self) -> Answer
         ensures { result ≡ answer_of self.now.entry }
     {
-        self.answer
+        self.found.answer(&self.entry)
     }
 }

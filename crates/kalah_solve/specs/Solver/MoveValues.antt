@@ -1,18 +1,16 @@
 -- What each move of a position is worth, in its numbers and by the strategies of best play.
-use Rattle.std.specs.Prelude.{◌≡◌, ℕ, false, List, All, Contains, map, find, option_map, unwrap_or, ℤ, pos}
+use Rattle.std.specs.Prelude.{◌≡◌, ℕ, zero, suc, ◌+◌, ◌-◌, ◌*◌, ◌/◌, ◌%◌, ◌==◌, ◌≤◌, if◌then◌else◌, false, List, [], ◌∷◌, All, Contains, map, find, option_map, unwrap_or, ℤ, pos, ◌+ℤ◌, ◌-ℤ◌}
 use Rattle.std.specs.Ordering.{int_eq}
-use Rattle.kalah_rules.specs.Position.{Position, HasEqualSides, is_over}
+use Rattle.kalah_rules.specs.Limits.{most_houses}
+use Rattle.kalah_rules.specs.Position.{Position, HasEqualSides, IsSmallMargin, is_over}
 use Rattle.kalah_rules.specs.Play.{legal_houses}
+use Rattle.kalah_solve.specs.Bounds.Won.{nat_or_zero}
 use Rattle.kalah_solve.specs.Solver.Worth.{greatest, value_of_move}
 use Rattle.kalah_solve.specs.Solver.BestPlay.{IsWorthOfMove}
 use Rattle.kalah_solve.specs.Solver.Verdict.{verdict_of}
 use Rattle.kalah_solve.specs.declared.solver.move_values.MoveValue.{MoveValue}
 use Rattle.kalah_solve.specs.declared.solver.Verdict.{Verdict}
 use Rattle.kalah_solve.specs.declared.solver.Verdict.TheVariants.{Best}
-
--- fills the cells past the last value
-abbrev pub no_value : MoveValue
-no_value = record { house = 0; value = pos 0 }
 
 -- house h, with the margin that its move gets in best play
 abbrev pub move_value : Position → ℕ → MoveValue
@@ -32,6 +30,36 @@ abbrev pub best_of : List MoveValue → Verdict
 best_of values =
     let most = greatest (map (λ v. v.value) values) in
     Best most (unwrap_or (option_map (λ v. v.house) (find (λ v. int_eq v.value most) values)) 0)
+
+-- ---- values in a number
+
+-- the house and the value are such as a move can have
+pub record IsMoveValue (v : MoveValue) : Type 0 where
+  pub first : 1 ≤ v.house
+  pub last : v.house ≤ most_houses
+  pub small : IsSmallMargin v.value
+
+-- a value as a digit of base 1567: there are 261 values for each of six houses, from digit 1 on
+abbrev pub digit_of : MoveValue → ℕ
+digit_of v = 261 * (v.house - 1) + nat_or_zero (v.value +ℤ pos 131)
+
+-- the value with a digit
+abbrev pub value_at : ℕ → MoveValue
+value_at d = record { house = (d - 1) / 261 + 1; value = pos ((d - 1) % 261) -ℤ pos 130 }
+
+-- values as a number, the digit of the first one lowest
+abbrev pub number_of : List MoveValue → ℕ
+number_of [] = 0
+number_of (v ∷ vs) = digit_of v + 1567 * number_of vs
+
+-- the values in the lowest n digits of a number
+abbrev pub values_in : ℕ → ℕ → List MoveValue
+values_in zero k = []
+values_in (suc n) k = if k == 0 then [] else (value_at (k % 1567) ∷ values_in n (k / 1567))
+
+-- the number is that of at most n values
+abbrev pub IsPacked : ℕ → ℕ → Type 0
+IsPacked n k = number_of (values_in n k) ≡ k
 
 -- ---- laws
 

@@ -1,9 +1,8 @@
 //! The value of each move of a position.
-ghost use Rattle.std.specs.Prelude.{◌≡◌, ◌<◌, ◌≤◌, [], ◌∷◌, ◌++◌, length, slice_get, Some};
-ghost use Rattle.std.specs.Slice.Iter.{iter_rest};
+ghost use Rattle.std.specs.Prelude.{◌≡◌, ◌<◌, ◌≤◌, [], ◌∷◌, length, slice_get, MatchOption, Some};
+ghost use Rattle.kalah_solve.specs.Solver.MoveValues.{IsMoveValue, digit_of, value_at};
 
 use std::marker::Model;
-use std::slice;
 
 /// A legal move and its value.
 #[derive(Clone, Copy, Debug, PartialEq, Eq)]
@@ -14,31 +13,55 @@ pub struct MoveValue {
     pub value: i16,
 }
 
-// Fills the cells past the last value.
-const NO_VALUE: MoveValue = MoveValue { house: 0, value: 0 };
+// One more than six houses with 261 values each. So six digits of this base fit into a word.
+const BASE: u64 = 6 * 261 + 1;
+
+impl MoveValue {
+    // Returns the value as a digit.
+    fn digit(self) -> u64
+        requires { IsMoveValue self }
+        ensures { result ≡ digit_of self }
+    {
+        261 * u64::from(self.house - 1) + (self.value + 131) as u64
+    }
+
+    // Returns the value with this digit, which isn't 0.
+    fn of_digit(digit: u64) -> MoveValue
+        requires some { 1 ≤ digit }
+        requires small { digit < BASE }
+        ensures { result ≡ value_at digit }
+    {
+        let place = digit - 1;
+        MoveValue {
+            house: (place / 261 + 1) as u8,
+            value: (place % 261) as i16 - 130,
+        }
+    }
+}
 
 /// The values of the legal moves of a position, with their houses in ascending order. They are at most six, and need no allocation.
+// They are in one word, so that an answer that holds them is kept in registers.
 #[derive(Clone, Copy, Debug, PartialEq, Eq)]
 pub struct MoveValues {
-    values: [MoveValue; 6],
-    count: u8,
+    number: u64,
 }
 
 impl Model for MoveValues {
-    ghost use Rattle.std.specs.Prelude.{List, length, take};
+    ghost use Rattle.std.specs.Prelude.{ℕ, List};
+    ghost use Rattle.std.proofs.Common.{ap};
+    ghost use Rattle.kalah_solve.specs.declared.solver.move_values.MoveValues.TheInside.{Inside};
     ghost use Rattle.kalah_solve.specs.declared.solver.move_values.MoveValue.{MoveValue};
-    ghost use Rattle.kalah_rules.specs.Cells.{padded_with, IsSixAtMost, length_of_six};
-    ghost use Rattle.kalah_solve.specs.Solver.MoveValues.{no_value};
+    ghost use Rattle.kalah_solve.specs.Solver.MoveValues.{number_of, values_in, IsPacked};
 
     ghost Value = { List MoveValue };
 
-    ghost view = { λ values. take values.count values.values };
+    ghost view = { λ values. values_in 6 values.number };
 
-    ghost invariant = { λ values. IsSixAtMost no_value values.count values.values };
+    ghost invariant = { λ values. IsPacked 6 values.number };
 
-    ghost inverse = { λ xs. record { values = padded_with no_value xs; count = length xs } };
+    ghost inverse = { λ xs. record { number = number_of xs } };
 
-    ghost inverse_ok = { λ values h i. record { values = h.rest_is_none i; count = length_of_six h i } };
+    ghost inverse_ok = { λ values packed. ap (λ (n : ℕ). let same : Inside = record { number = n } in same) packed };
 }
 
 impl MoveValues {
@@ -46,19 +69,30 @@ impl MoveValues {
     pub(crate) fn none() -> MoveValues
         ensures { result ≡ [] }
     {
-        MoveValues {
-            values: [NO_VALUE; 6],
-            count: 0,
-        }
+        MoveValues { number: 0 }
     }
 
-    // Appends a value.
-    pub(crate) fn push(&mut self, value: MoveValue)
-        requires { length self.old < 6 }
-        ensures { self.new ≡ self.old ++ value ∷ [] }
+    // Puts a value in front of the others.
+    pub(crate) fn prepend(&mut self, value: MoveValue)
+        requires room { length self.old < 6 }
+        requires small { IsMoveValue value }
+        ensures { self.new ≡ value ∷ self.old }
     {
-        self.values[self.count as usize] = value;
-        self.count += 1;
+        self.number = value.digit() + BASE * self.number;
+    }
+
+    // Returns the first value and those after it, or `None` if there is none.
+    fn split_first(&self) -> Option<(MoveValue, MoveValues)>
+        ensures split { MatchOption result (self.now ≡ []) (λ split. self.now ≡ split.0 ∷ split.1) }
+        ensures few { length self.now ≤ 6 }
+    {
+        if self.number == 0 {
+            return None;
+        }
+        let rest = MoveValues {
+            number: self.number / BASE,
+        };
+        Some((MoveValue::of_digit(self.number % BASE), rest))
     }
 
     /// Returns the number of values: 0 if the game is over, otherwise 1 to 6.
@@ -66,7 +100,10 @@ impl MoveValues {
         ensures is { result ≡ length self.now }
         ensures few { result ≤ 6 }
     {
-        self.count
+        match self.split_first() {
+            None => 0,
+            Some((_, rest)) => 1 + rest.len(),
+        }
     }
 
     /// Returns the value at index `i`, which counts from 0 and is below `len`.
@@ -74,25 +111,10 @@ impl MoveValues {
         requires { i < length self.now }
         ensures { slice_get self.now i ≡ Some result }
     {
-        self.values[i as usize]
-    }
-
-    /// Returns an iterator over the values, in the order of their houses.
-    pub fn iter(&self) -> slice::Iter<'_, MoveValue>
-        ensures { iter_rest result ≡ self.now }
-    {
-        self.values[..self.count as usize].iter()
-    }
-}
-
-impl<'a> IntoIterator for &'a MoveValues {
-    type Item = &'a MoveValue;
-
-    type IntoIter = slice::Iter<'a, MoveValue>;
-
-    ghost into_iter_gives = { λ of_them it. iter_rest it ≡ of_them.now };
-
-    fn into_iter(self) -> slice::Iter<'a, MoveValue> {
-        self.iter()
+        match self.split_first() {
+            None => unreachable!(),
+            Some((first, _)) if i == 0 => first,
+            Some((_, rest)) => rest.get(i - 1),
+        }
     }
 }

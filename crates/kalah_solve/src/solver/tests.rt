@@ -171,13 +171,11 @@ fn tells_values_of_worked_positions(rt: HostRuntime) {
             usize::from(values.len()) == want.len(),
             "{own:?} {other:?} {rule:?}"
         );
-        for (i, told) in values.iter().enumerate() {
+        for i in 0..values.len() {
+            let told = values.get(i);
+            assert!(rt; told.house == i + 1, "{own:?} {other:?} {rule:?}");
             assert!(rt;
-                usize::from(told.house) == i + 1,
-                "{own:?} {other:?} {rule:?}"
-            );
-            assert!(rt;
-                Some(&told.value) == want.get(i),
+                Some(&told.value) == want.get(usize::from(i)),
                 "{own:?} {other:?} {rule:?}"
             );
         }

@@ -20,8 +20,10 @@ impl<A: Allocator + Clone> Solver<A> {
     {
         let moves = board.legal();
         let mut values = MoveValues::none();
-        for i in 0..moves.len() {
-            values.push(self.move_value(board, moves.get(i)));
+        let mut i = moves.len();
+        while i > 0 {
+            i -= 1;
+            values.prepend(self.move_value(board, moves.get(i)));
         }
         values
     }

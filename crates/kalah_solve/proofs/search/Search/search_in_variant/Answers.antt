@@ -1,40 +1,7 @@
-use Rattle.std.proofs.Common.{ap, refl, rules, ◌≡◌, ◌∙◌, w8, w32, to_z, of_z, SFits, to_z-of_z}
+use Rattle.std.proofs.Common.{ap, rules, ◌∙◌, w32, SFits, to_z-of_z}
 use Rattle.kalah_solve.specs.Bounds.Intervals.{clamped}
-use Rattle.kalah_solve.specs.Solver.Worth.{houses_worth}
-use Rattle.kalah_solve.proofs.BoundsLemmas.{worth_low, worth_high, within_both, won_by_bounds, margin_of_won_is}
-use Rattle.kalah_solve.proofs.search.Search.search_in_variant.Given.{Over}
+use Rattle.kalah_solve.proofs.BoundsLemmas.{margin_of_won_is}
 use Rattle.kalah_solve.proofs.search.Search.search_in_variant.Goals as goal
-
-pub interval_of-requires-clause-least : goal.interval_of-requires-clause-least
-interval_of-requires-clause-least g c =
-    let fits : SFits w32 c.clamp-answer.result = search rules in
-    simp to_z-of_z (rw c.clamp-answer.ensures (within_both _ _ _ c.in-Some.narrow.ordered).0)
-
-pub interval_of-requires-clause-most : goal.interval_of-requires-clause-most
-interval_of-requires-clause-most g c =
-    let fits : SFits w32 c.clamp-answer.result = search rules in
-    simp to_z-of_z (rw c.clamp-answer.ensures (within_both _ _ _ c.in-Some.narrow.ordered).1)
-
--- the answer is the worth in the window
-found : (g : Over) (c : goal.After-intersection g) →
-    to_z w32 (of_z w32 c.clamp-answer.result) ≡ clamped c.in-Some.narrow.lo c.in-Some.narrow.hi (houses_worth c.args.houses.now)
-found g c =
-    let seeds = c.seeds-seeds.ensures in
-    let fits : SFits w32 c.clamp-answer.result = search rules in
-    let margin_fits : SFits w32 c.margin_of-2.result = search rules in
-    simp to_z-of_z (simp to_z-of_z at c.clamp-answer.ensures
-    ∙ won_by_bounds _ _ c.of_window.result seeds.limits seeds.seeds c.of_window.ensures.ordered c.of_window.ensures.apart
-    c.won_within-won.ensures c.margin_of-2.ensures)
-
-pub learn_margins-requires : goal.learn_margins-requires
-learn_margins-requires g c =
-    let limits = c.seeds-seeds.ensures.limits in
-    let worth = houses_worth c.args.houses.now in
-    c.intersection.ensures.held worth (c.interval_of.ensures.held worth (worth_low _ limits) (worth_high _ limits) (found g c))
-    c.known_margins-known.ensures
-
-pub returns : goal.returns
-returns g c = found g c.before ∙ c.in-Some.ensures.some (houses_worth c.args.houses.now) c.known_margins-known.ensures
 
 pub returns-then-seeds-self : goal.returns-then-seeds-self
 returns-then-seeds-self g c =
@@ -43,10 +10,3 @@ returns-then-seeds-self g c =
     let margin_fits : SFits w32 c.margin_of.result = search rules in
     simp to_z-of_z (simp to_z-of_z at c.clamp.ensures
     ∙ ap (clamped _ _) (margin_of_won_is seeds.limits seeds.seeds c.won-won.ensures c.margin_of.ensures))
-
-pub returns-in_default : goal.returns-in_default
-returns-in_default g c =
-    let fits : SFits w32 c.clamp-in_default.result = search rules in
-    let lo : SFits w8 c.known_margins-known.result.lo = search rules in
-    let lo_wide : SFits w32 c.known_margins-known.result.lo = search (rules, lo) in
-    simp to_z-of_z (simp to_z-of_z at c.clamp-in_default.ensures ∙ c.in_default.ensures.none refl _ c.known_margins-known.ensures)

@@ -1,19 +1,45 @@
-use Rattle.std.proofs.Common.{sym, ◌∙◌, ap, arith, subst, map, take_all}
-use Rattle.std.proofs.lemmas.Grind.{common_steps}
-use Rattle.kalah_solve.specs.Solver.MoveValues.{move_value, StateValues}
-use Rattle.kalah_solve.proofs.SolverLemmas.{values_tell}
+use Rattle.std.proofs.Common.{◌≡◌, ℕ, ◌<◌, ◌≤◌, ◌-◌, ◌+◌, List, ◌∷◌, arith, length, subst, sym, map, drop, get_or, Contains, refl}
+use Rattle.std.proofs.lemmas.List.{drop_more}
+use Rattle.std.proofs.lemmas.List.Elements.{Contains-get_or}
+use Rattle.kalah_rules.specs.Position.{Position}
+use Rattle.kalah_solve.specs.Solver.MoveValues.{IsMoveValue, move_value, StateValues}
+use Rattle.kalah_solve.specs.declared.solver.move_values.MoveValue.{MoveValue}
+use Rattle.kalah_solve.proofs.SolverLemmas.{values_tell, move_value_small}
 use Rattle.kalah_solve.proofs.WorthLemmas.{board_equal_sides}
 use Rattle.kalah_solve.proofs.solver.Solver.values.Goals as goal
 
-pub returns-clause-best_play : goal.returns-clause-best_play
-returns-clause-best_play g c =
-    let p = c.args.board.now in
-    let all = take_all c.loop-i.i c.legal-moves.result (omega arith) ∙ c.legal-moves.ensures.moves in
-    let is = c.loop-i.invariant ∙ ap (map (move_value p)) all in
-    subst (StateValues p) (sym is) (values_tell (board_equal_sides _ c.legal-moves.ensures.limits))
+module _ (moves : List ℕ) (i h : ℕ) (some : 0 < i) (within : i ≤ length moves) (is : h ≡ get_or moves (i - 1) 0) where
+  -- the move before place i is one of the houses
+  at_place : (houses : List ℕ) → moves ≡ houses → Contains houses h
+  at_place houses same = rw (is, ← same) (Contains-get_or moves (i - 1) 0 (omega arith))
+
+  -- the values of the moves from that place on
+  one_more : (p : Position) (old new : List MoveValue) (v : MoveValue) → v ≡ move_value p h
+      → old ≡ map (move_value p) (drop i moves) → new ≡ v ∷ old → new ≡ map (move_value p) (drop (i - 1) moves)
+  one_more p old new v v_is old_is new_is =
+      let next : i - 1 + 1 ≡ i = omega arith in
+      rw (new_is, old_is, v_is, is, drop_more moves (i - 1) 0 (omega arith), next) refl
+
+pub move_value-requires : goal.move_value-requires
+move_value-requires g c =
+    at_place c.legal-moves.result c.loop-i.i c.get.result c.loop-i-test.true c.loop-i.invariant.within c.get.ensures
+    _ c.legal-moves.ensures.moves
+
+pub prepend-requires-clause-small : goal.prepend-requires-clause-small
+prepend-requires-clause-small g c =
+    let has = at_place c.legal-moves.result c.loop-i.i c.get.result c.loop-i-test.true c.loop-i.invariant.within c.get.ensures
+    _ c.legal-moves.ensures.moves in
+    subst IsMoveValue (sym c.move_value.ensures) (move_value_small _ _ c.legal-moves.ensures.limits has)
 
 pub loop-i-preserved : goal.loop-i-preserved
-loop-i-preserved g c = grind (arith, common_steps)
+loop-i-preserved g c = record {
+  done = one_more c.legal-moves.result c.loop-i.i c.get.result c.loop-i-test.true c.loop-i.invariant.within c.get.ensures
+      _ _ _ _ c.move_value.ensures c.loop-i.invariant.done c.prepend.ensures;
+  within = omega arith;
+}
 
-pub returns-clause-values : goal.returns-clause-values
-returns-clause-values g c = grind (arith, common_steps)
+pub returns-clause-best_play : goal.returns-clause-best_play
+returns-clause-best_play g c =
+    let none : c.loop-i.i ≡ 0 = omega arith in
+    let is = rw (none, c.legal-moves.ensures.moves) at c.loop-i.invariant.done in
+    subst (StateValues c.args.board.now) (sym is) (values_tell (board_equal_sides _ c.legal-moves.ensures.limits))

@@ -1,7 +1,11 @@
-use Rattle.std.proofs.Common.{◌≡◌, take, map}
+use Rattle.std.proofs.Common.{◌≡◌, ◌≤◌, drop, length, map}
 use Rattle.kalah_solve.specs.Solver.MoveValues.{move_value}
 use Rattle.kalah_solve.proofs.solver.Solver.values.Given as goal
 
--- the values of the moves so far
+-- the values of the moves from place i on
 abbrev pub invariant-loop-i : goal.invariant-loop-i
-invariant-loop-i g l = l.values ≡ map (move_value l.board) (take l.i l.moves)
+invariant-loop-i g l = record { done : l.values ≡ map (move_value l.board) (drop l.i l.moves); within : l.i ≤ length l.moves }
+
+-- the moves that are left
+abbrev pub decreases-loop-i : goal.decreases-loop-i
+decreases-loop-i g l = l.i
