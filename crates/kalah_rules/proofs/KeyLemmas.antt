@@ -538,25 +538,19 @@ packed_rows within own_is other_is m_is variant_is seeds_are = packed_as _ _ _ _
 -- ==== Houses from six cells a row
 
 -- the cells past the houses hold no seeds
-sum-shown : (m : ℕ) (cells : List ℕ) → padded (take m cells) ≡ cells → sum (take m cells) ≡ sum cells
-sum-shown m cells same = grind (arith, sum-padded)
+pub sum-shown : (m : ℕ) (cells : List ℕ) → length cells ≡ 6 → m ≤ 6 → All (λ x. x ≡ 0) (drop m cells) →
+    sum (take m cells) ≡ sum cells
+sum-shown m cells long few none = let same = padded_from_zeros m cells long few none in grind (arith, sum-padded)
 
--- the cells, packed
-pub packed_new : {m : ℕ} {own other : List ℕ} (rule : Rule) {own_number other_number variant seeds : ℕ} → length own ≡ 6 →
-    length other ≡ 6 → CanBeHouses m own other → own_number ≡ number_of own → other_number ≡ number_of other →
-    variant ≡ m + 8 * rule_bit rule → seeds ≡ sum own + sum other →
-    IsPacked (own_number + 2 ^ 30 * other_number) seeds variant
-    × (unpacked (own_number + 2 ^ 30 * other_number) variant ≡ houses_from m own other rule)
-packed_new {m} {own} {other} rule own_long other_long can own_is other_is variant_is seeds_are =
+-- cells whose last ones hold no seeds can be houses exactly if their first ones are within the limits
+pub can_be : {m : ℕ} {own other : List ℕ} (rule : Rule) → m ≤ 6 → length own ≡ 6 → length other ≡ 6 →
+    All (λ x. x ≡ 0) (drop m own) → All (λ x. x ≡ 0) (drop m other) →
+    IsWithinHouses (houses_from m own other rule) ↔ CanBeHouses m own other
+can_be {m} {own} {other} rule few own_long other_long own_past other_past =
     let own_shown = length-take-le m own (omega arith) in
     let other_shown = length-take-le m other (omega arith) in
-    let own_padded = padded_from_zeros m _ own_long can.at_most_six can.own_past in
-    let other_padded = padded_from_zeros m _ other_long can.at_most_six can.other_past in
-    let own_sum = sum-shown m _ own_padded in
-    let other_sum = sum-shown m _ other_padded in
-    let own_same = number_of-shown m _ own_padded in
-    let other_same = number_of-shown m _ other_padded in
-    let limits : IsWithinHouses (record { own = take m own; other = take m other; rule = rule }) = omega arith in
-    packed_as _ _ _ _ limits (omega arith)
-    (omega arith)
-    (omega arith)
+    let own_sum = sum-shown m _ own_long few own_past in
+    let other_sum = sum-shown m _ other_long few other_past in (
+      λ h. record { some_house = omega arith; at_most_six = few; own_past = own_past; other_past = other_past; few_seeds = omega arith },
+      λ h. record { some_house = omega arith; at_most_six = omega arith; same_side = omega arith; few_seeds = omega arith },
+    )

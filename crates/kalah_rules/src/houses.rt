@@ -13,10 +13,7 @@ pub(crate) mod sowings;
 
 use crate::houses::house::House;
 use crate::houses::house_row::HouseRow;
-use crate::houses::numbers::{
-    OTHER_ROW, RULE, SIDE, cells_of, is_empty_past, number_of, rule_of, seeds_at, total,
-    variant_number,
-};
+use crate::houses::numbers::{OTHER_ROW, RULE, SIDE, cells_of, rule_of, seeds_at, variant_number};
 use crate::limits::{MOST_HOUSES, MOST_SEEDS};
 use crate::moves::Moves;
 use crate::rule::Rule;
@@ -62,21 +59,12 @@ impl Houses {
         ensures valid { IsSome result ↔ CanBeHouses m own other }
         ensures value { IfSome result (λ a. a ≡ houses_from m own other rule) }
     {
-        if m < 1 || m > MOST_HOUSES {
+        if m > MOST_HOUSES {
             return None;
         }
-        if !is_empty_past(&own, m) || !is_empty_past(&other, m) {
-            return None;
-        }
-        let seeds = total(&own).saturating_add(total(&other));
-        if seeds > MOST_SEEDS {
-            return None;
-        }
-        Some(Houses {
-            rows: number_of(&own) + OTHER_ROW * number_of(&other),
-            seeds: seeds as u32,
-            variant: variant_number(m, rule),
-        })
+        let own = HouseRow::of_cells(&own, m)?;
+        let other = HouseRow::of_cells(&other, m)?;
+        Houses::of_rows(&own, &other, rule)
     }
 
     // Returns the houses of these two rows, or `None` if they differ in length, have no house, or hold more than 31 seeds together.

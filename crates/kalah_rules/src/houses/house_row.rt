@@ -1,5 +1,5 @@
 //! The houses of one side, put together one by one.
-ghost use Rattle.std.specs.Prelude.{◌≡◌, ◌+◌, ◌<◌, ◌≤◌, ◌^◌, ◌↔◌, [], ◌∷◌, ◌++◌, length, sum, IsTrue, MatchBool};
+ghost use Rattle.std.specs.Prelude.{◌≡◌, ◌+◌, ◌<◌, ◌≤◌, ◌^◌, ◌↔◌, [], ◌∷◌, ◌++◌, length, take, drop, sum, All, IsSome, IfSome, IsTrue, MatchBool};
 ghost use Rattle.kalah_rules.specs.Key.{number_of};
 ghost use Rattle.kalah_rules.specs.Limits.{most_houses, most_seeds};
 
@@ -55,6 +55,27 @@ impl HouseRow {
         self.seeds = total;
         self.count += 1;
         true
+    }
+
+    // Returns the first `m` of these cells as houses. Returns `None` if and only if a later cell isn't 0, or the cells hold more than 31
+    // seeds.
+    pub(super) fn of_cells(cells: &[u8; 6], m: u8) -> Option<HouseRow>
+        requires { m ≤ most_houses }
+        ensures valid { IsSome result ↔ (All (λ x. x ≡ 0) (drop m cells.now) × (sum cells.now ≤ most_seeds)) }
+        ensures value { IfSome result (λ row. row ≡ take m cells.now) }
+    {
+        let mut row = HouseRow::new();
+        for i in 0..m {
+            if !row.push(cells[i as usize]) {
+                return None;
+            }
+        }
+        for i in m..6 {
+            if cells[i as usize] > 0 {
+                return None;
+            }
+        }
+        Some(row)
     }
 
     /// Returns the number of houses, at most 6.

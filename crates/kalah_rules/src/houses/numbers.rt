@@ -15,35 +15,6 @@ pub(super) const SIDE: u64 = 0x1000_0000_0000_0000;
 // The bit of the rule in a key, bit 63.
 pub(super) const RULE: u64 = 0x8000_0000_0000_0000;
 
-// Returns the number of seeds of a row.
-pub(super) fn total(row: &[u8]) -> u16
-    requires { length row.now ≤ 6 }
-    ensures { result ≡ sum row.now }
-{
-    row.iter().map(|seeds| *seeds as u16).sum()
-}
-
-// Returns whether the cells after the first `m` hold no seeds.
-pub(super) fn is_empty_past(cells: &[u8; 6], m: u8) -> bool
-    requires { m ≤ 6 }
-    ensures { IsTrue result ↔ All (λ seeds. seeds ≡ 0) (drop m cells.now) }
-{
-    cells[m as usize..].iter().all(|seeds| *seeds == 0)
-}
-
-// Returns a row as a number.
-pub(super) fn number_of(cells: &[u8; 6]) -> u64
-    requires { sum cells.now ≤ 31 }
-    ensures value { result ≡ number_of cells.now }
-    ensures small { result < 2 ^ 30 }
-{
-    let mut number = 0u64;
-    for passed in 0..6usize {
-        number = 32 * number + cells[5 - passed] as u64;
-    }
-    number
-}
-
 // Returns the cells of the lowest thirty bits.
 pub(super) fn cells_of(number: u64) -> [u8; 6]
     ensures { result ≡ cells 6 number }

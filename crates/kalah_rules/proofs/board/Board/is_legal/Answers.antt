@@ -1,11 +1,12 @@
 use Rattle.std.proofs.Common.{◌∙◌, sym, arith, lt-ltb, ltb-true}
+use Rattle.std.proofs.lemmas.Bool.{false≢true}
 use Rattle.kalah_rules.proofs.PlayLemmas.{legal_holds, legal_going, holds_legal}
 use Rattle.kalah_rules.proofs.board.Board.is_legal.Goals as goal
 use Rattle.kalah_rules.proofs.board.Board.is_legal.Goals.{then-h-lt1-via-then-h-lt1, then-h-lt1-via-else-h-lt1+then-h-m, then-h-lt1-via-else-h-lt1+else-h-m+then-is_over}
 
 pub returns-then-h-lt1 : goal.returns-then-h-lt1
 returns-then-h-lt1 c = (
-  λ t. absurd cc,
+  λ t. absurd (false≢true t),
   λ has.
       let holds = legal_holds c.args.self.now c.args.h has in
       elim c.then-h-lt1.branch [

@@ -1,28 +1,11 @@
-use Rattle.std.proofs.Common.{◌≡◌, ◌+◌, ◌*◌, ◌^◌, ℕ, arith, rules}
-use Rattle.kalah_rules.specs.Cells.{houses_from}
-use Rattle.kalah_rules.specs.Packed.{IsPacked, unpacked}
-use Rattle.kalah_rules.proofs.KeyLemmas.{packed_new}
-use Rattle.kalah_rules.proofs.houses.Houses.new.Goals.{After-variant_number}
+use Rattle.std.proofs.Common.{arith, refl}
+use Rattle.kalah_rules.proofs.KeyLemmas.{can_be}
 use Rattle.kalah_rules.proofs.houses.Houses.new.Goals as goal
 
--- both rows, as they are put together
-abbrev rows_made : After-variant_number → ℕ
-rows_made c = c.number_of.result + 2 ^ 30 * c.number_of-2.result
-
-packed : (c : After-variant_number) → IsPacked (rows_made c) c.saturating_add-seeds.result c.variant_number.result
-    × (unpacked (rows_made c) c.variant_number.result ≡ houses_from c.args.m c.args.own c.args.other c.args.rule)
-packed c = packed_new _ (search rules) (search rules)
-    (record {
-      some_house = omega arith;
-      at_most_six = omega arith;
-      own_past = search rules;
-      other_past = search rules;
-      few_seeds = grind arith;
-    })
-    c.number_of.ensures.value c.number_of-2.ensures.value c.variant_number.ensures (grind arith)
-
-pub invariant_of-result : goal.invariant_of-result
-invariant_of-result c = (packed c).0
-
-pub returns-clause-value : goal.returns-clause-value
-returns-clause-value c = (packed c).1
+pub returns-clause-valid : goal.returns-clause-valid
+returns-clause-valid c =
+    let own = c.in_ok-own.ensures in
+    let other = c.in_ok-other.ensures in
+    let within = rw (own.value, other.value) at c.of_rows.ensures.valid in
+    let can = can_be c.args.rule (omega arith) (omega arith) (omega arith) (own.valid.0 refl).0 (other.valid.0 refl).0 in
+    (λ some. can.0 (within.0 some), λ houses. within.1 (can.1 houses))
