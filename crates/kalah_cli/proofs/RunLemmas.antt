@@ -50,6 +50,16 @@ use Rattle.kalah_cli.proofs.RequestLemmas.{moves_taken, taken_at, read_is_plain}
 
 -- ---- how any run ends, and one that answers a line
 
+-- a clean end is none, and neither is one with faults of lines
+pub clean_is_no_failure : Clean ≢ Failed
+clean_is_no_failure e = cc
+
+pub faults_are_no_failure : LineFaults ≢ Failed
+faults_are_no_failure e = cc
+
+pub faults_are_not_clean : LineFaults ≢ Clean
+faults_are_not_clean e = cc
+
 -- an error is a failure
 pub ended_err : (ended : Result ExitStatus Failure) → IsErr ended → ended_by ended ≡ Failed
 ended_err (Ok status) bad = cc

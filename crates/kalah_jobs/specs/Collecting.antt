@@ -1,4 +1,4 @@
-pub mod SideRead
+pub mod Found
 pub mod OutcomeJob
 pub mod CollectorState
 pub mod Refusals

@@ -66,8 +66,8 @@ ends_within (suc n) mine theirs m t p even few = elim (cases_Bool _) [
       ]
 ]
 
-pub strategies_play_a_game : StrategiesPlayAGame
-strategies_play_a_game mine theirs m t p even = ends_within (moves_left p) mine theirs m t p even (omega arith)
+pub games_are_played : StrategiesPlayAGame
+games_are_played mine theirs m t p even = ends_within (moves_left p) mine theirs m t p even (omega arith)
 
 -- each move leaves fewer, and the last position is over
 pub ends_in_time : {mine theirs : Policy} {p : Position} {houses : List ℕ} {final : Position} → IsWithin mine legal_houses
@@ -193,13 +193,13 @@ module _ (mine theirs : Strategy) (m : IsStrategy mine) (t : IsStrategy theirs) 
   -- what a strategy secures, the game brings
   pub ends_at_least : Secures mine p v → EndsWithAtLeast mine theirs p v
   ends_at_least secures =
-      let game = strategies_play_a_game mine _ m t p even in
+      let game = games_are_played mine _ m t p even in
       (game.0, game.1, game.2, secures _ game.1 (widened (same_policy _) (strategy_within t) even game.2))
 
   -- what a strategy of the opponent allows is the most that the game brings
   pub ends_at_most : HoldsTo theirs p v → EndsWithAtMost mine theirs p v
   ends_at_most holds =
-      let game = strategies_play_a_game mine _ m t p even in
+      let game = games_are_played mine _ m t p even in
       (game.0, game.1, game.2, holds _ game.1 (widened (strategy_within m) (same_policy _) even game.2))
 
 pub best_against_strategies : BestPlayAgainstStrategies

@@ -23,9 +23,9 @@ use Rattle.kalah_solve.specs.Marks.{cell, IsLastMark}
 use Rattle.kalah_solve.proofs.SearchLemmas.{cell_none, each_unmarked}
 use Rattle.kalah_solve.proofs.BoundsLemmas.{won_at_most, won_reached, won_of_houses}
 use Rattle.std.specs.Map.{lookup}
-use Rattle.lru.specs.LruCache.{LruCache, lru_cache, put_entries, promoted}
+use Rattle.lru.specs.LruCache.{LruCache, lru_cache, put_entries}
 use Rattle.std.specs.Cmp.{nat_eq_equiv}
-use Rattle.lru.proofs.CallerLemmas.{lookup-put_entries, Contains-lookup, Contains-promoted, Contains-put_entries}
+use Rattle.lru.proofs.CallerLemmas.{lookup-put_entries, Contains-lookup, Contains-put_entries}
 use Rattle.kalah_solve.specs.declared.bounds.interval.Interval.{Interval}
 use Rattle.kalah_solve.specs.Solver.Worth.{houses_worth}
 use Rattle.kalah_solve.specs.Bounds.Intervals.{Encloses}

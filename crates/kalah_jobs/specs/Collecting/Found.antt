@@ -2,12 +2,12 @@
 use Rattle.kalah_jobs.specs.declared.files.entry.Entry.{Entry}
 use Rattle.kalah_jobs.specs.declared.writing.answer.Answer.{Answer}
 use Rattle.kalah_jobs.specs.declared.writing.answer.Answer.TheVariants as answer
-use Rattle.kalah_jobs.specs.declared.collecting.outcome.SideRead.{SideRead}
-use Rattle.kalah_jobs.specs.declared.collecting.outcome.SideRead.TheVariants.{Best, Over, Values, Nothing}
+use Rattle.kalah_jobs.specs.declared.collecting.outcome.Found.{Found}
+use Rattle.kalah_jobs.specs.declared.collecting.outcome.Found.TheVariants.{Best, Over, Values, Nothing}
 use Rattle.kalah_jobs.specs.Writing.Answer.{answer_of}
 
 -- what a solver finds for an answer
-abbrev pub found_for : Answer → SideRead
+abbrev pub found_for : Answer → Found
 found_for (answer.Best margin house) = Best margin house
 found_for (answer.Over margin) = Over margin
 found_for (answer.Values values) = Values values
@@ -15,5 +15,5 @@ found_for (answer.Steps p) = Nothing
 found_for (answer.Fault fault) = Nothing
 
 -- what it finds for an entry
-abbrev pub found_of : Entry → SideRead
+abbrev pub found_of : Entry → Found
 found_of entry = found_for (answer_of entry)

@@ -1,8 +1,8 @@
 -- The fields of an outcome, from its offer.
 use Rattle.std.specs.Prelude.{◌≡◌}
 use Rattle.std.proofs.Common.{ap, sym}
-use Rattle.kalah_jobs.specs.declared.collecting.outcome.SideRead.{SideRead}
-use Rattle.kalah_jobs.specs.Collecting.SideRead.{found_of}
+use Rattle.kalah_jobs.specs.declared.collecting.outcome.Found.{Found}
+use Rattle.kalah_jobs.specs.Collecting.Found.{found_of}
 use Rattle.kalah_jobs.specs.declared.files.job.Job.{Job}
 use Rattle.kalah_jobs.specs.declared.collecting.outcome.Outcome.TheInside.{Inside}
 
@@ -17,4 +17,4 @@ outcome_of o = record { file = o.file; line = o.line; entry = o.entry; found = f
 -- what was found is determined by its entry, so its offer determines the outcome
 pub outcome_again : (o : Inside) → o.found ≡ found_of o.entry → outcome_of (job_of o) ≡ o
 outcome_again o h =
-    sym (ap (λ (f : SideRead). let same : Inside = record { file = o.file; line = o.line; entry = o.entry; found = f } in same) h)
+    sym (ap (λ (f : Found). let same : Inside = record { file = o.file; line = o.line; entry = o.entry; found = f } in same) h)

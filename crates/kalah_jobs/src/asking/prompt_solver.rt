@@ -3,7 +3,7 @@ ghost use Rattle.std.specs.Prelude.{◌≡◌, ◌↔◌, true};
 ghost use Rattle.kalah_jobs.specs.Asking.{TakesLong};
 ghost use Rattle.kalah_jobs.specs.Writing.Answer.{answer_of};
 
-use crate::collecting::outcome::SideRead;
+use crate::collecting::outcome::Found;
 use crate::files::entry::Entry;
 use crate::writing::answer::Answer;
 use crate::writing::sink::Sink;
@@ -39,6 +39,6 @@ impl<'a> PromptSolver<'a> {
         requires all_flushed { TakesLong entry.now → (O.state _out.now).is_flushed ≡ true }
         ensures { result ≡ answer_of entry.now }
     {
-        SideRead::of(entry, self.solver).answer(entry)
+        Found::of(entry, self.solver).answer(entry)
     }
 }

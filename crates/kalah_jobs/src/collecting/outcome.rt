@@ -3,7 +3,7 @@ ghost use Rattle.std.specs.Prelude.{◌≡◌, ◌<◌, slice_get, Some};
 ghost use Rattle.kalah_jobs.specs.Files.JobList.{job_list};
 ghost use Rattle.kalah_jobs.specs.Files.Jobs.{job_count};
 ghost use Rattle.kalah_jobs.specs.Writing.Answer.{answer_of};
-ghost use Rattle.kalah_jobs.specs.Collecting.SideRead.{found_of};
+ghost use Rattle.kalah_jobs.specs.Collecting.Found.{found_of};
 
 use crate::files::entry::Entry;
 use crate::files::jobs::Jobs;
@@ -13,7 +13,7 @@ use std::marker::Model;
 
 // What a solver finds for an entry. It holds no board, so that it is kept in registers.
 #[derive(Clone, Copy, Debug, PartialEq, Eq)]
-pub(crate) enum SideRead {
+pub(crate) enum Found {
     // The margin of best play, and the house that attains it.
     Best { margin: i32, house: u8 },
     // The margin of a game that is over.
@@ -24,23 +24,23 @@ pub(crate) enum SideRead {
     Nothing,
 }
 
-impl SideRead {
+impl Found {
     // Finds what the answer to an entry needs beside the entry.
     #[tactic(auto, unfolding(crate::specs::Writing::Answer::answer_of))]
     #[inline(always)]
-    pub(crate) fn of(entry: &Entry, solver: &mut Solver) -> SideRead
+    pub(crate) fn of(entry: &Entry, solver: &mut Solver) -> Found
         ensures { result ≡ found_of entry.now }
     {
         match entry {
             Entry::Position(board) => match solver.solve(board) {
-                Verdict::Best { margin, house } => SideRead::Best { margin, house },
-                Verdict::Over { margin } => SideRead::Over { margin },
+                Verdict::Best { margin, house } => Found::Best { margin, house },
+                Verdict::Over { margin } => Found::Over { margin },
             },
-            Entry::ValuesOf(board) | Entry::StepsOf(board) if board.is_over() => SideRead::Over {
+            Entry::ValuesOf(board) | Entry::StepsOf(board) if board.is_over() => Found::Over {
                 margin: board.returns(),
             },
-            Entry::ValuesOf(board) => SideRead::Values(solver.values(board)),
-            Entry::StepsOf(_) | Entry::Bad(_) => SideRead::Nothing,
+            Entry::ValuesOf(board) => Found::Values(solver.values(board)),
+            Entry::StepsOf(_) | Entry::Bad(_) => Found::Nothing,
         }
     }
 
@@ -52,10 +52,10 @@ impl SideRead {
         ensures { result ≡ answer_of entry.now }
     {
         match *self {
-            SideRead::Best { margin, house } => Answer::Best { margin, house },
-            SideRead::Over { margin } => Answer::Over { margin },
-            SideRead::Values(values) => Answer::Values(values),
-            SideRead::Nothing => match entry {
+            Found::Best { margin, house } => Answer::Best { margin, house },
+            Found::Over { margin } => Answer::Over { margin },
+            Found::Values(values) => Answer::Values(values),
+            Found::Nothing => match entry {
                 Entry::StepsOf(board) => Answer::Steps(*board),
                 Entry::Bad(fault) => Answer::Fault(*fault),
                 Entry::Position(_) | Entry::ValuesOf(_) => unreachable!(),
@@ -71,7 +71,7 @@ pub struct Outcome {
     file: u32,
     line: u32,
     entry: Entry,
-    found: SideRead,
+    found: Found,
 }
 
 impl Model for Outcome {
@@ -80,7 +80,7 @@ impl Model for Outcome {
 
     ghost Value = { Job };
 
-    ghost use Rattle.kalah_jobs.specs.Collecting.SideRead.{found_of};
+    ghost use Rattle.kalah_jobs.specs.Collecting.Found.{found_of};
     ghost use Rattle.kalah_jobs.specs.Collecting.OutcomeJob.{job_of, outcome_of, outcome_again};
 
     ghost view = { job_of };
@@ -98,7 +98,7 @@ impl Outcome {
     pub fn of(file: u32, line: u32, entry: Entry, solver: &mut Solver) -> Outcome
         ensures { result ≡ record { file = file; line = line; entry = entry } }
     {
-        let found = SideRead::of(&entry, solver);
+        let found = Found::of(&entry, solver);
         Outcome {
             file,
             line,
@@ -114,7 +114,7 @@ impl Outcome {
         ensures { slice_get (job_list jobs.now) n ≡ Some result }
     {
         let (file, line, entry) = jobs.find(n);
-        let found = SideRead::of(entry, solver);
+        let found = Found::of(entry, solver);
         Outcome {
             file,
             line,

@@ -1,4 +1,5 @@
-use Rattle.std.proofs.Common.{◌∙◌, ◌≡◌, ◌∷◌, ap, arith, codes, inl, inr, is_some, length, map, refl}
+use Rattle.std.proofs.Common.{[], ◌∙◌, ◌≡◌, ◌∷◌, ap, arith, codes, inl, inr, is_some, length, map, refl, sym}
+use Rattle.std.specs.Prelude.{unwrap_or}
 use Rattle.std.proofs.lemmas.List.{length-map}
 use Rattle.clap.specs.Words.{found_of, one_of, rows_of}
 use Rattle.clap.proofs.CallerLemmas.{some_of_text}
@@ -52,7 +53,7 @@ returns-clause-range c =
     let names = values_are (found_of c.args.found.now) (codes "file") c.get_strs.result c.unwrap.result _ c.get_strs.ensures
     c.unwrap.ensures (c.in_ok-to_vec.ensures.items_if_clones_equal (λ x y h. h)) in
     let file = given (codes "file") c.requires (takes_files c.args.question).1 refl in
-    let same : map (λ f. f.now) c.in_ok-to_vec.field-0.items ≡ file.value ∷ file.more = (let all = file.all in cc) in
+    let same : map (λ f. f.now) c.in_ok-to_vec.field-0.items ≡ file.value ∷ file.more = ap (λ o. unwrap_or o []) (sym names ∙ file.all) in
     let count : length (map (λ f. f.now) c.in_ok-to_vec.field-0.items) ≡ length c.in_ok-to_vec.field-0.items = simp length-map in
     let table : IsTableSize c.match-question.result = elim c.match-question.branch [
       | in-BestMove w ↦ rw w.result-is w.number_or-in-BestMove.ensures.range
