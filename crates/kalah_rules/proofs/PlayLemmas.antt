@@ -217,8 +217,10 @@ module _ (p : Position) (h : ℕ) (low : 1 ≤ h) (high : h ≤ side_length p) w
       (λ j j_low j_high ne. omega
       (arith, gain_kept k _ next (Own j) (j_low, j_high) (own_distance_apart _ h low high j i j_low j_high is_cell.0 is_cell.1 ne))))
       (omega (arith, gain_kept k _ next Store tt (λ e. own_from_store _ h low high i is_cell.0 is_cell.1 (sym e))))
-      (row_of_same _ _ _ (λ j j_low j_high. omega (arith,
-      gain_kept k _ next (Other j) (j_low, j_high) (λ e. own_from_other _ h low high i j is_cell.0 is_cell.1 j_low j_high (sym e)))))
+      (row_of_same _ _ _ (λ j j_low j_high. omega (
+        arith,
+        gain_kept k _ next (Other j) (j_low, j_high) (λ e. own_from_other _ h low high i j is_cell.0 is_cell.1 j_low j_high (sym e)),
+      )))
       refl refl
   sow_more k Store is_cell next = same_position
       (row_of_same _ _ _ (λ j j_low j_high. omega
