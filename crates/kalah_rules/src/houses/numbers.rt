@@ -1,6 +1,6 @@
 //! Rows of six cells, and rows of houses as numbers, with five bits for each house, house 1 lowest.
-ghost use Rattle.std.specs.Prelude.{◌≡◌, ◌+◌, ◌-◌, ◌*◌, ◌/◌, ◌%◌, ◌^◌, ◌<◌, ◌≤◌, ◌↔◌, length, sum, drop, IsTrue, All};
-ghost use Rattle.kalah_rules.specs.Key.{number_of, cells, rule_bit};
+ghost use Rattle.std.specs.Prelude.{◌≡◌, ◌+◌, ◌-◌, ◌*◌, ◌/◌, ◌%◌, ◌^◌, ◌<◌, ◌≤◌};
+ghost use Rattle.kalah_rules.specs.Key.{cells, rule_bit};
 ghost use Rattle.kalah_rules.specs.Packed.{ones, ones_up_to};
 
 use crate::houses::house::House;
