@@ -1,4 +1,4 @@
-//! Reads whole files and the standard input.
+//! Reads whole files.
 ghost use Rattle.std.specs.Prelude.{◌≡◌, ◌≢◌, ◌<◌, ◌≤◌, All, IfErr, IfOk, IfSome, IsErrOf, OnOk, length, map, vec_len};
 ghost use Rattle.std.specs.Io.KnownBytes.{Consumes, IsAtEnd};
 ghost use Rattle.kalah_jobs.specs.Limits.{most_file_bytes};

@@ -21,7 +21,7 @@ use Rattle.kalah_solve.specs.Solver.Verdict.{verdict_of, IsSmallBest, StatesBest
 use Rattle.kalah_solve.specs.declared.solver.Verdict.TheVariants.{Best, Over}
 use Rattle.kalah_solve.specs.declared.solver.Verdict.{Verdict}
 use Rattle.std.proofs.lemmas.List.Elements.{All-map, All-from_get_or, Contains-get_or}
-use Rattle.kalah_solve.specs.Solver.MoveValues.{StateValues, ValueIsWorthOfMove, WorthOfMoveIsOne, ValuesTellVerdict, move_value, values_of, IsMoveValue, digit_of, value_at, number_of, values_in, IsPacked}
+use Rattle.kalah_solve.specs.Solver.MoveValues.{StateValues, ValueIsWorthOfMove, WorthOfMoveIsOne, ValuesTellVerdict, move_value, values_of, IsMoveValue, digit_of, value_at, values_number, values_in, IsValuesNumber}
 use Rattle.kalah_solve.specs.declared.solver.move_values.MoveValue.{MoveValue}
 use Rattle.kalah_rules.proofs.PackedLemmas.{houses_within, is_over-swapped}
 use Rattle.kalah_solve.specs.Bounds.Intervals.{least_margin, most_margin, clamped}
@@ -525,9 +525,9 @@ pub values_some : (n k : ℕ) → 0 < k → values_in (suc n) k ≡ value_at (k 
 values_some n k some = grind arith
 
 -- the lowest digit of a packed number is that of a value, and the other digits are packed
-pub rest_packed : (n k : ℕ) → 0 < k → IsPacked (suc n) k → (1 ≤ k % 1567) × IsPacked n (k / 1567)
+pub rest_packed : (n k : ℕ) → 0 < k → IsValuesNumber (suc n) k → (1 ≤ k % 1567) × IsValuesNumber n (k / 1567)
 rest_packed n k some packed =
-    let is : digit_of (value_at (k % 1567)) + 1567 * number_of (values_in n (k / 1567)) ≡ k = rw (values_some n k some) at packed in
+    let is : digit_of (value_at (k % 1567)) + 1567 * values_number (values_in n (k / 1567)) ≡ k = rw (values_some n k some) at packed in
     elim (cases_eq (k % 1567) 0) [
       | inl none ↦
           let one : digit_of (value_at (k % 1567)) ≡ 1 = rw none refl in
@@ -538,7 +538,7 @@ rest_packed n k some packed =
     ]
 
 -- the digits past the last value are 0
-pub no_more : (n k : ℕ) → IsPacked n k → values_in (suc n) k ≡ values_in n k
+pub no_more : (n k : ℕ) → IsValuesNumber n k → values_in (suc n) k ≡ values_in n k
 no_more zero k packed = rw (← packed) refl
 no_more (suc n) k packed = elim (cases_eq k 0) [
   | inl none ↦ rw none refl
@@ -564,12 +564,12 @@ has_room (suc n) k few = elim (cases_eq k 0) [
 ]
 
 -- a packed number with no value is 0
-empty_packed : (n k : ℕ) → IsPacked n k → 0 < k → length (values_in n k) ≤ 0 → ⊥
+empty_packed : (n k : ℕ) → IsValuesNumber n k → 0 < k → length (values_in n k) ≤ 0 → ⊥
 empty_packed zero k packed some few = omega (arith, packed)
 empty_packed (suc n) k packed some few = omega (arith, ap length (values_some n k some))
 
 -- few values make a small number
-packed_small : (m n k : ℕ) → IsPacked n k → length (values_in n k) ≤ m → k < 1567 ^ m
+packed_small : (m n k : ℕ) → IsValuesNumber n k → length (values_in n k) ≤ m → k < 1567 ^ m
 packed_small zero n k packed few = elim (cases_eq k 0) [
   | inl none ↦ omega arith
   | inr other ↦ absurd (empty_packed n k packed (omega arith) (omega arith))
@@ -584,7 +584,7 @@ packed_small (suc m) (suc n) k packed few = elim (cases_eq k 0) [
 ]
 
 -- one value more, in front of fewer than six
-module _ (v : MoveValue) (k : ℕ) (small : IsMoveValue v) (packed : IsPacked 6 k) (room : length (values_in 6 k) < 6) where
+module _ (v : MoveValue) (k : ℕ) (small : IsMoveValue v) (packed : IsValuesNumber 6 k) (room : length (values_in 6 k) < 6) where
   pub values_prepended : values_in 6 (digit_of v + 1567 * k) ≡ v ∷ values_in 6 k
   values_prepended =
       let again = value_again v small in
@@ -592,7 +592,7 @@ module _ (v : MoveValue) (k : ℕ) (small : IsMoveValue v) (packed : IsPacked 6 
       let high : (digit_of v + 1567 * k) / 1567 ≡ k = omega arith in
       rw (values_some 5 (digit_of v + 1567 * k) (omega arith), low, high, again.2, has_room 5 k (omega arith)) refl
 
-  pub packed_prepended : IsPacked 6 (digit_of v + 1567 * k)
+  pub packed_prepended : IsValuesNumber 6 (digit_of v + 1567 * k)
   packed_prepended = rw values_prepended (omega arith)
 
   pub fits_prepended : digit_of v + 1567 * k < 2 ^ 64

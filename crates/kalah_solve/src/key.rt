@@ -1,4 +1,4 @@
-//! A distinct number for each value of houses, by which a table keeps them.
+//! The key of houses, a distinct number for each value of them, under the names that callers know.
 ghost use Rattle.std.specs.Prelude.{◌≡◌, ◌↔◌, IsSome, IfSome, Some};
 ghost use Rattle.kalah_rules.specs.Position.{HousesState, IsWithinHouses};
 ghost use Rattle.kalah_rules.specs.Key.{key_of, IsKey};

@@ -1,4 +1,4 @@
-//! The one sowing: moves on houses, by whole rows.
+//! Moves on houses, by whole rows.
 ghost use Rattle.std.specs.Prelude.{◌≡◌, ◌+◌, ◌-◌, ◌*◌, ◌<◌, ◌≤◌, ◌==◌, ◌&&◌, length, Contains, MatchBool};
 ghost use Rattle.kalah_rules.specs.Position.{storeless, seeds, IsWithinHouses};
 ghost use Rattle.kalah_rules.specs.Lap.{HoldsSeeds};

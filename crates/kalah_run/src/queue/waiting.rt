@@ -32,7 +32,7 @@ pub(crate) struct Waiters {
 }
 
 impl Waiters {
-    /// Makes an empty list of waiters.
+    /// Makes waiters of whom none has announced that it will sleep.
     pub(crate) fn new() -> Waiters {
         Waiters {
             announced: AtomicU64::new(0),

@@ -48,9 +48,9 @@ abbrev pub value_at : ℕ → MoveValue
 value_at d = record { house = (d - 1) / 261 + 1; value = pos ((d - 1) % 261) -ℤ pos 130 }
 
 -- values as a number, the digit of the first one lowest
-abbrev pub number_of : List MoveValue → ℕ
-number_of [] = 0
-number_of (v ∷ vs) = digit_of v + 1567 * number_of vs
+abbrev pub values_number : List MoveValue → ℕ
+values_number [] = 0
+values_number (v ∷ vs) = digit_of v + 1567 * values_number vs
 
 -- the values in the lowest n digits of a number
 abbrev pub values_in : ℕ → ℕ → List MoveValue
@@ -58,8 +58,8 @@ values_in zero k = []
 values_in (suc n) k = if k == 0 then [] else (value_at (k % 1567) ∷ values_in n (k / 1567))
 
 -- the number is that of at most n values
-abbrev pub IsPacked : ℕ → ℕ → Type 0
-IsPacked n k = number_of (values_in n k) ≡ k
+abbrev pub IsValuesNumber : ℕ → ℕ → Type 0
+IsValuesNumber n k = values_number (values_in n k) ≡ k
 
 -- ---- laws
 

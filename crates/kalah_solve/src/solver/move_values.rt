@@ -51,15 +51,15 @@ impl Model for MoveValues {
     ghost use Rattle.std.proofs.Common.{ap};
     ghost use Rattle.kalah_solve.specs.declared.solver.move_values.MoveValues.TheInside.{Inside};
     ghost use Rattle.kalah_solve.specs.declared.solver.move_values.MoveValue.{MoveValue};
-    ghost use Rattle.kalah_solve.specs.Solver.MoveValues.{number_of, values_in, IsPacked};
+    ghost use Rattle.kalah_solve.specs.Solver.MoveValues.{values_number, values_in, IsValuesNumber};
 
     ghost Value = { List MoveValue };
 
     ghost view = { λ values. values_in 6 values.number };
 
-    ghost invariant = { λ values. IsPacked 6 values.number };
+    ghost invariant = { λ values. IsValuesNumber 6 values.number };
 
-    ghost inverse = { λ xs. record { number = number_of xs } };
+    ghost inverse = { λ xs. record { number = values_number xs } };
 
     ghost inverse_ok = { λ values packed. ap (λ (n : ℕ). let same : Inside = record { number = n } in same) packed };
 }
