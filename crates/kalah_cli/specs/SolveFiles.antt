@@ -16,7 +16,7 @@ abbrev pub has_line_feed : List ℕ → Bool
 has_line_feed name = list_any (λ byte. byte == line_feed) name
 
 -- what a request about files does: there are bytes for files of these names, in order, and a prefix of their output, if this is asked of
--- their positions, was written, and nothing else was. Unless nothing was written, each file may give its bytes. Unless the program failed,
+-- their positions, was written, and nothing else was. Unless it failed without output, each file may give its bytes. Unless it failed,
 -- all of the output was written, no name has a line feed in it, and the status is clean exactly when no line of the files is a fault
 module _ {O : Type 0} (state : O → SinkState) (old new : O) (status : ExitStatus)
     (may_give : Source → List ℕ → Type 0) where

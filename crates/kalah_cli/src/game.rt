@@ -42,7 +42,8 @@ fn write_in_form<O: Sink>(form: Form, value: Option<i32>, house: u8, step: &Step
 }
 
 // Returns the next move of a game, with its value if values are shown: that of house `first`, if there is one, and otherwise the best. All
-// that leads to the board is flushed before a search. Returns `None` if the game is over, or the output has failed.
+// that leads to the board is flushed before a search. House `first` is returned without one if no values are shown; otherwise returns
+// `None` if the game is over, or the output has failed.
 fn next_move<O: Sink>(
     solver: &mut GameSolver<O>,
     board: &Board,

@@ -16,6 +16,7 @@ use Rattle.kalah_jobs.specs.Files.NamedBytes.{NamedBytes}
 use Rattle.kalah_jobs.specs.Files.Entry.{entry_to}
 use Rattle.kalah_jobs.specs.Writing.Answer.{answer_of, answer_texts, joined_text, in_one_line, place_text}
 use Rattle.kalah_jobs.specs.Writing.Output.{is_faulty, output_to, line_output}
+use Rattle.kalah_jobs.specs.declared.asking.prompt_solver.TheConstants.{QUICK_SEEDS}
 use Rattle.kalah_jobs.specs.Writing.Sink.{SinkState}
 use Rattle.kalah_jobs.specs.Writing.Splitting.{EndsWithItsLine}
 
@@ -86,7 +87,7 @@ AreAnswered a after new = IsCutOff a.question a.before after a.old new
 
 -- the most seeds in houses of a position that is solved in no time
 abbrev pub quick_seeds : ℕ
-quick_seeds = 9
+quick_seeds = QUICK_SEEDS
 
 -- the position is to be solved, and has more seeds in houses
 abbrev pub TakesLong : Entry → Type 0

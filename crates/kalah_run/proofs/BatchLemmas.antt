@@ -71,7 +71,7 @@ drawn_jobs-more jobs numbers n o is =
 abbrev pub least_above : List ℕ → ℕ
 least_above numbers = fold (λ above x. x + 1) 0 numbers
 
--- a list of numbers below a limit has none above it
+-- one above the last of numbers below a limit is at most the limit
 none_above : (numbers : List ℕ) (first limit : ℕ) → first ≤ limit → All (λ x. x < limit) numbers
     → fold (λ above x. x + 1) first numbers ≤ limit
 none_above [] first limit low below = low
@@ -92,7 +92,7 @@ less_left numbers more number total is above below =
 pub since_none : (begun : SinkState) → WasGivenSince begun begun []
 since_none begun = record { start = start_none begun.written []; whole = λ sound. Appends-nil begun.written }
 
--- it has failed, and what more there is is not written
+-- a sink that has failed writes nothing more
 since_failed : {begun out : SinkState} (bs cs : List ℕ) → WasGivenSince begun out bs → out.has_failed ≡ true
     → WasGivenSince begun out (bs ++ cs)
 since_failed {begun} {out} bs cs given broken = record {
@@ -100,7 +100,7 @@ since_failed {begun} {out} bs cs given broken = record {
   whole = λ sound. absurd (both_ways _ sound broken);
 }
 
--- it is given more, unless it has failed
+-- a sink is given more, unless it has failed
 pub since_more : {W : Type 0} {state : W → SinkState} {begun : SinkState} {old new : W} (bs cs : List ℕ)
     → WasGivenSince begun (state old) bs → WasGiven state old new cs → WasGivenSince begun (state new) (bs ++ cs)
 since_more {state = state} {begun} {old} {new} bs cs given more = by (state old).has_failed refl where
@@ -621,7 +621,7 @@ ready_to_run b {count} fewer puts some are new are_puts opened fits left all get
       room = record { empty = empty; passes = omega (arith, many, same, room); puts = omega (arith, many, same, opened.0, fits) };
     }
 
--- it has a pass as it had one
+-- the calling thread has a pass if it had one
 as_many_left : (before after : Option PassState) → rest_of after ≡ rest_of before
     → length (pass_in after) ≡ length (pass_in before)
 as_many_left None None same = refl
@@ -657,7 +657,7 @@ module _ {G : Type 0} {knows : G → ℕ → Bool} {shared : SharedWork G} {befo
     rw is (puts_after shared before after 0 run from),
   )
 
--- it has drawn nothing if it had not, unless the rest is left
+-- the calling thread has drawn nothing if it had not, unless the rest is left
 pub nothing_drawn : {desk : DeskState} {failed : Bool} {before after : Option PassState} → HasDrawnNothing before
     → DrawsOnlyTheRest desk failed before after → HasDrawnNothing after ⊎ IsLeft (rest_of before) failed
 nothing_drawn nothing draws = ⊎_elim (λ is. inl (subst HasDrawnNothing (sym is) nothing)) inr draws.same

@@ -15,7 +15,7 @@ use Rattle.kalah_run.specs.declared.batch.run_fault.RunFault.{RunFault}
 use Rattle.kalah_run.specs.declared.batch.run_fault.RunFault.TheVariants.{TooManyFiles, TooManyLines, OutOfMemory, NoWorker, Write}
 use Rattle.kalah_jobs.specs.declared.files.question.Question.{Question}
 
--- the result of a batch if its files have no jobs
+-- the fault of a batch whose jobs could not be made
 abbrev pub run_fault_of : JobsFault → RunFault
 run_fault_of jobs.TooManyFiles = TooManyFiles
 run_fault_of jobs.TooManyLines = TooManyLines

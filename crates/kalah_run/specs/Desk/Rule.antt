@@ -91,7 +91,7 @@ after_reclaiming_row view w = view
 
 -- ==== The rule of the desk, in plain words
 
--- Each number drawn so far is dealt once. The word counts these numbers and the spent passes, and is at most the total and the number of passes.
+-- Each number drawn so far is dealt once. The word counts these numbers and the spent passes, and is at most the total plus the number of passes.
 pub record CountsWhatItDeals (total passes : ℕ) (words : List ℕ) (rows : List DrawnRow) : Type 0 where
   pub drawn : ℕ
   pub deals : DealsEachOnce total drawn rows

@@ -1,4 +1,5 @@
-//! The calling thread's passes of a batch. No other module can use them, so what these calls require holds at each wait for an outcome.
+//! The calling thread's passes of a batch. Once a receiver has them no other module can use them, so what these calls require holds at
+//! each wait for an outcome.
 ghost use Rattle.std.specs.Prelude.{◌≡◌, ◌≤◌, ◌↔◌, true, IfNone, IfSome};
 ghost use Rattle.kalah_jobs.specs.Writing.Sink.{IsReady};
 ghost use Rattle.kalah_run.specs.Batch.Leaving.{rest_of, IsLeft, NothingIsLeft, DrawsOnlyTheRest};

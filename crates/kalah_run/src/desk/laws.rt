@@ -2,7 +2,7 @@
 ghost use Rattle.kalah_run.specs.Desk.Rule.{DeskIsLawful};
 
 /// A fact between any two steps of any threads at a desk. Each number below the count of those drawn stands in the row of one pass, and
-/// there once. No other stands in any. The desk's one word is at most the total and the number of passes.
+/// there once. No other stands in any. The desk's one word is at most the total plus the number of passes.
 pub fn desk_is_lawful()
     ensures { DeskIsLawful }
 {}
