@@ -14,7 +14,7 @@ pub enum Step {
 }
 
 /// The result of a move on houses, with the number of seeds that it brought to the mover's store.
-#[derive(Clone, Copy, Debug, PartialEq, Eq)]
+#[derive(Clone, Copy)]
 pub enum HousesStep {
     /// The game is over. The mover gets `own` seeds and the other player `other`, both with the sweep.
     Over { own: u8, other: u8 },

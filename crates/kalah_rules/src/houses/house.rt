@@ -4,7 +4,7 @@ ghost use Rattle.std.specs.Prelude.{◌≡◌, ◌-◌, ◌*◌, ◌≤◌};
 use std::marker::Model;
 
 /// A house of a row, 1 to 6. It is stored as the bit at which it begins in a row's number, which is what a move needs of it.
-#[derive(Clone, Copy, Debug)]
+#[derive(Clone, Copy)]
 pub struct House {
     bit: u8,
 }

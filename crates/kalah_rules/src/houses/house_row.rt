@@ -10,7 +10,7 @@ use std::marker::Model;
 
 /// The houses of one side, house 1 first: at most six, with at most 31 seeds together. They are stored as they stand in the key of
 /// a board, with their number and the number of their seeds.
-#[derive(Clone, Debug, Drop)]
+#[derive(Drop)]
 pub struct HouseRow {
     number: u64,
     seeds: u64,

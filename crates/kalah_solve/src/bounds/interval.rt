@@ -8,7 +8,7 @@ use kalah_rules::MOST_SEEDS;
 pub(crate) const MOST_MARGIN: i8 = MOST_SEEDS as i8;
 
 /// The numbers from `lo` to `hi`.
-#[derive(Clone, Copy, Debug, PartialEq, Eq)]
+#[derive(Clone, Copy)]
 pub(crate) struct Interval {
     /// The least number.
     pub(crate) lo: i8,
