@@ -1,4 +1,4 @@
--- The fields of an outcome, from its offer.
+-- The parts of an outcome, from its job.
 use Rattle.std.specs.Prelude.{◌≡◌}
 use Rattle.std.proofs.Common.{ap, sym}
 use Rattle.kalah_jobs.specs.declared.collecting.outcome.Found.{Found}
@@ -6,15 +6,10 @@ use Rattle.kalah_jobs.specs.Collecting.Found.{found_of}
 use Rattle.kalah_jobs.specs.declared.files.job.Job.{Job}
 use Rattle.kalah_jobs.specs.declared.collecting.outcome.Outcome.TheInside.{Inside}
 
--- the content of an outcome, seen from outside
-abbrev pub job_of : Inside → Job
-job_of o = record { file = o.file; line = o.line; entry = o.entry }
-
--- the one outcome that is seen as this offer
+-- the one outcome of a job
 abbrev pub outcome_of : Job → Inside
-outcome_of o = record { file = o.file; line = o.line; entry = o.entry; found = found_of o.entry }
+outcome_of job = record { job = job; found = found_of job.entry }
 
--- what was found is determined by its entry, so its offer determines the outcome
-pub outcome_again : (o : Inside) → o.found ≡ found_of o.entry → outcome_of (job_of o) ≡ o
-outcome_again o h =
-    sym (ap (λ (f : Found). let same : Inside = record { file = o.file; line = o.line; entry = o.entry; found = f } in same) h)
+-- what was found is determined by the entry, so the job determines the outcome
+pub outcome_again : (o : Inside) → o.found ≡ found_of o.job.entry → outcome_of o.job ≡ o
+outcome_again o found = sym (ap (λ (f : Found). let same : Inside = record { job = o.job; found = f } in same) found)

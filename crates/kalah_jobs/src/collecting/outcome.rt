@@ -6,13 +6,16 @@ ghost use Rattle.kalah_jobs.specs.Writing.Answer.{answer_of};
 ghost use Rattle.kalah_jobs.specs.Collecting.Found.{found_of};
 
 use crate::files::entry::Entry;
+use crate::files::job::Job;
 use crate::files::jobs::Jobs;
 use crate::writing::answer::Answer;
 use kalah_solve::{MoveValues, Solver, Verdict};
+use std::fmt;
+use std::fmt::Debug;
 use std::marker::Model;
 
 // What a solver finds for an entry. It holds no board, so that it is kept in registers.
-#[derive(Clone, Copy, Debug, PartialEq, Eq)]
+#[derive(Clone, Copy)]
 pub(crate) enum Found {
     // The margin of best play, and the house that attains it.
     Best { margin: i32, house: u8 },
@@ -66,11 +69,9 @@ impl Found {
 
 /// The answer to one line, with the file, the line and the line's entry. Its answer always belongs to
 /// its entry. File and line may be any numbers; a collector refuses an outcome that is none of its jobs.
-#[derive(Clone, Copy, Debug, PartialEq, Eq)]
+#[derive(Clone, Copy)]
 pub struct Outcome {
-    file: u32,
-    line: u32,
-    entry: Entry,
+    job: Job,
     found: Found,
 }
 
@@ -81,15 +82,42 @@ impl Model for Outcome {
     ghost Value = { Job };
 
     ghost use Rattle.kalah_jobs.specs.Collecting.Found.{found_of};
-    ghost use Rattle.kalah_jobs.specs.Collecting.OutcomeJob.{job_of, outcome_of, outcome_again};
+    ghost use Rattle.kalah_jobs.specs.Collecting.OutcomeJob.{outcome_of, outcome_again};
 
-    ghost view = { job_of };
+    ghost view = { λ o. o.job };
 
-    ghost invariant = { λ o. o.found ≡ found_of o.entry };
+    ghost invariant = { λ o. o.found ≡ found_of o.job.entry };
 
     ghost inverse = { outcome_of };
 
     ghost inverse_ok = { outcome_again };
+}
+
+// Outcomes of equal jobs are equal, since what was found is determined by the entry.
+impl PartialEq for Outcome {
+    ghost use Rattle.kalah_jobs.specs.contracts.files.job.JobPartialEq.TheImpl as job;
+    ghost use Rattle.kalah_jobs.specs.contracts.files.job.JobPartialEq.TheImpl.Laws as job_laws;
+
+    ghost eq = { (job.ghosts).eq };
+
+    ghost laws = { job_laws.laws-law };
+
+    fn eq(&self, other: &Outcome) -> bool {
+        self.job == other.job
+    }
+}
+
+impl Eq for Outcome {
+    ghost use Rattle.kalah_jobs.specs.contracts.files.job.JobEq.TheImpl.Laws.{laws-law};
+
+    ghost laws = { laws-law };
+}
+
+// An outcome is shown as its job.
+impl Debug for Outcome {
+    fn fmt<W: fmt::Write>(&self, f: &mut fmt::Formatter<W>) -> fmt::Result {
+        self.job.fmt(f)
+    }
 }
 
 impl Outcome {
@@ -99,12 +127,8 @@ impl Outcome {
         ensures { result ≡ record { file = file; line = line; entry = entry } }
     {
         let found = Found::of(&entry, solver);
-        Outcome {
-            file,
-            line,
-            entry,
-            found,
-        }
+        let job = Job { file, line, entry };
+        Outcome { job, found }
     }
 
     /// Answers job `n`, which must be below `total`, and returns its outcome: that of `of` for this job, which is not copied first.
@@ -115,39 +139,39 @@ impl Outcome {
     {
         let (file, line, entry) = jobs.find(n);
         let found = Found::of(entry, solver);
-        Outcome {
+        let job = Job {
             file,
             line,
             entry: *entry,
-            found,
-        }
+        };
+        Outcome { job, found }
     }
 
     /// Returns the number of the file, from 0 on.
     pub fn file(&self) -> u32
         ensures { result ≡ self.now.file }
     {
-        self.file
+        self.job.file
     }
 
     /// Returns the number of the line in its file, from 0 on.
     pub fn line(&self) -> u32
         ensures { result ≡ self.now.line }
     {
-        self.line
+        self.job.line
     }
 
     /// Returns the entry of the line.
     pub fn entry(&self) -> Entry
         ensures { result ≡ self.now.entry }
     {
-        self.entry
+        self.job.entry
     }
 
     /// Returns the answer to the line.
     pub fn answer(&self) -> Answer
         ensures { result ≡ answer_of self.now.entry }
     {
-        self.found.answer(&self.entry)
+        self.found.answer(&self.job.entry)
     }
 }
