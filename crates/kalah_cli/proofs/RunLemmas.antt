@@ -5,7 +5,7 @@ use Rattle.std.proofs.lemmas.Bool.{false_from_ne_true}
 use Rattle.kalah_rules.specs.Position.{Position}
 use Rattle.kalah_jobs.specs.Line.Line.{Reads}
 use Rattle.kalah_jobs.specs.Writing.Sink.{SinkState, WasGiven}
-use Rattle.kalah_jobs.proofs.LineLemmas.{reads_once}
+use Rattle.kalah_jobs.proofs.LineLemmas.{no_line_reads_twice}
 use Rattle.kalah_jobs.proofs.WritingLemmas.{given_flushed, start_none, start_then}
 use Rattle.kalah_cli.specs.Ends.{Ends, IsPrinted, IsUnread, Prints, ended_by}
 use Rattle.kalah_cli.specs.declared.failure.Failure.{Failure}
@@ -95,7 +95,7 @@ module _ {O : Type 0} (state : O → SinkState) {status : ExitStatus} where
           λ went. false_from_ne_true (state new).has_failed (λ failed. went (fails.0 failed)) in
           let prints : Prints state old new status (command_output command p) =
           record { start = printed.given.start; whole = λ went. (printed.given.whole (sound went)).1 } in
-          let is : (q : Position) → Reads line q → p ≡ q = λ q other. reads_once line p q reads other in (
+          let is : (q : Position) → Reads line q → p ≡ q = λ q other. no_line_reads_twice line p q reads other in (
             record {
               read = λ q other. (
                 no_fault,

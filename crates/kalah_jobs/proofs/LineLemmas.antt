@@ -1,5 +1,5 @@
 -- The text of a line: its grammar, how it is read, and how it is written.
-use Rattle.std.proofs.Common.{◌≡◌, ℕ, ◌+◌, ◌-◌, ◌<◌, ◌≤◌, inl, inr, true, List, [], ◌∷◌, ◌++◌, length, Some, refl, sym, ap, ap₂, subst, ◌∙◌, length-append, arith, zero, suc, pred, ◌==◌, Bool, cond, Option, None, append_assoc, eqb-true, Result, Ok, Err, ◌≢◌, ◌*◌, map, append-nil, lit<, ◌↔◌}
+use Rattle.std.proofs.Common.{◌≡◌, ℕ, ◌+◌, ◌-◌, ◌<◌, ◌≤◌, inl, inr, true, List, [], ◌∷◌, ◌++◌, length, Some, refl, sym, ap, ap₂, subst, ◌∙◌, length-append, arith, zero, suc, pred, ◌==◌, Bool, cond, Option, None, append_assoc, eqb-true, Result, Ok, Err, ◌≢◌, ◌*◌, map, append-nil, lit<}
 use Rattle.std.specs.Prelude.{decimal, ◌&&◌, nat_lt, ⊤, codes, sum, IfOk, IfErr}
 use Rattle.std.specs.Char.{is_ascii_digit, IsAsciiDigit}
 use Rattle.std.proofs.lemmas.Bool.{cases_lt, cases_Bool, lt-ltb, cond-true, cond-false, le-ltb, ne_eqb}
@@ -7,7 +7,7 @@ use Rattle.std.proofs.lemmas.Bool.Decides.{nat_tests, eqb_tells}
 use Rattle.std.proofs.lemmas.Option.{cond_some}
 use Rattle.std.proofs.lemmas.Fmt.{decimal_digit, decimal_step, length-decimal-le}
 use Rattle.kalah_jobs.specs.Line.Line.{IsNumber, comma, slash, AreHouses, IsSide, space, suffix_of, IsLineOf, without_cr, HasSidesInLimits, Reads, Holds, HasFault, side_text, line_text_of, carriage_return}
-use Rattle.kalah_jobs.specs.Line.Reading.{number_from, number_at, ◌>>=◌, SideRead, store_at, house_followed, side_from, side_at, rule_of, position_from, written_of, admitted, admitted_if_written, reading_of}
+use Rattle.kalah_jobs.specs.Line.Reading.{number_from, number_at, ◌>>=◌, SideRead, store_at, house_followed, side_from, side_at, rule_of, position_of, position_from, written_of, admitted, admitted_if_written, reading_of}
 use Rattle.std.proofs.lemmas.List.{nil_from_length}
 use Rattle.kalah_jobs.specs.Line.Side.{AreKept}
 use Rattle.kalah_jobs.specs.declared.line.side.Side.{Side}
@@ -16,6 +16,7 @@ use Rattle.kalah_rules.specs.declared.rule.Rule.{Rule}
 use Rattle.kalah_rules.specs.declared.rule.Rule.TheVariants.{Classic, EmptyCapture}
 use Rattle.kalah_rules.specs.Limits.{most_houses, most_seeds, most_in_store}
 use Rattle.kalah_jobs.specs.Line.LineFault.{order_of}
+use Rattle.kalah_jobs.specs.Line.LineLaws.{NoLineReadsTwice, EveryLineIsItsText, EveryTextIsReadBack, OnlyTheSuffixNamesTheRule}
 use Rattle.kalah_jobs.specs.Limits.{most_line_bytes}
 use Rattle.kalah_jobs.specs.declared.line.line_fault.LineFault.{LineFault}
 use Rattle.kalah_jobs.specs.declared.line.line_fault.LineFault.TheVariants.{Long, Empty, Shape, Houses, Seeds}
@@ -42,6 +43,7 @@ digits_written first (byte ∷ rest) digit = elim (cases_Bool (nat_lt 0 (first -
   | inr one ↦ rw one (record { text = first ∷ []; parts = refl; number = (digit, refl) })
 ]
 
+-- a number that is read is written at the front of the bytes
 pub number_is_written : (bytes : List ℕ) (found : ℕ × List ℕ) → number_at bytes ≡ Some found →
     WritesNumber bytes found.0 found.1
 number_is_written [] found e = absurd cc
@@ -55,27 +57,29 @@ abbrev pub EndsNumber : List ℕ → Type 0
 EndsNumber [] = ⊤
 EndsNumber (byte ∷ rest) = ¬ IsAsciiDigit byte
 
+-- a number that is written is read, if no digit follows
 pub number_is_read : (text : List ℕ) (n : ℕ) (rest : List ℕ) → IsNumber text n → EndsNumber rest →
     number_at (text ++ rest) ≡ Some (n, rest)
 number_is_read text n rest h ends = grind (arith, nat_tests)
 
+-- a text that writes a number isn't empty
 pub number_has_bytes : (text : List ℕ) (n : ℕ) → IsNumber text n → 0 < length text
 number_has_bytes text n h = grind arith
 
--- the bytes after a number are fewer
-pub number_shorter : (bytes : List ℕ) (found : ℕ × List ℕ) → number_at bytes ≡ Some found → length found.1 < length bytes
-number_shorter bytes found e =
+-- the rest after a number is shorter
+pub rest_is_shorter : (bytes : List ℕ) (found : ℕ × List ℕ) → number_at bytes ≡ Some found → length found.1 < length bytes
+rest_is_shorter bytes found e =
     let is = number_is_written bytes found e in
     omega (arith, ap length is.parts, length-append is.text found.1, number_has_bytes is.text found.0 is.number)
 
 -- ---- the text of a number
 
--- a number is written in its decimal digits
+-- a text that writes a number is its decimal digits
 pub number_text : (text : List ℕ) (n : ℕ) → IsNumber text n → text ≡ decimal n
 number_text text n h = grind (arith, decimal_digit, decimal_step)
 
-pub number_low : (text : List ℕ) (n : ℕ) → IsNumber text n → n ≤ 99
-number_low text n h = grind arith
+pub number_at_most_99 : (text : List ℕ) (n : ℕ) → IsNumber text n → n ≤ 99
+number_at_most_99 text n h = grind arith
 
 -- the decimal digits of a number of at most two write it
 pub decimal_is_number : (n : ℕ) → n ≤ 99 → IsNumber (decimal n) n
@@ -85,45 +89,60 @@ decimal_is_number n low = grind (arith, decimal_digit, decimal_step)
 
 -- ---- steps of a reading
 
--- the value of a step that succeeded
-pub bind_some : {A B : Type 0} (r : Option A) (f : A → Option B) (y : B) → (r >>= f) ≡ Some y → (x : A)
-    × ((r ≡ Some x) × (f x ≡ Some y))
-bind_some r f y e = grind arith
+-- a first step succeeds, and with its value a second one
+record BothSucceed {A B : Type 0} (step : Option A) (next : A → Option B) (result : B) : Type 0 where
+  value : A
+  first : step ≡ Some value
+  second : next value ≡ Some result
 
--- a test that passed
-pub test_some : {A : Type 0} (b : Bool) (r : Option A) (y : A) → cond b r None ≡ Some y → (b ≡ true) × (r ≡ Some y)
-test_some b r y e = grind arith
+-- if two steps succeed together, both do
+both_succeed : {A B : Type 0} (step : Option A) (next : A → Option B) (result : B) → (step >>= next) ≡ Some result →
+    BothSucceed step next result
+both_succeed None next result e = absurd cc
+both_succeed (Some value) next result e = record { value = value; first = refl; second = e }
+
+-- a step that stands under a test succeeds only if the test passes
+passes_and_succeeds : {A : Type 0} (test : Bool) (step : Option A) (result : A) → cond test step None ≡ Some result →
+    (test ≡ true) × (step ≡ Some result)
+passes_and_succeeds test step result e = grind arith
 
 -- ---- what is read is written
 
--- the bytes go on with more houses of the side that was found, its store, and what follows it
+-- the bytes go on with more houses of the side that was found, its store and the rest
 pub record WritesSide (houses bytes : List ℕ) (found : SideRead) : Type 0 where
   pub text : List ℕ
   pub more : List ℕ
-  pub parts : bytes ≡ text ++ found.2
-  pub all : found.0 ≡ houses ++ more
-  pub side : IsSide text more found.1
+  pub parts : bytes ≡ text ++ found.rest
+  pub all : found.houses ≡ houses ++ more
+  pub side : IsSide text more found.store
 
--- a house before others
-are_more : (text first rest : List ℕ) (n : ℕ) (more : List ℕ) → text ≡ first ++ comma ∷ rest → IsNumber first n →
-    AreHouses rest more → AreHouses text (n ∷ more)
-are_more text first rest n [] parts number others = absurd others
-are_more text first rest n (m ∷ more) parts number others = (first, (rest, (parts, number, others)))
+-- a house, a comma and other houses are houses
+house_before_others : (house_text others_text : List ℕ) (n : ℕ) (others : List ℕ) → IsNumber house_text n →
+    AreHouses others_text others → AreHouses (house_text ++ comma ∷ others_text) (n ∷ others)
+house_before_others house_text others_text n [] number written = absurd written
+house_before_others house_text others_text n (m ∷ others) number written = record {
+  house_text = house_text;
+  others_text = others_text;
+  parts = refl;
+  house_written = number;
+  others_written = written;
+}
 
 module _ {houses bytes : List ℕ} {n : ℕ} where
-  -- a store after a house
+  -- a house, a slash and a store write the end of a side
   store_written : {rest : List ℕ} {found : SideRead} → WritesNumber bytes n (slash ∷ rest) →
       store_at (houses ++ n ∷ []) rest ≡ Some found → WritesSide houses bytes found
   store_written {rest} {found} house e =
-      let read = bind_some (number_at rest) (λ store. Some (houses ++ n ∷ [], store.0, store.1)) found e in
-      let is : (houses ++ n ∷ [], read.0.0, read.0.1) ≡ found = cc read.1.1 in
-      let store = number_is_written rest read.0 read.1.0 in
-      subst (WritesSide houses bytes) is (record {
+      let with_store : ℕ × List ℕ → SideRead = λ store. record { houses = houses ++ n ∷ []; store = store.0; rest = store.1 } in
+      let read = both_succeed (number_at rest) (λ store. Some (with_store store)) found e in
+      let store = number_is_written rest read.value read.first in
+      let is : with_store read.value ≡ found = cc read.second in
+      rw (← is) (record {
         text = house.text ++ slash ∷ store.text;
         more = n ∷ [];
         parts =
             house.parts ∙ ap (λ (t : List ℕ). house.text ++ slash ∷ t) store.parts
-            ∙ sym (append_assoc house.text (slash ∷ store.text) read.0.1);
+            ∙ sym (append_assoc house.text (slash ∷ store.text) read.value.1);
         all = refl;
         side = record {
           houses_text = house.text;
@@ -134,7 +153,7 @@ module _ {houses bytes : List ℕ} {n : ℕ} where
         };
       })
 
-  -- more houses after a house
+  -- a house, a comma and the rest of a side write the rest of a side
   others_written : {rest : List ℕ} {found : SideRead} → WritesNumber bytes n (comma ∷ rest) →
       WritesSide (houses ++ n ∷ []) rest found → WritesSide houses bytes found
   others_written {rest} {found} house others = record {
@@ -142,7 +161,7 @@ module _ {houses bytes : List ℕ} {n : ℕ} where
     more = n ∷ others.more;
     parts =
         house.parts ∙ ap (λ (t : List ℕ). house.text ++ comma ∷ t) others.parts
-        ∙ sym (append_assoc house.text (comma ∷ others.text) found.2);
+        ∙ sym (append_assoc house.text (comma ∷ others.text) found.rest);
     all = others.all ∙ append_assoc houses (n ∷ []) others.more;
     side = record {
       houses_text = house.text ++ comma ∷ others.side.houses_text;
@@ -150,7 +169,8 @@ module _ {houses bytes : List ℕ} {n : ℕ} where
       parts =
           ap (λ (t : List ℕ). house.text ++ comma ∷ t) others.side.parts
           ∙ sym (append_assoc house.text (comma ∷ others.side.houses_text) (slash ∷ others.side.store_text));
-      houses_written = are_more _ house.text others.side.houses_text n others.more refl house.number others.side.houses_written;
+      houses_written =
+          house_before_others house.text others.side.houses_text n others.more house.number others.side.houses_written;
       store_written = others.side.store_written;
     };
   }
@@ -166,22 +186,24 @@ module _ {houses bytes : List ℕ} {n : ℕ} where
         let is : mark ≡ slash = eqb-true mark slash stored in
         store_written (subst (λ (m : ℕ). WritesNumber bytes n (m ∷ rest)) is house) (sym (cond-true (mark == slash) _ _ stored) ∙ e)
     | inr other ↦
-        let read = test_some (mark == comma) (side_from i (houses ++ n ∷ []) rest) found
+        let read = passes_and_succeeds (mark == comma) (side_from i (houses ++ n ∷ []) rest) found
         (sym (cond-false (mark == slash) _ _ other) ∙ e) in
         let is : mark ≡ comma = eqb-true mark comma read.0 in
         others_written (subst (λ (m : ℕ). WritesNumber bytes n (m ∷ rest)) is house) (further rest read.1)
   ]
 
+-- a side that is read from some byte on is written there
 side_from_written : (i : ℕ) (houses bytes : List ℕ) (found : SideRead) → side_from i houses bytes ≡ Some found →
     WritesSide houses bytes found
 side_from_written zero houses bytes found e = absurd cc
 side_from_written (suc i) houses bytes found e =
     let after = λ (house : ℕ × List ℕ).
     house_followed (store_at (houses ++ house.0 ∷ [])) (side_from i (houses ++ house.0 ∷ [])) house.1 in
-    let read = bind_some (number_at bytes) after found e in
-    house_written i read.0.1 found (number_is_written bytes read.0 read.1.0)
-    (λ next. side_from_written i (houses ++ read.0.0 ∷ []) next found) read.1.1
+    let read = both_succeed (number_at bytes) after found e in
+    house_written i read.value.1 found (number_is_written bytes read.value read.first)
+    (λ next. side_from_written i (houses ++ read.value.0 ∷ []) next found) read.second
 
+-- a side that is read is written at the front of the bytes
 pub side_is_written : (bytes : List ℕ) (found : SideRead) → side_at bytes ≡ Some found → WritesSide [] bytes found
 unfolding side_at
 side_is_written bytes found e = side_from_written (length bytes) [] bytes found e
@@ -190,32 +212,36 @@ side_is_written bytes found e = side_from_written (length bytes) [] bytes found 
 
 module _ (store_text : List ℕ) (store : ℕ) (following : List ℕ) (stored : IsNumber store_text store) (ends : EndsNumber following)
   where
+    -- houses and a store that are written are read, after the houses so far
     houses_are_read : (text more : List ℕ) → AreHouses text more → (i : ℕ) (houses : List ℕ) → length text ≤ i →
-        side_from i houses (text ++ slash ∷ (store_text ++ following)) ≡ Some (houses ++ more, store, following)
+        side_from i houses (text ++ slash ∷ (store_text ++ following))
+        ≡ Some (record { houses = houses ++ more; store = store; rest = following })
     houses_are_read text [] h i houses few = absurd h
     houses_are_read text (n ∷ more) h zero houses few = absurd (omega (arith, few, some_bytes text n more h))
       where
         some_bytes : (t : List ℕ) (m : ℕ) (others : List ℕ) → AreHouses t (m ∷ others) → 0 < length t
         some_bytes t m [] written = number_has_bytes t m written
         some_bytes t m (k ∷ others) written =
-            omega (arith, ap length written.1.1.0, length-append written.0 (comma ∷ written.1.0))
+            omega (arith, ap length written.parts, length-append written.house_text (comma ∷ written.others_text))
     houses_are_read text (n ∷ []) h (suc i) houses few =
         rw (
           number_is_read text n (slash ∷ (store_text ++ following)) h (λ digit. omega (arith, digit)),
           number_is_read store_text store following stored ends,
         ) refl
     houses_are_read text (n ∷ m ∷ more) h (suc i) houses few =
-        let rest = h.1.0 ++ slash ∷ (store_text ++ following) in
-        let cut : text ++ slash ∷ (store_text ++ following) ≡ h.0 ++ comma ∷ rest =
-        ap (λ (t : List ℕ). t ++ slash ∷ (store_text ++ following)) h.1.1.0
-        ∙ append_assoc h.0 (comma ∷ h.1.0) (slash ∷ (store_text ++ following)) in
-        let short : length h.1.0 ≤ i = omega (arith, few, ap length h.1.1.0, length-append h.0 (comma ∷ h.1.0)) in
-        rw (cut, number_is_read h.0 n (comma ∷ rest) h.1.1.1 (λ digit. omega (arith, digit)))
-        (houses_are_read h.1.0 (m ∷ more) h.1.1.2 i (houses ++ n ∷ []) short
-        ∙ ap (λ (all : List ℕ). Some (all, store, following)) (append_assoc houses (n ∷ []) (m ∷ more)))
+        let rest = h.others_text ++ slash ∷ (store_text ++ following) in
+        let cut : text ++ slash ∷ (store_text ++ following) ≡ h.house_text ++ comma ∷ rest =
+        ap (λ (t : List ℕ). t ++ slash ∷ (store_text ++ following)) h.parts
+        ∙ append_assoc h.house_text (comma ∷ h.others_text) (slash ∷ (store_text ++ following)) in
+        let short : length h.others_text ≤ i =
+        omega (arith, few, ap length h.parts, length-append h.house_text (comma ∷ h.others_text)) in
+        rw (cut, number_is_read h.house_text n (comma ∷ rest) h.house_written (λ digit. omega (arith, digit)))
+        (houses_are_read h.others_text (m ∷ more) h.others_written i (houses ++ n ∷ []) short
+        ∙ ap (λ (all : List ℕ). Some (record { houses = all; store = store; rest = following })) (append_assoc houses (n ∷ []) (m ∷ more)))
 
+-- a side that is written is read, if no digit follows
 pub side_is_read : (text houses : List ℕ) (store : ℕ) (following : List ℕ) → IsSide text houses store → EndsNumber following →
-    side_at (text ++ following) ≡ Some (houses, store, following)
+    side_at (text ++ following) ≡ Some (record { houses = houses; store = store; rest = following })
 unfolding side_at
 side_is_read text houses store following side ends =
     let parts : text ++ following ≡ side.houses_text ++ slash ∷ (side.store_text ++ following) =
@@ -223,13 +249,13 @@ side_is_read text houses store following side ends =
     rw parts (houses_are_read side.store_text store following side.store_written ends side.houses_text houses side.houses_written
     _ [] (omega (arith, length-append side.houses_text (slash ∷ (side.store_text ++ following)))))
 
--- the bytes after a side are fewer
-pub side_shorter : (bytes : List ℕ) {found : SideRead} → side_at bytes ≡ Some found → length found.2 ≤ length bytes
-side_shorter bytes {found} e =
+-- the rest after a side isn't longer
+pub rest_is_no_longer : (bytes : List ℕ) {found : SideRead} → side_at bytes ≡ Some found → length found.rest ≤ length bytes
+rest_is_no_longer bytes {found} e =
     let side = side_is_written bytes found e in
-    omega (arith, ap length side.parts, length-append side.text found.2)
+    omega (arith, ap length side.parts, length-append side.text found.rest)
 
--- there is a house
+-- a side has a house
 pub houses_are_some : (text houses : List ℕ) → AreHouses text houses → 1 ≤ length houses
 houses_are_some text [] h = absurd h
 houses_are_some text (n ∷ houses) h = omega arith
@@ -242,81 +268,86 @@ pub record IsTaking (bytes : List ℕ) (side : Side) (rest : List ℕ) : Type 0 
   pub steps : ℕ
   pub room : side.left_out + length rest ≤ length bytes
   pub enough : length rest ≤ steps
-  pub has : AreKept houses side.row side.left_out
+  pub are_kept : AreKept houses side.kept side.left_out
   pub goes_on : side_at bytes ≡ side_from steps houses rest
 
--- before the first house
-pub begins_taking : (bytes : List ℕ) (side : Side) → AreKept [] side.row side.left_out → side.left_out ≡ 0 →
+-- before the first house no house is kept
+pub begins_taking : (bytes : List ℕ) (side : Side) → AreKept [] side.kept side.left_out → side.left_out ≡ 0 →
     IsTaking bytes side bytes
 unfolding side_at
-begins_taking bytes side has none = record {
+begins_taking bytes side are_kept none = record {
   houses = [];
   steps = length bytes;
   room = omega (arith, none);
   enough = omega arith;
-  has = has;
+  are_kept = are_kept;
   goes_on = refl;
 }
 
+-- if no number follows, no side is read
 pub no_house : {bytes : List ℕ} {side : Side} {rest : List ℕ} → IsTaking bytes side rest → number_at rest ≡ None →
     side_at bytes ≡ None
 no_house so_far none = grind (arith, so_far.goes_on)
 
--- a number follows
+-- a number follows, the next house
 module _ {bytes : List ℕ} {side : Side} {rest : List ℕ} {n : ℕ} {after : List ℕ} (so_far : IsTaking bytes side rest)
     (house : number_at rest ≡ Some (n, after)) where
   abbrev houses : List ℕ
   houses = so_far.houses ++ n ∷ []
 
-  pub goes_on_after : side_at bytes ≡ house_followed (store_at houses) (side_from (pred so_far.steps) houses) after
+  -- the side goes on with what follows this house
+  goes_on_after : side_at bytes ≡ house_followed (store_at houses) (side_from (pred so_far.steps) houses) after
   goes_on_after =
-      let some = number_shorter rest (n, after) house in
+      let some = rest_is_shorter rest (n, after) house in
       grind (arith, some, so_far.goes_on, so_far.enough)
 
+  -- if nothing follows it, no side is read
   pub nothing_follows : length after ≡ 0 → side_at bytes ≡ None
   nothing_follows none =
       goes_on_after ∙ ap (house_followed (store_at houses) (side_from (pred so_far.steps) houses)) (nil_from_length after none)
 
+  -- if a slash and a number follow it, the side ends with that store
   pub store_follows : {mark : ℕ} {more following : List ℕ} {store : ℕ} → after ≡ mark ∷ more → mark ≡ slash →
-      number_at more ≡ Some (store, following) → side_at bytes ≡ Some (houses, store, following)
+      number_at more ≡ Some (store, following) → side_at bytes ≡ Some (record { houses = houses; store = store; rest = following })
   store_follows is slash_is stored = goes_on_after ∙ rw (is, slash_is, stored) refl
 
+  -- if a slash and no number follow it, no side is read
   pub no_store : {mark : ℕ} {more : List ℕ} → after ≡ mark ∷ more → mark ≡ slash → number_at more ≡ None
       → side_at bytes ≡ None
   no_store is slash_is none = goes_on_after ∙ rw (is, slash_is, none) refl
 
+  -- if a comma follows it, more houses are taken
   pub house_follows : {new : Side} {mark : ℕ} {more : List ℕ} → after ≡ mark ∷ more → mark ≡ comma →
-      AreKept houses new.row new.left_out → new.left_out ≤ side.left_out + 1 → IsTaking bytes new more
-  house_follows {new} {mark} {more} is comma_is has one = record {
+      AreKept houses new.kept new.left_out → new.left_out ≤ side.left_out + 1 → IsTaking bytes new more
+  house_follows {new} {mark} {more} is comma_is are_kept one = record {
     houses = houses;
     steps = pred so_far.steps;
     room = omega (arith, so_far.room, one, shorter, ap length is);
     enough = omega (arith, so_far.enough, shorter, ap length is);
-    has = has;
+    are_kept = are_kept;
     goes_on = goes_on_after ∙ rw (is, comma_is) refl;
   }
     where
       shorter : length after < length rest
-      shorter = number_shorter rest (n, after) house
+      shorter = rest_is_shorter rest (n, after) house
 
 -- ==== What writes a position, and what it is read as
 
 -- ---- the suffix that names the rule
 
+-- the suffix of a rule is read as that rule
 pub suffix_is_read : (rule : Rule) → rule_of (suffix_of rule) ≡ Some rule
 suffix_is_read rule = grind arith
 
+-- bytes that are read as a rule are its suffix
 suffix_is_written : (bytes : List ℕ) (rule : Rule) → rule_of bytes ≡ Some rule → bytes ≡ suffix_of rule
 suffix_is_written bytes rule e = grind (arith, nat_tests)
 
 -- ---- positions
 
-abbrev pub made : SideRead → SideRead → Rule → Position
-made own other rule = record { own = own.0; own_store = own.1; other = other.0; other_store = other.1; rule = rule }
-
 -- a side, a space, a side and a suffix write a line
-line_of_sides : {text rest : List ℕ} {own other : SideRead} {rule : Rule} → side_at text ≡ Some own → own.2 ≡ space ∷ rest →
-    side_at rest ≡ Some other → rule_of other.2 ≡ Some rule → IsLineOf text (made own other rule)
+line_of_sides : {text rest : List ℕ} {own other : SideRead} {rule : Rule} → side_at text ≡ Some own → own.rest ≡ space ∷ rest →
+    side_at rest ≡ Some other → rule_of other.rest ≡ Some rule → IsLineOf text (position_of own other rule)
 line_of_sides {text} {rest} {own} {other} {rule} own_read mark other_read rule_read =
     let first = side_is_written text own own_read in
     let second = side_is_written rest other other_read in
@@ -325,38 +356,38 @@ line_of_sides {text} {rest} {own} {other} {rule} own_read mark other_read rule_r
       other_text = second.text;
       parts =
           first.parts ∙ ap (λ (t : List ℕ). first.text ++ t) mark ∙ ap (λ (t : List ℕ). first.text ++ space ∷ t) second.parts
-          ∙ ap (λ (t : List ℕ). first.text ++ space ∷ (second.text ++ t)) (suffix_is_written other.2 rule rule_read)
+          ∙ ap (λ (t : List ℕ). first.text ++ space ∷ (second.text ++ t)) (suffix_is_written other.rest rule rule_read)
           ∙ sym (append_assoc first.text (space ∷ second.text) (suffix_of rule));
-      own_side = subst (λ (houses : List ℕ). IsSide first.text houses own.1) (sym first.all) first.side;
-      other_side = subst (λ (houses : List ℕ). IsSide second.text houses other.1) (sym second.all) second.side;
+      own_side = subst (λ (houses : List ℕ). IsSide first.text houses own.store) (sym first.all) first.side;
+      other_side = subst (λ (houses : List ℕ). IsSide second.text houses other.store) (sym second.all) second.side;
     }
 
 -- two sides with a space between them, and what follows, are read as the suffix is
 pub sides_are_read : (text rest : List ℕ) {own other : SideRead} {mark : ℕ} {read : Option Rule} → side_at text ≡ Some own →
-    own.2 ≡ mark ∷ rest → mark ≡ space → side_at rest ≡ Some other → rule_of other.2 ≡ read →
-    written_of text ≡ (read >>= λ rule. Some (made own other rule))
+    own.rest ≡ mark ∷ rest → mark ≡ space → side_at rest ≡ Some other → rule_of other.rest ≡ read →
+    written_of text ≡ (read >>= λ rule. Some (position_of own other rule))
 unfolding written_of
 sides_are_read text rest own_read mark is other_read rule_read = rw (own_read, mark, is, other_read, rule_read) refl
 
 -- what is read after the first side is a space, the other side and a suffix
-rest_is_written : (text : List ℕ) (houses : List ℕ) (store : ℕ) (rest : List ℕ) (p : Position) →
-    side_at text ≡ Some (houses, store, rest) → position_from houses store rest ≡ Some p → IsLineOf text p
-rest_is_written text houses store [] p own e = absurd cc
-rest_is_written text houses store (mark ∷ rest) p own e =
-    let with_rule = λ (other : SideRead). rule_of other.2 >>= λ rule. Some (made (houses, store, mark ∷ rest) other rule) in
-    let read = test_some (mark == space) (side_at rest >>= with_rule) p e in
-    let other = bind_some (side_at rest) with_rule p read.1 in
-    let rule = bind_some (rule_of other.0.2) (λ rule. Some (made (houses, store, mark ∷ rest) other.0 rule)) p other.1.1 in
-    let is : made (houses, store, mark ∷ rest) other.0 rule.0 ≡ p = cc rule.1.1 in
-    subst (IsLineOf text) is
-    (line_of_sides own (ap (λ (b : ℕ). b ∷ rest) (eqb-true mark space read.0)) other.1.0 rule.1.0)
+rest_is_written : (text : List ℕ) (own : SideRead) (rest : List ℕ) (p : Position) → side_at text ≡ Some own → own.rest ≡ rest →
+    position_from own rest ≡ Some p → IsLineOf text p
+rest_is_written text own [] p own_read is e = absurd cc
+rest_is_written text own (mark ∷ rest) p own_read is e =
+    let with_rule = λ (other : SideRead). rule_of other.rest >>= λ rule. Some (position_of own other rule) in
+    let read = passes_and_succeeds (mark == space) (side_at rest >>= with_rule) p e in
+    let other = both_succeed (side_at rest) with_rule p read.1 in
+    let rule = both_succeed (rule_of other.value.rest) (λ rule. Some (position_of own other.value rule)) p other.second in
+    let same : position_of own other.value rule.value ≡ p = cc rule.second in
+    subst (IsLineOf text) same
+    (line_of_sides own_read (is ∙ ap (λ (b : ℕ). b ∷ rest) (eqb-true mark space read.0)) other.first rule.first)
 
 -- what is read is written
 pub written_is_line : (text : List ℕ) (p : Position) → written_of text ≡ Some p → IsLineOf text p
 unfolding written_of
 written_is_line text p e =
-    let own = bind_some (side_at text) (λ (own : SideRead). position_from own.0 own.1 own.2) p e in
-    rest_is_written text own.0.0 own.0.1 own.0.2 p own.1.0 own.1.1
+    let own = both_succeed (side_at text) (λ (own : SideRead). position_from own own.rest) p e in
+    rest_is_written text own.value own.value.rest p own.first refl own.second
 
 -- what is written is read
 pub line_is_written : (text : List ℕ) (p : Position) → IsLineOf text p → written_of text ≡ Some p
@@ -372,10 +403,12 @@ line_is_written text p line =
       suffix_is_read p.rule,
     ) refl
 
+-- no bytes write no position
 pub empty_is_no_line : (p : Position) → ¬ IsLineOf [] p
 unfolding written_of side_at
 empty_is_no_line p line = absurd (cc (line_is_written [] p line))
 
+-- a line writes one position only
 pub one_position : (text : List ℕ) (p q : Position) → IsLineOf text p → IsLineOf text q → p ≡ q
 one_position text p q first second =
     let same : ◌≡◌ {A = Option Position} (Some p) (Some q) = sym (line_is_written text p first) ∙ line_is_written text q second in
@@ -390,6 +423,7 @@ IsReading line (Err fault) = HasFault line fault
 
 -- ---- every line is read, or has a fault
 
+-- no two faults have the same place
 same_order : (a b : LineFault) → order_of a ≡ order_of b → a ≡ b
 same_order a b same = grind arith
 
@@ -397,10 +431,11 @@ same_order a b same = grind arith
 abbrev NoneBefore : List ℕ → ℕ → Type 0
 NoneBefore text n = (earlier : LineFault) → order_of earlier < n → ¬ Holds earlier text
 
+-- no fault has a place before the first
 none_at_first : (text : List ℕ) → NoneBefore text 1
 none_at_first text earlier low = grind arith
 
--- nor does the one at it
+-- if the fault at this place doesn't hold either, none before the next place holds
 nor_this : {text : List ℕ} (fault : LineFault) → NoneBefore text (order_of fault) → ¬ Holds fault text →
     NoneBefore text (order_of fault + 1)
 nor_this {text} fault before not earlier low holds = elim (cases_lt (order_of earlier) (order_of fault)) [
@@ -408,15 +443,15 @@ nor_this {text} fault before not earlier low holds = elim (cases_lt (order_of ea
   | inr more ↦ not (subst (λ f. Holds f text) (same_order earlier fault (omega arith)) holds)
 ]
 
--- a line of few bytes that writes the position
 -- a line that writes a position isn't empty
 not_empty : (text : List ℕ) (p : Position) → IsLineOf text p → ¬ Holds Empty text
 not_empty text p form empty = empty_is_no_line p (subst (λ t. IsLineOf t p) empty form)
 
--- nor do its sides differ or have too many houses, if those of the position don't
+-- if the sides of the position are within the limits, those of the line are
 not_houses : (text : List ℕ) (p : Position) → IsLineOf text p → HasSidesInLimits p → ¬ Holds Houses text
 not_houses text p form sides (q, (other, wrong)) = wrong (subst HasSidesInLimits (one_position text p q form other) sides)
 
+-- a line of few bytes that writes the position is read as it, or has a fault of houses or seeds
 position_is_read : (line : List ℕ) (p : Position) → length (without_cr line) ≤ most_line_bytes → NoneBefore (without_cr line) 4 →
     IsLineOf (without_cr line) p → IsReading line (admitted p)
 position_is_read line p few none form = elim (eqb_tells (length p.other) (side_length p)) [
@@ -437,7 +472,7 @@ position_is_read line p few none form = elim (eqb_tells (length p.other) (side_l
   | inr other ↦ rw other.0 (record { holds = (p, (form, λ sides. other.1 sides.same_side)); first = none })
 ]
 
--- a line of few bytes that writes no position
+-- a line of few bytes that writes no position is empty, or has the fault of shape
 nothing_is_read : (line text : List ℕ) → without_cr line ≡ text → NoneBefore (without_cr line) 2 → written_of text ≡ None →
     IsReading line (admitted_if_written None text)
 nothing_is_read line [] is none e = record { holds = is; first = none }
@@ -451,7 +486,7 @@ nothing_is_read line (byte ∷ text) is none e =
       first = nor_this Empty none some;
     }
 
--- a line of few bytes
+-- a line of few bytes is read, or has its first fault
 few_are_read : (line : List ℕ) → length (without_cr line) ≤ most_line_bytes → (r : Option Position) →
     written_of (without_cr line) ≡ r → IsReading line (admitted_if_written r (without_cr line))
 few_are_read line few r e =
@@ -464,10 +499,12 @@ few_are_read line few r e =
           position_is_read line p few (nor_this Shape (nor_this Empty none (not_empty text p form)) (λ shape. shape p form)) form
     ]) e
 
+-- a line of too many bytes is read as too long
 pub long_is_read : (line : List ℕ) → most_line_bytes < length (without_cr line) → reading_of line ≡ Err Long
 unfolding reading_of
 long_is_read line long = rw (lt-ltb _ _ long) refl
 
+-- each line is read, or has its first fault
 pub is_reading : (line : List ℕ) → IsReading line (reading_of line)
 unfolding reading_of
 is_reading line = elim (cases_lt most_line_bytes (length (without_cr line))) [
@@ -478,9 +515,10 @@ is_reading line = elim (cases_lt most_line_bytes (length (without_cr line))) [
 -- ---- in one way only
 
 -- no line is read as two positions
-pub reads_once : (line : List ℕ) (p q : Position) → Reads line p → Reads line q → p ≡ q
-reads_once line p q first second = one_position (without_cr line) p q first.form second.form
+pub no_line_reads_twice : NoLineReadsTwice
+no_line_reads_twice line p q first second = one_position (without_cr line) p q first.form second.form
 
+-- a line that is read has no fault
 no_fault : (line : List ℕ) (p : Position) → Reads line p → (fault : LineFault) → ¬ Holds fault (without_cr line)
 no_fault line p reads Long long = omega (arith, reads.few_bytes, long)
 no_fault line p reads Empty empty = not_empty (without_cr line) p reads.form empty
@@ -489,16 +527,19 @@ no_fault line p reads Houses other = not_houses (without_cr line) p reads.form r
 no_fault line p reads Seeds (q, (form, many)) =
     omega (arith, ap seeds_in_houses (one_position (without_cr line) q p form reads.form), many, reads.few_seeds)
 
+-- no line has two first faults
 one_fault : (line : List ℕ) (a b : LineFault) → HasFault line a → HasFault line b → a ≡ b
 one_fault line a b first second =
     grind (arith, same_order a b, first.first b, second.first a, first.holds, second.holds)
 
+-- no line has two readings
 one_reading : (line : List ℕ) (r s : Result Position LineFault) → IsReading line r → IsReading line s → r ≡ s
-one_reading line (Ok p) (Ok q) first second = ap (λ (p : Position). Ok p) (reads_once line p q first second)
+one_reading line (Ok p) (Ok q) first second = ap (λ (p : Position). Ok p) (no_line_reads_twice line p q first second)
 one_reading line (Ok p) (Err fault) first second = absurd (no_fault line p first fault second.holds)
 one_reading line (Err fault) (Ok p) first second = absurd (no_fault line p second fault first.holds)
 one_reading line (Err a) (Err b) first second = ap (λ (f : LineFault). Err f) (one_fault line a b first second)
 
+-- what holds of the line is what it is read as
 pub only_reading : (line : List ℕ) (r : Result Position LineFault) → IsReading line r → reading_of line ≡ r
 only_reading line r is = one_reading line (reading_of line) r (is_reading line) is
 
@@ -516,10 +557,10 @@ without_cr-other [] last other = rw (ne_eqb last carriage_return other) refl
 without_cr-other (byte ∷ []) last other = ap (λ (t : List ℕ). byte ∷ t) (without_cr-other [] last other)
 without_cr-other (byte ∷ more ∷ text) last other = ap (λ (t : List ℕ). byte ∷ t) (without_cr-other (more ∷ text) last other)
 
--- what dropping a CR needs
+-- the lemmas for dropping a CR
 pub ruleset ends_of_lines = (without_cr-cr, without_cr-other)
 
--- only the end of a line is looked at
+-- the bytes before another byte stay
 pub without_cr-append : (text : List ℕ) (byte : ℕ) (rest : List ℕ) →
     without_cr (text ++ byte ∷ rest) ≡ text ++ without_cr (byte ∷ rest)
 without_cr-append [] byte rest = refl
@@ -527,6 +568,7 @@ without_cr-append (first ∷ []) byte rest = refl
 without_cr-append (first ∷ second ∷ text) byte rest =
     ap (λ (t : List ℕ). first ∷ t) (without_cr-append (second ∷ text) byte rest)
 
+-- a number doesn't end in a CR
 pub number_ends_without_cr : (byte : ℕ) (text : List ℕ) (n : ℕ) → IsNumber text n → without_cr (byte ∷ text) ≡ byte ∷ text
 number_ends_without_cr byte text n h = grind (arith, nat_tests)
 
@@ -534,23 +576,31 @@ number_ends_without_cr byte text n h = grind (arith, nat_tests)
 
 -- ---- what writes a position is its text
 
+-- a text that writes houses is theirs
 houses_text : (text houses : List ℕ) → AreHouses text houses → text ≡ join_with_byte comma (map decimal houses)
 houses_text text [] h = absurd h
 houses_text text (n ∷ []) h = number_text text n h
-houses_text text (n ∷ m ∷ houses) (first, (rest, (parts, number, written))) =
-    parts ∙ ap₂ (λ (a b : List ℕ). a ++ comma ∷ b) (number_text first n number) (houses_text rest (m ∷ houses) written)
+houses_text text (n ∷ m ∷ houses) h =
+    h.parts ∙ ap₂ (λ (a b : List ℕ). a ++ comma ∷ b) (number_text h.house_text n h.house_written)
+    (houses_text h.others_text (m ∷ houses) h.others_written)
 
-pub is_side_text : (text houses : List ℕ) (store : ℕ) → IsSide text houses store → text ≡ side_text houses store
+-- a text that writes a side is its text
+is_side_text : (text houses : List ℕ) (store : ℕ) → IsSide text houses store → text ≡ side_text houses store
 is_side_text text houses store side =
     side.parts ∙ ap₂ (λ (a b : List ℕ). a ++ slash ∷ b) (houses_text side.houses_text houses side.houses_written)
     (number_text side.store_text store side.store_written)
 
+-- a text that writes a position is its line
 pub is_line_text : (text : List ℕ) (p : Position) → IsLineOf text p → text ≡ line_text_of p
 unfolding line_text_of
 is_line_text text p line =
     let own = is_side_text line.own_text p.own p.own_store line.own_side in
     let other = is_side_text line.other_text p.other p.other_store line.other_side in
     line.parts ∙ ap₂ (λ (a b : List ℕ). a ++ space ∷ b ++ suffix_of p.rule) own other
+
+-- a line that is read is the text of its position, but for a CR at its end
+pub every_line_is_its_text : EveryLineIsItsText
+every_line_is_its_text line p reads = is_line_text (without_cr line) p reads.form
 
 -- what holds of the result of a reading
 pub record IsResult (line : List ℕ) (r : Result Position LineFault) : Type 0 where
@@ -559,15 +609,16 @@ pub record IsResult (line : List ℕ) (r : Result Position LineFault) : Type 0 w
   pub stores : IfOk r (λ p. (p.own_store ≤ most_in_store) × (p.other_store ≤ most_in_store))
   pub fault : IfErr r (λ fault. HasFault line fault)
 
+-- this holds of what each line is read as
 pub result_of_reading : (line : List ℕ) (r : Result Position LineFault) → IsReading line r → IsResult line r
 result_of_reading line (Ok p) is =
     let form = is.form in
     record {
       reads = is;
-      text = is_line_text (without_cr line) p form;
+      text = every_line_is_its_text line p is;
       stores = (
-        number_low form.own_side.store_text p.own_store form.own_side.store_written,
-        number_low form.other_side.store_text p.other_store form.other_side.store_written,
+        number_at_most_99 form.own_side.store_text p.own_store form.own_side.store_written,
+        number_at_most_99 form.other_side.store_text p.other_store form.other_side.store_written,
       );
       fault = tt;
     }
@@ -575,6 +626,7 @@ result_of_reading line (Err fault) is = record { reads = tt; text = tt; stores =
 
 -- ---- the text of a position writes it
 
+-- the text of houses writes them
 text_are_houses : (houses : List ℕ) → 1 ≤ length houses → sum houses ≤ 99 →
     AreHouses (join_with_byte comma (map decimal houses)) houses
 text_are_houses [] some few = absurd (omega (arith, some))
@@ -582,9 +634,11 @@ text_are_houses (n ∷ []) some few = decimal_is_number n (omega arith)
 text_are_houses (n ∷ m ∷ houses) some few =
     let all = sum_by-cons (λ (x : ℕ). x) n (m ∷ houses) in
     let rest = text_are_houses (m ∷ houses) (omega arith) (omega (arith, all)) in
-    (decimal n, (join_with_byte comma (map decimal (m ∷ houses)), (refl, decimal_is_number n (omega (arith, all)), rest)))
+    house_before_others (decimal n) (join_with_byte comma (map decimal (m ∷ houses))) n (m ∷ houses)
+    (decimal_is_number n (omega (arith, all))) rest
 
-pub text_is_side : (houses : List ℕ) (store : ℕ) → 1 ≤ length houses → sum houses ≤ 99 → store ≤ 99 →
+-- the text of a side writes it
+text_is_side : (houses : List ℕ) (store : ℕ) → 1 ≤ length houses → sum houses ≤ 99 → store ≤ 99 →
     IsSide (side_text houses store) houses store
 text_is_side houses store some short low = record {
   houses_text = join_with_byte comma (map decimal houses);
@@ -594,7 +648,8 @@ text_is_side houses store some short low = record {
   store_written = decimal_is_number store low;
 }
 
-pub text_is_line : (p : Position) → IsWithinLimits p → p.own_store ≤ 99 → p.other_store ≤ 99 → IsLineOf (line_text_of p) p
+-- the line of a position writes it
+text_is_line : (p : Position) → IsWithinLimits p → p.own_store ≤ 99 → p.other_store ≤ 99 → IsLineOf (line_text_of p) p
 unfolding line_text_of
 text_is_line p limits own_low other_low = record {
   own_text = side_text p.own p.own_store;
@@ -607,9 +662,11 @@ text_is_line p limits own_low other_low = record {
 
 -- ---- how long a text is
 
+-- a number of a line has at most two digits
 small_number_length : (n : ℕ) → n ≤ 99 → length (decimal n) ≤ 2
 small_number_length n low = length-decimal-le 2 n (lit< tt) (omega (arith, low)) (omega (arith, low))
 
+-- houses take at most three bytes each
 houses_text_length : (houses : List ℕ) → sum houses ≤ 99 → length (join_with_byte comma (map decimal houses)) ≤ 3 * length houses
 houses_text_length [] few = omega arith
 houses_text_length (n ∷ []) few = omega (arith, small_number_length n (omega arith))
@@ -619,6 +676,7 @@ houses_text_length (n ∷ m ∷ houses) few =
     let first = small_number_length n (omega (arith, all)) in
     omega (arith, first, rest, length-append (decimal n) (comma ∷ join_with_byte comma (map decimal (m ∷ houses))))
 
+-- a side takes at most 21 bytes
 side_text_length : (houses : List ℕ) (store : ℕ) → length houses ≤ 6 → sum houses ≤ 99 → store ≤ 99 →
     length (side_text houses store) ≤ 21
 side_text_length houses store few short low =
@@ -626,11 +684,13 @@ side_text_length houses store few short low =
     let last = small_number_length store low in
     omega (arith, few, own, last, length-append (join_with_byte comma (map decimal houses)) (slash ∷ decimal store))
 
+-- a suffix takes at most two bytes
 suffix_length : (rule : Rule) → length (suffix_of rule) ≤ 2
 suffix_length rule = grind arith
 
 -- ---- the text of a position is read back
 
+-- the line of a position isn't too long
 text_has_few_bytes : (p : Position) → IsWithinLimits p → p.own_store ≤ 99 → p.other_store ≤ 99 →
     length (line_text_of p) ≤ most_line_bytes
 unfolding line_text_of
@@ -647,45 +707,50 @@ text_has_few_bytes p limits own_low other_low =
       length-append own (space ∷ other),
     )
 
--- it does not end in a CR
+-- it doesn't end in a CR
 text_without_cr : (front houses : List ℕ) (store : ℕ) (rule : Rule) → store ≤ 99 →
     without_cr (front ++ space ∷ side_text houses store ++ suffix_of rule) ≡ front ++ space ∷ side_text houses store ++ suffix_of rule
 text_without_cr front houses store Classic low =
-    let row = join_with_byte comma (map decimal houses) in
+    let listed = join_with_byte comma (map decimal houses) in
     let last = number_ends_without_cr slash (decimal store) store (decimal_is_number store low) in
     ap without_cr (append-nil (front ++ space ∷ side_text houses store))
     ∙ without_cr-append front space (side_text houses store)
     ∙ ap (λ (t : List ℕ). front ++ t)
-    (without_cr-append (space ∷ row) slash (decimal store) ∙ ap (λ (t : List ℕ). (space ∷ row) ++ t) last)
+    (without_cr-append (space ∷ listed) slash (decimal store) ∙ ap (λ (t : List ℕ). (space ∷ listed) ++ t) last)
     ∙ sym (append-nil (front ++ space ∷ side_text houses store))
 text_without_cr front houses store EmptyCapture low = without_cr-append (front ++ space ∷ side_text houses store) space (codes "e")
 
-pub text_is_read_back : (p : Position) → IsWithinLimits p → p.own_store ≤ 99 → p.other_store ≤ 99 → Reads (line_text_of p) p
+-- the line of a position is read as it
+pub every_text_is_read_back : EveryTextIsReadBack
 unfolding line_text_of
-text_is_read_back p limits own_low other_low =
+every_text_is_read_back p limits own_low other_low =
     let same : without_cr (line_text_of p) ≡ line_text_of p =
     text_without_cr (side_text p.own p.own_store) p.other p.other_store p.rule other_low in
     record {
       few_bytes = rw same (text_has_few_bytes p limits own_low other_low);
-      form = subst (λ (t : List ℕ). IsLineOf t p) (sym same) (text_is_line p limits own_low other_low);
+      form = rw same (text_is_line p limits own_low other_low);
       sides = record { same_side = limits.same_side; at_most_six = limits.at_most_six };
       few_seeds = limits.few_seeds;
     }
 
 -- ==== Only the suffix of a line names the rule
 
+-- the last of the bytes, or this byte if there are none
 abbrev last_or : ℕ → List ℕ → ℕ
 last_or byte [] = byte
 last_or byte (first ∷ rest) = last_or first rest
 
+-- what stands before another byte doesn't matter
 last_or-append : (byte : ℕ) (front : List ℕ) (first : ℕ) (rest : List ℕ)
     → last_or byte (front ++ first ∷ rest) ≡ last_or first rest
 last_or-append byte [] first rest = refl
 last_or-append byte (other ∷ front) first rest = last_or-append other front first rest
 
+-- a number ends in a digit
 number_ends_in_digit : (byte : ℕ) (text : List ℕ) (n : ℕ) → IsNumber text n → last_or byte text ≤ 57
 number_ends_in_digit byte text n h = grind arith
 
+-- a side ends in a digit
 side_ends_in_digit : (byte : ℕ) (text houses : List ℕ) (store : ℕ) → IsSide text houses store → last_or byte text ≤ 57
 side_ends_in_digit byte text houses store side =
     let last : last_or byte text ≡ last_or slash side.store_text =
@@ -702,9 +767,9 @@ rule_of_end Classic text own other front parts digit ends =
     ∙ last_or-append 0 own space other in
     absurd (omega (arith, last, digit))
 
-pub suffix_names_rule : (line : List ℕ) (p : Position) → Reads line p →
-    ((p.rule ≡ EmptyCapture) ↔ ((front : List ℕ) × (without_cr line ≡ front ++ codes " e")))
-suffix_names_rule line p reads =
+-- a line is under the empty-capture rule if and only if it ends in ` e`
+pub only_the_suffix_names_the_rule : OnlyTheSuffixNamesTheRule
+only_the_suffix_names_the_rule line p reads =
     let form = reads.form in (
       λ is. (
         form.own_text ++ space ∷ form.other_text,

@@ -48,13 +48,19 @@ IsNumber (tens ∷ ones ∷ []) n = IsAsciiDigit tens × (tens ≢ zero_digit) �
     × (n ≡ 10 * (tens - zero_digit) + (ones - zero_digit))
 IsNumber (_ ∷ _ ∷ _ ∷ _) n = ⊥
 
+-- the text writes a house, a comma and others
+pub record HasHouseBefore (text : List ℕ) (house : ℕ) (AreOthers : List ℕ → Type 0) : Type 0 where
+  pub house_text : List ℕ
+  pub others_text : List ℕ
+  pub parts : text ≡ house_text ++ comma ∷ others_text
+  pub house_written : IsNumber house_text house
+  pub others_written : AreOthers others_text
+
 -- the text writes the houses: one number or more, with a comma between each two
 abbrev pub AreHouses : List ℕ → List ℕ → Type 0
 AreHouses text [] = ⊥
 AreHouses text (house ∷ []) = IsNumber text house
-AreHouses text (house ∷ other ∷ houses) =
-    (first : List ℕ)
-    × ((rest : List ℕ) × ((text ≡ first ++ comma ∷ rest) × IsNumber first house × AreHouses rest (other ∷ houses)))
+AreHouses text (house ∷ other ∷ houses) = HasHouseBefore text house (λ others. AreHouses others (other ∷ houses))
 
 -- the text writes a side: its houses, a slash and its store
 pub record IsSide (text : List ℕ) (houses : List ℕ) (store : ℕ) : Type 0 where

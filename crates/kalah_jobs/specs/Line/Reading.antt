@@ -26,15 +26,17 @@ abbrev pub number_at : List ℕ → Option (ℕ × List ℕ)
 number_at [] = None
 number_at (byte ∷ rest) = if is_ascii_digit byte then Some (number_from (byte - zero_digit) rest) else None
 
--- what a side is read as: its houses, its store and the bytes after it
-abbrev pub SideRead : Type 0
-SideRead = List ℕ × ℕ × List ℕ
+-- what a side is read as, and the bytes after it
+pub record SideRead : Type 0 where
+  pub houses : List ℕ
+  pub store : ℕ
+  pub rest : List ℕ
 
 -- the side of these houses whose store stands at the front of the bytes
 abbrev pub store_at : List ℕ → List ℕ → Option SideRead
 store_at houses bytes = do
   store ← number_at bytes
-  Some (houses, store.0, store.1)
+  Some (record { houses = houses; store = store.0; rest = store.1 })
 
 -- what follows a house: the store after a slash, or more houses after a comma
 abbrev pub house_followed : (List ℕ → Option SideRead) → (List ℕ → Option SideRead) → List ℕ → Option SideRead
@@ -60,19 +62,24 @@ rule_of (mark ∷ []) = None
 rule_of (mark ∷ byte ∷ []) = if mark == space && byte == 101 then Some EmptyCapture else None
 rule_of (_ ∷ _ ∷ _ ∷ _) = None
 
--- the position whose first side was read
-abbrev pub position_from : List ℕ → ℕ → List ℕ → Option Position
-position_from houses store [] = None
-position_from houses store (mark ∷ rest) = if mark == space then (do
+-- the position with these sides and this rule
+abbrev pub position_of : SideRead → SideRead → Rule → Position
+position_of own other rule =
+    record { own = own.houses; own_store = own.store; other = other.houses; other_store = other.store; rule = rule }
+
+-- the position whose first side was read, from the bytes after that side
+abbrev pub position_from : SideRead → List ℕ → Option Position
+position_from own [] = None
+position_from own (mark ∷ rest) = if mark == space then (do
   other ← side_at rest
-  rule ← rule_of other.2
-  Some (record { own = houses; own_store = store; other = other.0; other_store = other.1; rule = rule })) else None
+  rule ← rule_of other.rest
+  Some (position_of own other rule)) else None
 
 -- the position that the text writes, of any number of houses and seeds
 unfoldable pub written_of : List ℕ → Option Position
 written_of text = do
   own ← side_at text
-  position_from own.0 own.1 own.2
+  position_from own own.rest
 
 -- a position that is written, if it is within the limits
 abbrev pub admitted : Position → Result Position LineFault

@@ -4,7 +4,7 @@ ghost use Rattle.kalah_rules.specs.Limits.{most_in_store};
 ghost use Rattle.kalah_rules.specs.Position.{Position};
 ghost use Rattle.kalah_jobs.specs.Line.Line.{without_cr, Reads, HasFault, line_text_of};
 ghost use Rattle.kalah_jobs.specs.Line.Reading.{admitted, reading_of_text, reading_of, rule_of, written_of};
-ghost use Rattle.kalah_jobs.specs.Line.Side.{Show};
+ghost use Rattle.kalah_jobs.specs.Line.Side.{AreSidesOf};
 ghost use Rattle.kalah_jobs.specs.Limits.{most_line_bytes};
 
 #[cfg(test)]
@@ -42,10 +42,10 @@ fn read_rule(suffix: &[u8]) -> Option<Rule>
 // long, otherwise with `Seeds`.
 #[inline(always)]
 fn board_of(own: &Side, other: &Side, rule: Rule) -> Result<Board, LineFault>
-    ensures { (p : Position) → Show own.now other.now rule p → result ≡ admitted p }
+    ensures { (p : Position) → AreSidesOf p own.now other.now rule → result ≡ admitted p }
 {
     if own.left_out == 0 && other.left_out == 0 {
-        let board = Board::of_rows(&own.row, own.store, &other.row, other.store, rule);
+        let board = Board::of_rows(&own.kept, own.store, &other.kept, other.store, rule);
         if let Some(board) = board {
             return Ok(board);
         }

@@ -28,8 +28,8 @@ fn take_number(bytes: &[u8]) -> Option<(u8, &[u8])>
 /// A side of any number of houses.
 #[derive(Drop)]
 pub(crate) struct Side {
-    // The houses that have room in a row.
-    pub(crate) row: HouseRow,
+    // The houses that a board has room for.
+    pub(crate) kept: HouseRow,
     // The number of the others.
     pub(crate) left_out: u8,
     pub(crate) store: u8,
@@ -39,15 +39,15 @@ pub(crate) struct Side {
 impl Side {
     ghost use Rattle.std.specs.Prelude.{◌≡◌, ◌≤◌, ◌<◌, ◌+◌, ◌∷◌, [], ◌++◌, ℕ, List, length, IfSome, IfNone, Some, None};
     ghost use Rattle.kalah_jobs.specs.Line.Reading.{side_at};
-    ghost use Rattle.kalah_jobs.specs.Line.Side.{AreKept};
+    ghost use Rattle.kalah_jobs.specs.Line.Side.{AreKept, StartsWithSide};
 
     // Makes a side without houses.
     fn new() -> Side
-        ensures houses { AreKept [] result.row result.left_out }
+        ensures houses { AreKept [] result.kept result.left_out }
         ensures none { result.left_out ≡ 0 }
     {
         Side {
-            row: HouseRow::new(),
+            kept: HouseRow::new(),
             left_out: 0,
             store: 0,
         }
@@ -57,11 +57,11 @@ impl Side {
     #[inline(always)]
     fn push(&mut self, seeds: u8)
         requires { self.old.left_out < most_line_bytes }
-        ensures houses { (houses : List ℕ) → AreKept houses self.old.row self.old.left_out
-            → AreKept (houses ++ seeds ∷ []) self.new.row self.new.left_out }
+        ensures houses { (houses : List ℕ) → AreKept houses self.old.kept self.old.left_out
+            → AreKept (houses ++ seeds ∷ []) self.new.kept self.new.left_out }
         ensures one { self.new.left_out ≤ self.old.left_out + 1 }
     {
-        if !self.row.push(seeds) {
+        if !self.kept.push(seeds) {
             self.left_out += 1;
         }
     }
@@ -70,9 +70,7 @@ impl Side {
     #[inline(always)]
     pub(crate) fn take(bytes: &[u8]) -> Option<(Side, &[u8])>
         requires { length bytes.now ≤ most_line_bytes }
-        ensures read { IfSome result (λ found. (houses : List ℕ)
-            × (AreKept houses found.0.row found.0.left_out
-            × (side_at bytes.now ≡ Some (houses, found.0.store, found.1.now)))) }
+        ensures read { IfSome result (λ found. StartsWithSide bytes.now found.0 found.1.now) }
         ensures none { IfNone result (side_at bytes.now ≡ None) }
     {
         let mut side = Side::new();
@@ -95,8 +93,8 @@ impl Side {
 
     // Returns the number of houses.
     pub(crate) fn len(&self) -> u8
-        ensures { result ≡ length self.now.row + self.now.left_out }
+        ensures { result ≡ length self.now.kept + self.now.left_out }
     {
-        self.row.len() + self.left_out
+        self.kept.len() + self.left_out
     }
 }

@@ -1,5 +1,5 @@
-use Rattle.kalah_jobs.proofs.LineLemmas.{text_is_read_back}
+use Rattle.kalah_jobs.proofs.LineLemmas.{every_text_is_read_back}
 use Rattle.kalah_jobs.proofs.line.laws.every_text_is_read_back.Goals as goal
 
 pub returns : goal.returns
-returns c = text_is_read_back
+returns c = every_text_is_read_back

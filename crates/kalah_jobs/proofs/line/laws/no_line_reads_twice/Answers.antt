@@ -1,5 +1,5 @@
-use Rattle.kalah_jobs.proofs.LineLemmas.{reads_once}
+use Rattle.kalah_jobs.proofs.LineLemmas.{no_line_reads_twice}
 use Rattle.kalah_jobs.proofs.line.laws.no_line_reads_twice.Goals as goal
 
 pub returns : goal.returns
-returns c = reads_once
+returns c = no_line_reads_twice

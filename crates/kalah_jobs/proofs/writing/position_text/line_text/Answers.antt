@@ -1,7 +1,7 @@
 use Rattle.std.proofs.Common.{◌≡◌, ◌++◌, ℕ, List, append-nil, ap, subst, sym, string_bytes, ◌∙◌}
 use Rattle.std.proofs.lemmas.Result.{IfOk-weaker}
 use Rattle.kalah_jobs.specs.Line.Line.{Reads, line_text_of}
-use Rattle.kalah_jobs.proofs.LineLemmas.{text_is_read_back}
+use Rattle.kalah_jobs.proofs.LineLemmas.{every_text_is_read_back}
 use Rattle.kalah_jobs.proofs.writing.position_text.line_text.Goals as goal
 
 pub returns-clause-read_back : goal.returns-clause-read_back
@@ -12,5 +12,5 @@ returns-clause-read_back c =
     c.as_str.ensures ∙ c.prepend_board.ensures.line ∙ ap (λ (t : List ℕ). text ++ t) c.new-text.ensures ∙ append-nil text in
     IfOk-weaker c.from_str.result (λ t. string_bytes t ≡ c.as_str.result.now) (λ t. Reads (string_bytes t) board)
     (λ t e. subst (λ (u : List ℕ). Reads u board) (sym (e ∙ same))
-    (text_is_read_back board c.prepend_board.ensures.limits c.requires.own_low c.requires.other_low))
+    (every_text_is_read_back board c.prepend_board.ensures.limits c.requires.own_low c.requires.other_low))
     c.from_str.ensures.ok

@@ -22,19 +22,19 @@ returns-in_err-store-clause-none c =
 
 pub returns-then-mark-eq47-clause-read : goal.returns-then-mark-eq47-clause-read
 returns-then-mark-eq47-clause-read c =
-    let so_far = c.loop-seeds.invariant in (
-      so_far.houses ++ c.in_ok-seeds.seeds ∷ [],
-      (
-        c.push.ensures.houses so_far.houses so_far.has,
-        store_follows so_far c.in_ok-seeds.ensures.read c.in_ok-mark.ensures.cases.0 c.if-mark-eq47.true c.in_ok-store.ensures.read,
-      ),
-    )
+    let so_far = c.loop-seeds.invariant in
+    record {
+      houses = so_far.houses ++ c.in_ok-seeds.seeds ∷ [];
+      are_kept = c.push.ensures.houses so_far.houses so_far.are_kept;
+      read = store_follows so_far c.in_ok-seeds.ensures.read c.in_ok-mark.ensures.cases.0 c.if-mark-eq47.true
+          c.in_ok-store.ensures.read;
+    }
 
 pub loop-seeds-preserved : goal.loop-seeds-preserved
 loop-seeds-preserved c =
     let so_far = c.loop-seeds.invariant in
     house_follows so_far c.in_ok-seeds.ensures.read c.in_ok-mark.ensures.cases.0 c.if-mark-ne44.false
-    (c.push.ensures.houses so_far.houses so_far.has) c.push.ensures.one
+    (c.push.ensures.houses so_far.houses so_far.are_kept) c.push.ensures.one
 
 pub loop-seeds-smaller : goal.loop-seeds-smaller
 loop-seeds-smaller c = grind (arith, common_steps)
