@@ -1,7 +1,7 @@
 -- Lines that come as a stream: what is answered of them, and how far.
 use Rattle.kalah_rules.specs.Position as position
 use Rattle.std.proofs.Common.{◌≡◌, ◌≢◌, ◌∙◌, ℕ, zero, suc, ◌+◌, ◌≤◌, Bool, true, false, List, [], ◌∷◌, ◌++◌, length, take, inl, inr, refl, sym, ap, ap₂, arith, append-nil, append_assoc, Err, not, ◌||◌, ◌&&◌, subst}
-use Rattle.std.specs.Prelude.{IsErrOf, Result, Ok, Option}
+use Rattle.std.specs.Prelude.{Result, Ok, Option}
 use Rattle.std.specs.List.{flat_map, enumerate_from}
 use Rattle.std.proofs.lemmas.Bool.{cases_lt, cond_both}
 use Rattle.std.proofs.Math.Bool.{and-true}
@@ -11,9 +11,10 @@ use Rattle.std.proofs.lemmas.List.Folds.{list_any-append}
 use Rattle.kalah_rules.specs.Position.{is_over}
 use Rattle.kalah_jobs.specs.declared.files.question.Question.{Question}
 use Rattle.kalah_jobs.specs.declared.files.question.Question.TheVariants.{BestMove, Values, Steps}
-use Rattle.kalah_jobs.specs.declared.asking.ask_fault.AskFault.TheVariants.{Read, Write}
+use Rattle.kalah_jobs.specs.declared.asking.ask_fault.AskFault.{AskFault}
+use Rattle.kalah_jobs.specs.declared.asking.ask_fault.AskFault.TheVariants.{Write}
 use Rattle.kalah_jobs.specs.declared.line.line_fault.LineFault.{LineFault}
-use Rattle.kalah_jobs.specs.Asking.{kept_bytes, reply, last_reply, is_last_read, answers_to, are_all_read, AnswersAreThoseOfAFile, AreAnswered, Asking, IsAnswered, IsBegun, IsCutOff}
+use Rattle.kalah_jobs.specs.Asking.{kept_bytes, reply, last_reply, is_last_read, answers_to, are_all_read, AnswersAreThoseOfAFile, AnswersLines, AreAnswered, Asking, IsAnswered, IsBegun, IsCutOff}
 use Rattle.kalah_jobs.specs.Files.Entry.{entry_of_reading, entry_to}
 use Rattle.kalah_jobs.specs.declared.files.entry.Entry.TheVariants.{Bad}
 use Rattle.kalah_jobs.specs.Files.Lines.{line_feed, lines_of, HasNoLineFeed}
@@ -29,7 +30,7 @@ use Rattle.kalah_jobs.proofs.WritingLemmas.{files_split_between_lines, one_line_
 use Rattle.std.specs.Io.KnownBytes.{Appends, Consumes, IsAtEnd, Keeps}
 use Rattle.std.proofs.KnownBytes.{Appends-kept, Appends-nil, Appends-trans, Consumes-kept, Consumes-nil, Consumes-trans, Consumes-whole, Keeps-refl}
 use Rattle.std.proofs.lemmas.List.Elements.{All-nil, All-push}
-use Rattle.kalah_jobs.specs.Writing.Sink.{AppendsPrefix}
+use Rattle.kalah_jobs.specs.Writing.Sink.{AppendsPrefix, SinkState}
 
 -- ==== What is answered, line by line
 
@@ -331,12 +332,21 @@ module _ {question : Question} {before now old new : Option (List ℕ)} {line : 
     status = ap₂ (λ a b. a && b) u.status (read ∙ ap is_last_read u.kept) ∙ sym (last_read u.lines u.part u.ended u.unended);
   }
 
--- a failed write is no failed read, and a result is no fault
-pub written_is_not_read : {A : Type 0} → IsErrOf {T = Bool} (Err Write) Read → A
-written_is_not_read is = absurd (cc)
+-- what holds if a write failed
+pub write_failed : {question : Question} {before after : Option (List ℕ)} {old new : SinkState} → new.has_failed ≡ true →
+    IsBegun question before after old.written new.written → AnswersLines question before after old new (Err Write)
+write_failed has_failed begins = record {
+  answered = tt;
+  cut_off = λ is. absurd cc;
+  begins = begins;
+  failed = (λ _. refl, λ _. has_failed);
+  all_flushed = λ sound. absurd cc;
+}
 
-pub fine_is_no_fault : {A E : Type 0} {all_read : Bool} {fault : E} → IsErrOf (Ok all_read) fault → A
-fine_is_no_fault is = absurd (cc)
+-- what holds of the bytes that a prompt reader has left holds of those that its reader has left
+pub of_reader : {question : Question} {first last before after : Option (List ℕ)} {old new : SinkState} {result : Result Bool AskFault} →
+    first ≡ before → last ≡ after → AnswersLines question first last old new result → AnswersLines question before after old new result
+of_reader is same holds = rw (sym is, sym same) holds
 
 pub answered_so_far : {asking : Asking} {question : Question} {before now old new : Option (List ℕ)} {line : List ℕ} {all_read : Bool}
     → asking ≡ record { question = question; before = before; old = old } → Underway question before now old new line all_read

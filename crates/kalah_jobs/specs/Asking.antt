@@ -1,10 +1,12 @@
 -- What is written if lines come as a stream, and each is answered. A reader is seen as the bytes that it has left, and a
 -- sink as those that were written to it, before and after, if these are known.
-use Rattle.std.specs.Prelude.{◌≡◌, ◌≢◌, ℕ, ◌+◌, ◌<◌, ◌≤◌, List, [], ◌∷◌, ◌++◌, Bool, true, not, IfSome, Option, None, Some, length, take, map}
+use Rattle.std.specs.Prelude.{◌≡◌, ◌≢◌, ◌↔◌, ℕ, ◌+◌, ◌<◌, ◌≤◌, List, [], ◌∷◌, ◌++◌, Bool, true, false, not, IfSome, IfOk, IsErrOf, Option, None, Some, Result, length, take, map}
 use Rattle.std.specs.List.{flat_map, enumerate_from, join_with_byte, list_any}
 use Rattle.std.specs.Io.Buffered.{reader_remaining}
 use Rattle.std.specs.Io.KnownBytes.{Appends, Consumes}
 use Rattle.kalah_rules.specs.Position.{seeds_in_houses}
+use Rattle.kalah_jobs.specs.declared.asking.ask_fault.AskFault.{AskFault}
+use Rattle.kalah_jobs.specs.declared.asking.ask_fault.AskFault.TheVariants.{Read, Write}
 use Rattle.kalah_jobs.specs.declared.asking.prompt_reader.PromptReader.{PromptReader}
 use Rattle.kalah_jobs.specs.declared.files.entry.Entry.{Entry}
 use Rattle.kalah_jobs.specs.declared.files.entry.Entry.TheVariants.{Position, ValuesOf}
@@ -105,6 +107,19 @@ pub record IsBegun (question : Question) (before after old new : Option (List �
   pub taken : Consumes before after (lines ++ last)
   pub count : ℕ
   pub written : Appends old new (answers_to question lines ++ take count (answers_to question last))
+
+-- What is read of a reader, and written to a sink, if its lines are answered.
+pub record AnswersLines (question : Question) (before after : Option (List ℕ)) (old new : SinkState) (result : Result Bool AskFault)
+    : Type 0 where
+  -- If nothing fails: all was read, and the answers to all its lines were written, and nothing else was.
+  pub answered : IfOk result (λ all_read. IsAnswered question before after old.written new.written all_read)
+  -- If a read fails: all lines that had come were answered.
+  pub cut_off : IsErrOf result Read → IsCutOff question before after old.written new.written
+  -- In any case: a prefix of the answers was written, and at most one line was read that is not answered.
+  pub begins : IsBegun question before after old.written new.written
+  pub failed : new.has_failed ≡ true ↔ IsErrOf result Write
+  -- If no write failed, all that was written is flushed.
+  pub all_flushed : new.has_failed ≡ false → new.is_flushed ≡ true
 
 -- the texts of the answer to a line
 abbrev pub reply_texts : Question → List ℕ → List (List ℕ)

@@ -1,7 +1,7 @@
 //! Lines of a reader, answered as they come.
-ghost use Rattle.std.specs.Prelude.{◌≡◌, ◌↔◌, true, false, IfOk, IsErrOf};
+ghost use Rattle.std.specs.Prelude.{◌≡◌, false, IsErrOf};
 ghost use Rattle.std.specs.Io.Buffered.{reader_remaining};
-ghost use Rattle.kalah_jobs.specs.Asking.{IsAnswered, IsBegun, IsCutOff, asking_of, unread};
+ghost use Rattle.kalah_jobs.specs.Asking.{AnswersLines, asking_of, unread};
 
 use crate::asking::ask_fault::AskFault;
 use crate::asking::line_head::LineHead;
@@ -14,7 +14,7 @@ use crate::writing::sink::Sink;
 use kalah_solve::Solver;
 use std::io::{BufReader, Read};
 
-// Answers the lines of a reader as `answer_lines` does, with the same result.
+// Answers the lines of a prompt reader, with the result of `answer_lines`.
 #[tactic(auto, using(crate::proofs::AskingLemmas::answered_so_far))]
 fn answer_each<I: Read + Drop, O: Sink>(
     input: &mut PromptReader<'_, I, O>,
@@ -26,14 +26,8 @@ fn answer_each<I: Read + Drop, O: Sink>(
         ≡ record { question = question; before = unread I.remaining input.old; old = (O.state out.old).written } }
     requires sink { (O.state out.old).has_failed ≡ false }
     ensures same_reference { input.new.input.ghost_name ≡ input.old.input.ghost_name }
-    ensures answered { IfOk result (λ all_read. IsAnswered question (unread I.remaining input.old)
-        (unread I.remaining input.new) (O.state out.old).written (O.state out.new).written all_read) }
-    ensures cut_off { IsErrOf result AskFault.Read → IsCutOff question (unread I.remaining input.old)
-        (unread I.remaining input.new) (O.state out.old).written (O.state out.new).written }
-    ensures begins { IsBegun question (unread I.remaining input.old) (unread I.remaining input.new)
-        (O.state out.old).written (O.state out.new).written }
-    ensures failed { (O.state out.new).has_failed ≡ true ↔ IsErrOf result AskFault.Write }
-    ensures all_flushed { (O.state out.new).has_failed ≡ false → (O.state out.new).is_flushed ≡ true }
+    ensures lines { AnswersLines question (unread I.remaining input.old) (unread I.remaining input.new) (O.state out.old)
+        (O.state out.new) result }
     // After a failed read the reader gives no further byte.
     ensures none_left { IsErrOf result AskFault.Read → input.new.budget ≡ 0 }
 {
@@ -74,19 +68,8 @@ pub fn answer_lines<I: Read + Drop, O: Sink>(
     out: &mut O,
 ) -> Result<bool, AskFault>
     requires { (O.state out.old).has_failed ≡ false }
-
-    // If nothing fails: all was read, and the answers to all its lines were written, and nothing else was.
-    ensures answered { IfOk result (λ all_read. IsAnswered question (reader_remaining I.remaining input.old)
-        (reader_remaining I.remaining input.new) (O.state out.old).written (O.state out.new).written all_read) }
-    // If a read fails: all lines that had come were answered.
-    ensures cut_off { IsErrOf result AskFault.Read → IsCutOff question (reader_remaining I.remaining input.old)
-        (reader_remaining I.remaining input.new) (O.state out.old).written (O.state out.new).written }
-    // In any case: a prefix of the answers was written, and at most one line was read that is not answered.
-    ensures begins { IsBegun question (reader_remaining I.remaining input.old) (reader_remaining I.remaining input.new)
-        (O.state out.old).written (O.state out.new).written }
-    ensures failed { (O.state out.new).has_failed ≡ true ↔ IsErrOf result AskFault.Write }
-    // If no write failed, all that was written is flushed.
-    ensures all_flushed { (O.state out.new).has_failed ≡ false → (O.state out.new).is_flushed ≡ true }
+    ensures { AnswersLines question (reader_remaining I.remaining input.old) (reader_remaining I.remaining input.new)
+        (O.state out.old) (O.state out.new) result }
 {
     let mut reader = PromptReader::new(input, question, out);
     answer_each(&mut reader, question, &mut PromptSolver::new(solver), out)

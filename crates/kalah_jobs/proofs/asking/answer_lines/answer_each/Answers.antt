@@ -1,18 +1,18 @@
-use Rattle.std.proofs.lemmas.Grind.{common_steps}
-use Rattle.std.proofs.Common.{rules, ◌∙◌, refl, sym, arith}
-use Rattle.std.proofs.lemmas.Bool.{both_ways}
-use Rattle.kalah_jobs.proofs.AskingLemmas.{all_answered, begun_last, begun_line, begun_so_far, byte_read, cut_off, fine_is_no_fault, line_read, nothing_read, written_is_not_read}
+use Rattle.std.proofs.Common.{rules, ◌∙◌, refl, sym}
+use Rattle.kalah_jobs.proofs.AskingLemmas.{all_answered, begun_last, begun_line, begun_so_far, byte_read, cut_off, line_read, nothing_read, write_failed}
 use Rattle.kalah_jobs.proofs.asking.answer_lines.answer_each.Goals as goal
 
 pub loop-byte-init : goal.loop-byte-init
 loop-byte-init g c = (nothing_read _ _ _ _ c.new-line.ensures, c.requires.sink, refl, refl)
 
-pub returns-in_err-byte-clause-cut_off : goal.returns-in_err-byte-clause-cut_off
-returns-in_err-byte-clause-cut_off g c = λ _. cut_off c.loop-byte.invariant.0 c.in_err-byte.ensures.untaken c.in_err-byte.ensures.keeps
-
-pub returns-in_err-byte-clause-begins : goal.returns-in_err-byte-clause-begins
-returns-in_err-byte-clause-begins g c =
-    begun_so_far c.loop-byte.invariant.0 c.in_err-byte.ensures.untaken c.in_err-byte.ensures.keeps
+pub returns-in_err-byte-clause-lines : goal.returns-in_err-byte-clause-lines
+returns-in_err-byte-clause-lines g c = record {
+  answered = search rules;
+  cut_off = λ _. cut_off c.loop-byte.invariant.0 c.in_err-byte.ensures.untaken c.in_err-byte.ensures.keeps;
+  begins = begun_so_far c.loop-byte.invariant.0 c.in_err-byte.ensures.untaken c.in_err-byte.ensures.keeps;
+  failed = search rules;
+  all_flushed = search rules;
+}
 
 pub loop-byte-preserved-then-byte-ne-LINE_FEED : goal.loop-byte-preserved-then-byte-ne-LINE_FEED
 loop-byte-preserved-then-byte-ne-LINE_FEED g c =
@@ -44,44 +44,32 @@ returns-then-failed g c =
     let has_failed = sym c.failed.ensures ∙ c.if-failed.true in
     record {
       same_reference = c.in_ok-byte.ensures.same_reference ∙ c.loop-byte.invariant.3;
-      answered = tt;
-      cut_off = written_is_not_read;
-      begins = begun_line c.loop-byte.invariant.0 _ taken c.in_ok-byte.ensures.keeps c.write_reply-all_read.ensures.given.start;
-      failed = (λ _. refl, λ _. has_failed);
-      all_flushed = λ sound. absurd (both_ways _ sound has_failed);
-      none_left = written_is_not_read;
+      lines = write_failed has_failed
+          (begun_line c.loop-byte.invariant.0 _ taken c.in_ok-byte.ensures.keeps c.write_reply-all_read.ensures.given.start);
+      none_left = λ is. absurd cc;
     }
 
 pub returns-then-failed-2 : goal.returns-then-failed-2
 returns-then-failed-2 g c =
     let has_failed = sym c.failed-2.ensures ∙ c.if-failed-2.true in
+    let taken = rw c.in_default.is at c.in_ok-byte.ensures.taken in
     record {
       same_reference = c.in_ok-byte.ensures.same_reference ∙ c.loop-byte.invariant.3;
-      answered = tt;
-      cut_off = written_is_not_read;
-      begins = begun_last c.loop-byte.invariant.0 _ (rw c.in_default.is at c.in_ok-byte.ensures.taken)
-          c.in_ok-byte.ensures.keeps c.write_last_reply-all_read.ensures.given.start;
-      failed = (λ _. refl, λ _. has_failed);
-      all_flushed = λ sound. absurd (both_ways _ sound has_failed);
-      none_left = written_is_not_read;
+      lines = write_failed has_failed
+          (begun_last c.loop-byte.invariant.0 _ taken c.in_ok-byte.ensures.keeps c.write_last_reply-all_read.ensures.given.start);
+      none_left = λ is. absurd cc;
     }
 
-pub returns-clause-answered : goal.returns-clause-answered
-returns-clause-answered g c =
+pub returns-clause-lines : goal.returns-clause-lines
+returns-clause-lines g c =
+    let taken = rw c.in_default.is at c.in_ok-byte.ensures.taken in
+    let given = c.write_last_reply-all_read.ensures.given in
     let sound = sym c.failed-2.ensures ∙ c.if-failed-2.false in
-    all_answered c.loop-byte.invariant.0 _ (rw c.in_default.is at c.in_ok-byte.ensures.taken) (c.in_ok-byte.ensures.end c.in_default.is)
-    c.in_ok-byte.ensures.keeps (c.write_last_reply-all_read.ensures.given.whole sound).1 c.write_last_reply-all_read.ensures.read
-
-pub returns-clause-cut_off : goal.returns-clause-cut_off
-returns-clause-cut_off g c = fine_is_no_fault
-
-pub returns-clause-begins : goal.returns-clause-begins
-returns-clause-begins g c =
-    begun_last c.loop-byte.invariant.0 _ (rw c.in_default.is at c.in_ok-byte.ensures.taken) c.in_ok-byte.ensures.keeps
-    c.write_last_reply-all_read.ensures.given.start
-
-pub returns-clause-none_left : goal.returns-clause-none_left
-returns-clause-none_left g c = fine_is_no_fault
-
-pub loop-byte-smaller : goal.loop-byte-smaller
-loop-byte-smaller g c = grind (arith, common_steps)
+    record {
+      answered = all_answered c.loop-byte.invariant.0 _ taken (c.in_ok-byte.ensures.end c.in_default.is) c.in_ok-byte.ensures.keeps
+          (given.whole sound).1 c.write_last_reply-all_read.ensures.read;
+      cut_off = λ is. absurd cc;
+      begins = begun_last c.loop-byte.invariant.0 _ taken c.in_ok-byte.ensures.keeps given.start;
+      failed = search rules;
+      all_flushed = c.write_last_reply-all_read.ensures.all_flushed;
+    }
