@@ -284,11 +284,6 @@ begins_taking bytes side are_kept none = record {
   goes_on = refl;
 }
 
--- if no number follows, no side is read
-pub no_house : {bytes : List ℕ} {side : Side} {rest : List ℕ} → IsTaking bytes side rest → number_at rest ≡ None →
-    side_at bytes ≡ None
-no_house so_far none = grind (arith, so_far.goes_on)
-
 -- a number follows, the next house
 module _ {bytes : List ℕ} {side : Side} {rest : List ℕ} {n : ℕ} {after : List ℕ} (so_far : IsTaking bytes side rest)
     (house : number_at rest ≡ Some (n, after)) where
@@ -301,31 +296,21 @@ module _ {bytes : List ℕ} {side : Side} {rest : List ℕ} {n : ℕ} {after : L
       let some = rest_is_shorter rest (n, after) house in
       grind (arith, some, so_far.goes_on, so_far.enough)
 
-  -- if nothing follows it, no side is read
-  pub nothing_follows : length after ≡ 0 → side_at bytes ≡ None
-  nothing_follows none =
-      goes_on_after ∙ ap (house_followed (store_at houses) (side_from (pred so_far.steps) houses)) (nil_from_length after none)
-
   -- if a slash and a number follow it, the side ends with that store
-  pub store_follows : {mark : ℕ} {more following : List ℕ} {store : ℕ} → after ≡ mark ∷ more → mark ≡ slash →
-      number_at more ≡ Some (store, following) → side_at bytes ≡ Some (record { houses = houses; store = store; rest = following })
-  store_follows is slash_is stored = goes_on_after ∙ rw (is, slash_is, stored) refl
-
-  -- if a slash and no number follow it, no side is read
-  pub no_store : {mark : ℕ} {more : List ℕ} → after ≡ mark ∷ more → mark ≡ slash → number_at more ≡ None
-      → side_at bytes ≡ None
-  no_store is slash_is none = goes_on_after ∙ rw (is, slash_is, none) refl
+  pub store_follows : {more following : List ℕ} {store : ℕ} → after ≡ slash ∷ more → number_at more ≡ Some (store, following) →
+      side_at bytes ≡ Some (record { houses = houses; store = store; rest = following })
+  store_follows is stored = goes_on_after ∙ rw (is, stored) refl
 
   -- if a comma follows it, more houses are taken
-  pub house_follows : {new : Side} {mark : ℕ} {more : List ℕ} → after ≡ mark ∷ more → mark ≡ comma →
-      AreKept houses new.kept new.left_out → new.left_out ≤ side.left_out + 1 → IsTaking bytes new more
-  house_follows {new} {mark} {more} is comma_is are_kept one = record {
+  pub house_follows : {new : Side} {more : List ℕ} → after ≡ comma ∷ more → AreKept houses new.kept new.left_out →
+      new.left_out ≤ side.left_out + 1 → IsTaking bytes new more
+  house_follows {new} {more} is are_kept one = record {
     houses = houses;
     steps = pred so_far.steps;
     room = omega (arith, so_far.room, one, shorter, ap length is);
     enough = omega (arith, so_far.enough, shorter, ap length is);
     are_kept = are_kept;
-    goes_on = goes_on_after ∙ rw (is, comma_is) refl;
+    goes_on = goes_on_after ∙ rw is refl;
   }
     where
       shorter : length after < length rest
@@ -362,12 +347,12 @@ line_of_sides {text} {rest} {own} {other} {rule} own_read mark other_read rule_r
       other_side = subst (λ (houses : List ℕ). IsSide second.text houses other.store) (sym second.all) second.side;
     }
 
--- two sides with a space between them, and what follows, are read as the suffix is
-pub sides_are_read : (text rest : List ℕ) {own other : SideRead} {mark : ℕ} {read : Option Rule} → side_at text ≡ Some own →
-    own.rest ≡ mark ∷ rest → mark ≡ space → side_at rest ≡ Some other → rule_of other.rest ≡ read →
-    written_of text ≡ (read >>= λ rule. Some (position_of own other rule))
+-- two sides with a space between them, and a suffix, are read as their position
+pub sides_are_read : (text : List ℕ) {rest : List ℕ} {own other : SideRead} {rule : Rule} → side_at text ≡ Some own →
+    own.rest ≡ space ∷ rest → side_at rest ≡ Some other → rule_of other.rest ≡ Some rule →
+    written_of text ≡ Some (position_of own other rule)
 unfolding written_of
-sides_are_read text rest own_read mark is other_read rule_read = rw (own_read, mark, is, other_read, rule_read) refl
+sides_are_read text own_read is other_read rule_read = rw (own_read, is, other_read, rule_read) refl
 
 -- what is read after the first side is a space, the other side and a suffix
 rest_is_written : (text : List ℕ) (own : SideRead) (rest : List ℕ) (p : Position) → side_at text ≡ Some own → own.rest ≡ rest →

@@ -3,13 +3,14 @@ use Rattle.kalah_jobs.specs.declared.files.entry.Entry.{Entry}
 use Rattle.kalah_jobs.specs.declared.writing.answer.Answer.{Answer}
 use Rattle.kalah_jobs.specs.declared.writing.answer.Answer.TheVariants as answer
 use Rattle.kalah_jobs.specs.declared.collecting.outcome.Found.{Found}
-use Rattle.kalah_jobs.specs.declared.collecting.outcome.Found.TheVariants.{Best, Over, Values, Nothing}
+use Rattle.kalah_jobs.specs.declared.collecting.outcome.Found.TheVariants.{Verdict, Values, Nothing}
+use Rattle.kalah_solve.specs.declared.solver.Verdict.TheVariants.{Best, Over}
 use Rattle.kalah_jobs.specs.Writing.Answer.{answer_of}
 
 -- what a solver finds for an answer
 abbrev pub found_for : Answer → Found
-found_for (answer.Best margin house) = Best margin house
-found_for (answer.Over margin) = Over margin
+found_for (answer.Best margin house) = Verdict (Best margin house)
+found_for (answer.Over margin) = Verdict (Over margin)
 found_for (answer.Values values) = Values values
 found_for (answer.Steps p) = Nothing
 found_for (answer.Fault fault) = Nothing

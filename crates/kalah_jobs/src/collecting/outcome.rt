@@ -17,10 +17,8 @@ use std::marker::Model;
 // What a solver finds for an entry. It holds no board, so that it is kept in registers.
 #[derive(Clone, Copy)]
 pub(crate) enum Found {
-    // The margin of best play, and the house that attains it.
-    Best { margin: i32, house: u8 },
-    // The margin of a game that is over.
-    Over { margin: i32 },
+    // What the position is worth; of values and steps only that the game is over.
+    Verdict(Verdict),
     // The value of each move.
     Values(MoveValues),
     // Nothing: the entry alone has the answer.
@@ -35,13 +33,11 @@ impl Found {
         ensures { result ≡ found_of entry.now }
     {
         match entry {
-            Entry::Position(board) => match solver.solve(board) {
-                Verdict::Best { margin, house } => Found::Best { margin, house },
-                Verdict::Over { margin } => Found::Over { margin },
-            },
-            Entry::ValuesOf(board) | Entry::StepsOf(board) if board.is_over() => Found::Over {
-                margin: board.returns(),
-            },
+            Entry::Position(board) => Found::Verdict(solver.solve(board)),
+            Entry::ValuesOf(board) | Entry::StepsOf(board) if board.is_over() => {
+                let margin = board.returns();
+                Found::Verdict(Verdict::Over { margin })
+            }
             Entry::ValuesOf(board) => Found::Values(solver.values(board)),
             Entry::StepsOf(_) | Entry::Bad(_) => Found::Nothing,
         }
@@ -55,8 +51,8 @@ impl Found {
         ensures { result ≡ answer_of entry.now }
     {
         match *self {
-            Found::Best { margin, house } => Answer::Best { margin, house },
-            Found::Over { margin } => Answer::Over { margin },
+            Found::Verdict(Verdict::Best { margin, house }) => Answer::Best { margin, house },
+            Found::Verdict(Verdict::Over { margin }) => Answer::Over { margin },
             Found::Values(values) => Answer::Values(values),
             Found::Nothing => match entry {
                 Entry::StepsOf(board) => Answer::Steps(*board),

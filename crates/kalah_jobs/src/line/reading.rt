@@ -65,10 +65,9 @@ fn read_sides(text: &[u8]) -> Option<Result<Board, LineFault>>
     ensures none { IfNone result (written_of text.now ≡ None) }
 {
     let (own, rest) = Side::take(text)?;
-    let (mark, rest) = rest.split_first()?;
-    if *mark != b' ' {
+    let [b' ', rest @ ..] = rest else {
         return None;
-    }
+    };
     let (other, rest) = Side::take(rest)?;
     let rule = read_rule(rest)?;
     Some(board_of(&own, &other, rule))

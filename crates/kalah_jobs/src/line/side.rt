@@ -12,16 +12,12 @@ fn take_number(bytes: &[u8]) -> Option<(u8, &[u8])>
     ensures read { IfSome result (λ found. number_at bytes.now ≡ Some (found.0, found.1.now)) }
     ensures none { IfNone result (number_at bytes.now ≡ None) }
 {
-    let (first, rest) = bytes.split_first()?;
-    if !first.is_ascii_digit() {
-        return None;
-    }
-    let high = *first - b'0';
-    match rest.split_first() {
-        Some((ones, more)) if high > 0 && ones.is_ascii_digit() => {
-            Some((10 * high + (*ones - b'0'), more))
+    match bytes {
+        [tens @ b'1'..=b'9', ones @ b'0'..=b'9', rest @ ..] => {
+            Some((10 * (*tens - b'0') + (*ones - b'0'), rest))
         }
-        _ => Some((high, rest)),
+        [digit @ b'0'..=b'9', rest @ ..] => Some((*digit - b'0', rest)),
+        _ => None,
     }
 }
 
@@ -78,16 +74,15 @@ impl Side {
         loop {
             let (seeds, after) = take_number(rest)?;
             side.push(seeds);
-            let (mark, more) = after.split_first()?;
-            if *mark == b'/' {
-                let (store, after) = take_number(more)?;
-                side.store = store;
-                return Some((side, after));
+            match after {
+                [b'/', more @ ..] => {
+                    let (store, after) = take_number(more)?;
+                    side.store = store;
+                    return Some((side, after));
+                }
+                [b',', more @ ..] => rest = more,
+                _ => return None,
             }
-            if *mark != b',' {
-                return None;
-            }
-            rest = more;
         }
     }
 

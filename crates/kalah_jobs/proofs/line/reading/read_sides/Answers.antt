@@ -1,22 +1,19 @@
-use Rattle.std.proofs.Common.{length, refl, ap, sym, arith}
+use Rattle.std.proofs.Common.{◌≡◌, ◌∷◌, ◌-◌, arith, drop, length, refl, sym, take}
+use Rattle.std.proofs.lemmas.Grind.{common_steps}
 use Rattle.kalah_rules.specs.Position.{Position}
-use Rattle.kalah_jobs.proofs.LineLemmas.{sides_are_read, written_is_line, number_at_most_99, houses_are_some, rest_is_no_longer}
+use Rattle.kalah_jobs.specs.Line.Line.{space}
+use Rattle.kalah_jobs.proofs.LineLemmas.{houses_are_some, number_at_most_99, rest_is_no_longer, sides_are_read, written_is_line}
 use Rattle.kalah_jobs.proofs.line.reading.read_sides.Goals as goal
 
 pub take-requires-2 : goal.take-requires-2
-take-requires-2 c =
-    omega (arith, c.requires, rest_is_no_longer c.args.text.now c.in_ok-own.ensures.read.read, ap length c.in_ok-mark.ensures.cases.0)
-
-pub returns-in_err-rule-clause-none : goal.returns-in_err-rule-clause-none
-returns-in_err-rule-clause-none c =
-    rw c.from_residual-in_err-rule.ensures
-    (sides_are_read c.args.text.now c.in_ok-mark.rest.now c.in_ok-own.ensures.read.read c.in_ok-mark.ensures.cases.0
-    c.if-mark-ne32.false c.in_ok-other.ensures.read.read (sym c.in_err-rule.ensures))
+take-requires-2 c = grind (arith, common_steps, c.requires, rest_is_no_longer c.args.text.now c.in_ok-own.ensures.read.read)
 
 pub returns-clause-read : goal.returns-clause-read
 returns-clause-read c =
     let own = c.in_ok-own.ensures.read in
     let other = c.in_ok-other.ensures.read in
+    let rest = c.in_ok-own.rest.now in
+    let is : rest ≡ space ∷ take (length rest - 1) (drop 1 rest) = grind (arith, common_steps) in
     let p : Position = record {
       own = own.houses;
       own_store = c.in_ok-own.own.store;
@@ -24,9 +21,7 @@ returns-clause-read c =
       other_store = c.in_ok-other.other.store;
       rule = c.in_ok-rule.rule;
     } in
-    let written =
-    sides_are_read c.args.text.now c.in_ok-mark.rest.now own.read c.in_ok-mark.ensures.cases.0 c.if-mark-ne32.false other.read
-    (sym c.in_ok-rule.ensures) in
+    let written = sides_are_read c.args.text.now own.read is other.read (sym c.in_ok-rule.ensures) in
     let form = written_is_line c.args.text.now p written in (
       p,
       (
