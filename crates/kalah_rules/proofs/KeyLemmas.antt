@@ -2,8 +2,8 @@
 use Rattle.std.proofs.Common.{zero, suc, ◌≡◌, ℕ, ◌+◌, ◌-◌, ◌*◌, ◌/◌, ◌%◌, ◌^◌, ◌<◌, ◌≤◌, inl, inr, List, [], ◌∷◌, ◌++◌, length, get_or, arith, ap, sym, ◌∙◌, refl, add-one, subst, take, drop, replicate, rules, Option, Some, None, length-take-le, length-append, slice_set, sum, nat_lt, if◌then◌else◌, ◌==◌, nat_eq, All, IsSome, IfSome, ◌↔◌, length-set}
 use Rattle.std.proofs.lemmas.Nat.{pow-add}
 use Rattle.std.proofs.Math.Nat.{pow-succ', mul_assoc, div-div-eq-div-mul}
-use Rattle.std.proofs.lemmas.List.{map_push, length-drop, drop_more, length-replicate, get_or-replicate, take-append-drop}
-use Rattle.std.proofs.lemmas.List.Sums.{sum_by-cons, sum_by-append, sum_by-take-drop}
+use Rattle.std.proofs.lemmas.List.{map_push, length-drop, length-replicate, get_or-replicate, take-append-drop}
+use Rattle.std.proofs.lemmas.List.Sums.{sum_by-cons, sum_by-append}
 use Rattle.std.proofs.lemmas.Bool.{cases_eq}
 use Rattle.kalah_rules.specs.Position.{seeds, HousesState, IsWithinHouses, seeds_in_houses, storeless, without_seeds}
 use Rattle.kalah_rules.specs.Sowing.{row_of, lap_length, gain, own_distance, other_distance}
@@ -433,28 +433,6 @@ number_of-zero (x ∷ xs) e = let cons = sum_by-cons (λ (y : ℕ). y) x xs in l
 -- a row's number is 0 exactly when it has no seeds
 pub no_seeds : (xs : List ℕ) → nat_eq (number_of xs) 0 ≡ nat_eq (sum xs) 0
 no_seeds xs = grind (arith, number_of-zero, sum-zero)
-
--- the number of the last houses of a row, and its bound
-pub record IsRead (xs : List ℕ) (k number : ℕ) : Type 0 where
-  pub value : number ≡ number_of (drop k xs)
-  pub small : number < 2 ^ 30
-
--- one house more is read
-pub read_more : {xs : List ℕ} {number x : ℕ} (m passed : ℕ) → length xs ≤ 6 → sum xs ≤ 31 → m ≡ length xs
-    → passed < m →
-    IsRead xs (m - passed) number → x ≡ get_or xs (m - passed - 1) 0 → IsRead xs (m - (passed + 1)) (32 * number + x)
-read_more {xs} {number} {x} m passed few sum_few long more is at =
-    let k = m - (passed + 1) in
-    let at_k : m - passed - 1 ≡ k = omega arith in
-    let over : m - passed ≡ k + 1 = omega arith in
-    let step = ap number_of (drop_more xs k 0 (omega arith)) in
-    let rest = rw over at is.value in
-    let fewer = sum_by-take-drop (λ (y : ℕ). y) xs k in
-    let here = rw at_k at at in
-    record {
-      value = omega arith;
-      small = omega (arith, number_of-small 6 (drop k xs) (omega (arith, length-drop k xs)) (omega arith));
-    }
 
 -- what `Houses::new` answers at the parts of a key
 module _ (k : ℕ) (rule : Rule) (bit : rule_bit rule ≡ k / 2 ^ 63) where

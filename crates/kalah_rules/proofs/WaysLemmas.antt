@@ -124,10 +124,6 @@ seeded_same row h low none = seeded_next row h low
     ∙ filter_range_more _ 1 (h - 1) h (omega arith)
     ∙ rw (le-ltb _ _ none) (append-nil _)
 
--- while the game goes on, all of them are the legal moves
-pub seeded_legal : (p : Position) (h : ℕ) → is_over p ≡ false → h ≡ side_length p + 1 → seeded_before p.own h ≡ legal_houses p
-seeded_legal p h going end = grind arith
-
 -- ---- one house more
 -- the ways after the moves of the houses before house h, for n moves more, at most 6 for each of these moves
 pub record AreWaysBefore (n : ℕ) (p : Position) (h : ℕ) (total : ℕ) : Type 0 where

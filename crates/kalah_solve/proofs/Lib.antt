@@ -1,5 +1,6 @@
 pub mod WorthLemmas
 pub mod BoundsLemmas
+pub mod MarksLemmas
 pub mod SearchLemmas
 pub mod TableLemmas
 pub mod Crossing

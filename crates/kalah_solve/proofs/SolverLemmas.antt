@@ -510,11 +510,6 @@ digit_again d some few =
     let up : (pos ((d - 1) % 261) -ℤ pos 130) +ℤ pos 131 ≡ pos ((d - 1) % 261 + 1) = omega (arith, ints) in
     rw up (omega arith)
 
--- no value is in 0
-values_none : (n : ℕ) → values_in n 0 ≡ []
-values_none zero = refl
-values_none (suc n) = refl
-
 -- there is at most one for each digit
 pub length_in : (n k : ℕ) → length (values_in n k) ≤ n
 length_in zero k = omega arith

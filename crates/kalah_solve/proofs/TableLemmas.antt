@@ -20,7 +20,7 @@ use Rattle.kalah_rules.specs.Play.{legal_houses}
 use Rattle.kalah_rules.specs.HousesStep.{houses_step}
 use Rattle.kalah_rules.proofs.PlayLemmas.{legal_holds}
 use Rattle.kalah_solve.specs.Marks.{cell, IsLastMark}
-use Rattle.kalah_solve.proofs.SearchLemmas.{cell_none, each_unmarked}
+use Rattle.kalah_solve.proofs.MarksLemmas.{cell_of_zero, each_unmarked}
 use Rattle.kalah_solve.proofs.BoundsLemmas.{won_at_most, won_reached, won_of_houses}
 use Rattle.std.specs.Map.{lookup}
 use Rattle.lru.specs.LruCache.{LruCache, lru_cache, put_entries}
@@ -502,7 +502,7 @@ most_all a marks most w is full = omega (arith, (won_of_houses w).few)
 pub won_is_most : (a : HousesState) (marks most : ℕ) → IsWithinHouses a → is_over (storeless a) ≡ false → IsMost a marks most
     → marks ≡ 0
     → most ≡ won a
-won_is_most a marks most w going is none = grind (arith, won_reached, cell_none)
+won_is_most a marks most w going is none = grind (arith, won_reached, cell_of_zero)
 
 -- ==== What a table keeps, over the list of its entries
 

@@ -2,7 +2,8 @@
 ghost use Rattle.std.specs.Prelude.{◌≡◌, ◌↔◌, ◌+◌, ◌-◌, ◌≤◌, ◌<◌, ◌^◌, ℕ, min, length, slice_index};
 ghost use Rattle.kalah_rules.specs.Position.{IsWithinHouses};
 ghost use Rattle.kalah_solve.specs.Search.{EndsInStore};
-ghost use Rattle.kalah_solve.specs.Marks.{cell, each, distances, AreMarks, IsLastMark};
+ghost use Rattle.kalah_rules.specs.Packed.{ones};
+ghost use Rattle.kalah_solve.specs.Marks.{cell, AreMarks, IsLastMark, MarksFilled, MarksEnding, all_end_in_store};
 
 use kalah_rules::{House, Houses};
 
@@ -21,8 +22,7 @@ static ALL_END_IN_STORE: [u64; 7] = [0, 1, 0x22, 0x443, 0x8864, 0x11_0C85, 0x221
 // Returns the marks of all `m` houses of a row.
 fn all_marked(m: u8) -> u64
     requires { m ≤ 6 }
-    ensures value { result ≡ each m 1 }
-    ensures small { result < 2 ^ 30 }
+    ensures { result ≡ ones m }
 {
     ALL_MARKED[m as usize]
 }
@@ -30,15 +30,14 @@ fn all_marked(m: u8) -> u64
 // Returns the row of `m` houses that all end in the store.
 fn all_end_in_store(m: u8) -> u64
     requires { m ≤ 6 }
-    ensures { result ≡ distances m }
+    ensures { result ≡ all_end_in_store m }
 {
     ALL_END_IN_STORE[m as usize]
 }
 
 // Returns the houses of a row that have seeds, marked.
 fn filled(row: u64) -> u64
-    ensures cells { (i : ℕ) → i < 6 → cell result i ≡ min 1 (cell row i) }
-    ensures small { result < 2 ^ 30 }
+    ensures { MarksFilled row result }
 {
     ((((row & FIFTEEN_EACH) + FIFTEEN_EACH) | row) >> 4) & ONE_EACH
 }
@@ -46,10 +45,7 @@ fn filled(row: u64) -> u64
 // Returns the houses of a row of `m` whose last seed would fall into the store without a lap, marked.
 fn ending_in_store(row: u64, m: u8) -> u64
     requires { m ≤ 6 }
-    ensures inside { (i : ℕ) → i < m → (0 < cell result i) ↔ (cell row i + i ≡ m) }
-    ensures past { (i : ℕ) → i < 6 → m ≤ i → cell row i ≡ 0 → cell result i ≡ 0 }
-    ensures single { (i : ℕ) → i < 6 → cell result i ≤ 1 }
-    ensures small { result < 2 ^ 30 }
+    ensures { MarksEnding row m result }
 {
     filled(row ^ all_end_in_store(m)) ^ all_marked(m)
 }

@@ -1,5 +1,5 @@
-use Rattle.kalah_solve.proofs.SearchLemmas.{filled_cell}
+use Rattle.kalah_solve.proofs.MarksLemmas.{marks_filled}
 use Rattle.kalah_solve.proofs.marks.filled.Goals as goal
 
-pub returns-clause-cells : goal.returns-clause-cells
-returns-clause-cells c = filled_cell 6 c.args.row
+pub returns : goal.returns
+returns c = marks_filled c.args.row

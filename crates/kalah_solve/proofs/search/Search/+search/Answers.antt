@@ -5,7 +5,8 @@ use Rattle.kalah_rules.specs.declared.step.HousesStep.TheVariants.{Turn}
 use Rattle.kalah_solve.specs.Solver.GoingOn.{GoesOn}
 use Rattle.kalah_solve.specs.Bounds.Won.{won_by_step}
 use Rattle.kalah_solve.specs.Search.{EndsInStore, IsSoftBound, WinsAtMost}
-use Rattle.kalah_solve.proofs.SearchLemmas.{cell_none, marks_fall, move_enough, turn_enough, reply_left, turn_of, turn_at, waits_there, reply_fits, bound_up_to, bound_left, low_more, played_at_start, played_more, played_bound, into_store_legal, seeded_is_legal, moves_fewer, last_legal, each_fewer, each_last, unmarked_at_start, unmarked_more, untried_at_start, untried_fewer, none_untried}
+use Rattle.kalah_solve.proofs.MarksLemmas.{cell_of_zero, without_last_less, into_store_legal, seeded_is_legal, moves_fewer, last_legal, each_fewer, each_last}
+use Rattle.kalah_solve.proofs.SearchLemmas.{move_enough, turn_enough, reply_left, turn_of, turn_at, waits_there, reply_fits, bound_up_to, bound_left, low_more, played_at_start, played_more, played_bound, unmarked_at_start, unmarked_more, untried_at_start, untried_fewer, none_untried}
 use Rattle.kalah_solve.proofs.WorthLemmas.{goes_on, leads_by, step_falls}
 use Rattle.kalah_solve.proofs.BoundsLemmas.{won_of_houses}
 use Rattle.kalah_solve.proofs.search.Search.+search.Goals as goal
@@ -145,12 +146,12 @@ bound_into_store-loop-untried-preserved g t c =
 pub bound_into_store-loop-untried-smaller : goal.bound_into_store-loop-untried-smaller
 bound_into_store-loop-untried-smaller g t c =
     let split = c.split_last-house in
-    rw split.ensures.rest (marks_fall split.ensures.last)
+    rw split.ensures.rest (without_last_less split.ensures.last)
 
 pub bound_into_store-returns-clause-upper : goal.bound_into_store-returns-clause-upper
 bound_into_store-returns-clause-upper g t c = λ short h has ends.
     let none : c.loop-untried.untried ≡ 0 = omega arith in
-    c.loop-untried.invariant.tried h has ends (rw none (cell_none (h - 1)))
+    c.loop-untried.invariant.tried h has ends (rw none (cell_of_zero (h - 1)))
 
 pub try_remaining-loop-untried-init : goal.try_remaining-loop-untried-init
 try_remaining-loop-untried-init g t c =
@@ -241,7 +242,7 @@ try_remaining-loop-untried-preserved-then-seeds-self g t c =
 pub try_remaining-loop-untried-smaller : goal.try_remaining-loop-untried-smaller
 try_remaining-loop-untried-smaller g t c =
     let split = c.split_last-house in
-    rw split.ensures.rest (marks_fall split.ensures.last)
+    rw split.ensures.rest (without_last_less split.ensures.last)
 
 pub try_remaining-returns : goal.try_remaining-returns
 try_remaining-returns g t c =
@@ -249,7 +250,7 @@ try_remaining-returns g t c =
     record {
       lower = λ enough. omega (arith, c.loop-untried.invariant.low enough);
       waiting = c.loop-untried.invariant.played.waiting.each;
-      others = λ short h has. c.loop-untried.invariant.played.others h has (rw none (cell_none (h - 1)));
+      others = λ short h has. c.loop-untried.invariant.played.others h has (rw none (cell_of_zero (h - 1)));
     }
 
 pub explore-loop-priority-init : goal.explore-loop-priority-init

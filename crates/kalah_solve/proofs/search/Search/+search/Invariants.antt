@@ -4,7 +4,8 @@ use Rattle.kalah_rules.specs.Measure.{moves_left}
 use Rattle.kalah_solve.proofs.WorthLemmas.{moves_after}
 use Rattle.kalah_solve.specs.Marks.{cell}
 use Rattle.kalah_solve.specs.Search.{EndsInStore}
-use Rattle.kalah_solve.proofs.SearchLemmas.{UnmarkedWinAtMost, ArePlayed, AreUntried, MayMove, WaitsWith}
+use Rattle.kalah_solve.proofs.MarksLemmas.{MayMove}
+use Rattle.kalah_solve.proofs.SearchLemmas.{UnmarkedWinAtMost, ArePlayed, AreUntried, WaitsWith}
 use Rattle.kalah_solve.proofs.search.Search.+search.Given as goal
 
 abbrev pub decreases-bound : goal.decreases-bound

@@ -1,6 +1,5 @@
 use Rattle.std.proofs.Common.{arith, ◌≡◌, ◌≤◌, ◌<◌, ◌+◌, ℕ, List, length, get_or, inl, inr, Contains, max}
 use Rattle.std.proofs.lemmas.Bool.{cases_lt}
-use Rattle.std.proofs.lemmas.List.{get_or_past}
 use Rattle.std.proofs.lemmas.List.Elements.{Contains-get_or}
 use Rattle.kalah_solve.proofs.search.move_order.highest.Goals as goal
 
@@ -18,18 +17,9 @@ highest_more : (xs : List ℕ) (most i new : ℕ) → ((k : ℕ) → k < i → g
     (k : ℕ) → k < i + 1 → get_or xs k 0 ≤ new
 highest_more xs most i new highest is k below = grind arith
 
-pub loop-i-init : goal.loop-i-init
-loop-i-init c = grind (arith, Contains-get_or)
-
 pub loop-i-preserved : goal.loop-i-preserved
 loop-i-preserved c = record {
   found = found_more _ c.loop-i.most c.loop-i.i _ c.loop-i.invariant.found
       (omega arith) c.max-most.ensures;
   highest = highest_more _ c.loop-i.most c.loop-i.i _ c.loop-i.invariant.highest c.max-most.ensures;
 }
-
-pub returns-clause-found : goal.returns-clause-found
-returns-clause-found c = c.loop-i.invariant.found
-
-pub returns-clause-highest : goal.returns-clause-highest
-returns-clause-highest c = grind (arith, get_or_past)

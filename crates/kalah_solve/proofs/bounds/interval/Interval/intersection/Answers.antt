@@ -7,9 +7,3 @@ returns-clause-held c = λ z h k. record {
   low = omega (arith, ints, clamps);
   high = omega (arith, ints, clamps);
 }
-
-pub returns-clause-no_more : goal.returns-clause-no_more
-returns-clause-no_more c = λ z h. (
-  record { low = omega (arith, ints, clamps); high = omega (arith, ints, clamps) },
-  record { low = omega (arith, ints, clamps); high = omega (arith, ints, clamps) },
-)

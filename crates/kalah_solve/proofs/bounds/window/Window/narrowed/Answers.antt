@@ -22,12 +22,6 @@ pub returns-else-hi-lo-clause-some : goal.returns-else-hi-lo-clause-some
 returns-else-hi-lo-clause-some c = λ z holds.
     omega (arith, ints, clamps)
 
-pub overflow_cast-known : goal.overflow_cast-known
-overflow_cast-known c = search rules
-
-pub overflow_cast-known-2 : goal.overflow_cast-known-2
-overflow_cast-known-2 c = search rules
-
 pub invariant_of-result : goal.invariant_of-result
 invariant_of-result c = search rules
 

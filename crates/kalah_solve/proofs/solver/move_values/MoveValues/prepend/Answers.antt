@@ -4,13 +4,11 @@ use Rattle.kalah_solve.proofs.solver.move_values.MoveValues.prepend.Goals as goa
 
 pub overflow_mul-self : goal.overflow_mul-self
 overflow_mul-self c =
-    let fits = fits_prepended c.args.value c.self.inside.number c.requires.small c.self.invariant (omega (arith, ap length c.self.view_is)) in
-    omega arith
+    omega (arith, fits_prepended c.args.value c.self.inside.number c.requires.small c.self.invariant (omega (arith, ap length c.self.view_is)))
 
 pub overflow_add-self : goal.overflow_add-self
 overflow_add-self c =
-    let fits = fits_prepended c.args.value c.self.inside.number c.requires.small c.self.invariant (omega (arith, ap length c.self.view_is)) in
-    omega arith
+    omega (arith, fits_prepended c.args.value c.self.inside.number c.requires.small c.self.invariant (omega (arith, ap length c.self.view_is)))
 
 pub invariant_of-self : goal.invariant_of-self
 invariant_of-self c =

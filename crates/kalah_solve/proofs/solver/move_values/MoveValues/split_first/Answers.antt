@@ -1,19 +1,11 @@
-use Rattle.std.proofs.Common.{◌∙◌, arith, refl, sym, ap, length}
-use Rattle.kalah_solve.proofs.SolverLemmas.{values_some, rest_packed, no_more, length_in}
+use Rattle.std.proofs.Common.{◌∙◌, arith, refl, sym}
+use Rattle.kalah_solve.proofs.SolverLemmas.{values_some, rest_packed, no_more}
 use Rattle.kalah_solve.proofs.solver.move_values.MoveValues.split_first.Goals as goal
 
 pub invariant_of-rest : goal.invariant_of-rest
 invariant_of-rest c =
     let rest = rest_packed 5 c.self.inside.number (omega arith) c.self.invariant in
     rw (no_more 5 _ rest.1) rest.1
-
-pub of_digit-requires : goal.of_digit-requires
-of_digit-requires c =
-    let rest = rest_packed 5 c.self.inside.number (omega arith) c.self.invariant in
-    record { some = rest.0; small = omega arith }
-
-pub returns-clause-few : goal.returns-clause-few
-returns-clause-few c = omega (arith, length_in 6 c.self.inside.number, ap length c.self.view_is)
 
 pub returns-clause-split : goal.returns-clause-split
 returns-clause-split c =

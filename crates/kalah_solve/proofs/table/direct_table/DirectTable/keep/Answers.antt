@@ -2,13 +2,7 @@ use Rattle.std.proofs.Common.{arith, ◌∙◌, length-set}
 use Rattle.kalah_solve.specs.Table.DirectTable.{IsWithinSlot}
 use Rattle.kalah_solve.specs.Bounds.Won.{won}
 use Rattle.kalah_solve.proofs.TableLemmas.{bounds_more}
-use Rattle.kalah_solve.proofs.BoundsLemmas.{won_of_houses}
 use Rattle.kalah_solve.proofs.table.direct_table.DirectTable.keep.Goals as goal
-
-pub of-stored-requires-clause-least : goal.of-stored-requires-clause-least
-of-stored-requires-clause-least g c =
-    let limits = c.mixed_key-mixed.ensures.limits in
-    omega (arith, (won_of_houses limits).few)
 
 pub invariant_of-self : goal.invariant_of-self
 invariant_of-self g c =

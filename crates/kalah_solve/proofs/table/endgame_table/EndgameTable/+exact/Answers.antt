@@ -1,7 +1,7 @@
 use Rattle.std.proofs.Common.{arith, rules, ◌-◌, ◌^◌, sym, ◌∙◌}
 use Rattle.kalah_solve.proofs.BoundsLemmas.{won_of_houses}
 use Rattle.kalah_solve.proofs.WorthLemmas.{leads_by}
-use Rattle.kalah_solve.proofs.SearchLemmas.{marks_fall, seeded_is_legal, moves_fewer, last_legal}
+use Rattle.kalah_solve.proofs.MarksLemmas.{without_last_less, seeded_is_legal, moves_fewer, last_legal}
 use Rattle.kalah_solve.proofs.TableLemmas.{most_at_start, most_more, most_all, won_is_most}
 use Rattle.kalah_solve.proofs.table.endgame_table.EndgameTable.+exact.Goals as goal
 
@@ -50,7 +50,7 @@ most_won-loop-untried-preserved g t c =
 pub most_won-loop-untried-smaller : goal.most_won-loop-untried-smaller
 most_won-loop-untried-smaller g t c =
     let split = c.split_last-house in
-    rw split.ensures.rest (marks_fall split.ensures.last)
+    rw split.ensures.rest (without_last_less split.ensures.last)
 
 pub most_won-returns : goal.most_won-returns
 most_won-returns g t c =

@@ -2,7 +2,7 @@ use Rattle.std.proofs.Common.{◌+◌, ◌*◌}
 use Rattle.kalah_rules.specs.Position.{storeless}
 use Rattle.kalah_rules.specs.Measure.{moves_left}
 use Rattle.kalah_solve.proofs.TableLemmas.{IsMost}
-use Rattle.kalah_solve.proofs.SearchLemmas.{MayMove}
+use Rattle.kalah_solve.proofs.MarksLemmas.{MayMove}
 use Rattle.kalah_solve.proofs.table.endgame_table.EndgameTable.+exact.Given as goal
 
 abbrev pub decreases-won : goal.decreases-won

@@ -1,0 +1,388 @@
+-- Marks of houses, read off their cells, and the moves of the marked houses.
+use Rattle.std.proofs.Common.{◌≡◌, ◌≢◌, ℕ, zero, suc, ◌+◌, ◌*◌, ◌/◌, ◌%◌, ◌^◌, ◌-◌, ◌<◌, ◌≤◌, inl, inr, List, [], ◌∷◌, get_or, arith, sym, refl, ap, ◌∙◌, length, subst, min, sum, ◌↔◌, slice_index, false, Contains, pow_mono}
+use Rattle.std.specs.Int.Bits.{bit_and, bit_or, bit_xor, xor_add_and, xor_self}
+use Rattle.std.proofs.lemmas.Nat.{leading_top, xor_lt, and_block, or_block, and_mask, and_le_l, and_le_r, or_lt, le_or_l, le_or_r, xor_mod, xor_shr}
+use Rattle.std.proofs.lemmas.List.Sums.{sum_by-cons}
+use Rattle.std.proofs.lemmas.Bool.{cases_lt, cases_eq}
+use Rattle.std.specs.Int.Count.{count_leading_zeros}
+use Rattle.kalah_rules.specs.Key.{number_of}
+use Rattle.kalah_rules.specs.Packed.{BeginsHouse, ones}
+use Rattle.kalah_rules.specs.Sowing.{row_of}
+use Rattle.kalah_rules.proofs.KeyLemmas.{pow_five, ones_le}
+use Rattle.kalah_solve.specs.Marks.{cell, AreMarks, IsLastMark, MarksFilled, MarksEnding, all_end_in_store}
+use Rattle.std.proofs.lemmas.List.FromFn.{get_or-map-range_with_len}
+use Rattle.std.proofs.lemmas.List.{get_or_past}
+use Rattle.kalah_rules.specs.Position.{HousesState, IsWithinHouses, is_over, storeless}
+use Rattle.kalah_solve.specs.Search.{EndsInStore}
+use Rattle.kalah_rules.specs.Play.{legal_houses}
+use Rattle.kalah_rules.proofs.PlayLemmas.{holds_legal, legal_holds, length-row_of}
+
+-- ==== Cells of a number
+
+-- 0 has empty cells
+pub cell_of_zero : (i : ℕ) → cell 0 i ≡ 0
+cell_of_zero zero = refl
+cell_of_zero (suc i) = cell_of_zero i
+
+-- past a small number the cells are empty
+cell_past : (k i number : ℕ) → number < 32 ^ k → k ≤ i → cell number i ≡ 0
+cell_past zero i number small past = let none : number ≡ 0 = omega arith in ap (λ n. cell n i) none ∙ cell_of_zero i
+cell_past (suc k) zero number small past = omega arith
+cell_past (suc k) (suc i) number small past = cell_past k i _ (omega arith) (omega arith)
+
+-- the cells of a row's number are the row
+cell_of_row : (xs : List ℕ) (i : ℕ) → ((k : ℕ) → get_or xs k 0 < 32) → cell (number_of xs) i ≡ get_or xs i 0
+cell_of_row [] i few = cell_of_zero i
+cell_of_row (x ∷ xs) zero few = omega (arith, few 0)
+cell_of_row (x ∷ xs) (suc i) few =
+    let rest : number_of (x ∷ xs) / 32 ≡ number_of xs = omega (arith, few 0) in
+    ap (λ n. cell n i) rest ∙ cell_of_row xs i (λ k. few (suc k))
+
+-- no house of a row holds more than all
+house_le_sum : (xs : List ℕ) (k : ℕ) → get_or xs k 0 ≤ sum xs
+house_le_sum [] k = omega arith
+house_le_sum (x ∷ xs) zero = omega (arith, sum_by-cons)
+house_le_sum (x ∷ xs) (suc k) = omega (arith, sum_by-cons, house_le_sum xs k)
+
+-- a row of m houses, given house by house, holds few seeds in each
+module _ (m : ℕ) (f : ℕ → ℕ) (few : (h : ℕ) → f h < 32) where
+  row_of-few : (k : ℕ) → get_or (row_of m f) k 0 < 32
+  row_of-few k = grind (arith, cases_lt, get_or-map-range_with_len, get_or_past, length-row_of)
+
+  -- each cell is that of the house
+  cell_inside : (i : ℕ) → i < m → cell (number_of (row_of m f)) i ≡ f (i + 1)
+  cell_inside i inside = grind (arith, cell_of_row, row_of-few, get_or-map-range_with_len)
+
+  -- past the houses the cells are empty
+  cell_outside : (i : ℕ) → m ≤ i → cell (number_of (row_of m f)) i ≡ 0
+  cell_outside i past = grind (arith, cell_of_row, row_of-few, get_or_past, length-row_of)
+
+-- the cells of two numbers are taken exclusively one by one
+cell_xor : (i a b : ℕ) → cell (bit_xor a b) i ≡ bit_xor (cell a i) (cell b i)
+cell_xor zero a b = xor_mod a b 5
+cell_xor (suc i) a b = ap (λ n. cell n i) (xor_shr a b 5) ∙ cell_xor i (a / 32) _
+
+-- six cells with one at most are marks
+six_marks : {marks : ℕ} → marks < 2 ^ 30 → ((i : ℕ) → i < 6 → cell marks i ≤ 1) → AreMarks marks
+six_marks {marks} small single = record {
+  small = small;
+  single = λ i. elim (cases_lt i 6) [ inl inside ↦ single i inside | inr past ↦ omega (arith, cell_past 6 i marks small past) ];
+}
+
+-- ==== The last mark
+
+-- the highest cell with something
+pub highest_cell_some : (q n : ℕ) → 32 ^ q ≤ n → n < 32 ^ suc q → 0 < cell n q
+highest_cell_some zero n low high = omega arith
+highest_cell_some (suc q) n low high = highest_cell_some q _ (omega arith) (omega arith)
+
+-- one less there leaves the others
+pub other_cells_kept : (q i n : ℕ) → 32 ^ q ≤ n → n < 32 ^ suc q → i ≢ q → cell (n - 32 ^ q) i ≡ cell n i
+other_cells_kept zero zero n low high other = omega arith
+other_cells_kept zero (suc i) n low high other = grind arith
+other_cells_kept (suc q) zero n low high other = omega arith
+other_cells_kept (suc q) (suc i) n low high other =
+    let rest : (n - 32 ^ suc q) / 32 ≡ n / 32 - 32 ^ q = omega arith in
+    ap (λ k. cell k i) rest ∙ other_cells_kept q i (n / 32) (omega arith) (omega arith) (omega arith)
+
+-- one less there leaves no more in that cell
+highest_cell_falls : (q n : ℕ) → 32 ^ q ≤ n → n < 32 ^ suc q → cell (n - 32 ^ q) q ≤ cell n q
+highest_cell_falls zero n low high = omega arith
+highest_cell_falls (suc q) n low high =
+    let rest : (n - 32 ^ suc q) / 32 ≡ n / 32 - 32 ^ q = omega arith in
+    rw rest (highest_cell_falls q _ (omega arith) (omega arith))
+
+-- the highest cell with one bounds the number
+below_twice_highest : (q n : ℕ) → n < 32 ^ suc q → cell n q ≤ 1 → n < 2 * 32 ^ q
+below_twice_highest zero n high single = omega arith
+below_twice_highest (suc q) n high single =
+    let rest = below_twice_highest q _ (omega arith) single in
+    omega arith
+
+-- what is left of some marks without the last was there before, and each that is missing was that one or was not marked
+module _ (marks h : ℕ) (is : IsLastMark marks h) where
+  -- the last mark is one
+  pub last_marked : 0 < cell marks (h - 1)
+  last_marked = highest_cell_some _ _ is.low is.high
+
+  -- what is left was marked before
+  pub marked_before : (i : ℕ) → 0 < cell (marks - 32 ^ (h - 1)) i → 0 < cell marks i
+  marked_before i some = grind (arith, cases_eq, last_marked, other_cells_kept)
+
+  -- each other unmarked house was unmarked before
+  pub unmarked_before : (i : ℕ) → i ≢ h - 1 → cell (marks - 32 ^ (h - 1)) i ≡ 0 → cell marks i ≡ 0
+  unmarked_before i other none = omega (arith, other_cells_kept)
+
+-- without the last mark the number is lower
+pub without_last_less : {marks h : ℕ} → IsLastMark marks h → marks - 32 ^ (h - 1) < marks
+without_last_less {marks} {h} is = omega arith
+
+-- the last mark is found by the leading zeros
+pub last_mark_by_zeros : {marks : ℕ} (zeros : ℕ) → 0 < marks → marks < 2 ^ 30 → zeros ≡ count_leading_zeros 64 marks
+    → IsLastMark marks ((63 - zeros) / 5 + 1)
+last_mark_by_zeros {marks} zeros some small is =
+    let top = leading_top 64 _ some (omega arith) in
+    let q = (63 - zeros) / 5 in
+    let at : q + 1 - 1 ≡ q = omega arith in
+    let place : 63 - zeros ≡ top.0 = omega arith in
+    let low : 32 ^ q ≤ marks = let power : 2 ^ _ ≤ 2 ^ top.0 = pow_mono {i = 5 * q} (omega arith) in
+    omega (arith, pow_five) in
+    let high : marks < 32 ^ suc q = let power : 2 ^ suc _ ≤ 2 ^ (5 * suc q) = pow_mono {i = suc top.0} (omega arith) in
+    omega (arith, pow_five) in
+    record {
+      first = omega arith;
+      last = elim (cases_lt q 6) [
+        | inl less ↦ omega arith
+        | inr many ↦ absurd (let power : 2 ^ 30 ≤ 2 ^ (5 * q) = pow_mono {i = 30} (omega arith) in omega (arith, pow_five))
+      ];
+      low = rw at low;
+      high = rw at high;
+    }
+
+-- the last mark's bit is where its house begins
+pub last_mark_begins_house : {marks : ℕ} (zeros : ℕ) → 0 < marks → AreMarks marks → zeros ≡ count_leading_zeros 64 marks
+    → BeginsHouse (63 - zeros)
+last_mark_begins_house {marks} zeros some are is =
+    let top = leading_top 64 marks some (omega (arith, are.small)) in
+    let q = (63 - zeros) / 5 in
+    let at : q + 1 - 1 ≡ q = omega arith in
+    let last = last_mark_by_zeros _ some are.small is in
+    let few = below_twice_highest _ _ (rw at at last.high) (are.single q) in
+    let place : 63 - zeros ≡ top.0 = omega arith in
+    let whole : 5 * q ≡ 63 - zeros = elim (cases_lt (5 * q) (63 - zeros)) [
+      | inl less ↦ absurd (let power : 2 ^ suc (5 * q) ≤ 2 ^ top.0 = pow_mono {i = suc (5 * q)} (omega arith) in
+          omega (arith, pow_five q))
+      | inr same ↦ omega arith
+    ] in
+    record { whole = ap (λ n. 5 * n) at ∙ whole; last = omega arith }
+
+-- the last mark of a row is worth a power of 32
+pub last_mark_is_power : {marks bit : ℕ} → marks < 2 ^ 30 → IsLastMark marks (bit / 5 + 1) → BeginsHouse bit →
+    1 * 2 ^ bit % 2 ^ 64 ≡ 32 ^ (bit / 5 + 1 - 1)
+last_mark_is_power {marks} {bit} small is begins = grind (arith, pow_five)
+
+-- the others are marks still
+pub without_last_marks : {marks h : ℕ} → AreMarks marks → IsLastMark marks h → AreMarks (marks - 32 ^ (h - 1))
+without_last_marks {marks} {h} are is = grind (arith, cases_eq, highest_cell_falls, other_cells_kept)
+
+-- ==== Cells that hold something
+
+-- a cell holds something if its top bit is set once fifteen were added
+top_bit_of_filled : (x : ℕ) → x < 32 → bit_or (bit_and x 15 + 15) x / 16 ≡ min 1 x
+top_bit_of_filled x small = elim (cases_eq x 0) [
+  | inl none ↦ rw none refl
+  | inr some ↦
+      let low = and_mask x 4 in
+      let most = or_lt 5 (bit_and x 15 + 15) x (omega arith) small in
+      omega (arith, le_or_l, le_or_r)
+]
+
+-- d in each of the first k cells
+abbrev each : ℕ → ℕ → ℕ
+each zero d = 0
+each (suc k) d = each k d * 32 + d
+
+-- marks of the first k cells that hold something
+abbrev filled_cells : ℕ → ℕ → ℕ
+filled_cells k row = bit_and (bit_or (bit_and row (each k 15) + each k 15) row / 16) (each k 1)
+
+-- a cell put in front is marked there
+filled_cells-front : (k x rest : ℕ) → x < 32 → filled_cells (suc k) (rest * 32 + x) ≡ filled_cells k rest * 32 + min 1 x
+filled_cells-front k x rest small =
+    let fifteens = each k 15 in
+    let low = bit_and x 15 in
+    let high = bit_and rest fifteens in
+    let low_is = and_le_r x 15 in
+    let both = and_block 5 rest fifteens x 15 small (omega arith) in
+    let added : high * 32 + low + (fifteens * 32 + 15) ≡ (high + fifteens) * 32 + (low + 15) = omega arith in
+    let first = bit_or (low + 15) x in
+    let others = bit_or (high + fifteens) rest in
+    let first_small = or_lt 5 (low + 15) x (omega arith) small in
+    let either = or_block 5 (high + fifteens) rest (low + 15) x (omega arith) small in
+    let halved : (others * 32 + first) / 16 ≡ others / 16 * 32 + (others % 16 * 2 + first / 16) = omega arith in
+    let marks = and_block 5 (others / 16) (each k 1) (others % 16 * 2 + first / 16) 1 (omega arith) (omega arith) in
+    let one = top_bit_of_filled _ small in
+    let last : (others % 16 * 2 + first / 16) % 2 ≡ min 1 x = omega arith in
+    rw (both, added, either, halved, marks, and_mask (others % 16 * 2 + first / 16) 1, last) refl
+
+-- the marks of one cell more
+filled_cells-suc : (k row : ℕ) → filled_cells (suc k) row ≡ filled_cells k (row / 32) * 32 + min 1 (row % 32)
+filled_cells-suc k row =
+    let parts : row ≡ row / 32 * 32 + row % 32 = omega arith in
+    ap (λ n. filled_cells (suc k) n) parts ∙ filled_cells-front _ _ _ (omega arith)
+
+-- each of them is marked that holds something
+cell_of_filled : (k row i : ℕ) → i < k → cell (filled_cells k row) i ≡ min 1 (cell row i)
+cell_of_filled zero row i inside = omega arith
+cell_of_filled (suc k) row zero inside = omega (arith, filled_cells-suc)
+cell_of_filled (suc k) row (suc i) inside =
+    let rest : filled_cells (suc k) row / 32 ≡ filled_cells k (row / 32) = omega (arith, filled_cells-suc k row) in
+    ap (λ n. cell n i) rest ∙ cell_of_filled k _ i (omega arith)
+
+-- the first six are marked
+pub marks_filled : (row : ℕ) → MarksFilled row (filled_cells 6 row)
+marks_filled row =
+    let small = and_le_r (bit_or (bit_and row (each 6 15) + each 6 15) row / 16) (each 6 1) in
+    record { cells = cell_of_filled 6 row; are = six_marks (omega arith) (λ i inside. omega (arith, cell_of_filled 6 row i inside)) }
+
+-- ==== Cells that hold the distance to the store
+
+-- equal numbers are apart by nothing
+apart_or_equal : (x y : ℕ) → (0 < bit_xor (min 1 (bit_xor x y)) 1) ↔ (x ≡ y)
+apart_or_equal x y = grind (arith, cases_eq, bit_xor, xor_self, min, xor_add_and, and_le_l, and_le_r)
+
+-- the marks of a row of m cells, of which those that don't hold their distance are given
+module _ (row : ℕ) {m others marks : ℕ} (few : m ≤ 6) (others_are : MarksFilled (bit_xor row (all_end_in_store m)) others)
+    (marks_are : marks ≡ bit_xor others (ones m)) where
+  -- a cell is marked unless it is among the others
+  ending_cell : (i : ℕ) → i < 6 → cell marks i ≡ bit_xor (min 1 (bit_xor (cell row i) (cell (all_end_in_store m) i))) (cell (ones m) i)
+  ending_cell i inside = rw (marks_are, cell_xor, others_are.cells i inside, cell_xor) refl
+
+  -- each cell is marked that holds its distance
+  ending_inside : (i : ℕ) → i < m → (0 < cell marks i) ↔ (cell row i + i ≡ m)
+  ending_inside i inside = grind (arith, ending_cell, cell_inside, apart_or_equal)
+
+  -- the marks of the row
+  pub marks_ending : MarksEnding row m marks
+  marks_ending =
+      let all_small : ones m ≤ 34636833 = ones_le m 6 few in
+      record {
+        inside = ending_inside;
+        past = λ i inside past none. grind (arith, ending_cell, cell_outside);
+        are = six_marks (rw marks_are (xor_lt 30 others (ones m) others_are.are.small (omega arith)))
+            (λ i inside. grind (arith, cases_lt, cell_inside, cell_outside, ending_cell, xor_lt));
+      }
+
+-- ==== Marks of a player's houses
+
+-- of two marks, of which the second is only where the first is, one remains where the first is and the second is not
+one_remaining : (first second : ℕ) → first ≤ 1 → second ≤ 1 → (0 < second → 0 < first)
+    → (0 < bit_xor first second) ↔ ((0 < first) × ¬ (0 < second))
+one_remaining first second single single' within = grind (arith, bit_xor)
+
+-- what is equivalent to one thing and not another is so to their equivalents, one part of the other being implied
+unless_both : {A X N S L E : Type 0} → A ↔ (X × ¬ N) → X ↔ S → N ↔ (L × E) → (S → L) → A ↔ (S × ¬ E)
+unless_both a x n implied = (
+  λ p. let q = a.0 p in (x.0 q.0, λ e. q.1 (n.1 (implied (x.0 q.0), e))),
+  λ p. a.1 (x.1 p.0, λ m. p.1 (n.0 m).1),
+)
+
+module _ {a : HousesState} {row : ℕ} (w : IsWithinHouses a) (row_is : row ≡ number_of a.own) where
+  -- the cells of the mover's row
+  own_cell : (i : ℕ) → cell row i ≡ slice_index a.own i
+  own_cell i = rw row_is (cell_of_row a.own i (λ k. omega (arith, house_le_sum a.own k)))
+
+  -- past the last house there is none
+  own_past : (i : ℕ) → length a.own ≤ i → slice_index a.own i ≡ 0
+  own_past i past = simp (get_or_past)
+
+  -- the last seed of a house falls into the store if its number of seeds equals its distance
+  ends_at : (i : ℕ) → EndsInStore a (i + 1) ↔ (slice_index a.own i + i ≡ length a.own)
+  ends_at i = grind arith
+
+  -- what is marked has seeds
+  pub filled_marked : {filled : ℕ} → MarksFilled row filled → (i : ℕ) → (0 < cell filled i) ↔ (0 < slice_index a.own i)
+  filled_marked {filled} marks i = elim (cases_lt i 6) [
+    | inl inside ↦ (λ some. omega (arith, own_cell i, marks.cells i inside), λ some. omega (arith, own_cell i, marks.cells i inside))
+    | inr past ↦
+        let none = cell_past 6 i filled marks.are.small past in
+        let nothing = own_past i (omega arith) in
+        (omega arith)
+  ]
+
+  module _ {m ending : ℕ} (side : m ≡ length a.own) (marks : MarksEnding row m ending) where
+    -- what is marked ends in the store
+    pub into_store_marked : (i : ℕ) → (0 < cell ending i) ↔ ((i < length a.own) × EndsInStore a (i + 1))
+    into_store_marked i = elim (cases_lt i m) [
+      | inl is_inside ↦
+          let marked = marks.inside i is_inside in (
+            λ some. (omega arith, (ends_at i).1 (omega (arith, marked.0 some, own_cell i))),
+            λ both. marked.1 (omega (arith, (ends_at i).0 both.1, own_cell i)),
+          )
+      | inr is_past ↦
+          let none : cell ending i ≡ 0 = elim (cases_lt i 6) [
+            | inl low ↦ marks.past i low is_past (own_cell i ∙ own_past i (omega arith))
+            | inr high ↦ cell_past 6 i ending marks.are.small high
+          ] in
+          (λ some. absurd (omega arith), λ both. absurd (let low = both.0 in omega arith))
+    ]
+
+    module _ {filled : ℕ} (with_seeds : MarksFilled row filled) where
+      -- what is marked among the filled houses and not among those that end in the store has seeds and doesn't end there
+      pub remaining_marked : (i : ℕ) → (0 < cell (bit_xor filled ending) i) ↔ ((0 < slice_index a.own i) × ¬ EndsInStore a (i + 1))
+      remaining_marked i =
+          let seeds = filled_marked with_seeds i in
+          let ends = into_store_marked i in
+          let has_seeds : 0 < cell ending i → 0 < cell filled i = λ marked.
+          let distance = (ends_at i).0 (ends.0 marked).1 in
+          let inside = (ends.0 marked).0 in
+          seeds.1 (omega arith) in
+          let one = one_remaining _ _ (with_seeds.are.single i) (marks.are.single i) has_seeds in
+          let is_house : 0 < slice_index a.own i → i < length a.own = grind (arith, cases_lt, own_past) in
+          unless_both (rw (cell_xor i filled ending) one) seeds ends is_house
+
+      -- each is marked at most once
+      pub remaining_marks : AreMarks (bit_xor filled ending)
+      remaining_marks = six_marks (xor_lt 30 filled ending with_seeds.are.small marks.are.small) (λ i inside.
+          omega (
+            arith,
+            cell_xor i filled ending,
+            xor_lt 1 (cell filled i) (cell ending i) (omega (arith, with_seeds.are.single i))
+                (omega (arith, marks.are.single i)),
+          ))
+
+-- ==== The moves of marked houses
+
+-- a house with seeds, counted from 0, may be moved while the game goes on
+pub seeded_is_legal : {a : HousesState} (i : ℕ) → IsWithinHouses a → is_over (storeless a) ≡ false → 0 < get_or a.own i 0 →
+    Contains (legal_houses (storeless a)) (i + 1)
+seeded_is_legal {a} i w going some = elim (cases_lt i (length a.own)) [
+  | inl inside ↦
+      let at : i + 1 - 1 ≡ i = omega arith in
+      holds_legal (storeless a) _ (record { first = omega arith; last = omega arith; some = rw at some }) going
+  | inr past ↦ absurd (omega (arith, get_or_past a.own i 0 past))
+]
+
+-- each house that ends in the store may be moved
+pub into_store_legal : {a : HousesState} (i : ℕ) → IsWithinHouses a → is_over (storeless a) ≡ false → i < length a.own
+    → EndsInStore a (i + 1) →
+    Contains (legal_houses (storeless a)) (i + 1)
+into_store_legal {a} i w going inside ends =
+    holds_legal (storeless a) (i + 1) (record { first = omega arith; last = omega arith; some = omega arith }) going
+
+-- what holds of each marked house holds of those that stay marked
+pub each_fewer : (P : ℕ → Type 0) {marks h : ℕ} → IsLastMark marks h → ((i : ℕ) → 0 < cell marks i → P (i + 1)) →
+    (i : ℕ) → 0 < cell (marks - 32 ^ (h - 1)) i → P (i + 1)
+each_fewer P {marks} {h} last each i some = each i (marked_before marks h last i some)
+
+-- what holds of each marked house holds of the last one
+pub each_last : (P : ℕ → Type 0) {marks h : ℕ} → IsLastMark marks h → ((i : ℕ) → 0 < cell marks i → P (i + 1)) → P h
+each_last P {marks} {h} last each = grind (arith, last_marked)
+
+-- marked houses that may all be moved
+pub record MayMove (a : HousesState) (marks : ℕ) : Type 0 where
+  pub are : AreMarks marks
+  pub legal : (i : ℕ) → 0 < cell marks i → Contains (legal_houses (storeless a)) (i + 1)
+
+-- the last of them
+pub last_legal : {a : HousesState} {marks h : ℕ} → MayMove a marks → IsLastMark marks h → Contains (legal_houses (storeless a)) h
+last_legal may last = each_last (Contains _) last may.legal
+
+-- the houses before the last may be moved
+pub moves_fewer : {a : HousesState} {marks h : ℕ} → MayMove a marks → IsLastMark marks h → MayMove a (marks - 32 ^ (h - 1))
+moves_fewer {a} {marks} {h} may last = record {
+  are = without_last_marks may.are last;
+  legal = each_fewer (Contains _) last may.legal;
+}
+
+-- what holds of the last marked house, and of each other unmarked one that may be moved, holds of each that is unmarked without it
+pub each_unmarked : (a : HousesState) {marks h : ℕ} (P : ℕ → Type 0) → IsLastMark marks h → P h
+    → ((i : ℕ) → Contains (legal_houses (storeless a)) i → i - 1 ≢ h - 1 → cell marks (i - 1) ≡ 0 → P i)
+    → (i : ℕ) → Contains (legal_houses (storeless a)) i → cell (marks - 32 ^ (h - 1)) (i - 1) ≡ 0 → P i
+each_unmarked a {marks} {h} P last here each i may gone = elim (cases_eq i h) [
+  | inl same ↦ subst P (sym same) here
+  | inr other ↦
+      let first = (legal_holds (storeless a) i may).first in
+      let place : i - 1 ≢ h - 1 = omega arith in
+      each i may place (unmarked_before marks h last (i - 1) place gone)
+]
