@@ -1,5 +1,5 @@
 -- Rows as numbers, and what a key determines of its houses.
-use Rattle.std.proofs.Common.{zero, suc, ◌≡◌, ℕ, ◌+◌, ◌-◌, ◌*◌, ◌/◌, ◌%◌, ◌^◌, ◌<◌, ◌≤◌, inl, inr, List, [], ◌∷◌, ◌++◌, length, get_or, arith, ap, sym, ◌∙◌, refl, add-one, subst, take, drop, replicate, rules, Option, Some, None, length-take-le, length-append, slice_set, sum, nat_lt, if◌then◌else◌, ◌==◌, nat_eq, All, IsSome, IfSome, ◌↔◌, length-set}
+use Rattle.std.proofs.Common.{zero, suc, ◌≡◌, ℕ, ◌+◌, ◌-◌, ◌*◌, ◌/◌, ◌%◌, ◌^◌, ◌<◌, ◌≤◌, inl, inr, List, [], ◌∷◌, ◌++◌, length, get_or, arith, ap, sym, ◌∙◌, refl, add-one, take, drop, replicate, rules, Option, Some, None, length-take-le, length-append, slice_set, sum, nat_lt, if◌then◌else◌, ◌==◌, nat_eq, All, IsSome, IfSome, ◌↔◌, length-set}
 use Rattle.std.proofs.lemmas.Nat.{pow-add}
 use Rattle.std.proofs.Math.Nat.{pow-succ', mul_assoc, div-div-eq-div-mul}
 use Rattle.std.proofs.lemmas.List.{map_push, length-drop, length-replicate, get_or-replicate, take-append-drop}
@@ -32,19 +32,19 @@ pow_five (suc k) =
 pub pow_other : (k : ℕ) → 2 ^ (30 + 5 * k) ≡ 2 ^ 30 * 32 ^ k
 pow_other k = simp (pow-add, pow_five)
 
--- what holds of the numbers up to 5
-up_to_five : (P : ℕ → Type 0) (k : ℕ) → k ≤ 5 → P 0 → P 1 → P 2 → P 3 → P 4 → P 5 → P k
-up_to_five P zero few a b c d e f = a
-up_to_five P (suc zero) few a b c d e f = b
-up_to_five P (suc (suc zero)) few a b c d e f = c
-up_to_five P (suc (suc (suc zero))) few a b c d e f = d
-up_to_five P (suc (suc (suc (suc zero)))) few a b c d e f = e
-up_to_five P (suc (suc (suc (suc (suc zero))))) few a b c d e f = f
-up_to_five P (suc (suc (suc (suc (suc (suc k)))))) few a b c d e f = absurd (omega arith)
+-- what holds of 0 to 5 holds of each number up to 5
+cases_to_five : (P : ℕ → Type 0) (k : ℕ) → k ≤ 5 → P 0 → P 1 → P 2 → P 3 → P 4 → P 5 → P k
+cases_to_five P zero few a b c d e f = a
+cases_to_five P (suc zero) few a b c d e f = b
+cases_to_five P (suc (suc zero)) few a b c d e f = c
+cases_to_five P (suc (suc (suc zero))) few a b c d e f = d
+cases_to_five P (suc (suc (suc (suc zero)))) few a b c d e f = e
+cases_to_five P (suc (suc (suc (suc (suc zero))))) few a b c d e f = f
+cases_to_five P (suc (suc (suc (suc (suc (suc k)))))) few a b c d e f = absurd (omega arith)
 
 -- an own house is read off both rows as off its own
-pub low_cell : (rows k : ℕ) → k ≤ 5 → rows / 32 ^ k % 32 ≡ rows % 2 ^ 30 / 32 ^ k % 32
-low_cell rows k few = up_to_five (λ k. rows / 32 ^ k % 32 ≡ rows % 2 ^ 30 / 32 ^ k % 32) k few
+pub own_house_of_rows : (rows k : ℕ) → k ≤ 5 → rows / 32 ^ k % 32 ≡ rows % 2 ^ 30 / 32 ^ k % 32
+own_house_of_rows rows k few = cases_to_five (λ k. rows / 32 ^ k % 32 ≡ rows % 2 ^ 30 / 32 ^ k % 32) k few
     (omega arith) (omega arith) (omega arith) (omega arith) (omega arith) (omega arith)
 
 -- a power more is thirty-two times as much
@@ -76,13 +76,11 @@ number_of-set (x ∷ xs) (suc k) v h = omega (arith, number_of-set xs k v (omega
 
 -- ---- rows that are given house by house
 -- one house more at the end
-number_of-more : (n : ℕ) (f : ℕ → ℕ) → number_of (row_of (n + 1) f) ≡ number_of (row_of n f) + 32 ^ n * f (n + 1)
-number_of-more n f = grind (arith, range_more, map_push, number_of-append, length-row_of)
-
--- the same, by the successor
 number_of-suc : (n : ℕ) (f : ℕ → ℕ) → number_of (row_of (suc n) f) ≡ number_of (row_of n f) + 32 ^ n * f (suc n)
-number_of-suc n f = subst (λ k. number_of (row_of k f) ≡ number_of (row_of n f) + 32 ^ n * f k) (add-one n)
-    (number_of-more n f)
+number_of-suc n f =
+    let more : number_of (row_of (n + 1) f) ≡ number_of (row_of n f) + 32 ^ n * f (n + 1) =
+    grind (arith, range_more, map_push, number_of-append, length-row_of) in
+    rw add-one at more
 
 -- rows are added house by house
 pub number_of-plus : (n : ℕ) (f g : ℕ → ℕ) → number_of (row_of n (λ i. f i + g i)) ≡ number_of (row_of n f) + number_of
@@ -92,7 +90,7 @@ number_of-plus (suc n) f g =
     let before = number_of-plus n f g in
     number_of-suc n (λ i. f i + g i) ∙ omega (arith, number_of-suc)
 
--- a row with as many seeds in each house
+-- a row with the same number of seeds in each house
 pub number_of-same : (n q : ℕ) → number_of (row_of n (λ i. q)) ≡ q * ones n
 number_of-same zero q = omega arith
 number_of-same (suc n) q =
@@ -194,21 +192,21 @@ ones_le a (suc b) h = elim (cases_eq a (suc b)) [
 ]
 
 -- a row moved up by a few houses fits sixty-four bits
-pub moved_whole : (k x : ℕ) → k ≤ 5 → x < 2 ^ 30 → x * 32 ^ k % 2 ^ 64 ≡ 32 ^ k * x
-moved_whole k x h few = up_to_five (λ k. x * 32 ^ k % 2 ^ 64 ≡ 32 ^ k * x) k h
+pub moved_fits : (k x : ℕ) → k ≤ 5 → x < 2 ^ 30 → x * 32 ^ k % 2 ^ 64 ≡ 32 ^ k * x
+moved_fits k x h few = cases_to_five (λ k. x * 32 ^ k % 2 ^ 64 ≡ 32 ^ k * x) k h
     (omega arith) (omega arith) (omega arith) (omega arith) (omega arith) (omega arith)
 
 -- a few seeds moved past the own row fit sixty-four bits
-pub moved_far_whole : (k x : ℕ) → k ≤ 5 → x < 32 → x * (2 ^ 30 * 32 ^ k) % 2 ^ 64 ≡ 2 ^ 30 * (32 ^ k * x)
-moved_far_whole k x h few = up_to_five (λ k. x * (2 ^ 30 * 32 ^ k) % 2 ^ 64 ≡ 2 ^ 30 * (32 ^ k * x)) k h
+pub moved_across_fits : (k x : ℕ) → k ≤ 5 → x < 32 → x * (2 ^ 30 * 32 ^ k) % 2 ^ 64 ≡ 2 ^ 30 * (32 ^ k * x)
+moved_across_fits k x h few = cases_to_five (λ k. x * (2 ^ 30 * 32 ^ k) % 2 ^ 64 ≡ 2 ^ 30 * (32 ^ k * x)) k h
     (omega arith) (omega arith) (omega arith) (omega arith) (omega arith) (omega arith)
 
 -- the seeds of a house are few bits of its row
 pub placed_small : (k x : ℕ) → k ≤ 5 → x < 32 → 32 ^ k * x < 2 ^ 30
-placed_small k x h few = up_to_five (λ k. 32 ^ k * x < 2 ^ 30) k h
+placed_small k x h few = cases_to_five (λ k. 32 ^ k * x < 2 ^ 30) k h
     (omega arith) (omega arith) (omega arith) (omega arith) (omega arith) (omega arith)
 
--- a few times as many seeds as a row has are few bits
+-- a small multiple of a row with one seed in each house has few bits
 pub product_small : (x y : ℕ) → x ≤ 10 → y ≤ 34636833 → x * y ≤ 346368330
 product_small x y h k = grind arith
 
@@ -281,7 +279,7 @@ pub drop-padded : (xs : List ℕ) → All (λ x. x ≡ 0) (drop (length xs) (pad
 drop-padded xs = rw (drop-append_seam xs _) (All-replicate (λ x. x ≡ 0) _ 0 refl)
 
 -- what a key determines of its houses
-pub record KeySays (a : HousesState) (k : ℕ) : Type 0 where
+pub record KeyHolds (a : HousesState) (k : ℕ) : Type 0 where
   pub own_cells : cells 6 k ≡ padded a.own
   pub other_cells : cells 6 (k / 2 ^ 30) ≡ padded a.other
   pub side : k / 2 ^ 60 % 8 ≡ length a.own
@@ -302,9 +300,9 @@ pub rule_bit-small : (r : Rule) → rule_bit r ≤ 1
 rule_bit-small Classic = omega arith
 rule_bit-small EmptyCapture = omega arith
 
--- the content of the key of houses
-pub key_says : {a : HousesState} {k : ℕ} → IsWithinHouses a → key_of a ≡ k → KeySays a k
-key_says {a} {k} h e =
+-- the key of houses holds them
+pub key_holds : {a : HousesState} {k : ℕ} → IsWithinHouses a → key_of a ≡ k → KeyHolds a k
+key_holds {a} {k} h e =
     let other_long : length a.other ≤ 6 = omega arith in
     let own_few : sum a.own ≤ 31 = omega arith in
     let other_few : sum a.other ≤ 31 = omega arith in
@@ -326,8 +324,8 @@ key_says {a} {k} h e =
 -- the key of houses within the limits is a key
 pub key_is_key : {a : HousesState} {k : ℕ} → IsWithinHouses a → key_of a ≡ k → IsKey k
 key_is_key {a} h e =
-    let says = key_says h e in
-    rw (says.side, says.own_cells, says.other_cells) (record {
+    let held = key_holds h e in
+    rw (held.side, held.own_cells, held.other_cells) (record {
       some_house = h.some_house;
       at_most_six = h.at_most_six;
       own_past = drop-padded a.own;
@@ -350,10 +348,10 @@ same_houses_in x y z = grind arith
 pub houses_of_key : (a : HousesState) (k : ℕ) (rule : Rule) → IsWithinHouses a → key_of a ≡ k → rule_bit rule ≡ k / 2 ^ 63 →
     houses_from (side_at k) (cells 6 k) (cells 6 (k / 2 ^ 30)) rule ≡ a
 houses_of_key a k rule h e bit =
-    let says = key_says h e in
+    let held = key_holds h e in
     let other_shown : take (side_at k) (cells 6 (k / 2 ^ 30)) ≡ a.other =
-    rw (says.side, says.other_cells, sym h.same_side) (take-padded _) in
-    same_houses_in (rw (says.side, says.own_cells) (take-padded _)) other_shown (rule_bit-same _ _ (omega arith))
+    rw (held.side, held.other_cells, sym h.same_side) (take-padded _) in
+    same_houses_in (rw (held.side, held.own_cells) (take-padded _)) other_shown (rule_bit-same _ _ (omega arith))
 
 -- the parts of a key make the key
 key_from_parts : {k side : ℕ} {own other : List ℕ} (rule : Rule) → number_of own + 2 ^ 30 * (k / 2 ^ 30) ≡ k →
@@ -378,7 +376,7 @@ rule_at-bit (suc (suc n)) h = omega arith
 -- the houses of a key are those whose key it is
 pub houses_at_key : {a : HousesState} → IsWithinHouses a → houses_at (key_of a) ≡ a
 houses_at_key {a} h =
-    let says = key_says h refl in
+    let held = key_holds h refl in
     let bit : key_of a / 2 ^ 63 ≤ 1 = omega (arith, rule_bit-small) in
     houses_of_key a _ _ h refl (rule_at-bit _ bit)
 
@@ -431,8 +429,8 @@ number_of-zero [] e = refl
 number_of-zero (x ∷ xs) e = let cons = sum_by-cons (λ (y : ℕ). y) x xs in let rest = number_of-zero xs (omega arith) in omega arith
 
 -- a row's number is 0 exactly when it has no seeds
-pub no_seeds : (xs : List ℕ) → nat_eq (number_of xs) 0 ≡ nat_eq (sum xs) 0
-no_seeds xs = grind (arith, number_of-zero, sum-zero)
+pub number_of-is_zero : (xs : List ℕ) → nat_eq (number_of xs) 0 ≡ nat_eq (sum xs) 0
+number_of-is_zero xs = grind (arith, number_of-zero, sum-zero)
 
 -- what `Houses::new` answers at the parts of a key
 module _ (k : ℕ) (rule : Rule) (bit : rule_bit rule ≡ k / 2 ^ 63) where
@@ -456,7 +454,7 @@ module _ (k : ℕ) (rule : Rule) (bit : rule_bit rule ≡ k / 2 ^ 63) where
 -- two values of houses with one key are one
 pub same_key : (a b : HousesState) → IsWithinHouses a → IsWithinHouses b → key_of a ≡ key_of b → a ≡ b
 same_key a b ha hb e =
-    let bit = sym (key_says ha e).rule in
+    let bit = sym (key_holds ha e).rule in
     sym (houses_of_key _ _ _ ha e bit) ∙ houses_of_key _ _ _ hb refl bit
 
 -- without seeds only the variant is left
@@ -521,10 +519,10 @@ pub sum-shown : (m : ℕ) (cells : List ℕ) → length cells ≡ 6 → m ≤ 6 
 sum-shown m cells long few none = let same = padded_from_zeros m cells long few none in grind (arith, sum-padded)
 
 -- cells whose last ones hold no seeds can be houses exactly if their first ones are within the limits
-pub can_be : {m : ℕ} {own other : List ℕ} (rule : Rule) → m ≤ 6 → length own ≡ 6 → length other ≡ 6 →
+pub can_be_houses : {m : ℕ} {own other : List ℕ} (rule : Rule) → m ≤ 6 → length own ≡ 6 → length other ≡ 6 →
     All (λ x. x ≡ 0) (drop m own) → All (λ x. x ≡ 0) (drop m other) →
     IsWithinHouses (houses_from m own other rule) ↔ CanBeHouses m own other
-can_be {m} {own} {other} rule few own_long other_long own_past other_past =
+can_be_houses {m} {own} {other} rule few own_long other_long own_past other_past =
     let own_shown = length-take-le m own (omega arith) in
     let other_shown = length-take-le m other (omega arith) in
     let own_sum = sum-shown m _ own_long few own_past in

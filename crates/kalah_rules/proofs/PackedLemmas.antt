@@ -17,7 +17,7 @@ use Rattle.kalah_rules.specs.declared.houses.play.RowNumbers.{RowNumbers}
 use Rattle.kalah_rules.specs.declared.rule.Rule.{Rule}
 use Rattle.kalah_rules.specs.declared.houses.sowings.Sowing.{Sowing}
 use Rattle.kalah_rules.specs.Sowings.{own_gains, other_gains, store_gains, last_place, IsLastHouse, IsSowing, IsSowingCell, AreSowings}
-use Rattle.kalah_rules.proofs.KeyLemmas.{number_of-small, pow_five, pow_other, low_cell, moved_far_whole, placed_small, number_of-set, number_of-all, number_of-up_to, read_seeds, own_sown, other_sown, own_gain, other_gain, ones_le, IsPackOf, pack_of, rows_of_pack, packed_as, sum-zero, number_of-zero}
+use Rattle.kalah_rules.proofs.KeyLemmas.{number_of-small, pow_five, pow_other, own_house_of_rows, moved_across_fits, placed_small, number_of-set, number_of-all, number_of-up_to, read_seeds, own_sown, other_sown, own_gain, other_gain, ones_le, IsPackOf, pack_of, rows_of_pack, packed_as, sum-zero, number_of-zero}
 use Rattle.std.proofs.lemmas.List.{length-replicate, get_or-set_same, get_or-set_other}
 use Rattle.kalah_rules.specs.Play.{legal_houses, step_to, step_of}
 use Rattle.kalah_rules.specs.Measure.{IsNearerEnd}
@@ -36,11 +36,16 @@ pub record KeepsSeeds (p q : Position) : Type 0 where
   pub other_side : length q.other ≡ length p.other
   pub rule : q.rule ≡ p.rule
 
--- rows from which houses are taken
-taken_off : (rows x y : ℕ) {own other own_new other_new : ℕ} → rows % 2 ^ 30 ≡ own → rows / 2 ^ 30 ≡ other →
-    own_new + x ≡ own → other_new + y ≡ other →
-    (x + 2 ^ 30 * y ≤ rows) × ((rows - (x + 2 ^ 30 * y)) % 2 ^ 30 ≡ own_new) × ((rows - (x + 2 ^ 30 * y)) / 2 ^ 30 ≡ other_new)
-taken_off rows x y own_is other_is less other_less = omega arith
+-- both rows, without what is taken from them
+record AreLeft (rows taken own other : ℕ) : Type 0 where
+  within : taken ≤ rows
+  own_is : (rows - taken) % 2 ^ 30 ≡ own
+  other_is : (rows - taken) / 2 ^ 30 ≡ other
+
+-- x is taken from the own row, and y from the other
+left_of_rows : (rows x y : ℕ) {own other own_new other_new : ℕ} → rows % 2 ^ 30 ≡ own → rows / 2 ^ 30 ≡ other →
+    own_new + x ≡ own → other_new + y ≡ other → AreLeft rows (x + 2 ^ 30 * y) own_new other_new
+left_of_rows rows x y own_is other_is less other_less = omega arith
 
 -- the last seed and the seeds across, where they stand in both rows
 abbrev pub seeds_to_capture : RowNumbers → ℕ → ℕ → ℕ
@@ -94,11 +99,11 @@ gains_into_store m h c low high ends =
 
 module _ (a : HousesState) (h : ℕ) (w : IsWithinHouses a) (holds : HoldsSeeds (storeless a) h) where
   -- the position after the sowing
-  abbrev q : Position
-  q = sown (storeless a) h
+  abbrev sowed : Position
+  sowed = sown (storeless a) h
 
   -- a sowing loses no seed
-  pub sown_keeps : KeepsSeeds (storeless a) q
+  pub sown_keeps : KeepsSeeds (storeless a) sowed
   unfolding sow
   sown_keeps =
       let side = sow_side (storeless a) h (seeds a.own h) in
@@ -112,17 +117,17 @@ module _ (a : HousesState) (h : ℕ) (w : IsWithinHouses a) (holds : HoldsSeeds 
       }
 
   -- the own row after the sowing
-  pub own_is : number_of q.own + 32 ^ (h - 1) * seeds a.own h ≡ number_of a.own + own_gains (length a.own) h (seeds a.own h)
+  pub own_is : number_of sowed.own + 32 ^ (h - 1) * seeds a.own h ≡ number_of a.own + own_gains (length a.own) h (seeds a.own h)
   unfolding sow
   own_is = own_sown _ _ _ holds.first holds.last
 
   -- the other row
-  pub other_is : number_of q.other ≡ number_of a.other + other_gains (length a.own) h (seeds a.own h)
+  pub other_is : number_of sowed.other ≡ number_of a.other + other_gains (length a.own) h (seeds a.own h)
   unfolding sow
   other_is = rw w.same_side at (other_sown a.other h (seeds a.own h))
 
   -- what comes to the store
-  pub store_is : q.own_store ≡ store_gains (length a.own) h (seeds a.own h)
+  pub store_is : sowed.own_store ≡ store_gains (length a.own) h (seeds a.own h)
   unfolding sow
   store_is = omega arith
 
@@ -131,82 +136,82 @@ module _ (a : HousesState) (h : ℕ) (w : IsWithinHouses a) (holds : HoldsSeeds 
   lifted_is = omega (arith, number_of-set)
 
   -- the sowing leaves few seeds
-  few : sum q.own + sum q.other ≤ 31
+  few : sum sowed.own + sum sowed.other ≤ 31
   few = omega (arith, sown_keeps.play)
 
   -- the own row has a small number
-  own_small : number_of q.own < 2 ^ 30
-  own_small = number_of-small 6 q.own (omega (arith, sown_keeps.side)) (omega (arith, few))
+  own_small : number_of sowed.own < 2 ^ 30
+  own_small = number_of-small 6 sowed.own (omega (arith, sown_keeps.side)) (omega (arith, few))
 
   -- the other row has a small number
-  other_small : number_of q.other < 2 ^ 30
-  other_small = number_of-small 6 q.other (omega (arith, sown_keeps.other_side, w.same_side)) (omega (arith, few))
+  other_small : number_of sowed.other < 2 ^ 30
+  other_small = number_of-small 6 sowed.other (omega (arith, sown_keeps.other_side, w.same_side)) (omega (arith, few))
 
   -- both rows without the house's seeds, and with what they gain
   pub sown_rows : (rows house gains : ℕ) → rows ≡ number_of a.own + 2 ^ 30 * number_of a.other
       → house ≡ 32 ^ (h - 1) * seeds a.own h →
       gains ≡ own_gains (length a.own) h (seeds a.own h) + 2 ^ 30 * other_gains (length a.own) h (seeds a.own h) →
-      rows - house + gains ≡ number_of q.own + 2 ^ 30 * number_of q.other
+      rows - house + gains ≡ number_of sowed.own + 2 ^ 30 * number_of sowed.other
   sown_rows rows house gains rows_are house_is gains_are = omega (arith, own_is, other_is, lifted_is)
 
   -- after a sowing the rows are both rows, less what they lose
   pub sown_less : (rows loses : ℕ) → rows ≡ number_of a.own + 2 ^ 30 * number_of a.other → loses < 2 ^ 64 →
       (loses + (own_gains (length a.own) h (seeds a.own h) + 2 ^ 30 * other_gains (length a.own) h (seeds a.own h))) % 2 ^ 64
       ≡ 32 ^ (h - 1) * seeds a.own h →
-      (rows + (2 ^ 64 - loses)) % 2 ^ 64 ≡ number_of q.own + 2 ^ 30 * number_of q.other
+      (rows + (2 ^ 64 - loses)) % 2 ^ 64 ≡ number_of sowed.own + 2 ^ 30 * number_of sowed.other
   sown_less rows loses rows_are loses_small loses_is = omega (arith, own_is, other_is, own_small, other_small)
 
   -- rows and a store with what a sowing adds show the position after it
-  pub rows_show : (rows store : ℕ) → rows ≡ number_of q.own + 2 ^ 30 * number_of q.other →
-      store ≡ store_gains (length a.own) h (seeds a.own h) → IsPackedPosition (record { rows = rows; store = store }) q
+  pub rows_show : (rows store : ℕ) → rows ≡ number_of sowed.own + 2 ^ 30 * number_of sowed.other →
+      store ≡ store_gains (length a.own) h (seeds a.own h) → IsPackedPosition (record { rows = rows; store = store }) sowed
   rows_show rows store rows_are store_is' = omega (arith, own_small, store_is)
 
   -- a house whose last seed falls into the store without a lap
   pub into_store : (rows house own_more : ℕ) → seeds a.own h + h ≡ length a.own + 1
       → rows ≡ number_of a.own + 2 ^ 30 * number_of a.other →
       house ≡ 32 ^ (h - 1) * seeds a.own h → own_more + ones h ≡ ones (length a.own)
-      → IsPackedPosition (record { rows = rows - house + own_more; store = 1 }) q
+      → IsPackedPosition (record { rows = rows - house + own_more; store = 1 }) sowed
   into_store rows house own_more ends rows_are house_is own_more_is =
       let gains = gains_into_store _ _ _ holds.first holds.last ends in
       rows_show _ 1 (sown_rows _ house _ rows_are house_is (omega arith)) (omega arith)
 
   -- a house read off the numbers
-  pub read_own : (r : RowNumbers) (i bit : ℕ) → IsPackedPosition r q → 1 ≤ i → i ≤ length a.own → bit ≡ 5 * (i - 1) →
-      r.rows / 2 ^ bit % 32 ≡ seeds q.own i
+  pub read_own : (r : RowNumbers) (i bit : ℕ) → IsPackedPosition r sowed → 1 ≤ i → i ≤ length a.own → bit ≡ 5 * (i - 1) →
+      r.rows / 2 ^ bit % 32 ≡ seeds sowed.own i
   read_own r i bit shows low high at =
       let near : i - 1 ≤ 5 = omega arith in
-      rw (at, pow_five) (low_cell _ _ near ∙ ap (λ n. n / 32 ^ (i - 1) % 32) shows.own
+      rw (at, pow_five) (own_house_of_rows _ _ near ∙ ap (λ n. n / 32 ^ (i - 1) % 32) shows.own
       ∙ read_seeds _ _ (omega (arith, sown_keeps.side)) (omega (arith, few)))
 
   -- the house across
-  pub read_across : (r : RowNumbers) (i bit : ℕ) → IsPackedPosition r q → 1 ≤ i → i ≤ length a.own
-      → bit ≡ 30 + 5 * (opposite q i - 1) →
-      r.rows / 2 ^ bit % 32 ≡ seeds q.other (opposite q i)
+  pub read_across : (r : RowNumbers) (i bit : ℕ) → IsPackedPosition r sowed → 1 ≤ i → i ≤ length a.own
+      → bit ≡ 30 + 5 * (opposite sowed i - 1) →
+      r.rows / 2 ^ bit % 32 ≡ seeds sowed.other (opposite sowed i)
   read_across r i bit shows low high at =
       let side = sown_keeps.side in
       let other_side = sown_keeps.other_side in
       rw (at, pow_other) (ap (λ n. n % 32) (sym (div-div-eq-div-mul _ (2 ^ 30) _))
-      ∙ ap (λ n. n / 32 ^ (opposite q i - 1) % 32) shows.other
+      ∙ ap (λ n. n / 32 ^ (opposite sowed i - 1) % 32) shows.other
       ∙ read_seeds _ _ (omega arith) (omega (arith, few)))
 
   -- all that a capture does to the rows, read and written by bits
-  capture_shows : {r : RowNumbers} {i house seed across captured_seeds count : ℕ} → IsPackedPosition r q → 1 ≤ i
+  capture_shows : {r : RowNumbers} {i house seed across captured_seeds count : ℕ} → IsPackedPosition r sowed → 1 ≤ i
       → i ≤ length a.own →
       IsLastHouse (length a.own) i house seed across → HasCaptured a.rule r house seed across captured_seeds count →
-      LeavesRows r captured_seeds count (captured q (Some i))
-  capture_shows {r} {i} {house} {seed} {across} {captured_seeds} {count} shows low high at told =
-      let j = opposite q i in
+      LeavesRows r captured_seeds count (captured sowed (Some i))
+  capture_shows {r} {i} {house} {seed} {across} {captured_seeds} {count} shows low high at taken =
+      let j = opposite sowed i in
       let side = sown_keeps.side in
       let other_side = sown_keeps.other_side in
       let far : j - 1 ≤ 5 = omega (arith, w.at_most_six) in
       let opposite_is : across ≡ 30 + 5 * (j - 1) = omega arith in
       let there = read_across r i across shows low high opposite_is in
-      let alone : (bit_and r.rows house == seed) ≡ (seeds q.own i == 1) =
+      let alone : (bit_and r.rows house == seed) ≡ (seeds sowed.own i == 1) =
       rw (at.house, at.seed, ← read_own r i (5 * (i - 1)) shows low high refl, pow_five (i - 1)) (one_seed_at r.rows (i - 1)) in
-      let has_captured : MatchBool (can_capture q i) ((captured_seeds ≡ seed + seeds q.other j * 2 ^ across % 2 ^ 64) × (count ≡ 1 + seeds q.other j))
+      let has_captured : MatchBool (can_capture sowed i) ((captured_seeds ≡ seed + seeds sowed.other j * 2 ^ across % 2 ^ 64) × (count ≡ 1 + seeds sowed.other j))
       ((captured_seeds ≡ 0) × (count ≡ 0)) =
-      rw sown_keeps.rule (rw (alone, there) at told) in
-      elim (cases_Bool (can_capture q i)) [
+      rw sown_keeps.rule (rw (alone, there) at taken) in
+      elim (cases_Bool (can_capture sowed i)) [
         | inr kept ↦
             let none : (captured_seeds ≡ 0) × (count ≡ 0) = rw kept at has_captured in
             record {
@@ -214,18 +219,20 @@ module _ (a : HousesState) (h : ℕ) (w : IsWithinHouses a) (holds : HoldsSeeds 
               shows = rw (kept, none.0, none.1) (omega arith);
             }
         | inl some ↦
-            let both : (captured_seeds ≡ seed + seeds q.other j * 2 ^ across % 2 ^ 64) × (count ≡ 1 + seeds q.other j) = rw some at has_captured in
-            let one : seeds q.own i ≡ 1 = eqb-true (seeds q.own i) 1 (and_parts _ _ some).0 in
-            let own_set = number_of-set q.own (i - 1) 0 (omega arith) in
-            let other_set = number_of-set q.other (j - 1) 0 (omega (arith, w.same_side)) in
-            let one_at : 32 ^ (i - 1) * seeds q.own i ≡ 32 ^ (i - 1) * 1 = ap (λ n. 32 ^ (i - 1) * n) one in
-            let y : seeds q.other j * 2 ^ across % 2 ^ 64 ≡ 2 ^ 30 * (32 ^ (j - 1) * seeds q.other j) =
-            rw (opposite_is, pow_other (j - 1)) (moved_far_whole _ _ far (omega arith)) in
-            let is : captured_seeds ≡ 32 ^ (i - 1) + 2 ^ 30 * (32 ^ (j - 1) * seeds q.other j) = both.0 ∙ omega (arith, y, at.seed) in
-            let off = taken_off r.rows (32 ^ (i - 1)) (32 ^ (j - 1) * seeds q.other j) shows.own shows.other (omega arith) (omega arith) in
+            let both : (captured_seeds ≡ seed + seeds sowed.other j * 2 ^ across % 2 ^ 64) × (count ≡ 1 + seeds sowed.other j) = rw some at has_captured in
+            let one : seeds sowed.own i ≡ 1 = eqb-true (seeds sowed.own i) 1 (and_parts _ _ some).0 in
+            let own_set = number_of-set sowed.own (i - 1) 0 (omega arith) in
+            let other_set = number_of-set sowed.other (j - 1) 0 (omega (arith, w.same_side)) in
+            let one_at : 32 ^ (i - 1) * seeds sowed.own i ≡ 32 ^ (i - 1) * 1 = ap (λ n. 32 ^ (i - 1) * n) one in
+            let stands : seeds sowed.other j * 2 ^ across % 2 ^ 64 ≡ 2 ^ 30 * (32 ^ (j - 1) * seeds sowed.other j) =
+            rw (opposite_is, pow_other (j - 1)) (moved_across_fits _ _ far (omega arith)) in
+            let is : captured_seeds ≡ 32 ^ (i - 1) + 2 ^ 30 * (32 ^ (j - 1) * seeds sowed.other j) = both.0 ∙ omega (arith, stands, at.seed) in
+            let left : AreLeft r.rows (32 ^ (i - 1) + 2 ^ 30 * (32 ^ (j - 1) * seeds sowed.other j))
+            (number_of (slice_set sowed.own (i - 1) 0)) (number_of (slice_set sowed.other (j - 1) 0)) =
+            left_of_rows r.rows _ _ shows.own shows.other (omega arith) (omega arith) in
             record {
-              within = rw is off.0;
-              shows = rw (is, some) (record { own = off.1; other = off.2; store = omega (arith, both.1) });
+              within = rw is left.within;
+              shows = rw (is, some) (record { own = left.own_is; other = left.other_is; store = omega (arith, both.1) });
             }
       ]
 
@@ -307,7 +314,7 @@ module _ (p : Position) (h : ℕ) (holds : HoldsSeeds p h) where
 none_captured : (rule : Rule) (r : RowNumbers) (seeds count : ℕ) {p : Position} → HasCaptured rule r 0 1 0 seeds count
     → IsPackedPosition r p →
     LeavesRows r seeds count p
-none_captured rule r seeds count told shows = grind (arith, and_le_r)
+none_captured rule r seeds count taken shows = grind (arith, and_le_r)
 
 -- the bit across lies within a key
 pub across_within : {m : ℕ} (h c : ℕ) (s : Sowing) → IsSowing m h c s → m ≤ 6 → s.across_bit < 64
@@ -327,13 +334,13 @@ move_leaves {a} {h} {rows} {s = s} {captured_seeds = captured_seeds} {count} pac
     let w = pack.limits in
     let shows = rows_show a h w holds _ _ (sown_less a h w holds _ _ pack.rows_are fits sowing.loses) sowing.store in
     let place = last_place _ h _ in
-    let told = rw same at has_captured in
+    let taken = rw same at has_captured in
     elim (cases_lt _ place) [
       | inl past ↦
           let no = sowing.elsewhere past in
-          none_captured a.rule r captured_seeds count (rw (no.house, no.seed, no.across) at told) (after_past _ h holds r past shows)
+          none_captured a.rule r captured_seeds count (rw (no.house, no.seed, no.across) at taken) (after_past _ h holds r past shows)
       | inr own ↦
-          let leaves = capture_shows a h w holds shows (omega arith) own (sowing.own own) told in
+          let leaves = capture_shows a h w holds shows (omega arith) own (sowing.own own) taken in
           record { within = leaves.within; shows = after_own _ h holds _ own leaves.shows }
     ]
 
@@ -350,7 +357,7 @@ captured_fits {m} h c x s sowing side small = elim (cases_lt m (last_place m h c
       let at = sowing.own own in
       let seed : s.last_seed < 2 ^ 30 = omega (arith, at.seed, placed_small (i - 1) 1 (omega arith) (omega arith)) in
       let there : x * 2 ^ s.across_bit % 2 ^ 64 ≡ 2 ^ 30 * (32 ^ (m - i) * x) =
-      rw (at.across, pow_other (m - i)) (moved_far_whole _ _ (omega arith) small) in
+      rw (at.across, pow_other (m - i)) (moved_across_fits _ _ (omega arith) small) in
       omega (arith, placed_small (m - i) x (omega arith) small)
 ]
 

@@ -67,7 +67,7 @@ pub(super) fn seeds_at(row: u64, house: House) -> u64
 
 // Returns a row with `seeds` seeds in this house, and none elsewhere.
 #[inline(always)]
-#[tactic(auto, using(crate::proofs::KeyLemmas::pow_five, crate::proofs::KeyLemmas::moved_whole))]
+#[tactic(auto, using(crate::proofs::KeyLemmas::pow_five, crate::proofs::KeyLemmas::moved_fits))]
 pub(super) fn row_with(house: House, seeds: u64) -> u64
     requires { seeds < 32 }
     ensures { result ≡ 32 ^ (house - 1) * seeds }

@@ -7,8 +7,8 @@ use crate::houses::house::House;
 use crate::houses::numbers::{OTHER_ROW, other_gains, own_gains, row_with};
 use std::marker::Model;
 
-// The cells of the table: 31 rows of 32, one cell for each number of seeds. The house at bit b of sides of m has row b + m - 1: sides of
-// 1 to 5 have rows b to b + 4. Sides of 6 have row b + 5, which would be that of a second or later house of sides of 1.
+// The cells of the table: 31 groups of 32, one cell for each number of seeds. The house at bit b of sides of m has group b + m - 1: sides
+// of 1 to 5 have groups b to b + 4. Sides of 6 have group b + 5, which would be that of a second or later house of sides of 1.
 const CELLS: usize = 31 * 32;
 
 /// How the seeds of one house are sown.
@@ -28,19 +28,35 @@ pub(super) struct Sowing {
     pub(super) again: bool,
 }
 
-// Returns the five bits of the own house with this place, the lowest of them, and the bit at which the house across begins in a key. For
-// the place of any other cell it returns 0, 1 and 0.
-fn last_cell(m: u8, place: u8) -> (u64, u64, u8)
+// Where the last seed falls: the fields of a sowing.
+#[derive(Clone, Copy)]
+struct LastCell {
+    mask: u64,
+    seed: u64,
+    across_bit: u8,
+}
+
+// Returns the cell with this place: of an own house its five bits, the lowest of them, and the bit at which the house across begins in a
+// key. For the place of any other cell these are 0, 1 and 0.
+fn last_cell(m: u8, place: u8) -> LastCell
     requires side { m ≤ 6 }
     requires first { 1 ≤ place }
-    ensures own { place ≤ m → IsLastHouse m place result.0 result.1 result.2 }
-    ensures elsewhere { m < place → IsNoHouse result.0 result.1 result.2 }
+    ensures own { place ≤ m → IsLastHouse m place result.mask result.seed result.across_bit }
+    ensures elsewhere { m < place → IsNoHouse result.mask result.seed result.across_bit }
 {
     if place > m {
-        return (0, 1, 0);
+        return LastCell {
+            mask: 0,
+            seed: 1,
+            across_bit: 0,
+        };
     }
-    let last_seed = row_with(House::new(place), 1);
-    (31 * last_seed, last_seed, 30 + 5 * (m - place))
+    let seed = row_with(House::new(place), 1);
+    LastCell {
+        mask: 31 * seed,
+        seed,
+        across_bit: 30 + 5 * (m - place),
+    }
 }
 
 impl Sowing {
@@ -57,12 +73,12 @@ impl Sowing {
         let reach = h + count % lap;
         let gains = own_gains(m, h, laps, reach) + OTHER_ROW * other_gains(m, laps, reach);
         let place = (h - 1 + count) % lap + 1;
-        let (last_mask, last_seed, across_bit) = last_cell(m, place);
+        let last = last_cell(m, place);
         Sowing {
             loses: row_with(House::new(h), count as u64).wrapping_sub(gains),
-            last_mask,
-            last_seed,
-            across_bit,
+            last_mask: last.mask,
+            last_seed: last.seed,
+            across_bit: last.across_bit,
             store: laps + if reach > m { 1 } else { 0 },
             again: place == m + 1,
         }
@@ -101,13 +117,13 @@ fn sowing_at(i: usize) -> Sowing
     requires { i < CELLS }
     ensures { (m h c : ℕ) → IsSowingCell m h c i → IsSowing m h c result }
 {
-    let row = (i / 32) as u8;
+    let group = (i / 32) as u8;
     let count = (i % 32) as u8;
-    if row > 0 && row % 5 == 0 {
-        return Sowing::new(6, row / 5, count);
+    if group > 0 && group % 5 == 0 {
+        return Sowing::new(6, group / 5, count);
     }
-    let m = row % 5 + 1;
-    let h = row / 5 + 1;
+    let m = group % 5 + 1;
+    let h = group / 5 + 1;
     if h > m {
         return NO_SOWING;
     }
@@ -132,7 +148,7 @@ impl Sowings {
         requires few { count < 32 }
         ensures { IsSowing m house count result }
     {
-        let row = m + house.bit() - 1;
-        self.cells[32 * row as usize + count as usize]
+        let group = m + house.bit() - 1;
+        self.cells[32 * group as usize + count as usize]
     }
 }

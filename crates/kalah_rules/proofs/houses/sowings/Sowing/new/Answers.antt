@@ -26,6 +26,6 @@ returns c =
       loses = omega arith;
       store = omega (arith, store_gain m h count first last);
       again = refl;
-      own = c.last_cell-last_mask.ensures.own;
-      elsewhere = c.last_cell-last_mask.ensures.elsewhere;
+      own = c.last_cell-last.ensures.own;
+      elsewhere = c.last_cell-last.ensures.elsewhere;
     }
