@@ -208,7 +208,8 @@ module _ (a : HousesState) (h : ℕ) (w : IsWithinHouses a) (holds : HoldsSeeds 
       let there = read_across r i across shows low high opposite_is in
       let alone : (bit_and r.rows house == seed) ≡ (seeds sowed.own i == 1) =
       rw (at.house, at.seed, ← read_own r i (5 * (i - 1)) shows low high refl, pow_five (i - 1)) (one_seed_at r.rows (i - 1)) in
-      let has_captured : MatchBool (can_capture sowed i) ((captured_seeds ≡ seed + seeds sowed.other j * 2 ^ across % 2 ^ 64) × (count ≡ 1 + seeds sowed.other j))
+      let has_captured : MatchBool (can_capture sowed i)
+      ((captured_seeds ≡ seed + seeds sowed.other j * 2 ^ across % 2 ^ 64) × (count ≡ 1 + seeds sowed.other j))
       ((captured_seeds ≡ 0) × (count ≡ 0)) =
       rw sown_keeps.rule (rw (alone, there) at taken) in
       elim (cases_Bool (can_capture sowed i)) [
@@ -219,7 +220,8 @@ module _ (a : HousesState) (h : ℕ) (w : IsWithinHouses a) (holds : HoldsSeeds 
               shows = rw (kept, none.0, none.1) (omega arith);
             }
         | inl some ↦
-            let both : (captured_seeds ≡ seed + seeds sowed.other j * 2 ^ across % 2 ^ 64) × (count ≡ 1 + seeds sowed.other j) = rw some at has_captured in
+            let both : (captured_seeds ≡ seed + seeds sowed.other j * 2 ^ across % 2 ^ 64) × (count ≡ 1 + seeds sowed.other j) =
+            rw some at has_captured in
             let one : seeds sowed.own i ≡ 1 = eqb-true (seeds sowed.own i) 1 (and_parts _ _ some).0 in
             let own_set = number_of-set sowed.own (i - 1) 0 (omega arith) in
             let other_set = number_of-set sowed.other (j - 1) 0 (omega (arith, w.same_side)) in

@@ -28,7 +28,8 @@ use Rattle.kalah_solve.specs.Bounds.Intervals.{least_margin, most_margin, clampe
 use Rattle.kalah_rules.specs.HousesStep.{houses_step}
 use Rattle.kalah_solve.specs.Bounds.Won.{won, won_by_step, nat_or_zero}
 use Rattle.kalah_solve.proofs.BoundsLemmas.{worth_low, worth_high, won_of_houses, won_of_move, won_at_most}
-use Rattle.kalah_rules.specs.Limits.{most_houses}
+use Rattle.kalah_rules.specs.Limits.{most_houses, most_in_play}
+use Rattle.kalah_solve.specs.declared.solver.move_values.TheConstants.{VALUES, BASE}
 
 -- ==== The games that players play
 
@@ -307,25 +308,25 @@ small_best p margin house limits is_legal is_small =
     record { small = is_small; first = holds.first; last = omega arith }
 
 -- the verdict states how best play ends
-pub verdict_tells : (p : Position) (v : Verdict) → HasEqualSides p → v ≡ verdict_of p → StatesBestPlay p v
-verdict_tells p v even is =
-    let tells = cond_both (is_over p) _ _ (StatesBestPlay p)
+pub verdict_states : (p : Position) (v : Verdict) → HasEqualSides p → v ≡ verdict_of p → StatesBestPlay p v
+verdict_states p v even is =
+    let states = cond_both (is_over p) _ _ (StatesBestPlay p)
     (λ over. record { over = over; final = refl; best_play = rw (worth_of_over p over) at (worth_is_best p even) })
     (λ going. record { going = going; best = best_move p even going; lowest = λ h is. best_house_lowest p h going is }) in
-    subst (λ u. StatesBestPlay p u) (sym is) tells
+    subst (λ u. StatesBestPlay p u) (sym is) states
 
 -- each verdict that states how best play ends is the verdict
-verdict_told : (p : Position) (v : Verdict) → HasEqualSides p → StatesBestPlay p v → v ≡ verdict_of p
-verdict_told p (Best margin house) even tells =
-    let margin_is = best_play_is_one p margin _ even tells.best.best_play (worth_is_best p even) in
-    let low = best_house_lowest p house tells.going (rw margin_is at tells.best) in
-    let high = tells.lowest (best_house p) (rw margin_is (best_move p even tells.going)) in
+stated_is_verdict : (p : Position) (v : Verdict) → HasEqualSides p → StatesBestPlay p v → v ≡ verdict_of p
+stated_is_verdict p (Best margin house) even states =
+    let margin_is = best_play_is_one p margin _ even states.best.best_play (worth_is_best p even) in
+    let low = best_house_lowest p house states.going (rw margin_is at states.best) in
+    let high = states.lowest (best_house p) (rw margin_is (best_move p even states.going)) in
     let house_is : house ≡ best_house p = omega arith in
     cc (margin_is, house_is)
-verdict_told p (Over margin) even tells = cc
+stated_is_verdict p (Over margin) even states = cc
 
 pub verdict_is_one : BestVerdictIsOne
-verdict_is_one p v w even one other = grind (arith, verdict_told)
+verdict_is_one p v w even one other = grind (arith, stated_is_verdict)
 
 -- ==== What a move secures, and that the values of the moves determine the verdict
 
@@ -342,15 +343,15 @@ houses_of : (p : Position) (xs : List ℕ) → map (λ v. v.house) (map (move_va
 houses_of p xs = map-map (λ (v : MoveValue). v.house) (move_value p) xs ∙ map-id xs
 
 -- no values state nothing
-tell_none : (p : Position) → All (λ (v : MoveValue). IsWorthOfMove p v.house v.value) []
-tell_none p = grind arith
+no_values_state : (p : Position) → All (λ (v : MoveValue). IsWorthOfMove p v.house v.value) []
+no_values_state p = grind arith
 
 -- the values of the moves are what these secure; if the game is over there are none
-pub values_tell : {p : Position} → HasEqualSides p → StateValues p (values_of p)
-values_tell {p} even = record {
+pub values_state : {p : Position} → HasEqualSides p → StateValues p (values_of p)
+values_state {p} even = record {
   houses = houses_of p _;
   worth = elim (cases_Bool (is_over p)) [
-    | inl over ↦ rw over (tell_none p)
+    | inl over ↦ rw over (no_values_state p)
     | inr going ↦ All-map (λ (v : MoveValue). IsWorthOfMove p v.house v.value) (move_value p) _
         (All-from_get_or (λ h. IsWorthOfMove p h (value_of_move p h)) _ 0
         (λ i within. value_is_worth p _ even going (Contains-get_or _ i 0 within)))
@@ -434,37 +435,33 @@ module _ (a : HousesState) (w : IsWithinHouses a) where
       ]
 
 -- ---- with the stores
--- the reported margin of the best of the houses: with the difference of the stores, in thirty-two bits
-abbrev pub told_margin : ℤ → ℕ → ℕ → ℤ
-told_margin best own other = to_z w32 (of_z w32 (to_z w32 (of_z w32 best) +ℤ to_z w32 (of_z w32 (to_z w32 own -ℤ to_z w32 other))))
+-- the worth of houses and the difference of the stores, added in thirty-two bits
+abbrev pub margin_in_bits : ℤ → ℕ → ℕ → ℤ
+margin_in_bits best own other = to_z w32 (of_z w32 (to_z w32 (of_z w32 best) +ℤ to_z w32 (of_z w32 (to_z w32 own -ℤ to_z w32 other))))
 
-module _ (p : Position) {rows : HousesState} {best : ℤ} {own other : ℕ} (limits : IsWithinLimits p) (best_is : best ≡ houses_worth rows)
-    (rows_is : rows ≡ houses_in p) (own_is : own ≡ p.own_store) (other_is : other ≡ p.other_store) where
-  -- what was found is the worth of the houses
-  found : best ≡ houses_worth (houses_in p)
-  found = best_is ∙ ap houses_worth rows_is
-
-  -- no sum is too large
-  pub told_fits : FitsSigned w32 (to_z w32 (of_z w32 best) +ℤ to_z w32 (of_z w32 (to_z w32 own -ℤ to_z w32 other)))
-  told_fits =
+module _ (p : Position) {best : ℤ} {own other : ℕ} (limits : IsWithinLimits p) (best_is : best ≡ houses_worth (houses_in p))
+    (own_is : own ≡ p.own_store) (other_is : other ≡ p.other_store) where
+  -- the sum is not too large
+  pub margin_fits : FitsSigned w32 (to_z w32 (of_z w32 best) +ℤ to_z w32 (of_z w32 (to_z w32 own -ℤ to_z w32 other)))
+  margin_fits =
       let within = houses_within p limits in
-      omega (arith, ints, found, worth_low _ within, worth_high _ within)
+      omega (arith, ints, worth_low _ within, worth_high _ within)
 
-  -- nothing is lost in thirty-two bits
-  told_is : told_margin best own other ≡ best +ℤ (pos p.own_store -ℤ pos p.other_store)
-  told_is =
+  -- nothing is lost
+  margin_is : margin_in_bits best own other ≡ best +ℤ (pos p.own_store -ℤ pos p.other_store)
+  margin_is =
       let within = houses_within p limits in
-      omega (arith, ints, found, worth_low _ within, worth_high _ within)
+      omega (arith, ints, worth_low _ within, worth_high _ within)
 
-  -- the sum of worth and stores is the worth of the position
-  pub told_worth : told_margin best own other ≡ worth p
-  told_worth = told_is ∙ rw found (sym (worth_of_houses p))
+  -- the sum is the worth of the position
+  pub margin_is_worth : margin_in_bits best own other ≡ worth p
+  margin_is_worth = margin_is ∙ rw best_is (sym (worth_of_houses p))
 
-  -- that sum is small
-  pub told_small : IsSmallMargin (told_margin best own other)
-  told_small =
+  -- it is one that a player can have
+  pub margin_is_small : IsSmallMargin (margin_in_bits best own other)
+  margin_is_small =
       let of_houses = won_of_houses (houses_within p limits) in
-      record { low = omega (arith, ints, found, told_is); high = omega (arith, ints, found, told_is) }
+      record { low = omega (arith, ints, margin_is); high = omega (arith, ints, margin_is) }
 
 -- ==== The value of a move, and its house, are numbers that a game can have
 
@@ -493,42 +490,42 @@ nat_again : (z : ℤ) → pos 1 ≤ℤ z → pos (nat_or_zero z) ≡ z
 nat_again (pos n) some = refl
 nat_again (negsuc n) some = grind (arith, ints)
 
--- a value has one of the digits from 1 to 1,566, and is the one that has it
-pub value_again : (v : MoveValue) → IsMoveValue v → (1 ≤ digit_of v) × (digit_of v < 1567) × (value_at (digit_of v) ≡ v)
+-- a value has a digit of the base other than 0, and is the one that has it
+pub value_again : (v : MoveValue) → IsMoveValue v → (1 ≤ digit_of v) × (digit_of v < BASE) × (value_at (digit_of v) ≡ v)
 value_again v small =
-    let again : pos (nat_or_zero (v.value +ℤ pos 131)) ≡ v.value +ℤ pos 131 = nat_again _ (omega (arith, ints, small.small.low)) in
-    let few : nat_or_zero (v.value +ℤ pos 131) ≤ 261 = omega (arith, ints, small.small.high) in
-    let some : 1 ≤ nat_or_zero (v.value +ℤ pos 131) = omega (arith, ints, small.small.low) in
-    let house : (digit_of v - 1) / 261 + 1 ≡ v.house = omega (arith, small.first) in
-    let place : (digit_of v - 1) % 261 + 1 ≡ nat_or_zero (v.value +ℤ pos 131) = omega (arith, small.first) in
-    let value : pos ((digit_of v - 1) % 261) -ℤ pos 130 ≡ v.value = omega (arith, ints) in
+    let again : pos (nat_or_zero (v.value +ℤ pos (most_in_play + 1))) ≡ v.value +ℤ pos (most_in_play + 1) = nat_again _ (omega (arith, ints, small.small.low)) in
+    let few : nat_or_zero (v.value +ℤ pos (most_in_play + 1)) ≤ VALUES = omega (arith, ints, small.small.high) in
+    let some : 1 ≤ nat_or_zero (v.value +ℤ pos (most_in_play + 1)) = omega (arith, ints, small.small.low) in
+    let house : (digit_of v - 1) / VALUES + 1 ≡ v.house = omega (arith, small.first) in
+    let place : (digit_of v - 1) % VALUES + 1 ≡ nat_or_zero (v.value +ℤ pos (most_in_play + 1)) = omega (arith, small.first) in
+    let value : pos ((digit_of v - 1) % VALUES) -ℤ pos most_in_play ≡ v.value = omega (arith, ints) in
     (omega arith, omega (arith, small.last), rw (house, value) refl)
 
 -- a digit is that of its value
-digit_again : (d : ℕ) → 1 ≤ d → d < 1567 → digit_of (value_at d) ≡ d
+digit_again : (d : ℕ) → 1 ≤ d → d < BASE → digit_of (value_at d) ≡ d
 digit_again d some few =
-    let up : (pos ((d - 1) % 261) -ℤ pos 130) +ℤ pos 131 ≡ pos ((d - 1) % 261 + 1) = omega (arith, ints) in
+    let up : (pos ((d - 1) % VALUES) -ℤ pos most_in_play) +ℤ pos (most_in_play + 1) ≡ pos ((d - 1) % VALUES + 1) = omega (arith, ints) in
     rw up (omega arith)
 
 -- there is at most one for each digit
 pub length_in : (n k : ℕ) → length (values_in n k) ≤ n
 length_in zero k = omega arith
-length_in (suc n) k = grind (arith, length_in n (k / 1567))
+length_in (suc n) k = grind (arith, length_in n (k / BASE))
 
 -- the value of the lowest digit, and those of the others
-pub values_some : (n k : ℕ) → 0 < k → values_in (suc n) k ≡ value_at (k % 1567) ∷ values_in n (k / 1567)
+pub values_some : (n k : ℕ) → 0 < k → values_in (suc n) k ≡ value_at (k % BASE) ∷ values_in n (k / BASE)
 values_some n k some = grind arith
 
 -- the lowest digit of a packed number is that of a value, and the other digits are packed
-pub rest_packed : (n k : ℕ) → 0 < k → IsValuesNumber (suc n) k → (1 ≤ k % 1567) × IsValuesNumber n (k / 1567)
+pub rest_packed : (n k : ℕ) → 0 < k → IsValuesNumber (suc n) k → (1 ≤ k % BASE) × IsValuesNumber n (k / BASE)
 rest_packed n k some packed =
-    let is : digit_of (value_at (k % 1567)) + 1567 * values_number (values_in n (k / 1567)) ≡ k = rw (values_some n k some) at packed in
-    elim (cases_eq (k % 1567) 0) [
+    let is : digit_of (value_at (k % BASE)) + BASE * values_number (values_in n (k / BASE)) ≡ k = rw (values_some n k some) at packed in
+    elim (cases_eq (k % BASE) 0) [
       | inl none ↦
-          let one : digit_of (value_at (k % 1567)) ≡ 1 = rw none refl in
+          let one : digit_of (value_at (k % BASE)) ≡ 1 = rw none refl in
           (omega arith, omega arith)
       | inr other ↦
-          let same : digit_of (value_at (k % 1567)) ≡ k % 1567 = digit_again _ (omega arith) (omega arith) in
+          let same : digit_of (value_at (k % BASE)) ≡ k % BASE = digit_again _ (omega arith) (omega arith) in
           (omega arith, omega arith)
     ]
 
@@ -539,7 +536,7 @@ no_more (suc n) k packed = elim (cases_eq k 0) [
   | inl none ↦ rw none refl
   | inr other ↦
       let some : 0 < k = omega arith in
-      rw (values_some (suc n) k some, values_some n k some) (ap (λ vs. value_at (k % 1567) ∷ vs) (no_more n _ (rest_packed n k some packed).1))
+      rw (values_some (suc n) k some, values_some n k some) (ap (λ vs. value_at (k % BASE) ∷ vs) (no_more n _ (rest_packed n k some packed).1))
 ]
 
 -- fewer digits are enough for fewer values
@@ -555,7 +552,7 @@ has_room (suc n) k few = elim (cases_eq k 0) [
   | inr other ↦
       let some : 0 < k = omega arith in
       rw (values_some (suc n) k some, values_some n k some)
-      (ap (λ vs. value_at (k % 1567) ∷ vs) (has_room n _ (omega (arith, ap length (values_some (suc n) k some)))))
+      (ap (λ vs. value_at (k % BASE) ∷ vs) (has_room n _ (omega (arith, ap length (values_some (suc n) k some)))))
 ]
 
 -- a packed number with no value is 0
@@ -564,7 +561,7 @@ empty_packed zero k packed some few = omega (arith, packed)
 empty_packed (suc n) k packed some few = omega (arith, ap length (values_some n k some))
 
 -- few values make a small number
-packed_small : (m n k : ℕ) → IsValuesNumber n k → length (values_in n k) ≤ m → k < 1567 ^ m
+packed_small : (m n k : ℕ) → IsValuesNumber n k → length (values_in n k) ≤ m → k < BASE ^ m
 packed_small zero n k packed few = elim (cases_eq k 0) [
   | inl none ↦ omega arith
   | inr other ↦ absurd (empty_packed n k packed (omega arith) (omega arith))
@@ -574,23 +571,23 @@ packed_small (suc m) (suc n) k packed few = elim (cases_eq k 0) [
   | inl none ↦ rw pow-succ' (omega (arith, packed_small m zero 0 refl (omega arith)))
   | inr other ↦
       let some : 0 < k = omega arith in
-      let rest = packed_small m n (k / 1567) (rest_packed n k some packed).1 (omega (arith, ap length (values_some n k some))) in
+      let rest = packed_small m n (k / BASE) (rest_packed n k some packed).1 (omega (arith, ap length (values_some n k some))) in
       rw pow-succ' (omega arith)
 ]
 
 -- one value more, in front of fewer than six
 module _ (v : MoveValue) (k : ℕ) (small : IsMoveValue v) (packed : IsValuesNumber 6 k) (room : length (values_in 6 k) < 6) where
-  pub values_prepended : values_in 6 (digit_of v + 1567 * k) ≡ v ∷ values_in 6 k
+  pub values_prepended : values_in 6 (digit_of v + BASE * k) ≡ v ∷ values_in 6 k
   values_prepended =
       let again = value_again v small in
-      let low : (digit_of v + 1567 * k) % 1567 ≡ digit_of v = omega arith in
-      let high : (digit_of v + 1567 * k) / 1567 ≡ k = omega arith in
-      rw (values_some 5 (digit_of v + 1567 * k) (omega arith), low, high, again.2, has_room 5 k (omega arith)) refl
+      let low : (digit_of v + BASE * k) % BASE ≡ digit_of v = omega arith in
+      let high : (digit_of v + BASE * k) / BASE ≡ k = omega arith in
+      rw (values_some 5 (digit_of v + BASE * k) (omega arith), low, high, again.2, has_room 5 k (omega arith)) refl
 
-  pub packed_prepended : IsValuesNumber 6 (digit_of v + 1567 * k)
+  pub packed_prepended : IsValuesNumber 6 (digit_of v + BASE * k)
   packed_prepended = rw values_prepended (omega arith)
 
-  pub fits_prepended : digit_of v + 1567 * k < 2 ^ 64
+  pub fits_prepended : digit_of v + BASE * k < 2 ^ 64
   fits_prepended =
       let again = value_again v small in
       let few = packed_small 5 6 k packed (omega arith) in

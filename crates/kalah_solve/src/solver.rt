@@ -1,7 +1,7 @@
 //! The solver: the worth of positions, by a search with a table.
 ghost use Rattle.std.specs.Prelude.{◌≡◌, ◌≤◌, IfOk, false};
-ghost use Rattle.kalah_rules.specs.Position.{is_over, storeless, IsWithinHouses};
-ghost use Rattle.kalah_solve.specs.Solver.Worth.{best_house, houses_worth};
+ghost use Rattle.kalah_rules.specs.Position.{is_over, storeless, houses_in, IsWithinHouses, IsWithinLimits, IsSmallMargin};
+ghost use Rattle.kalah_solve.specs.Solver.Worth.{best_house, houses_worth, worth};
 ghost use Rattle.kalah_solve.specs.Table.Entries.{most_entries, empty_table};
 ghost use Rattle.kalah_solve.specs.Bounds.Won.{won};
 ghost use Rattle.kalah_solve.specs.Solver.Verdict.{verdict_of, StatesBestPlay, IsSmallVerdict};
@@ -26,6 +26,17 @@ pub enum Verdict {
     Best { margin: i32, house: u8 },
     /// The margin of a game that is over, -130 to 130.
     Over { margin: i32 },
+}
+
+// Returns the margin of best play of the position, whose houses are worth `best`.
+#[inline(always)]
+fn with_stores(best: i32, board: &Board) -> i32
+    requires best { best ≡ houses_worth (houses_in board.now) }
+    requires limits { IsWithinLimits board.now }
+    ensures worth { result ≡ worth board.now }
+    ensures small { IsSmallMargin result }
+{
+    best + (board.own_store() as i32 - board.other_store() as i32)
 }
 
 /// Computes what positions are worth, by a search that keeps what it learns in a table.
@@ -76,7 +87,7 @@ impl<A: Allocator + Clone> Solver<A> {
         let best = self.houses_worth(&houses);
         let beta = won_of(best, houses.seeds());
         let house = self.best_house(&houses, beta);
-        let margin = best + (board.own_store() as i32 - board.other_store() as i32);
+        let margin = with_stores(best, board);
         Verdict::Best { margin, house }
     }
 

@@ -1,7 +1,7 @@
 -- What each move of a position is worth, in its numbers and by the strategies of best play.
 use Rattle.std.specs.Prelude.{◌≡◌, ℕ, zero, suc, ◌+◌, ◌-◌, ◌*◌, ◌/◌, ◌%◌, ◌==◌, ◌≤◌, if◌then◌else◌, false, List, [], ◌∷◌, All, Contains, map, find, option_map, unwrap_or, ℤ, pos, ◌+ℤ◌, ◌-ℤ◌}
 use Rattle.std.specs.Ordering.{int_eq}
-use Rattle.kalah_rules.specs.Limits.{most_houses}
+use Rattle.kalah_rules.specs.Limits.{most_houses, most_in_play}
 use Rattle.kalah_rules.specs.Position.{Position, HasEqualSides, IsSmallMargin, is_over}
 use Rattle.kalah_rules.specs.Play.{legal_houses}
 use Rattle.kalah_solve.specs.Bounds.Won.{nat_or_zero}
@@ -9,6 +9,7 @@ use Rattle.kalah_solve.specs.Solver.Worth.{greatest, value_of_move}
 use Rattle.kalah_solve.specs.Solver.BestPlay.{IsWorthOfMove}
 use Rattle.kalah_solve.specs.Solver.Verdict.{verdict_of}
 use Rattle.kalah_solve.specs.declared.solver.move_values.MoveValue.{MoveValue}
+use Rattle.kalah_solve.specs.declared.solver.move_values.TheConstants.{VALUES, BASE}
 use Rattle.kalah_solve.specs.declared.solver.Verdict.{Verdict}
 use Rattle.kalah_solve.specs.declared.solver.Verdict.TheVariants.{Best}
 
@@ -39,23 +40,23 @@ pub record IsMoveValue (v : MoveValue) : Type 0 where
   pub last : v.house ≤ most_houses
   pub small : IsSmallMargin v.value
 
--- a value as a digit of base 1567: there are 261 values for each of six houses, from digit 1 on
+-- a value as a digit: each house has one for each of its values, and the least value of house 1 has digit 1
 abbrev pub digit_of : MoveValue → ℕ
-digit_of v = 261 * (v.house - 1) + nat_or_zero (v.value +ℤ pos 131)
+digit_of v = VALUES * (v.house - 1) + nat_or_zero (v.value +ℤ pos (most_in_play + 1))
 
 -- the value with a digit
 abbrev pub value_at : ℕ → MoveValue
-value_at d = record { house = (d - 1) / 261 + 1; value = pos ((d - 1) % 261) -ℤ pos 130 }
+value_at d = record { house = (d - 1) / VALUES + 1; value = pos ((d - 1) % VALUES) -ℤ pos most_in_play }
 
--- values as a number, the digit of the first one lowest
+-- values as a number to the base `BASE`, the digit of the first one lowest
 abbrev pub values_number : List MoveValue → ℕ
 values_number [] = 0
-values_number (v ∷ vs) = digit_of v + 1567 * values_number vs
+values_number (v ∷ vs) = digit_of v + BASE * values_number vs
 
 -- the values in the lowest n digits of a number
 abbrev pub values_in : ℕ → ℕ → List MoveValue
 values_in zero k = []
-values_in (suc n) k = if k == 0 then [] else (value_at (k % 1567) ∷ values_in n (k / 1567))
+values_in (suc n) k = if k == 0 then [] else (value_at (k % BASE) ∷ values_in n (k / BASE))
 
 -- the number is that of at most n values
 abbrev pub IsValuesNumber : ℕ → ℕ → Type 0

@@ -2,6 +2,7 @@
 ghost use Rattle.std.specs.Prelude.{◌≡◌, ◌<◌, ◌≤◌, [], ◌∷◌, length, slice_get, MatchOption, Some};
 ghost use Rattle.kalah_solve.specs.Solver.MoveValues.{IsMoveValue, digit_of, value_at};
 
+use kalah_rules::{MOST_HOUSES, MOST_IN_STORE, MOST_SEEDS};
 use std::marker::Model;
 
 /// A legal move and its value.
@@ -13,8 +14,14 @@ pub struct MoveValue {
     pub value: i16,
 }
 
-// One more than six houses with 261 values each. So six digits of this base fit into a word.
-const BASE: u64 = 6 * 261 + 1;
+// The greatest value, 130: that of a store with all the seeds that can come to it.
+const MOST_VALUE: i16 = MOST_IN_STORE as i16 + MOST_SEEDS as i16;
+
+// The number of values of a house, from -130 to 130.
+const VALUES: u64 = 2 * MOST_VALUE as u64 + 1;
+
+// One more than the number of values of all houses. So six digits of this base fit into a word.
+const BASE: u64 = MOST_HOUSES as u64 * VALUES + 1;
 
 impl MoveValue {
     // Returns the value as a digit.
@@ -22,7 +29,7 @@ impl MoveValue {
         requires { IsMoveValue self }
         ensures { result ≡ digit_of self }
     {
-        261 * u64::from(self.house - 1) + (self.value + 131) as u64
+        VALUES * u64::from(self.house - 1) + (self.value + MOST_VALUE + 1) as u64
     }
 
     // Returns the value with this digit, which isn't 0.
@@ -33,8 +40,8 @@ impl MoveValue {
     {
         let place = digit - 1;
         MoveValue {
-            house: (place / 261 + 1) as u8,
-            value: (place % 261) as i16 - 130,
+            house: (place / VALUES + 1) as u8,
+            value: (place % VALUES) as i16 - MOST_VALUE,
         }
     }
 }

@@ -5,7 +5,7 @@ ghost use Rattle.kalah_rules.specs.Play.{legal_houses};
 ghost use Rattle.kalah_solve.specs.Solver.Worth.{worth, value_of_move};
 ghost use Rattle.kalah_solve.specs.Solver.MoveValues.{move_value, values_of, StateValues};
 
-use super::Solver;
+use super::{Solver, with_stores};
 use crate::solver::move_values::{MoveValue, MoveValues};
 use kalah_rules::{Board, Step};
 use std::alloc::Allocator;
@@ -61,6 +61,6 @@ impl<A: Allocator + Clone> Solver<A> {
             return board.returns();
         }
         let best = self.houses_worth(&board.houses());
-        best + (board.own_store() as i32 - board.other_store() as i32)
+        with_stores(best, board)
     }
 }

@@ -2,9 +2,9 @@ use Rattle.std.proofs.Common.{arith, rules, sym, ap, ◌∙◌, ◌≡◌, w32, 
 use Rattle.std.proofs.lemmas.Int.{ints, to_z-of_z}
 use Rattle.kalah_rules.specs.Position.{HousesState, storeless}
 use Rattle.kalah_rules.proofs.PackedLemmas.{houses_within}
-use Rattle.kalah_solve.specs.Solver.Worth.{best_house}
-use Rattle.kalah_solve.specs.declared.solver.Verdict.TheVariants.{Best, Over}
-use Rattle.kalah_solve.proofs.SolverLemmas.{verdict_by, verdict_of_over, small_best, told_margin, told_fits, told_small, told_worth, verdict_tells}
+use Rattle.kalah_solve.specs.Solver.Worth.{best_house, houses_worth}
+use Rattle.kalah_solve.specs.declared.solver.Verdict.TheVariants.{Over}
+use Rattle.kalah_solve.proofs.SolverLemmas.{verdict_by, verdict_of_over, small_best, verdict_states}
 use Rattle.kalah_solve.proofs.WorthLemmas.{best_of_houses, best_found, board_equal_sides}
 use Rattle.kalah_solve.proofs.BoundsLemmas.{worth_low, worth_high, half_is}
 use Rattle.kalah_solve.proofs.solver.Solver.solve.Given as given
@@ -13,7 +13,7 @@ use Rattle.kalah_solve.proofs.solver.Solver.solve.Goals as goal
 pub returns-then-is_over-clause-best_play : goal.returns-then-is_over-clause-best_play
 returns-then-is_over-clause-best_play g c =
     let fits : SFits w32 c.returns.result = search rules in
-    simp to_z-of_z (verdict_tells c.args.board.now (Over c.returns.result) (board_equal_sides c.args.board.now c.is_over.ensures.limits)
+    simp to_z-of_z (verdict_states c.args.board.now (Over c.returns.result) (board_equal_sides c.args.board.now c.is_over.ensures.limits)
     (verdict_of_over c.args.board.now c.returns.result (sym c.if-is_over.ensures.over) c.returns.ensures.margin))
 
 -- ---- the game goes on
@@ -32,33 +32,31 @@ best_house-house-requires-clause-best g c =
     half_is c.houses-houses.result _ _ c.seeds.ensures.limits c.houses_worth-best.ensures
     (rw c.seeds.ensures.seeds at (simp to_z-of_z at c.won_of-beta.ensures))
 
-pub overflow_add-margin : goal.overflow_add-margin
-overflow_add-margin g c =
-    told_fits c.args.board.now c.is_over.ensures.limits c.houses_worth-best.ensures c.houses-houses.ensures c.own_store.ensures
-    c.other_store.ensures
+pub with_stores-margin-requires-clause-best : goal.with_stores-margin-requires-clause-best
+with_stores-margin-requires-clause-best g c =
+    let fits : SFits w32 c.houses_worth-best.result = search rules in
+    simp to_z-of_z (c.houses_worth-best.ensures ∙ ap houses_worth c.houses-houses.ensures)
 
--- the reported house
-house_is : (g : given.Over) (c : goal.After-other_store g) → c.best_house-house.result ≡ best_house c.args.board.now
+-- the house is the best one
+house_is : (g : given.Over) (c : goal.After-with_stores-margin g) → c.best_house-house.result ≡ best_house c.args.board.now
 house_is g c = c.best_house-house.ensures ∙ ap (λ (a : HousesState). best_house (storeless a)) c.houses-houses.ensures
     ∙ sym (best_of_houses c.args.board.now)
 
 pub returns-clause-verdict : goal.returns-clause-verdict
 returns-clause-verdict g c =
-    let p = c.args.board.now in
-    verdict_by p (told_margin c.houses_worth-best.result c.own_store.result c.other_store.result) c.best_house-house.result
-    (sym c.if-is_over.ensures.over)
-    (told_worth p c.is_over.ensures.limits c.houses_worth-best.ensures c.houses-houses.ensures c.own_store.ensures c.other_store.ensures)
-    (house_is g c)
+    let fits : SFits w32 c.with_stores-margin.result = search rules in
+    simp to_z-of_z
+    (verdict_by c.args.board.now c.with_stores-margin.result c.best_house-house.result (sym c.if-is_over.ensures.over)
+    c.with_stores-margin.ensures.worth (house_is g c))
 
 pub returns-clause-best_play : goal.returns-clause-best_play
 returns-clause-best_play g c =
-    verdict_tells c.args.board.now (Best (told_margin c.houses_worth-best.result c.own_store.result c.other_store.result) c.best_house-house.result)
-    (board_equal_sides c.args.board.now c.is_over.ensures.limits) (returns-clause-verdict g c)
+    verdict_states c.args.board.now _ (board_equal_sides c.args.board.now c.is_over.ensures.limits) (returns-clause-verdict g c)
 
 pub returns-clause-small : goal.returns-clause-small
 returns-clause-small g c =
     let p = c.args.board.now in
     let limits = c.is_over.ensures.limits in
-    small_best p (told_margin c.houses_worth-best.result c.own_store.result c.other_store.result) c.best_house-house.result limits
-    (rw (house_is g c) (best_found p (board_equal_sides p limits) (sym c.if-is_over.ensures.over)).0)
-    (told_small p limits c.houses_worth-best.ensures c.houses-houses.ensures c.own_store.ensures c.other_store.ensures)
+    let fits : SFits w32 c.with_stores-margin.result = search rules in
+    simp to_z-of_z (small_best p c.with_stores-margin.result c.best_house-house.result limits
+    (rw (house_is g c) (best_found p (board_equal_sides p limits) (sym c.if-is_over.ensures.over)).0) c.with_stores-margin.ensures.small)

@@ -4,7 +4,7 @@ use Rattle.std.proofs.lemmas.List.Elements.{Contains-get_or}
 use Rattle.kalah_rules.specs.Position.{Position}
 use Rattle.kalah_solve.specs.Solver.MoveValues.{IsMoveValue, move_value, StateValues}
 use Rattle.kalah_solve.specs.declared.solver.move_values.MoveValue.{MoveValue}
-use Rattle.kalah_solve.proofs.SolverLemmas.{values_tell, move_value_small}
+use Rattle.kalah_solve.proofs.SolverLemmas.{values_state, move_value_small}
 use Rattle.kalah_solve.proofs.WorthLemmas.{board_equal_sides}
 use Rattle.kalah_solve.proofs.solver.Solver.values.Goals as goal
 
@@ -42,4 +42,4 @@ pub returns-clause-best_play : goal.returns-clause-best_play
 returns-clause-best_play g c =
     let none : c.loop-i.i ≡ 0 = omega arith in
     let is = rw (none, c.legal-moves.ensures.moves) at c.loop-i.invariant.done in
-    subst (StateValues c.args.board.now) (sym is) (values_tell (board_equal_sides _ c.legal-moves.ensures.limits))
+    subst (StateValues c.args.board.now) (sym is) (values_state (board_equal_sides _ c.legal-moves.ensures.limits))

@@ -1,6 +1,6 @@
-use Rattle.std.proofs.Common.{rules, sym, ◌∙◌, w32, SFits, to_z-of_z}
+use Rattle.std.proofs.Common.{rules, sym, ap, ◌∙◌, w32, SFits, to_z-of_z}
 use Rattle.kalah_rules.proofs.PackedLemmas.{houses_within}
-use Rattle.kalah_solve.proofs.SolverLemmas.{told_fits, told_small, told_worth}
+use Rattle.kalah_solve.specs.Solver.Worth.{houses_worth}
 use Rattle.kalah_solve.proofs.WorthLemmas.{worth_of_over}
 use Rattle.kalah_solve.proofs.solver.Solver.worth.Goals as goal
 
@@ -12,14 +12,7 @@ returns-then-is_over-clause-worth g c =
 pub houses_worth-best-requires-clause-limits : goal.houses_worth-best-requires-clause-limits
 houses_worth-best-requires-clause-limits g c = rw c.houses.ensures (houses_within _ c.is_over.ensures.limits)
 
-pub overflow_add-result : goal.overflow_add-result
-overflow_add-result g c =
-    told_fits c.args.board.now c.is_over.ensures.limits c.houses_worth-best.ensures c.houses.ensures c.own_store.ensures c.other_store.ensures
-
-pub returns-clause-worth : goal.returns-clause-worth
-returns-clause-worth g c =
-    told_worth c.args.board.now c.is_over.ensures.limits c.houses_worth-best.ensures c.houses.ensures c.own_store.ensures c.other_store.ensures
-
-pub returns-clause-small : goal.returns-clause-small
-returns-clause-small g c =
-    told_small c.args.board.now c.is_over.ensures.limits c.houses_worth-best.ensures c.houses.ensures c.own_store.ensures c.other_store.ensures
+pub with_stores-requires-clause-best : goal.with_stores-requires-clause-best
+with_stores-requires-clause-best g c =
+    let fits : SFits w32 c.houses_worth-best.result = search rules in
+    simp to_z-of_z (c.houses_worth-best.ensures ∙ ap houses_worth c.houses.ensures)
