@@ -103,9 +103,9 @@ pub worth_high : (a : HousesState) → IsWithinHouses a → houses_worth a ≤�
 worth_high a w = omega (arith, ints, (won_of_houses w).few, (won_of_houses w).is)
 
 -- the mover wins half of what the houses are worth and hold together
-pub half_is : (a : HousesState) (worth : ℤ) (half : ℕ) → IsWithinHouses a → worth ≡ houses_worth a →
+pub half_is_won : (a : HousesState) (worth : ℤ) (half : ℕ) → IsWithinHouses a → worth ≡ houses_worth a →
     IsHalf (worth +ℤ pos (seeds_in_houses (storeless a))) half → half ≡ won a
-half_is a worth half w e is = grind (arith, won_of_houses)
+half_is_won a worth half w e is = grind (arith, won_of_houses)
 
 -- what is won by a step
 won_of_step : (a : HousesState) (s : HousesStep) → LeadsOn a s
@@ -140,8 +140,8 @@ module _ (a : HousesState) (w : IsWithinHouses a) where
 -- ==== The answer of the search in a window
 
 -- a margin that is clamped to a window is in it
-pub within_both : (lo hi z : ℤ) → lo <ℤ hi → (lo ≤ℤ clamped lo hi z) × (clamped lo hi z ≤ℤ hi)
-within_both lo hi z ordered = omega (arith, ints, clamps)
+pub clamped_within : (lo hi z : ℤ) → lo <ℤ hi → (lo ≤ℤ clamped lo hi z) × (clamped lo hi z ≤ℤ hi)
+clamped_within lo hi z ordered = omega (arith, ints, clamps)
 
 -- an interval that leaves nothing of it open answers
 pub known_answers : (lo hi z : ℤ) (k : Interval) → lo <ℤ hi → Encloses k z → int_min hi k.hi ≤ℤ int_max lo k.lo →
@@ -149,17 +149,17 @@ pub known_answers : (lo hi z : ℤ) (k : Interval) → lo <ℤ hi → Encloses k
 known_answers lo hi z k ordered holds none = omega (arith, ints, clamps)
 
 -- what the mover wins, raised and lowered to the bounds that a window distinguishes, makes the worth in the window
-pub won_by_bounds : {a : HousesState} (lo hi : ℤ) (asked : SeedBounds) {m : ℤ} {n t : ℕ} → IsWithinHouses a
+pub worth_by_bounds : {a : HousesState} (lo hi : ℤ) (asked : SeedBounds) {m : ℤ} {n t : ℕ} → IsWithinHouses a
     → n ≡ seeds_in_houses (storeless a) →
     asked.least ≤ asked.most →
     ((u : ℕ) → u ≤ n → clamped lo hi (pos (2 * max asked.least (min asked.most u)) -ℤ pos n) ≡ clamped lo hi
     (pos (2 * u) -ℤ pos n)) →
     t ≡ max asked.least (min asked.most (won a)) → m ≡ pos (2 * t) -ℤ pos n → clamped lo hi m ≡ clamped lo hi (houses_worth a)
-won_by_bounds {a} lo hi asked {n = n} w all ordered apart is m_is =
+worth_by_bounds {a} lo hi asked {n = n} w all ordered apart is m_is =
     let worth_is : pos (2 * won a) -ℤ pos n ≡ houses_worth a = omega (arith, ints, worth_of_won a w) in
     rw (m_is, is) (apart _ (omega (arith, (won_of_houses w).few)) ∙ ap (clamped lo hi) worth_is)
 
 -- the margin of what the mover wins is the worth of the houses
-pub margin_of_won_is : {a : HousesState} {m : ℤ} {n t : ℕ} → IsWithinHouses a → n ≡ seeds_in_houses (storeless a) → t ≡ won a →
+pub margin_of_won_is_worth : {a : HousesState} {m : ℤ} {n t : ℕ} → IsWithinHouses a → n ≡ seeds_in_houses (storeless a) → t ≡ won a →
     m ≡ pos (2 * t) -ℤ pos n → m ≡ houses_worth a
-margin_of_won_is {a} w all is m_is = omega (arith, ints, worth_of_won a w)
+margin_of_won_is_worth {a} w all is m_is = omega (arith, ints, worth_of_won a w)

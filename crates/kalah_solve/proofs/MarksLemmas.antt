@@ -351,35 +351,35 @@ into_store_legal {a} i w going inside ends =
     holds_legal (storeless a) (i + 1) (record { first = omega arith; last = omega arith; some = omega arith }) going
 
 -- what holds of each marked house holds of those that stay marked
-pub each_fewer : (P : ℕ → Type 0) {marks h : ℕ} → IsLastMark marks h → ((i : ℕ) → 0 < cell marks i → P (i + 1)) →
+pub each_before_last : (P : ℕ → Type 0) {marks h : ℕ} → IsLastMark marks h → ((i : ℕ) → 0 < cell marks i → P (i + 1)) →
     (i : ℕ) → 0 < cell (marks - 32 ^ (h - 1)) i → P (i + 1)
-each_fewer P {marks} {h} last each i some = each i (marked_before marks h last i some)
+each_before_last P {marks} {h} last each i some = each i (marked_before marks h last i some)
 
 -- what holds of each marked house holds of the last one
-pub each_last : (P : ℕ → Type 0) {marks h : ℕ} → IsLastMark marks h → ((i : ℕ) → 0 < cell marks i → P (i + 1)) → P h
-each_last P {marks} {h} last each = grind (arith, last_marked)
+pub each_at_last : (P : ℕ → Type 0) {marks h : ℕ} → IsLastMark marks h → ((i : ℕ) → 0 < cell marks i → P (i + 1)) → P h
+each_at_last P {marks} {h} last each = grind (arith, last_marked)
 
 -- marked houses that may all be moved
-pub record MayMove (a : HousesState) (marks : ℕ) : Type 0 where
+pub record AreMovable (a : HousesState) (marks : ℕ) : Type 0 where
   pub are : AreMarks marks
   pub legal : (i : ℕ) → 0 < cell marks i → Contains (legal_houses (storeless a)) (i + 1)
 
 -- the last of them
-pub last_legal : {a : HousesState} {marks h : ℕ} → MayMove a marks → IsLastMark marks h → Contains (legal_houses (storeless a)) h
-last_legal may last = each_last (Contains _) last may.legal
+pub last_is_legal : {a : HousesState} {marks h : ℕ} → AreMovable a marks → IsLastMark marks h → Contains (legal_houses (storeless a)) h
+last_is_legal may last = each_at_last (Contains _) last may.legal
 
 -- the houses before the last may be moved
-pub moves_fewer : {a : HousesState} {marks h : ℕ} → MayMove a marks → IsLastMark marks h → MayMove a (marks - 32 ^ (h - 1))
-moves_fewer {a} {marks} {h} may last = record {
+pub movable_before_last : {a : HousesState} {marks h : ℕ} → AreMovable a marks → IsLastMark marks h → AreMovable a (marks - 32 ^ (h - 1))
+movable_before_last {a} {marks} {h} may last = record {
   are = without_last_marks may.are last;
-  legal = each_fewer (Contains _) last may.legal;
+  legal = each_before_last (Contains _) last may.legal;
 }
 
 -- what holds of the last marked house, and of each other unmarked one that may be moved, holds of each that is unmarked without it
-pub each_unmarked : (a : HousesState) {marks h : ℕ} (P : ℕ → Type 0) → IsLastMark marks h → P h
+pub each_unmarked_without_last : (a : HousesState) {marks h : ℕ} (P : ℕ → Type 0) → IsLastMark marks h → P h
     → ((i : ℕ) → Contains (legal_houses (storeless a)) i → i - 1 ≢ h - 1 → cell marks (i - 1) ≡ 0 → P i)
     → (i : ℕ) → Contains (legal_houses (storeless a)) i → cell (marks - 32 ^ (h - 1)) (i - 1) ≡ 0 → P i
-each_unmarked a {marks} {h} P last here each i may gone = elim (cases_eq i h) [
+each_unmarked_without_last a {marks} {h} P last here each i may gone = elim (cases_eq i h) [
   | inl same ↦ subst P (sym same) here
   | inr other ↦
       let first = (legal_holds (storeless a) i may).first in

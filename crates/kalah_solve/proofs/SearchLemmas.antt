@@ -2,7 +2,7 @@
 use Rattle.std.proofs.Common.{◌≡◌, ℕ, ◌+◌, ◌%◌, ◌^◌, ◌-◌, ◌<◌, ◌≤◌, inl, inr, List, get_or, arith, sym, ap, ◌∙◌, length, subst, ◌↔◌, Bool, false, IsTrue, Contains, max, slice_set, length-set}
 use Rattle.std.proofs.lemmas.Bool.{cases_lt, cases_eq}
 use Rattle.kalah_solve.specs.Marks.{cell, IsLastMark}
-use Rattle.kalah_solve.proofs.MarksLemmas.{each_unmarked}
+use Rattle.kalah_solve.proofs.MarksLemmas.{each_unmarked_without_last}
 use Rattle.std.proofs.lemmas.List.{get_or-set_same, get_or-set_other, get_or_default}
 use Rattle.kalah_rules.specs.Position.{HousesState, IsWithinHouses, seeds, seeds_in_houses, is_over, storeless}
 use Rattle.kalah_solve.specs.Search.{EndsInStore, IsSoftBound, WinsAtMost, IsTurnOf, AreWaiting}
@@ -17,30 +17,30 @@ use Rattle.kalah_solve.proofs.BoundsLemmas.{won_at_most, won_of_houses, won_reac
 -- ==== The moves that were tried, and those that wait with a priority
 
 -- the meaning of a failed test
-pub short_of : (r : Bool) (beta x : ℕ) → (IsTrue r ↔ beta ≤ x) → r ≡ false → x < beta
-short_of r beta x says fails = grind arith
+pub below_if_test_fails : (r : Bool) (beta x : ℕ) → (IsTrue r ↔ beta ≤ x) → r ≡ false → x < beta
+below_if_test_fails r beta x says fails = grind arith
 
 -- a bound is at most the greater of `beta` and the number
-pub bound_up_to : {beta number bound : ℕ} → IsSoftBound beta number bound → bound ≤ max beta number
-bound_up_to {beta} {number} {bound} is = grind arith
+pub bound_le_max : {beta number bound : ℕ} → IsSoftBound beta number bound → bound ≤ max beta number
+bound_le_max {beta} {number} {bound} is = grind arith
 
 -- the most of some bounds that fall short falls short too, unless it is 0
-pub low_more : (beta most bound new : ℕ) → (beta ≤ most → most ≡ 0) → bound < beta → new ≡ max most bound → beta ≤ new
+pub short_stays : (beta most bound new : ℕ) → (beta ≤ most → most ≡ 0) → bound < beta → new ≡ max most bound → beta ≤ new
     → new ≡ 0
-low_more beta most bound new low short is enough = omega arith
+short_stays beta most bound new low short is enough = omega arith
 
 -- what is left of all is bounded by what the bound of the other player leaves
-pub bound_left : {beta number bound : ℕ} (all seeds gained : ℕ) → all ≡ gained + seeds → number ≤ seeds
+pub bound_of_rest : {beta number bound : ℕ} (all seeds gained : ℕ) → all ≡ gained + seeds → number ≤ seeds
     → IsSoftBound (all - beta + 1) number bound → IsSoftBound beta (gained + (seeds - number)) (all - bound)
-bound_left {beta} {number} {bound} all seeds gained is few b = elim (cases_lt bound (all - beta + 1)) [
+bound_of_rest {beta} {number} {bound} all seeds gained is few b = elim (cases_lt bound (all - beta + 1)) [
   | inl short ↦ omega (arith, b.upper short)
   | inr enough ↦ omega (arith, b.lower enough)
 ]
 
 -- a bound of a move that is enough is no more than best play wins
-pub move_enough : (a : HousesState) (beta h bound : ℕ) → IsWithinHouses a → Contains (legal_houses (storeless a)) h →
+pub enough_is_won : (a : HousesState) (beta h bound : ℕ) → IsWithinHouses a → Contains (legal_houses (storeless a)) h →
     IsSoftBound beta (won_by_step (houses_step a h)) bound → beta ≤ bound → bound ≤ won a
-move_enough a beta h bound w has is enough = omega (arith, won_at_most a w h has)
+enough_is_won a beta h bound w has is enough = omega (arith, won_at_most a w h has)
 
 -- a turn leads on to the houses that it leaves
 turn_leads : {a b : HousesState} {h priority : ℕ} → IsWithinHouses a → IsTurnOf a h priority b →
@@ -56,7 +56,7 @@ module _ {a b : HousesState} {h priority bound seeds left : ℕ} (beta : ℕ) (w
 
   -- what the reply leaves is a bound of the turn
   pub reply_left : IsSoftBound beta (won_by_step (houses_step a h)) (seeds - bound)
-  reply_left = rw (turn.step, seeds_are) (bound_left _ _ _ (omega (arith, (turn_leads w turn).kept)) reply_few (rw (left_is, seeds_are) at is))
+  reply_left = rw (turn.step, seeds_are) (bound_of_rest _ _ _ (omega (arith, (turn_leads w turn).kept)) reply_few (rw (left_is, seeds_are) at is))
 
   -- the bound is at most all seeds
   pub reply_fits : bound ≤ seeds
@@ -67,21 +67,21 @@ module _ {a b : HousesState} {h priority bound seeds left : ℕ} (beta : ℕ) (w
 
   -- what is left of them is no more than best play wins, if it is enough
   pub turn_enough : beta ≤ seeds - bound → seeds - bound ≤ won a
-  turn_enough = move_enough _ _ _ _ w turn.legal reply_left
+  turn_enough = enough_is_won _ _ _ _ w turn.legal reply_left
 
 -- a legal house whose step is a turn, with a priority that names it, is a turn
-pub turn_of : {a : HousesState} {h priority gained : ℕ} {b : HousesState} → IsWithinHouses a
+pub step_is_turn : {a : HousesState} {h priority gained : ℕ} {b : HousesState} → IsWithinHouses a
     → Contains (legal_houses (storeless a)) h →
     Turn gained b ≡ houses_step a h → priority % 8 + 1 ≡ h → IsTurnOf a h priority b
-turn_of {a} {h} {priority} {gained} {b} w has is house =
+step_is_turn {a} {h} {priority} {gained} {b} w has is house =
     let on = leads_by _ _ w has is in
     let brought : gained ≡ seeds_in_houses (storeless a) - seeds_in_houses (storeless b) = omega arith in
     record { legal = has; step = sym is ∙ ap (λ g. Turn g b) brought; house = house }
 
 -- if no legal move wins more than `most`, best play wins no more
-pub all_at_most : (a : HousesState) (most : ℕ) → IsWithinHouses a → is_over (storeless a) ≡ false →
+pub won_at_most_of_all : (a : HousesState) (most : ℕ) → IsWithinHouses a → is_over (storeless a) ≡ false →
     ((h : ℕ) → Contains (legal_houses (storeless a)) h → WinsAtMost a most h) → won a ≤ most
-all_at_most a most w going each = grind (arith, won_reached)
+won_at_most_of_all a most w going each = grind (arith, won_reached)
 
 -- each house with a priority waits with its turn
 pub record AreTurns (a : HousesState) (priorities : List ℕ) (turns : List HousesState) : Type 0 where
@@ -89,16 +89,16 @@ pub record AreTurns (a : HousesState) (priorities : List ℕ) (turns : List Hous
   pub each : (k : ℕ) → 0 < get_or priorities k 0 → (d : HousesState) → IsTurnOf a (k + 1) (get_or priorities k 0) (get_or turns k d)
 
 -- one house more
-turns_more : {a b : HousesState} {h v : ℕ} {priorities : List ℕ} {turns : List HousesState} → AreTurns a priorities turns →
+turns_with_one_more : {a b : HousesState} {h v : ℕ} {priorities : List ℕ} {turns : List HousesState} → AreTurns a priorities turns →
     length turns ≡ 6 → 1 ≤ h → h ≤ 6 → IsTurnOf a h v b →
     AreTurns a (slice_set priorities (h - 1) v) (slice_set turns (h - 1) b)
-turns_more are slots low last is =
+turns_with_one_more are slots low last is =
     grind (arith, length-set, cases_eq, get_or-set_same, get_or-set_other)
 
 -- one that waits no more
-turns_fewer : (a : HousesState) (priorities : List ℕ) (turns : List HousesState) (at : ℕ) → AreTurns a priorities turns → at < 6 →
+turns_without_one : (a : HousesState) (priorities : List ℕ) (turns : List HousesState) (at : ℕ) → AreTurns a priorities turns → at < 6 →
     AreTurns a (slice_set priorities at 0) turns
-turns_fewer a priorities turns at are place = let inside : at < length priorities = omega arith in record {
+turns_without_one a priorities turns at are place = let inside : at < length priorities = omega arith in record {
   cells = length-set _ at 0 ∙ are.cells;
   each = λ k high. elim (cases_eq k at) [
     | inl same ↦
@@ -132,24 +132,24 @@ pub record ArePlayed (a : HousesState) (most marks : ℕ) (priorities : List ℕ
 module _ {a : HousesState} {most marks h : ℕ} {priorities : List ℕ} {turns : List HousesState} (is : ArePlayed a most marks priorities turns)
     (last : IsLastMark marks h) where
   -- the last marked house was played, and waits with a priority
-  pub played_more : (v : ℕ) (b : HousesState) → 0 < v → IsTurnOf a h v b →
+  pub played_and_waits : (v : ℕ) (b : HousesState) → 0 < v → IsTurnOf a h v b →
       ArePlayed a most (marks - 32 ^ (h - 1)) (slice_set priorities (h - 1) v) (slice_set turns (h - 1) b)
-  played_more v b some turn = let inside : h - 1 < length priorities = omega arith in record {
-    waiting = turns_more is.waiting is.slots last.first last.last turn;
+  played_and_waits v b some turn = let inside : h - 1 < length priorities = omega arith in record {
+    waiting = turns_with_one_more is.waiting is.slots last.first last.last turn;
     slots = length-set turns _ b ∙ is.slots;
-    others = each_unmarked a
+    others = each_unmarked_without_last a
         (λ i. get_or (slice_set priorities (h - 1) v) (i - 1) 0 ≡ 0 → ¬ EndsInStore a i → WinsAtMost a most i) last
         (λ none apart. absurd (omega (arith, get_or-set_same priorities (h - 1) v 0 inside, none)))
         (λ i may place gone none apart. is.others i may gone (rw (get_or-set_other _ (h - 1) _ v 0 place) at none) apart);
   }
 
   -- the last marked house was played, and wins at most `bound`
-  pub played_bound : (bound new : ℕ) → WinsAtMost a bound h → new ≡ max most bound
+  pub played_and_bounded : (bound new : ℕ) → WinsAtMost a bound h → new ≡ max most bound
       → ArePlayed a new (marks - 32 ^ (h - 1)) priorities turns
-  played_bound bound new takes new_is = record {
+  played_and_bounded bound new takes new_is = record {
     waiting = is.waiting;
     slots = is.slots;
-    others = each_unmarked a (λ i. get_or priorities (i - 1) 0 ≡ 0 → ¬ EndsInStore a i → WinsAtMost a new i) last
+    others = each_unmarked_without_last a (λ i. get_or priorities (i - 1) 0 ≡ 0 → ¬ EndsInStore a i → WinsAtMost a new i) last
         (λ none apart. omega arith) (λ i may place gone none apart. omega (arith, is.others i may gone none apart));
   }
 
@@ -184,11 +184,11 @@ unmarked_at_start a most marks marked h may ends gone = absurd (
     omega arith)
 
 -- the last of them was tried
-pub unmarked_more : (a : HousesState) (most : ℕ) {marks h : ℕ} (bound : ℕ) {new : ℕ} → UnmarkedWinAtMost a most marks → IsLastMark marks h
+pub unmarked_without_last : (a : HousesState) (most : ℕ) {marks h : ℕ} (bound : ℕ) {new : ℕ} → UnmarkedWinAtMost a most marks → IsLastMark marks h
     → WinsAtMost a bound h → new ≡ max most bound →
     UnmarkedWinAtMost a new (marks - 32 ^ (h - 1))
-unmarked_more a most {marks} {h} bound {new} are last takes new_is i may ends gone =
-    each_unmarked a (λ i. EndsInStore a i → WinsAtMost a new i) last
+unmarked_without_last a most {marks} {h} bound {new} are last takes new_is i may ends gone =
+    each_unmarked_without_last a (λ i. EndsInStore a i → WinsAtMost a new i) last
     (λ e. omega arith) (λ j may_j place gone_j e. omega (arith, are j may_j e gone_j)) i may gone ends
 
 -- the moves with a priority are still to be tried, and the others win at most `most` seeds
@@ -197,9 +197,9 @@ pub record AreUntried (a : HousesState) (most : ℕ) (priorities : List ℕ) (tu
   pub tried : (h : ℕ) → Contains (legal_houses (storeless a)) h → get_or priorities (h - 1) 0 ≡ 0 → WinsAtMost a most h
 
 -- the move with a given priority waits with its turn
-pub turn_at : {a : HousesState} {most : ℕ} {priorities : List ℕ} {turns : List HousesState} {priority : ℕ} → IsWithinHouses a →
+pub next_waits : {a : HousesState} {most : ℕ} {priorities : List ℕ} {turns : List HousesState} {priority : ℕ} → IsWithinHouses a →
     AreUntried a most priorities turns → Contains priorities priority → 0 < priority → WaitsWith a priorities turns priority
-turn_at {a} {most} {priorities} {turns} {priority} w untried found some =
+next_waits {a} {most} {priorities} {turns} {priority} w untried found some =
     let are = untried.waiting in
     let k = found.0 in
     let here = get_or_default _ k 0 _ found.1 ∙ found.2 in
@@ -222,7 +222,7 @@ pub untried_fewer : {a : HousesState} {most new : ℕ} {priorities : List ℕ} {
     → AreUntried a most priorities turns →
     at < 6 → WinsAtMost a bound (at + 1) → new ≡ max most bound → AreUntried a new (slice_set priorities at 0) turns
 untried_fewer {a} {priorities = priorities} at bound is place takes new_is = record {
-  waiting = turns_fewer a _ _ at is.waiting place;
+  waiting = turns_without_one a _ _ at is.waiting place;
   tried = λ h has none. elim (cases_eq (h - 1) at) [
     | inl same ↦
         let first = (legal_holds (storeless a) h has).first in
@@ -236,4 +236,4 @@ untried_fewer {a} {priorities = priorities} at bound is place takes new_is = rec
 pub none_untried : {a : HousesState} {most : ℕ} {priorities : List ℕ} {turns : List HousesState} (highest : ℕ) → IsWithinHouses a
     → is_over (storeless a) ≡ false →
     AreUntried a most priorities turns → ((k : ℕ) → get_or priorities k 0 ≤ highest) → highest ≡ 0 → won a ≤ most
-none_untried {a} {most} highest w going is above none = all_at_most a _ w going (omega arith)
+none_untried {a} {most} highest w going is above none = won_at_most_of_all a _ w going (omega arith)

@@ -1,5 +1,5 @@
 -- Games, best play, and what a solver says of it.
-use Rattle.std.proofs.Common.{zero, suc, negsuc, ◌≡◌, ℕ, ◌<◌, ◌≤◌, inl, inr, List, [], ◌∷◌, length, get_or, arith, ap, sym, subst, ◌∙◌, refl, ◌+◌, w32, to_z, of_z, FitsSigned, false, Contains, ℤ, ◌≤ℤ◌, Bool, if◌then◌else◌, filter, nat_lt, neg_ℤ, true, map, pos, ◌<ℤ◌, All, find, option_map, Some, ◌+ℤ◌, ◌-ℤ◌, int_eq, ◌*◌, ◌/◌, ◌%◌, ◌^◌, ◌-◌}
+use Rattle.std.proofs.Common.{zero, suc, negsuc, ◌≡◌, ℕ, ◌<◌, ◌≤◌, inl, inr, List, [], ◌∷◌, length, get_or, arith, ap, sym, subst, ◌∙◌, refl, ◌+◌, w32, to_z, of_z, FitsSigned, false, Contains, ℤ, ◌≤ℤ◌, Bool, nat_lt, neg_ℤ, true, map, pos, ◌<ℤ◌, All, find, option_map, Some, ◌+ℤ◌, ◌-ℤ◌, int_eq, ◌*◌, ◌/◌, ◌%◌, ◌^◌, ◌-◌}
 use Rattle.std.proofs.lemmas.Bool.{both_ways, cases_Bool, cases_eq, cond_both}
 use Rattle.std.proofs.Math.Nat.{pow-succ'}
 use Rattle.kalah_rules.specs.Position.{Position, HasEqualSides, is_over, swapped, final_margin, side_length, seeds, IsWithinLimits, IsSmallMargin, HousesState, IsWithinHouses, houses_in, storeless}
@@ -10,11 +10,10 @@ use Rattle.kalah_rules.proofs.PlayLemmas.{legal_holds, after_equal_sides, after_
 use Rattle.kalah_solve.specs.Solver.BestPlay.{Strategy, IsStrategy, Policy, follow, Game, Secures, HoldsTo, IsBestPlay, IsBestMove, IsWorthOfMove}
 use Rattle.kalah_solve.specs.Solver.BestPlay.Game.{is_at_end, moves_on, passes_turn}
 use Rattle.kalah_solve.specs.Solver.Laws.{EndsInTime, StrategiesPlayAGame, StrategiesPlayOneGame, GamesEnd, WorthIsBestPlay, BestPlayIsOne, BestHouseIsBestPlay, EndsWithAtLeast, EndsWithAtMost, BestPlayAgainstStrategies, BestHouseIsLowest, BestMovesAttain, BestVerdictIsOne}
-use Rattle.kalah_solve.proofs.WorthLemmas.{swapped_equal_sides, over_at_end, worth_of_over, final_swapped, value_moving_again, value_passing, best_found, best_attains, value_most, eq_yes, lowest_of, worth_of_going, eq_no, greatest_reached, worth_of_houses, value_of_houses}
+use Rattle.kalah_solve.proofs.WorthLemmas.{swapped_equal_sides, over_at_end, worth_of_over, final_swapped, value_moving_again, value_passing, best_found, best_attains, value_most, int_eq-same, find_lowest, worth_of_going, int_eq-lower, greatest_reached, worth_of_houses, value_of_houses}
 use Rattle.lru.proofs.Splits.{Contains-head}
 use Rattle.std.proofs.lemmas.Int.{ints, clamps}
 use Rattle.kalah_solve.specs.Solver.Worth.{worth, value_of_move, best_house, houses_worth}
-use Rattle.std.specs.List.{range_with_len}
 use Rattle.std.proofs.lemmas.List.{get_or_default, map-id}
 use Rattle.std.proofs.lemmas.Simd.{map-map}
 use Rattle.kalah_solve.specs.Solver.Verdict.{verdict_of, IsSmallBest, StatesBestPlay}
@@ -269,10 +268,9 @@ best_move p even going = attaining_is_best _ _ even (best_found _ even going).0 
 pub best_lowest : (p : Position) (h : ℕ) → is_over p ≡ false → Contains (legal_houses p) h → value_of_move p h ≡ worth p
     → best_house p ≤ h
 best_lowest p h going is_legal attains =
-    let ascending =
-    ap (λ (b : Bool). if b then [] else filter (λ i. nat_lt 0 (seeds p.own i)) (range_with_len 1 (side_length p))) going in
-    lowest_of (λ k. int_eq (value_of_move p k) (worth p)) (λ i. nat_lt 0 (seeds p.own i)) 1 (side_length p) h (legal_houses p) ascending
-    is_legal (eq_yes _ _ attains)
+    let lowest = find_lowest (λ k. int_eq (value_of_move p k) (worth p)) (λ i. nat_lt 0 (seeds p.own i)) 1 (side_length p) h
+    (rw going at is_legal) (int_eq-same _ _ attains) in
+    rw going lowest
 
 pub best_is_lowest : BestHouseIsLowest
 best_is_lowest p even going = record {
@@ -375,12 +373,12 @@ values_tell_verdict p even going =
 -- ==== The first house that attains the margin of best play, and the margin with the stores
 
 -- the first number that passes is found
-find_at : (p : ℕ → Bool) (xs : List ℕ) (i : ℕ) → i < length xs → ((k : ℕ) → k < i → p (get_or xs k 0) ≡ false) →
+find_first : (p : ℕ → Bool) (xs : List ℕ) (i : ℕ) → i < length xs → ((k : ℕ) → k < i → p (get_or xs k 0) ≡ false) →
     p (get_or xs i 0) ≡ true → find p xs ≡ Some (get_or xs i 0)
-find_at p [] i within fails here = absurd (omega arith)
-find_at p (x ∷ xs) zero within fails here = rw here refl
-find_at p (x ∷ xs) (suc i) within fails here =
-    rw (fails 0 (omega arith)) (find_at p xs i (omega arith) (λ k low. fails (suc k) (omega arith)) here)
+find_first p [] i within fails here = absurd (omega arith)
+find_first p (x ∷ xs) zero within fails here = rw here refl
+find_first p (x ∷ xs) (suc i) within fails here =
+    rw (fails 0 (omega arith)) (find_first p xs i (omega arith) (λ k low. fails (suc k) (omega arith)) here)
 
 -- in the whole window the answer is the worth
 pub whole_window : {a : HousesState} (found lo hi : ℤ) → IsWithinHouses a → lo ≡ least_margin → hi ≡ most_margin →
@@ -393,45 +391,45 @@ FallShort a i = (k : ℕ) → k < i → int_eq (value_of_move (storeless a) (get
 
 module _ (a : HousesState) (w : IsWithinHouses a) where
   -- a house that wins as many seeds as best play is worth as much
-  enough_is : (h : ℕ) → Contains (legal_houses (storeless a)) h → won a ≤ won_by_step (houses_step a h)
+  worth_if_enough : (h : ℕ) → Contains (legal_houses (storeless a)) h → won a ≤ won_by_step (houses_step a h)
       → value_of_move (storeless a) h ≡ houses_worth a
-  enough_is h has enough = grind (arith, won_at_most, won_of_move, won_of_houses)
+  worth_if_enough h has enough = grind (arith, won_at_most, won_of_move, won_of_houses)
 
   -- a house that wins fewer seeds than best play is worth less
-  short_is : (h : ℕ) → Contains (legal_houses (storeless a)) h → won_by_step (houses_step a h) < won a
+  worth_less_if_short : (h : ℕ) → Contains (legal_houses (storeless a)) h → won_by_step (houses_step a h) < won a
       → value_of_move (storeless a) h <ℤ houses_worth a
-  short_is h has less = grind (arith, won_of_move, won_of_houses)
+  worth_less_if_short h has less = grind (arith, won_of_move, won_of_houses)
 
   -- the first house worth the margin is the best house
-  root_is : (i : ℕ) → i < length (legal_houses (storeless a)) → FallShort a i →
+  first_is_best : (i : ℕ) → i < length (legal_houses (storeless a)) → FallShort a i →
       value_of_move (storeless a) (get_or (legal_houses (storeless a)) i 0) ≡ houses_worth a →
       get_or (legal_houses (storeless a)) i 0 ≡ best_house (storeless a)
-  root_is i inside short is = grind (arith, find_at)
+  first_is_best i inside short is = grind (arith, find_first)
 
   -- a house that wins enough, if those before it fall short
-  pub root_found : (i : ℕ) → i < length (legal_houses (storeless a)) → FallShort a i →
+  pub first_enough_is_best : (i : ℕ) → i < length (legal_houses (storeless a)) → FallShort a i →
       won a ≤ won_by_step (houses_step a (get_or (legal_houses (storeless a)) i 0)) →
       get_or (legal_houses (storeless a)) i 0 ≡ best_house (storeless a)
-  root_found i inside short enough = root_is i inside short (enough_is _ (Contains-get_or _ i 0 inside) enough)
+  first_enough_is_best i inside short enough = first_is_best i inside short (worth_if_enough _ (Contains-get_or _ i 0 inside) enough)
 
   -- if a house wins fewer, the first i + 1 fall short
-  pub root_short : (i : ℕ) → i < length (legal_houses (storeless a)) → FallShort a i →
+  pub one_more_falls_short : (i : ℕ) → i < length (legal_houses (storeless a)) → FallShort a i →
       won_by_step (houses_step a (get_or (legal_houses (storeless a)) i 0)) < won a →
       FallShort a (i + 1)
-  root_short i inside short less k low = grind (arith, cases_eq, eq_no, short_is, Contains-get_or)
+  one_more_falls_short i inside short less k low = grind (arith, cases_eq, int_eq-lower, worth_less_if_short, Contains-get_or)
 
   -- if all but the last fall short, it is the last
-  pub root_last : (n : ℕ) → is_over (storeless a) ≡ false → length (legal_houses (storeless a)) ≡ n + 1 → FallShort a n →
+  pub last_is_best : (n : ℕ) → is_over (storeless a) ≡ false → length (legal_houses (storeless a)) ≡ n + 1 → FallShort a n →
       get_or (legal_houses (storeless a)) n 0 ≡ best_house (storeless a)
-  root_last n going many short =
+  last_is_best n going many short =
       let one = greatest_reached (value_of_move _) _ (omega arith) in
       let inside = one.1.1 in
       let place = get_or_default (legal_houses (storeless a)) one.1.0 0 one.0 inside
       ∙ one.1.2 in
       let is = ap (value_of_move (storeless a)) place ∙ one.2 ∙ sym (worth_of_going _ (record { same = w.same_side }) going) in
       elim (cases_eq one.1.0 n) [
-        | inl same ↦ root_is n (omega arith) short (rw same at is)
-        | inr other ↦ absurd (both_ways _ (short one.1.0 (omega arith)) (eq_yes _ _ is))
+        | inl same ↦ first_is_best n (omega arith) short (rw same at is)
+        | inr other ↦ absurd (both_ways _ (short one.1.0 (omega arith)) (int_eq-same _ _ is))
       ]
 
 -- ---- with the stores
@@ -486,14 +484,15 @@ move_value_small p h limits has =
 -- ==== Values in a number
 
 -- an integer from 1 on is a natural number
-nat_again : (z : ℤ) → pos 1 ≤ℤ z → pos (nat_or_zero z) ≡ z
-nat_again (pos n) some = refl
-nat_again (negsuc n) some = grind (arith, ints)
+nat_or_zero_again : (z : ℤ) → pos 1 ≤ℤ z → pos (nat_or_zero z) ≡ z
+nat_or_zero_again (pos n) some = refl
+nat_or_zero_again (negsuc n) some = grind (arith, ints)
 
 -- a value has a digit of the base other than 0, and is the one that has it
-pub value_again : (v : MoveValue) → IsMoveValue v → (1 ≤ digit_of v) × (digit_of v < BASE) × (value_at (digit_of v) ≡ v)
-value_again v small =
-    let again : pos (nat_or_zero (v.value +ℤ pos (most_in_play + 1))) ≡ v.value +ℤ pos (most_in_play + 1) = nat_again _ (omega (arith, ints, small.small.low)) in
+pub value_of_its_digit : (v : MoveValue) → IsMoveValue v → (1 ≤ digit_of v) × (digit_of v < BASE) × (value_at (digit_of v) ≡ v)
+value_of_its_digit v small =
+    let again : pos (nat_or_zero (v.value +ℤ pos (most_in_play + 1))) ≡ v.value +ℤ pos (most_in_play + 1) =
+    nat_or_zero_again _ (omega (arith, ints, small.small.low)) in
     let few : nat_or_zero (v.value +ℤ pos (most_in_play + 1)) ≤ VALUES = omega (arith, ints, small.small.high) in
     let some : 1 ≤ nat_or_zero (v.value +ℤ pos (most_in_play + 1)) = omega (arith, ints, small.small.low) in
     let house : (digit_of v - 1) / VALUES + 1 ≡ v.house = omega (arith, small.first) in
@@ -502,76 +501,77 @@ value_again v small =
     (omega arith, omega (arith, small.last), rw (house, value) refl)
 
 -- a digit is that of its value
-digit_again : (d : ℕ) → 1 ≤ d → d < BASE → digit_of (value_at d) ≡ d
-digit_again d some few =
+digit_of_its_value : (d : ℕ) → 1 ≤ d → d < BASE → digit_of (value_at d) ≡ d
+digit_of_its_value d some few =
     let up : (pos ((d - 1) % VALUES) -ℤ pos most_in_play) +ℤ pos (most_in_play + 1) ≡ pos ((d - 1) % VALUES + 1) = omega (arith, ints) in
     rw up (omega arith)
 
 -- there is at most one for each digit
-pub length_in : (n k : ℕ) → length (values_in n k) ≤ n
-length_in zero k = omega arith
-length_in (suc n) k = grind (arith, length_in n (k / BASE))
+pub length-values_in : (n k : ℕ) → length (values_in n k) ≤ n
+length-values_in zero k = omega arith
+length-values_in (suc n) k = grind (arith, length-values_in n (k / BASE))
 
 -- the value of the lowest digit, and those of the others
-pub values_some : (n k : ℕ) → 0 < k → values_in (suc n) k ≡ value_at (k % BASE) ∷ values_in n (k / BASE)
-values_some n k some = grind arith
+pub values_in-positive : (n k : ℕ) → 0 < k → values_in (suc n) k ≡ value_at (k % BASE) ∷ values_in n (k / BASE)
+values_in-positive n k some = grind arith
 
 -- the lowest digit of a packed number is that of a value, and the other digits are packed
 pub rest_packed : (n k : ℕ) → 0 < k → IsValuesNumber (suc n) k → (1 ≤ k % BASE) × IsValuesNumber n (k / BASE)
 rest_packed n k some packed =
-    let is : digit_of (value_at (k % BASE)) + BASE * values_number (values_in n (k / BASE)) ≡ k = rw (values_some n k some) at packed in
+    let is : digit_of (value_at (k % BASE)) + BASE * values_number (values_in n (k / BASE)) ≡ k = rw (values_in-positive n k some) at packed in
     elim (cases_eq (k % BASE) 0) [
       | inl none ↦
           let one : digit_of (value_at (k % BASE)) ≡ 1 = rw none refl in
           (omega arith, omega arith)
       | inr other ↦
-          let same : digit_of (value_at (k % BASE)) ≡ k % BASE = digit_again _ (omega arith) (omega arith) in
+          let same : digit_of (value_at (k % BASE)) ≡ k % BASE = digit_of_its_value _ (omega arith) (omega arith) in
           (omega arith, omega arith)
     ]
 
 -- the digits past the last value are 0
-pub no_more : (n k : ℕ) → IsValuesNumber n k → values_in (suc n) k ≡ values_in n k
-no_more zero k packed = rw (← packed) refl
-no_more (suc n) k packed = elim (cases_eq k 0) [
+pub values_in-one_digit_more : (n k : ℕ) → IsValuesNumber n k → values_in (suc n) k ≡ values_in n k
+values_in-one_digit_more zero k packed = rw (← packed) refl
+values_in-one_digit_more (suc n) k packed = elim (cases_eq k 0) [
   | inl none ↦ rw none refl
   | inr other ↦
       let some : 0 < k = omega arith in
-      rw (values_some (suc n) k some, values_some n k some) (ap (λ vs. value_at (k % BASE) ∷ vs) (no_more n _ (rest_packed n k some packed).1))
+      rw (values_in-positive (suc n) k some, values_in-positive n k some)
+      (ap (λ vs. value_at (k % BASE) ∷ vs) (values_in-one_digit_more n _ (rest_packed n k some packed).1))
 ]
 
 -- fewer digits are enough for fewer values
-pub has_room : (n k : ℕ) → length (values_in (suc n) k) ≤ n → values_in n k ≡ values_in (suc n) k
-has_room zero k few = elim (cases_eq k 0) [
+pub values_in-fewer_digits : (n k : ℕ) → length (values_in (suc n) k) ≤ n → values_in n k ≡ values_in (suc n) k
+values_in-fewer_digits zero k few = elim (cases_eq k 0) [
   | inl none ↦ rw none refl
   | inr other ↦
-      let is = values_some 0 k (omega arith) in
+      let is = values_in-positive 0 k (omega arith) in
       absurd (omega (arith, ap length is))
 ]
-has_room (suc n) k few = elim (cases_eq k 0) [
+values_in-fewer_digits (suc n) k few = elim (cases_eq k 0) [
   | inl none ↦ rw none refl
   | inr other ↦
       let some : 0 < k = omega arith in
-      rw (values_some (suc n) k some, values_some n k some)
-      (ap (λ vs. value_at (k % BASE) ∷ vs) (has_room n _ (omega (arith, ap length (values_some (suc n) k some)))))
+      rw (values_in-positive (suc n) k some, values_in-positive n k some)
+      (ap (λ vs. value_at (k % BASE) ∷ vs) (values_in-fewer_digits n _ (omega (arith, ap length (values_in-positive (suc n) k some)))))
 ]
 
 -- a packed number with no value is 0
-empty_packed : (n k : ℕ) → IsValuesNumber n k → 0 < k → length (values_in n k) ≤ 0 → ⊥
-empty_packed zero k packed some few = omega (arith, packed)
-empty_packed (suc n) k packed some few = omega (arith, ap length (values_some n k some))
+no_values_no_number : (n k : ℕ) → IsValuesNumber n k → 0 < k → length (values_in n k) ≤ 0 → ⊥
+no_values_no_number zero k packed some few = omega (arith, packed)
+no_values_no_number (suc n) k packed some few = omega (arith, ap length (values_in-positive n k some))
 
 -- few values make a small number
-packed_small : (m n k : ℕ) → IsValuesNumber n k → length (values_in n k) ≤ m → k < BASE ^ m
-packed_small zero n k packed few = elim (cases_eq k 0) [
+packed_le_power : (m n k : ℕ) → IsValuesNumber n k → length (values_in n k) ≤ m → k < BASE ^ m
+packed_le_power zero n k packed few = elim (cases_eq k 0) [
   | inl none ↦ omega arith
-  | inr other ↦ absurd (empty_packed n k packed (omega arith) (omega arith))
+  | inr other ↦ absurd (no_values_no_number n k packed (omega arith) (omega arith))
 ]
-packed_small (suc m) zero k packed few = rw pow-succ' (omega (arith, packed, packed_small m zero 0 refl (omega arith)))
-packed_small (suc m) (suc n) k packed few = elim (cases_eq k 0) [
-  | inl none ↦ rw pow-succ' (omega (arith, packed_small m zero 0 refl (omega arith)))
+packed_le_power (suc m) zero k packed few = rw pow-succ' (omega (arith, packed, packed_le_power m zero 0 refl (omega arith)))
+packed_le_power (suc m) (suc n) k packed few = elim (cases_eq k 0) [
+  | inl none ↦ rw pow-succ' (omega (arith, packed_le_power m zero 0 refl (omega arith)))
   | inr other ↦
       let some : 0 < k = omega arith in
-      let rest = packed_small m n (k / BASE) (rest_packed n k some packed).1 (omega (arith, ap length (values_some n k some))) in
+      let rest = packed_le_power m n (k / BASE) (rest_packed n k some packed).1 (omega (arith, ap length (values_in-positive n k some))) in
       rw pow-succ' (omega arith)
 ]
 
@@ -579,16 +579,16 @@ packed_small (suc m) (suc n) k packed few = elim (cases_eq k 0) [
 module _ (v : MoveValue) (k : ℕ) (small : IsMoveValue v) (packed : IsValuesNumber 6 k) (room : length (values_in 6 k) < 6) where
   pub values_prepended : values_in 6 (digit_of v + BASE * k) ≡ v ∷ values_in 6 k
   values_prepended =
-      let again = value_again v small in
+      let again = value_of_its_digit v small in
       let low : (digit_of v + BASE * k) % BASE ≡ digit_of v = omega arith in
       let high : (digit_of v + BASE * k) / BASE ≡ k = omega arith in
-      rw (values_some 5 (digit_of v + BASE * k) (omega arith), low, high, again.2, has_room 5 k (omega arith)) refl
+      rw (values_in-positive 5 (digit_of v + BASE * k) (omega arith), low, high, again.2, values_in-fewer_digits 5 k (omega arith)) refl
 
   pub packed_prepended : IsValuesNumber 6 (digit_of v + BASE * k)
   packed_prepended = rw values_prepended (omega arith)
 
   pub fits_prepended : digit_of v + BASE * k < 2 ^ 64
   fits_prepended =
-      let again = value_again v small in
-      let few = packed_small 5 6 k packed (omega arith) in
+      let again = value_of_its_digit v small in
+      let few = packed_le_power 5 6 k packed (omega arith) in
       omega arith

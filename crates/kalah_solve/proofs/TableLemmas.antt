@@ -20,7 +20,7 @@ use Rattle.kalah_rules.specs.Play.{legal_houses}
 use Rattle.kalah_rules.specs.HousesStep.{houses_step}
 use Rattle.kalah_rules.proofs.PlayLemmas.{legal_holds}
 use Rattle.kalah_solve.specs.Marks.{cell, IsLastMark}
-use Rattle.kalah_solve.proofs.MarksLemmas.{cell_of_zero, each_unmarked}
+use Rattle.kalah_solve.proofs.MarksLemmas.{cell_of_zero, each_unmarked_without_last}
 use Rattle.kalah_solve.proofs.BoundsLemmas.{won_at_most, won_reached, won_of_houses}
 use Rattle.std.specs.Map.{lookup}
 use Rattle.lru.specs.LruCache.{LruCache, lru_cache, put_entries}
@@ -37,80 +37,80 @@ use Rattle.kalah_solve.specs.declared.table.direct_table.Slot.{Slot}
 -- ==== The digits of a number, of four bits each
 
 -- a place more is worth sixteen times as much
-next_place : (k : ℕ) → 2 ^ (4 * suc k) ≡ 16 * 2 ^ (4 * k)
-next_place k = let more : 4 * suc k ≡ 4 + 4 * k = omega arith in rw (more, pow-add) refl
+power_of_next_place : (k : ℕ) → 2 ^ (4 * suc k) ≡ 16 * 2 ^ (4 * k)
+power_of_next_place k = let more : 4 * suc k ≡ 4 + 4 * k = omega arith in rw (more, pow-add) refl
 
 -- what stands from the next place on stands so in a sixteenth
-higher : (n k : ℕ) → n / 2 ^ (4 * suc k) ≡ n / 16 / 2 ^ (4 * k)
-higher n k = simp (next_place, div-div-eq-div-mul)
+digits_from_next_place : (n k : ℕ) → n / 2 ^ (4 * suc k) ≡ n / 16 / 2 ^ (4 * k)
+digits_from_next_place n k = simp (power_of_next_place, div-div-eq-div-mul)
 
 -- a digit put at an empty place leaves all from a later place on
-pub same_past : (k e n d : ℕ) → k < e → n / 2 ^ (4 * k) % 16 ≡ 0 → d < 16 →
+pub same_digits_past : (k e n d : ℕ) → k < e → n / 2 ^ (4 * k) % 16 ≡ 0 → d < 16 →
     (n + d * 2 ^ (4 * k)) / 2 ^ (4 * e) ≡ n / 2 ^ (4 * e)
-same_past k zero n d later none small = omega arith
-same_past zero (suc e) n d later none small = grind (arith, higher)
-same_past (suc k) (suc e) n d later none small =
-    let more : d * 2 ^ (4 * suc k) ≡ d * 2 ^ (4 * k) * 16 = rw (next_place k) (omega arith) in
+same_digits_past k zero n d later none small = omega arith
+same_digits_past zero (suc e) n d later none small = grind (arith, digits_from_next_place)
+same_digits_past (suc k) (suc e) n d later none small =
+    let more : d * 2 ^ (4 * suc k) ≡ d * 2 ^ (4 * k) * 16 = rw (power_of_next_place k) (omega arith) in
     let sixteenth : (n + d * 2 ^ (4 * k) * 16) / 16 ≡ n / 16 + d * 2 ^ (4 * k) = omega arith in
-    rw (more, higher (n + d * 2 ^ (4 * k) * 16) e, higher n e, sixteenth)
-    (same_past k e (n / 16) d (omega arith) (rw (higher n k) at none) small)
+    rw (more, digits_from_next_place (n + d * 2 ^ (4 * k) * 16) e, digits_from_next_place n e, sixteenth)
+    (same_digits_past k e (n / 16) d (omega arith) (rw (digits_from_next_place n k) at none) small)
 
 -- a digit put at an empty place is found there
-pub put_there : (k n d : ℕ) → n / 2 ^ (4 * k) % 16 ≡ 0 → d < 16 → (n + d * 2 ^ (4 * k)) / 2 ^ (4 * k) % 16 ≡ d
-put_there k n d none small = omega (arith, add-mul-div_right, pow_pos)
+pub put_digit_is_there : (k n d : ℕ) → n / 2 ^ (4 * k) % 16 ≡ 0 → d < 16 → (n + d * 2 ^ (4 * k)) / 2 ^ (4 * k) % 16 ≡ d
+put_digit_is_there k n d none small = omega (arith, add-mul-div_right, pow_pos)
 
 -- what is put at a later place leaves all digits before it
-pub same_before : (j k n d : ℕ) → j < k → (n + d * 2 ^ (4 * k)) / 2 ^ (4 * j) % 16 ≡ n / 2 ^ (4 * j) % 16
-same_before j k n d before =
+pub same_digits_before : (j k n d : ℕ) → j < k → (n + d * 2 ^ (4 * k)) / 2 ^ (4 * j) % 16 ≡ n / 2 ^ (4 * j) % 16
+same_digits_before j k n d before =
     let past = k - suc j in
     let slots : 4 * k ≡ 4 * suc past + 4 * j = omega arith in
-    let worth : 2 ^ (4 * k) ≡ 16 * 2 ^ (4 * past) * 2 ^ (4 * j) = rw (slots, pow-add 2 (4 * suc past) (4 * j), next_place past) refl in
+    let worth : 2 ^ (4 * k) ≡ 16 * 2 ^ (4 * past) * 2 ^ (4 * j) = rw (slots, pow-add 2 (4 * suc past) (4 * j), power_of_next_place past) refl in
     let all : d * 2 ^ (4 * k) ≡ d * (16 * 2 ^ (4 * past)) * 2 ^ (4 * j) =
     rw worth (omega arith) in
     rw (all, add-mul-div_right n (d * (16 * 2 ^ (4 * past))) (pow_pos (4 * j))) (omega arith)
 
 -- a digit put at an empty place leaves each other digit
-pub same_elsewhere : (j k n d : ℕ) → j ≢ k → n / 2 ^ (4 * k) % 16 ≡ 0 → d < 16 →
+pub same_digits_elsewhere : (j k n d : ℕ) → j ≢ k → n / 2 ^ (4 * k) % 16 ≡ 0 → d < 16 →
     (n + d * 2 ^ (4 * k)) / 2 ^ (4 * j) % 16 ≡ n / 2 ^ (4 * j) % 16
-same_elsewhere j k n d other none small = grind (arith, cases_lt, same_before, same_past)
+same_digits_elsewhere j k n d other none small = grind (arith, cases_lt, same_digits_before, same_digits_past)
 
 -- a digit of a word is no more than a word
-pub digit_small : (k d : ℕ) → k < 16 → d < 16 → d * 2 ^ (4 * k) < 2 ^ 64
-digit_small k d place small = omega (arith, mul-le d (2 ^ (4 * k)) 15 (2 ^ 60) (omega (arith, small)) (pow_mono {j = 60} (omega arith)))
+pub digit_fits : (k d : ℕ) → k < 16 → d < 16 → d * 2 ^ (4 * k) < 2 ^ 64
+digit_fits k d place small = omega (arith, mul-le d (2 ^ (4 * k)) 15 (2 ^ 60) (omega (arith, small)) (pow_mono {j = 60} (omega arith)))
 
 -- with a digit put at an empty place a word stays a word
-pub put_fits : (k n d : ℕ) → k < 16 → n / 2 ^ (4 * k) % 16 ≡ 0 → d < 16 → n < 2 ^ 64 → n + d * 2 ^ (4 * k) < 2 ^ 64
-put_fits k n d place none small fits = omega (arith, same_past _ _ _ _ place none small)
+pub word_with_digit_fits : (k n d : ℕ) → k < 16 → n / 2 ^ (4 * k) % 16 ≡ 0 → d < 16 → n < 2 ^ 64 → n + d * 2 ^ (4 * k) < 2 ^ 64
+word_with_digit_fits k n d place none small fits = omega (arith, same_digits_past _ _ _ _ place none small)
 
 -- ==== The rank of a row determines the row
 
 -- out of more things there are no fewer ways to choose
-choose_up : (n k : ℕ) → choose n k ≤ choose (suc n) k
+choose_le_suc : (n k : ℕ) → choose n k ≤ choose (suc n) k
 unfolding choose
-choose_up n zero = omega arith
-choose_up n (suc k) = omega arith
+choose_le_suc n zero = omega arith
+choose_le_suc n (suc k) = omega arith
 
 -- of more things there are no fewer choices
-choose_more : (n d k : ℕ) → choose n k ≤ choose (n + d) k
-choose_more n zero k = grind arith
-choose_more n (suc d) k =
+choose_le_plus : (n d k : ℕ) → choose n k ≤ choose (n + d) k
+choose_le_plus n zero k = grind arith
+choose_le_plus n (suc d) k =
     let next : n + suc d ≡ suc (n + d) = omega arith in
-    rw next (omega (arith, choose_more n d k, choose_up))
+    rw next (omega (arith, choose_le_plus n d k, choose_le_suc))
 
 -- the same, by the number of things
 pub choose_rises : (n m k : ℕ) → n ≤ m → choose n k ≤ choose m k
-choose_rises n m k few = let all : n + (m - n) ≡ m = omega arith in rw all at (choose_more n (m - n) k)
+choose_rises n m k few = let all : n + (m - n) ≡ m = omega arith in rw all at (choose_le_plus n (m - n) k)
 
 -- there are no more ways than ways to take any
-choose_below : (n k : ℕ) → choose n k ≤ 2 ^ n
+choose_le_power : (n k : ℕ) → choose n k ≤ 2 ^ n
 unfolding choose
-choose_below n zero = omega (arith, pow_pos n)
-choose_below zero (suc k) = omega arith
-choose_below (suc n) (suc k) = omega (arith, choose_below n k, choose_below n (suc k))
+choose_le_power n zero = omega (arith, pow_pos n)
+choose_le_power zero (suc k) = omega arith
+choose_le_power (suc n) (suc k) = omega (arith, choose_le_power n k, choose_le_power n (suc k))
 
 -- of few things there are few choices
 pub choose_small : (n b k : ℕ) → n ≤ b → choose n k ≤ 2 ^ b
-choose_small n b k few = omega (arith, choose_rises n b k few, choose_below b k)
+choose_small n b k few = omega (arith, choose_rises n b k few, choose_le_power b k)
 
 -- there are as many ways to choose one as there are things
 pub choose_one : (n : ℕ) → choose n 1 ≡ n
@@ -340,73 +340,73 @@ pairs_more pairs i v inside before is k below few = grind (arith, cases_eq, get_
 -- ---- the words of different variants are different
 
 -- the ways to choose 0, 1, .. of one thing more
-abbrev next_row : ℕ → List ℕ → List ℕ
-next_row before [] = []
-next_row before (w ∷ ws) = (before + w) ∷ next_row w ws
+abbrev next_binomials : ℕ → List ℕ → List ℕ
+next_binomials before [] = []
+next_binomials before (w ∷ ws) = (before + w) ∷ next_binomials w ws
 
 -- the ways to choose 0 to 12 of n things
-abbrev choose_row : ℕ → List ℕ
-choose_row zero = 1 ∷ 0 ∷ 0 ∷ 0 ∷ 0 ∷ 0 ∷ 0 ∷ 0 ∷ 0 ∷ 0 ∷ 0 ∷ 0 ∷ 0 ∷ []
-choose_row (suc n) = next_row 0 (choose_row n)
+abbrev binomials : ℕ → List ℕ
+binomials zero = 1 ∷ 0 ∷ 0 ∷ 0 ∷ 0 ∷ 0 ∷ 0 ∷ 0 ∷ 0 ∷ 0 ∷ 0 ∷ 0 ∷ 0 ∷ []
+binomials (suc n) = next_binomials 0 (binomials n)
 
 -- it is as long
-next_row_long : (before : ℕ) (ws : List ℕ) → length (next_row before ws) ≡ length ws
-next_row_long before [] = refl
-next_row_long before (w ∷ ws) = ap suc (next_row_long w ws)
+length-next_binomials : (before : ℕ) (ws : List ℕ) → length (next_binomials before ws) ≡ length ws
+length-next_binomials before [] = refl
+length-next_binomials before (w ∷ ws) = ap suc (length-next_binomials w ws)
 
-length-choose_row : (n : ℕ) → length (choose_row n) ≡ 13
-length-choose_row zero = refl
-length-choose_row (suc n) = next_row_long 0 _ ∙ length-choose_row n
+length-binomials : (n : ℕ) → length (binomials n) ≡ 13
+length-binomials zero = refl
+length-binomials (suc n) = length-next_binomials 0 _ ∙ length-binomials n
 
 -- each is a sum of two
-one_more_at : (before : ℕ) (ws : List ℕ) (k : ℕ) → suc k < length ws →
-    get_or (next_row before ws) (suc k) 0 ≡ get_or ws k 0 + get_or ws (suc k) 0
-one_more_at before [] k inside = refl
-one_more_at before (w ∷ []) k inside = omega arith
-one_more_at before (w ∷ v ∷ ws) zero inside = refl
-one_more_at before (w ∷ v ∷ ws) (suc k) inside = one_more_at w (v ∷ ws) k (omega arith)
+next_binomials-suc : (before : ℕ) (ws : List ℕ) (k : ℕ) → suc k < length ws →
+    get_or (next_binomials before ws) (suc k) 0 ≡ get_or ws k 0 + get_or ws (suc k) 0
+next_binomials-suc before [] k inside = refl
+next_binomials-suc before (w ∷ []) k inside = omega arith
+next_binomials-suc before (w ∷ v ∷ ws) zero inside = refl
+next_binomials-suc before (w ∷ v ∷ ws) (suc k) inside = next_binomials-suc w (v ∷ ws) k (omega arith)
 
-none_at : (k : ℕ) → get_or (choose_row zero) (suc k) 0 ≡ 0
-none_at k = grind arith
+binomials-none : (k : ℕ) → get_or (binomials zero) (suc k) 0 ≡ 0
+binomials-none k = grind arith
 
-next_row_first : (before : ℕ) (ws : List ℕ) → 1 ≤ length ws → get_or (next_row before ws) 0 0 ≡ before + get_or ws 0 0
-next_row_first before [] some = omega arith
-next_row_first before (w ∷ ws) some = refl
+next_binomials-zero : (before : ℕ) (ws : List ℕ) → 1 ≤ length ws → get_or (next_binomials before ws) 0 0 ≡ before + get_or ws 0 0
+next_binomials-zero before [] some = omega arith
+next_binomials-zero before (w ∷ ws) some = refl
 
 -- cell k has the ways to choose k of n
-choose_row_is : (n k : ℕ) → k < 13 → get_or (choose_row n) k 0 ≡ choose n k
+binomials_are : (n k : ℕ) → k < 13 → get_or (binomials n) k 0 ≡ choose n k
 unfolding choose
-choose_row_is zero zero few = refl
-choose_row_is zero (suc k) few = none_at k
-choose_row_is (suc n) zero few =
-    let some : 1 ≤ length (choose_row n) = omega (arith, length-choose_row n) in
-    omega (arith, next_row_first, choose_row_is n zero few)
-choose_row_is (suc n) (suc k) few =
-    let inside : suc k < length (choose_row n) = omega (arith, length-choose_row n, few) in
-    omega (arith, one_more_at, choose_row_is n k (omega (arith, few)), choose_row_is n (suc k) few)
+binomials_are zero zero few = refl
+binomials_are zero (suc k) few = binomials-none k
+binomials_are (suc n) zero few =
+    let some : 1 ≤ length (binomials n) = omega (arith, length-binomials n) in
+    omega (arith, next_binomials-zero, binomials_are n zero few)
+binomials_are (suc n) (suc k) few =
+    let inside : suc k < length (binomials n) = omega (arith, length-binomials n, few) in
+    omega (arith, next_binomials-suc, binomials_are n k (omega (arith, few)), binomials_are n (suc k) few)
 
 -- the first word of those variants of the classic rule that have m houses a side
 abbrev first_word : ℕ → ℕ
 first_word m = slice_index FIRST_WORDS m
 
 -- a variant has a word for each sixteen of its endings
-enough : (m : ℕ) → 1 ≤ m → m ≤ 6 → choose (9 + 2 * m) (2 * m) + 16 * first_word m ≤ 16 * first_word (suc m)
-enough zero some most = omega arith
-enough (suc zero) some most = omega (arith, choose_row_is 11 2 (lit< tt))
-enough (suc (suc zero)) some most = omega (arith, choose_row_is 13 4 (lit< tt))
-enough (suc (suc (suc zero))) some most = omega (arith, choose_row_is 15 6 (lit< tt))
-enough (suc (suc (suc (suc zero)))) some most = omega (arith, choose_row_is 17 8 (lit< tt))
-enough (suc (suc (suc (suc (suc zero))))) some most = omega (arith, choose_row_is 19 10 (lit< tt))
-enough (suc (suc (suc (suc (suc (suc zero)))))) some most = omega (arith, choose_row_is 21 12 (lit< tt))
-enough (suc (suc (suc (suc (suc (suc (suc m))))))) some most = omega arith
+enough_words : (m : ℕ) → 1 ≤ m → m ≤ 6 → choose (9 + 2 * m) (2 * m) + 16 * first_word m ≤ 16 * first_word (suc m)
+enough_words zero some most = omega arith
+enough_words (suc zero) some most = omega (arith, binomials_are 11 2 (lit< tt))
+enough_words (suc (suc zero)) some most = omega (arith, binomials_are 13 4 (lit< tt))
+enough_words (suc (suc (suc zero))) some most = omega (arith, binomials_are 15 6 (lit< tt))
+enough_words (suc (suc (suc (suc zero)))) some most = omega (arith, binomials_are 17 8 (lit< tt))
+enough_words (suc (suc (suc (suc (suc zero))))) some most = omega (arith, binomials_are 19 10 (lit< tt))
+enough_words (suc (suc (suc (suc (suc (suc zero)))))) some most = omega (arith, binomials_are 21 12 (lit< tt))
+enough_words (suc (suc (suc (suc (suc (suc (suc m))))))) some most = omega arith
 
-first_rises : (m n : ℕ) → m ≤ n → n ≤ 7 → first_word m ≤ first_word n
-first_rises m n below most = grind arith
+first_word_rises : (m n : ℕ) → m ≤ n → n ≤ 7 → first_word m ≤ first_word n
+first_word_rises m n below most = grind arith
 
 -- an ending's word is one of its variant's
-pub its_variant : (a : HousesState) → IsWithinHouses a → IsEnding a
+pub word_is_of_variant : (a : HousesState) → IsWithinHouses a → IsEnding a
     → first_word (length a.own) + rank_of_houses a / 16 < first_word (suc (length a.own))
-its_variant a within few =
+word_is_of_variant a within few =
     let m = length a.own in
     let row = a.own ++ a.other in
     let cells : length row ≡ 2 * m = omega (arith, length-append a.own a.other) in
@@ -414,17 +414,17 @@ its_variant a within few =
     let all : rank_of_houses a < choose (9 + length row) (length row) =
     omega (arith, rank_below row, choose_rises (sum row + length row) (9 + length row) (length row) (omega arith)) in
     let below = rw cells at all in
-    omega (arith, enough m within.some_house within.at_most_six)
+    omega (arith, enough_words m within.some_house within.at_most_six)
 
 -- an ending's word is one of all
 pub word_inside : {a : HousesState} → IsWithinHouses a → IsEnding a → word_of a < 52054
-word_inside {a} within few = grind (arith, its_variant)
+word_inside {a} within few = grind (arith, word_is_of_variant)
 
 -- endings of one word and one place in it are the same
 same_ending : (a b : HousesState) → IsWithinHouses a → IsWithinHouses b → IsEnding a → IsEnding b → word_of a ≡ word_of b →
     rank_of_houses a % 16 ≡ rank_of_houses b % 16 → a ≡ b
 same_ending a b ha hb few few_b word place =
-    grind (arith, its_variant, first_rises, lit≤, rule_bit-small, cases_lt, same_houses)
+    grind (arith, word_is_of_variant, first_word_rises, lit≤, rule_bit-small, cases_lt, same_houses)
 
 -- ---- what the words state
 
@@ -439,7 +439,7 @@ pub states_more : (word : ℕ) (a : HousesState) → StoresWon (word_of a) word 
     StoresWon (word_of a) (word + suc (won a) * 2 ^ (4 * (rank_of_houses a % 16)))
 unfolding StoresWon
 states_more word a before ha few none small b hb few_b one stored =
-    grind (arith, rank_of_houses, won, cases_eq, same_ending, put_there, same_elsewhere, stored)
+    grind (arith, rank_of_houses, won, cases_eq, same_ending, put_digit_is_there, same_digits_elsewhere, stored)
 
 -- a stored ending is right
 pub stored_is_won : (word : ℕ) (a : HousesState) → StoresWon (word_of a) word → IsWithinHouses a → IsEnding a →
@@ -489,7 +489,7 @@ pub most_more : {a : HousesState} {marks most h : ℕ} (v new : ℕ) → IsWithi
     v ≡ won_by_step (houses_step a h) → new ≡ max most v → IsMost a (marks - 32 ^ (h - 1)) new
 most_more {a} {marks} {most} {h} v new w is last has v_is new_is = record {
   reached = omega (arith, won_at_most a w h has);
-  all = each_unmarked a (λ i. won_by_step (houses_step a i) ≤ new) last (omega arith)
+  all = each_unmarked_without_last a (λ i. won_by_step (houses_step a i) ≤ new) last (omega arith)
       (λ i may place gone. omega (arith, is.all i may gone));
 }
 

@@ -78,12 +78,6 @@ find_lowest t g a (suc n) h has passes = elim (cases_Bool (g a)) [
   | inr dropped ↦ rw dropped (find_lowest t g (a + 1) n h (rw dropped at has) passes)
 ]
 
--- also if the list is given by its equation
-pub lowest_of : (t g : ℕ → Bool) (a n h : ℕ) (xs : List ℕ) → xs ≡ filter g (range_with_len a n) → Contains xs h
-    → t h ≡ true →
-    unwrap_or (find t xs) 0 ≤ h
-lowest_of t g a n h xs is has passes = grind (arith, find_lowest)
-
 -- ==== The greatest of some values, and the test whether two numbers are equal
 
 -- no value is above the greatest
@@ -95,12 +89,12 @@ greatest_is_most f (x ∷ xs) (suc k) within =
     (omega (arith, length-map xs f)))
 
 -- equal numbers pass the test
-pub eq_yes : (a b : ℤ) → a ≡ b → int_eq a b ≡ true
-eq_yes a b e = (Decides-int_eq a b).1 e
+pub int_eq-same : (a b : ℤ) → a ≡ b → int_eq a b ≡ true
+int_eq-same a b e = (Decides-int_eq a b).1 e
 
 -- a lower number fails the test
-pub eq_no : (a b : ℤ) → a <ℤ b → int_eq a b ≡ false
-eq_no a b less = grind arith
+pub int_eq-lower : (a b : ℤ) → a <ℤ b → int_eq a b ≡ false
+int_eq-lower a b less = grind arith
 
 -- ==== Best play does not depend on the count of moves, once it is high enough
 
@@ -274,7 +268,7 @@ best_found p even going =
     let best = greatest_reached _ (legal_houses p) (legal_some p going) in
     let attains = best.2 ∙ sym (worth_of_going p even going) in
     find_passes _ (legal_houses p) _ best.1
-    (eq_yes _ (worth p) attains)
+    (int_eq-same _ (worth p) attains)
 
 -- the value of the best house is the worth
 pub best_attains : {p : Position} → HasEqualSides p → is_over p ≡ false → value_of_move p (best_house p) ≡ worth p
@@ -500,10 +494,10 @@ pub goes_on : (a : HousesState) (variant h : ℕ) (s : HousesStep) → variant_o
 goes_on a variant h s is w has e = goes_on_of _ _ _ w is (leads_by _ _ w has e)
 
 -- a step that leads on leaves fewer moves
-falls_of : (a : HousesState) (s : HousesStep) → 0 < moves_left (storeless a) → LeadsOn a s → moves_after s < moves_left (storeless a)
-falls_of a (Over own other) some leads = some
-falls_of a (Again gained b) some leads = leads.fewer
-falls_of a (Turn gained b) some leads = leads.fewer
+falls_if_leads_on : (a : HousesState) (s : HousesStep) → 0 < moves_left (storeless a) → LeadsOn a s → moves_after s < moves_left (storeless a)
+falls_if_leads_on a (Over own other) some leads = some
+falls_if_leads_on a (Again gained b) some leads = leads.fewer
+falls_if_leads_on a (Turn gained b) some leads = leads.fewer
 
 -- the step of a legal move leaves fewer moves
 pub step_falls : (a : HousesState) (h : ℕ) (s : HousesStep) → IsWithinHouses a → Contains (legal_houses (storeless a)) h
@@ -511,4 +505,4 @@ pub step_falls : (a : HousesState) (h : ℕ) (s : HousesStep) → IsWithinHouses
     moves_after s < moves_left (storeless a)
 step_falls a h s w has e =
     let fewer = after_fewer (storeless a) h (legal_holds (storeless a) h has) (record { same = w.same_side }) in
-    falls_of a s (omega (arith, fewer)) (leads_by _ _ w has e)
+    falls_if_leads_on a s (omega (arith, fewer)) (leads_by _ _ w has e)

@@ -36,6 +36,7 @@ fn all_end_in_store(m: u8) -> u64
 }
 
 // Returns the houses of a row that have seeds, marked.
+#[tactic(auto, using(crate::proofs::MarksLemmas::marks_filled))]
 fn filled(row: u64) -> u64
     ensures { MarksFilled row result }
 {
@@ -51,6 +52,7 @@ fn ending_in_store(row: u64, m: u8) -> u64
 }
 
 /// Returns the mover's houses that have seeds, marked.
+#[tactic(auto, using(crate::proofs::MarksLemmas::filled_marked))]
 pub(crate) fn filled_houses(houses: &Houses) -> u64
     ensures marked { (i : ℕ) → (0 < cell result i) ↔ (0 < slice_index houses.now.own i) }
     ensures marks { AreMarks result }
@@ -60,6 +62,7 @@ pub(crate) fn filled_houses(houses: &Houses) -> u64
 }
 
 /// Returns the mover's houses whose last seed would fall into the store without a lap, marked.
+#[tactic(auto, using(crate::proofs::MarksLemmas::into_store_marked))]
 pub(crate) fn houses_into_store(houses: &Houses) -> u64
     ensures marked { (i : ℕ) → (0 < cell result i) ↔ ((i < length houses.now.own) × EndsInStore houses.now (i + 1)) }
     ensures marks { AreMarks result }
@@ -69,6 +72,7 @@ pub(crate) fn houses_into_store(houses: &Houses) -> u64
 }
 
 /// Returns the mover's remaining houses that have seeds, marked: those that don't end in the store.
+#[tactic(auto, using(crate::proofs::MarksLemmas::remaining_marked, crate::proofs::MarksLemmas::remaining_marks))]
 pub(crate) fn remaining_houses(houses: &Houses) -> u64
     ensures marked { (i : ℕ) → (0 < cell result i) ↔ ((0 < slice_index houses.now.own i) × ¬ EndsInStore houses.now (i + 1)) }
     ensures marks { AreMarks result }

@@ -4,7 +4,6 @@ ghost use Rattle.kalah_solve.specs.Solver.MoveValues.{ValueIsWorthOfMove, WorthO
 
 /// The worth of a game that is over is its final margin. That of any other position is the greatest value of a legal move. Such a
 /// position has at least one legal move.
-#[tactic(auto, using(crate::proofs::WorthLemmas::worth_of_over, crate::proofs::WorthLemmas::worth_of_going, crate::proofs::WorthLemmas::worth_is_most, crate::proofs::WorthLemmas::legal_some, crate::proofs::WorthLemmas::worth_count))]
 pub fn worth_is_greatest_value()
     ensures over { WorthOfOver }
     ensures going { WorthIsGreatestValue }
@@ -38,7 +37,6 @@ pub fn players_play_one_game()
 /// The worth of a position is the margin of best play. The player to move has a strategy that gets at least as much against any play of
 /// the other player, who has one that allows no more. No other margin is both. Always moving the lowest-numbered best house is such a
 /// strategy, for either player and in every position.
-#[tactic(auto, using(crate::proofs::SolverLemmas::worth_is_best, crate::proofs::SolverLemmas::best_house_is_best_play, crate::proofs::SolverLemmas::best_against_strategies))]
 pub fn worth_is_best_play()
     ensures worth { WorthIsBestPlay }
     ensures one { BestPlayIsOne }

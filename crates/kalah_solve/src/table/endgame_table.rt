@@ -75,6 +75,7 @@ fn choice(choices: &[u32; CHOICES], i: usize) -> u32
 }
 
 // Returns the table of choices.
+#[tactic(auto, using(crate::proofs::TableLemmas::choices_more))]
 fn choices() -> [u32; CHOICES]
     ensures { AreChoices CHOICES result }
 {
@@ -101,6 +102,7 @@ fn pair_cell(choices: &[u32; CHOICES], i: usize) -> u32
 }
 
 // Returns the table of pairs.
+#[tactic(auto, using(crate::proofs::TableLemmas::pairs_more))]
 fn pairs() -> [u32; PAIRS]
     ensures { ArePairs PAIRS result }
 {

@@ -5,8 +5,8 @@ use Rattle.kalah_rules.specs.declared.step.HousesStep.TheVariants.{Turn}
 use Rattle.kalah_solve.specs.Solver.GoingOn.{GoesOn}
 use Rattle.kalah_solve.specs.Bounds.Won.{won_by_step}
 use Rattle.kalah_solve.specs.Search.{EndsInStore, IsSoftBound, WinsAtMost}
-use Rattle.kalah_solve.proofs.MarksLemmas.{cell_of_zero, without_last_less, into_store_legal, seeded_is_legal, moves_fewer, last_legal, each_fewer, each_last}
-use Rattle.kalah_solve.proofs.SearchLemmas.{move_enough, turn_enough, reply_left, turn_of, turn_at, waits_there, reply_fits, bound_up_to, bound_left, low_more, played_at_start, played_more, played_bound, unmarked_at_start, unmarked_more, untried_at_start, untried_fewer, none_untried}
+use Rattle.kalah_solve.proofs.MarksLemmas.{cell_of_zero, without_last_less, into_store_legal, seeded_is_legal, movable_before_last, last_is_legal, each_before_last, each_at_last}
+use Rattle.kalah_solve.proofs.SearchLemmas.{enough_is_won, turn_enough, reply_left, step_is_turn, next_waits, waits_there, reply_fits, bound_le_max, bound_of_rest, short_stays, played_at_start, played_and_waits, played_and_bounded, unmarked_at_start, unmarked_without_last, untried_at_start, untried_fewer, none_untried}
 use Rattle.kalah_solve.proofs.WorthLemmas.{goes_on, leads_by, step_falls}
 use Rattle.kalah_solve.proofs.BoundsLemmas.{won_of_houses}
 use Rattle.kalah_solve.proofs.search.Search.+search.Goals as goal
@@ -15,17 +15,17 @@ use Rattle.kalah_solve.proofs.search.Search.+search.Goals.{try_remaining-in-Turn
 pub bound_step-overflow_add-result : goal.bound_step-overflow_add-result
 bound_step-overflow_add-result g t c =
     let on = subst (GoesOn _) c.in-Again.is c.requires.on in
-    omega (arith, (won_of_houses on.limits).few, bound_up_to c.bound.ensures)
+    omega (arith, (won_of_houses on.limits).few, bound_le_max c.bound.ensures)
 
 pub bound_turn-overflow_sub-result : goal.bound_turn-overflow_sub-result
 bound_turn-overflow_sub-result g t c =
     let few = (won_of_houses c.requires.on.limits).few in
-    omega (arith, bound_up_to c.bound.ensures)
+    omega (arith, bound_le_max c.bound.ensures)
 
 pub bound_turn-returns-else-all-beta : goal.bound_turn-returns-else-all-beta
 bound_turn-returns-else-all-beta g t c =
     let few = (won_of_houses c.requires.on.limits).few in
-    bound_left (c.args.gained + c.seeds.result) _ c.args.gained (omega arith) few c.bound.ensures
+    bound_of_rest (c.args.gained + c.seeds.result) _ c.args.gained (omega arith) few c.bound.ensures
 
 pub explore-bounds-priorities-at : goal.explore-bounds-priorities-at
 explore-bounds-priorities-at g t c = omega (arith, (c.loop-priority.invariant.next c.loop-priority-test.true).place)
@@ -72,7 +72,7 @@ explore-loop-priority-preserved g t c =
       low = omega arith;
       highest = c.highest-priority-in-loop-priority.ensures.highest;
       untried = untried;
-      next = turn_at c.seeds-seeds.ensures.limits untried c.highest-priority-in-loop-priority.ensures.found;
+      next = next_waits c.seeds-seeds.ensures.limits untried c.highest-priority-in-loop-priority.ensures.found;
     }
 
 pub explore-loop-priority-smaller : goal.explore-loop-priority-smaller
@@ -106,26 +106,26 @@ bound_into_store-loop-untried-init g t c =
     }
 
 pub bound_into_store-play_into_store-requires-clause-legal : goal.bound_into_store-play_into_store-requires-clause-legal
-bound_into_store-play_into_store-requires-clause-legal g t c = last_legal c.loop-untried.invariant.may c.split_last-house.ensures.last
+bound_into_store-play_into_store-requires-clause-legal g t c = last_is_legal c.loop-untried.invariant.may c.split_last-house.ensures.last
 
 pub bound_into_store-play_into_store-requires-clause-ends : goal.bound_into_store-play_into_store-requires-clause-ends
 bound_into_store-play_into_store-requires-clause-ends g t c =
-    each_last (EndsInStore c.args.houses.now) c.split_last-house.ensures.last c.loop-untried.invariant.ends
+    each_at_last (EndsInStore c.args.houses.now) c.split_last-house.ensures.last c.loop-untried.invariant.ends
 
 pub bound_into_store-bound_step-bound-requires : goal.bound_into_store-bound_step-bound-requires
 bound_into_store-bound_step-bound-requires g t c κs within =
     let a = c.args.houses.now in
     let h = c.split_last-house.result.0 in
     let limits = c.houses_into_store-untried.ensures.limits in
-    let has = last_legal c.loop-untried.invariant.may c.split_last-house.ensures.last in (
+    let has = last_is_legal c.loop-untried.invariant.may c.split_last-house.ensures.last in (
       omega (arith, step_falls a h c.play_into_store.result limits has c.play_into_store.ensures),
       (within, (search rules, goes_on _ _ _ _ c.requires.variant limits has c.play_into_store.ensures)),
     )
 
 pub bound_into_store-returns-then-beta-bound-clause-lower : goal.bound_into_store-returns-then-beta-bound-clause-lower
 bound_into_store-returns-then-beta-bound-clause-lower g t c =
-    let has = last_legal c.loop-untried.invariant.may c.split_last-house.ensures.last in
-    move_enough c.args.houses.now c.args.beta c.split_last-house.result.0 _ c.houses_into_store-untried.ensures.limits has
+    let has = last_is_legal c.loop-untried.invariant.may c.split_last-house.ensures.last in
+    enough_is_won c.args.houses.now c.args.beta c.split_last-house.result.0 _ c.houses_into_store-untried.ensures.limits has
     (rw c.play_into_store.ensures at c.bound_step-bound.ensures)
 
 pub bound_into_store-loop-untried-preserved : goal.bound_into_store-loop-untried-preserved
@@ -137,10 +137,10 @@ bound_into_store-loop-untried-preserved g t c =
     let takes : WinsAtMost a c.bound_step-bound.result c.split_last-house.result.0 = rw c.play_into_store.ensures at
     (c.bound_step-bound.ensures.upper c.if-beta-bound.false) in
     rw c.split_last-house.ensures.rest (record {
-      low = low_more _ _ _ _ before.low c.if-beta-bound.false new_is;
-      may = moves_fewer before.may last;
-      ends = each_fewer (EndsInStore a) last before.ends;
-      tried = unmarked_more _ _ c.bound_step-bound.result before.tried last takes new_is;
+      low = short_stays _ _ _ _ before.low c.if-beta-bound.false new_is;
+      may = movable_before_last before.may last;
+      ends = each_before_last (EndsInStore a) last before.ends;
+      tried = unmarked_without_last _ _ c.bound_step-bound.result before.tried last takes new_is;
     })
 
 pub bound_into_store-loop-untried-smaller : goal.bound_into_store-loop-untried-smaller
@@ -163,12 +163,12 @@ try_remaining-loop-untried-init g t c =
     }
 
 pub try_remaining-play_by-step-requires : goal.try_remaining-play_by-step-requires
-try_remaining-play_by-step-requires g t c = last_legal c.loop-untried.invariant.may c.split_last-house.ensures.last
+try_remaining-play_by-step-requires g t c = last_is_legal c.loop-untried.invariant.may c.split_last-house.ensures.last
 
 pub try_remaining-priority-priority-requires-clause-few : goal.try_remaining-priority-priority-requires-clause-few
 try_remaining-priority-priority-requires-clause-few g t c =
     let leads = leads_by _ _ c.remaining_houses-untried.ensures.limits
-    (last_legal c.loop-untried.invariant.may c.split_last-house.ensures.last) (sym c.in-Turn.is ∙ c.play_by-step.ensures.step) in
+    (last_is_legal c.loop-untried.invariant.may c.split_last-house.ensures.last) (sym c.in-Turn.is ∙ c.play_by-step.ensures.step) in
     omega arith
 
 pub try_remaining-bound_step-bound-requires : goal.try_remaining-bound_step-bound-requires
@@ -176,7 +176,7 @@ try_remaining-bound_step-bound-requires g t c κs within =
     let a = c.args.houses.now in
     let h = c.split_last-house.result.0 in
     let limits = c.remaining_houses-untried.ensures.limits in
-    let has = last_legal c.loop-untried.invariant.may c.split_last-house.ensures.last in (
+    let has = last_is_legal c.loop-untried.invariant.may c.split_last-house.ensures.last in (
       omega (arith, step_falls a h c.play_by-step.result limits has c.play_by-step.ensures.step),
       (within, (search rules, goes_on _ _ _ _ c.requires.variant limits has c.play_by-step.ensures.step)),
     )
@@ -186,7 +186,7 @@ try_remaining-bound_turn-bound-requires g t c κs within =
     let a = c.args.houses.now in
     let h = c.split_last-house.result.0 in
     let limits = c.remaining_houses-untried.ensures.limits in
-    let has = last_legal c.loop-untried.invariant.may c.split_last-house.ensures.last in
+    let has = last_is_legal c.loop-untried.invariant.may c.split_last-house.ensures.last in
     let is = sym c.in-Turn.is ∙ c.play_by-step.ensures.step in (
       omega (arith, step_falls a h (Turn c.in-Turn.gained c.in-Turn.next) limits has is),
       (within, (search rules, goes_on _ _ _ _ c.requires.variant limits has is)),
@@ -199,9 +199,9 @@ try_remaining-returns-then-beta-bound g t c =
       | try_remaining-in-Turn+else-gained-beta w ↦ rw (w.bound-is, ← c.play_by-step.ensures.step, w.in-Turn.is) w.bound_turn-bound.ensures
       | try_remaining-in_default w ↦ rw (w.bound-is, ← c.play_by-step.ensures.step) w.bound_step-bound.ensures
     ] in
-    let has = last_legal c.loop-untried.invariant.may c.split_last-house.ensures.last in
+    let has = last_is_legal c.loop-untried.invariant.may c.split_last-house.ensures.last in
     record {
-      lower = move_enough _ _ _ _ c.remaining_houses-untried.ensures.limits has
+      lower = enough_is_won _ _ _ _ c.remaining_houses-untried.ensures.limits has
           is;
       waiting = c.loop-untried.invariant.played.waiting.each;
       others = λ short. absurd (omega arith);
@@ -220,9 +220,9 @@ try_remaining-loop-untried-preserved g t c =
     let takes : WinsAtMost c.args.houses.now c.match-step.bound c.split_last-house.result.0 =
     is.upper c.if-beta-bound.false in
     rw c.split_last-house.ensures.rest (record {
-      low = low_more _ _ _ _ before.low c.if-beta-bound.false new_is;
-      may = moves_fewer before.may last;
-      played = played_bound before.played last _ _ takes new_is;
+      low = short_stays _ _ _ _ before.low c.if-beta-bound.false new_is;
+      may = movable_before_last before.may last;
+      played = played_and_bounded before.played last _ _ takes new_is;
     })
 
 pub try_remaining-loop-untried-preserved-then-seeds-self : goal.try_remaining-loop-untried-preserved-then-seeds-self
@@ -231,12 +231,12 @@ try_remaining-loop-untried-preserved-then-seeds-self g t c =
     let before = c.loop-untried.invariant in
     let priority = c.priority-priority in
     let place : priority.result % 8 ≡ c.split_last-house.result.0 - 1 = omega (arith, priority.ensures.house) in
-    let turn = turn_of c.remaining_houses-untried.ensures.limits (last_legal before.may last) (sym c.in-Turn.is ∙ c.play_by-step.ensures.step)
+    let turn = step_is_turn c.remaining_houses-untried.ensures.limits (last_is_legal before.may last) (sym c.in-Turn.is ∙ c.play_by-step.ensures.step)
     priority.ensures.house in
     rw (c.split_last-house.ensures.rest, place) (record {
       low = before.low;
-      may = moves_fewer before.may last;
-      played = played_more before.played last priority.result c.in-Turn.next priority.ensures.some turn;
+      may = movable_before_last before.may last;
+      played = played_and_waits before.played last priority.result c.in-Turn.next priority.ensures.some turn;
     })
 
 pub try_remaining-loop-untried-smaller : goal.try_remaining-loop-untried-smaller
@@ -264,5 +264,5 @@ explore-loop-priority-init g t c =
       low = omega arith;
       highest = c.highest-priority.ensures.highest;
       untried = untried;
-      next = turn_at c.seeds-seeds.ensures.limits untried c.highest-priority.ensures.found;
+      next = next_waits c.seeds-seeds.ensures.limits untried c.highest-priority.ensures.found;
     }

@@ -4,7 +4,7 @@ use Rattle.kalah_rules.specs.Measure.{moves_left}
 use Rattle.kalah_solve.proofs.WorthLemmas.{moves_after}
 use Rattle.kalah_solve.specs.Marks.{cell}
 use Rattle.kalah_solve.specs.Search.{EndsInStore}
-use Rattle.kalah_solve.proofs.MarksLemmas.{MayMove}
+use Rattle.kalah_solve.proofs.MarksLemmas.{AreMovable}
 use Rattle.kalah_solve.proofs.SearchLemmas.{UnmarkedWinAtMost, ArePlayed, AreUntried, WaitsWith}
 use Rattle.kalah_solve.proofs.search.Search.+search.Given as goal
 
@@ -32,7 +32,7 @@ decreases-bound_turn g l = 9 * moves_left (storeless l.next) + 7
 abbrev pub invariant-bound_into_store-loop-untried : goal.invariant-bound_into_store-loop-untried
 invariant-bound_into_store-loop-untried g l = record {
   low : l.beta ≤ l.most → l.most ≡ 0;
-  may : MayMove l.houses l.untried;
+  may : AreMovable l.houses l.untried;
   ends : (i : ℕ) → 0 < cell l.untried i → EndsInStore l.houses (i + 1);
   tried : UnmarkedWinAtMost l.houses l.most l.untried;
 }
@@ -43,7 +43,7 @@ decreases-bound_into_store-loop-untried g l = l.untried
 abbrev pub invariant-try_remaining-loop-untried : goal.invariant-try_remaining-loop-untried
 invariant-try_remaining-loop-untried g l = record {
   low : l.beta ≤ l.most → l.most ≡ 0;
-  may : MayMove l.houses l.untried;
+  may : AreMovable l.houses l.untried;
   played : ArePlayed l.houses l.most l.untried l.priorities l.turns;
 }
 

@@ -1,19 +1,19 @@
 use Rattle.std.proofs.Common.{refl, rules, ◌≡◌, ◌∙◌, w8, w32, to_z, of_z, SFits, to_z-of_z}
 use Rattle.kalah_solve.specs.Bounds.Intervals.{clamped}
 use Rattle.kalah_solve.specs.Solver.Worth.{houses_worth}
-use Rattle.kalah_solve.proofs.BoundsLemmas.{worth_low, worth_high, within_both, won_by_bounds}
+use Rattle.kalah_solve.proofs.BoundsLemmas.{worth_low, worth_high, clamped_within, worth_by_bounds}
 use Rattle.kalah_solve.proofs.search.Search.search_by_tests.Given.{Over}
 use Rattle.kalah_solve.proofs.search.Search.search_by_tests.Goals as goal
 
 pub interval_of-requires-clause-least : goal.interval_of-requires-clause-least
 interval_of-requires-clause-least g c =
     let fits : SFits w32 c.clamp-answer.result = search rules in
-    simp to_z-of_z (rw c.clamp-answer.ensures (within_both _ _ _ c.in-Some.narrow.ordered).0)
+    simp to_z-of_z (rw c.clamp-answer.ensures (clamped_within _ _ _ c.in-Some.narrow.ordered).0)
 
 pub interval_of-requires-clause-most : goal.interval_of-requires-clause-most
 interval_of-requires-clause-most g c =
     let fits : SFits w32 c.clamp-answer.result = search rules in
-    simp to_z-of_z (rw c.clamp-answer.ensures (within_both _ _ _ c.in-Some.narrow.ordered).1)
+    simp to_z-of_z (rw c.clamp-answer.ensures (clamped_within _ _ _ c.in-Some.narrow.ordered).1)
 
 -- the answer is the worth in the window
 found : (g : Over) (c : goal.After-intersection g) →
@@ -23,7 +23,7 @@ found g c =
     let fits : SFits w32 c.clamp-answer.result = search rules in
     let margin_fits : SFits w32 c.margin_of.result = search rules in
     simp to_z-of_z (simp to_z-of_z at c.clamp-answer.ensures
-    ∙ won_by_bounds _ _ c.of_window.result seeds.limits seeds.seeds c.of_window.ensures.ordered c.of_window.ensures.apart
+    ∙ worth_by_bounds _ _ c.of_window.result seeds.limits seeds.seeds c.of_window.ensures.ordered c.of_window.ensures.apart
     c.won_within-won.ensures c.margin_of.ensures)
 
 pub learn_margins-requires : goal.learn_margins-requires

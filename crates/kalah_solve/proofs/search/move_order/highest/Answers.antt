@@ -11,7 +11,7 @@ found_more xs most i new found inside is = elim (cases_lt most (get_or xs i 0)) 
   | inr more ↦ let at : new ≡ most = omega arith in rw at found
 ]
 
--- no priority up to the next one is higher
+-- no priority up to the next one is digits_from_next_place
 highest_more : (xs : List ℕ) (most i new : ℕ) → ((k : ℕ) → k < i → get_or xs k 0 ≤ most)
     → new ≡ max most (get_or xs i 0) →
     (k : ℕ) → k < i + 1 → get_or xs k 0 ≤ new

@@ -4,8 +4,8 @@ use Rattle.kalah_rules.specs.Position.{HousesState, storeless, IsWithinHouses}
 use Rattle.kalah_rules.specs.Play.{legal_houses}
 use Rattle.kalah_rules.proofs.PlayLemmas.{legal_holds}
 use Rattle.kalah_solve.proofs.WorthLemmas.{legal_some}
-use Rattle.kalah_solve.proofs.SolverLemmas.{root_found, root_short, root_last}
-use Rattle.kalah_solve.proofs.SearchLemmas.{short_of}
+use Rattle.kalah_solve.proofs.SolverLemmas.{first_enough_is_best, one_more_falls_short, last_is_best}
+use Rattle.kalah_solve.proofs.SearchLemmas.{below_if_test_fails}
 use Rattle.kalah_solve.proofs.solver.Solver.best_house.Goals as goal
 
 pub overflow_sub-last : goal.overflow_sub-last
@@ -40,14 +40,14 @@ pub returns-then-move_reaches : goal.returns-then-move_reaches
 returns-then-move_reaches g c =
     let enough = c.if-move_reaches.ensures.0 refl in
     let at = looked_at _ _ _ _ _ c.len-last.ensures c.loop-i-test.true (c.new.ensures ∙ c.get-h.ensures) c.legal-moves.ensures.moves in
-    sym c.new.ensures ∙ at.1 ∙ root_found c.args.houses.now c.legal-moves.ensures.limits c.loop-i.i at.0 c.loop-i.invariant
+    sym c.new.ensures ∙ at.1 ∙ first_enough_is_best c.args.houses.now c.legal-moves.ensures.limits c.loop-i.i at.0 c.loop-i.invariant
     (rw (← at.1, ← c.requires.best) enough)
 
 pub loop-i-preserved : goal.loop-i-preserved
 loop-i-preserved g c =
-    let less = short_of _ _ _ c.if-move_reaches.ensures refl in
+    let less = below_if_test_fails _ _ _ c.if-move_reaches.ensures refl in
     let at = looked_at _ _ _ _ _ c.len-last.ensures c.loop-i-test.true (c.new.ensures ∙ c.get-h.ensures) c.legal-moves.ensures.moves in
-    root_short c.args.houses.now c.legal-moves.ensures.limits c.loop-i.i at.0 c.loop-i.invariant (rw (← at.1, ← c.requires.best) less)
+    one_more_falls_short c.args.houses.now c.legal-moves.ensures.limits c.loop-i.i at.0 c.loop-i.invariant (rw (← at.1, ← c.requires.best) less)
 
 pub returns : goal.returns
 returns g c =
@@ -56,5 +56,5 @@ returns g c =
     let some = legal_some (storeless a) c.requires.going in
     let last = c.len-last.result - 1 in
     let place = c.get.ensures ∙ ap (λ xs. get_or xs last 0) c.legal-moves.ensures.moves in
-    place ∙ root_last a c.legal-moves.ensures.limits last c.requires.going (omega arith)
+    place ∙ last_is_best a c.legal-moves.ensures.limits last c.requires.going (omega arith)
     (λ k low. c.loop-i.invariant k (omega arith))

@@ -6,7 +6,7 @@ use Rattle.kalah_solve.specs.Solver.Worth.{best_house, houses_worth}
 use Rattle.kalah_solve.specs.declared.solver.Verdict.TheVariants.{Over}
 use Rattle.kalah_solve.proofs.SolverLemmas.{verdict_by, verdict_of_over, small_best, verdict_states}
 use Rattle.kalah_solve.proofs.WorthLemmas.{best_of_houses, best_found, board_equal_sides}
-use Rattle.kalah_solve.proofs.BoundsLemmas.{worth_low, worth_high, half_is}
+use Rattle.kalah_solve.proofs.BoundsLemmas.{worth_low, worth_high, half_is_won}
 use Rattle.kalah_solve.proofs.solver.Solver.solve.Given as given
 use Rattle.kalah_solve.proofs.solver.Solver.solve.Goals as goal
 
@@ -29,7 +29,7 @@ won_of-beta-requires g c =
 pub best_house-house-requires-clause-best : goal.best_house-house-requires-clause-best
 best_house-house-requires-clause-best g c =
     let fits : SFits w32 c.houses_worth-best.result = search rules in
-    half_is c.houses-houses.result _ _ c.seeds.ensures.limits c.houses_worth-best.ensures
+    half_is_won c.houses-houses.result _ _ c.seeds.ensures.limits c.houses_worth-best.ensures
     (rw c.seeds.ensures.seeds at (simp to_z-of_z at c.won_of-beta.ensures))
 
 pub with_stores-margin-requires-clause-best : goal.with_stores-margin-requires-clause-best

@@ -1,7 +1,7 @@
 use Rattle.std.proofs.Common.{arith, rules, ◌-◌, ◌^◌, sym, ◌∙◌}
 use Rattle.kalah_solve.proofs.BoundsLemmas.{won_of_houses}
 use Rattle.kalah_solve.proofs.WorthLemmas.{leads_by}
-use Rattle.kalah_solve.proofs.MarksLemmas.{without_last_less, seeded_is_legal, moves_fewer, last_legal}
+use Rattle.kalah_solve.proofs.MarksLemmas.{without_last_less, seeded_is_legal, movable_before_last, last_is_legal}
 use Rattle.kalah_solve.proofs.TableLemmas.{most_at_start, most_more, most_all, won_is_most}
 use Rattle.kalah_solve.proofs.table.endgame_table.EndgameTable.+exact.Goals as goal
 
@@ -16,7 +16,7 @@ most_won-loop-untried-init g t c =
 
 pub most_won-move_wins-requires : goal.most_won-move_wins-requires
 most_won-move_wins-requires g t c κs within =
-    let has = last_legal c.loop-untried.invariant.may c.split_last-house.ensures.last in
+    let has = last_is_legal c.loop-untried.invariant.may c.split_last-house.ensures.last in
     (omega arith, (within, (search rules, (has, (c.requires.variant, c.requires.few)))))
 
 pub most_won-returns-then-most-seeds : goal.most_won-returns-then-most-seeds
@@ -26,7 +26,7 @@ most_won-returns-then-most-seeds g t c =
     let last = c.split_last-house.ensures.last in
     let before = c.loop-untried.invariant in
     let limits = c.seeds-seeds.ensures.limits in
-    let has = last_legal before.may last in
+    let has = last_is_legal before.may last in
     most_all c.args.houses.now (marks - 32 ^ (h - 1)) c.max-most.result limits
     (most_more _ _ limits before.is last has c.move_wins.ensures
     (search (rules, c.max-most.ensures)))
@@ -38,9 +38,9 @@ most_won-loop-untried-preserved g t c =
     let h = c.split_last-house.result.0 in
     let last = c.split_last-house.ensures.last in
     let before = c.loop-untried.invariant in
-    let has = last_legal before.may last in
+    let has = last_is_legal before.may last in
     rw c.split_last-house.ensures.rest (record {
-      may = moves_fewer before.may last;
+      may = movable_before_last before.may last;
       is = most_more _ _ c.seeds-seeds.ensures.limits
           before.is last has
           c.move_wins.ensures

@@ -1,13 +1,13 @@
 use Rattle.std.proofs.Common.{arith, ◌%◌, ◌*◌, ◌^◌, ◌≡◌, refl}
-use Rattle.kalah_solve.proofs.TableLemmas.{digit_small, put_fits}
+use Rattle.kalah_solve.proofs.TableLemmas.{digit_fits, word_with_digit_fits}
 use Rattle.kalah_solve.proofs.table.endgame_table.words.with_stored.Goals as goal
 
 whole : (c : goal.Start) → c.args.stored * 2 ^ (4 * c.args.at) % 2 ^ 64 ≡ c.args.stored * 2 ^ (4 * c.args.at)
-whole c = omega (arith, digit_small c.args.at c.args.stored c.requires.place c.requires.small)
+whole c = omega (arith, digit_fits c.args.at c.args.stored c.requires.place c.requires.small)
 
 pub overflow_add-result : goal.overflow_add-result
 overflow_add-result c =
-    let fits = put_fits _ _ _ c.requires.place c.requires.nothing c.requires.small
+    let fits = word_with_digit_fits _ _ _ c.requires.place c.requires.nothing c.requires.small
     (omega arith) in
     omega (arith, whole c)
 
