@@ -1,18 +1,18 @@
 -- The desk: what is kept of its word and its seats, and what the rows are at the end.
 use Rattle.std.proofs.Common.{◌≡◌, ◌⊎◌, ⊎_elim, inl, inr, ℕ, zero, suc, ◌+◌, ◌≤◌, List, [], ◌∷◌, ◌++◌, length, set, refl, sym, ap, ◌∙◌, subst, arith, length-append, append-nil, append_assoc, ◌%◌, ◌^◌, ◌<◌, get_or, true, false, cond, ◌-◌}
-use Rattle.std.specs.Prelude.{◌==◌, Option, Some, None, sum_by, count_by, All, nat_lt, AllPairs, if◌then◌else◌, slice_index, max, min, IsTrue, ⊤}
-use Rattle.std.proofs.lemmas.List.Sums.{sum_by-cons, sum_by-append, sum_by_push, count_by-le-length, get_or-le-sum_by}
+use Rattle.std.specs.Prelude.{◌==◌, Option, Some, None, sum_by, count_by, All, nat_lt, AllPairs, if◌then◌else◌, slice_index, max, min, IsTrue, ◌↔◌}
+use Rattle.std.proofs.lemmas.List.Sums.{sum_by-cons, sum_by-append, sum_by_push, sum_by-set, count_by-le-length, get_or-le-sum_by}
 use Rattle.std.proofs.lemmas.List.Elements.{All-append, All-nil, All-cons, All-head, All-take, All-drop}
 use mathlib.Core.Option.{some, some-injective, some-ne-none, none}
 use lib.ListN.{get_elem?}
 use Rattle.atomic_table.proofs.Lists.{set_again, set_here}
-use Rattle.kalah_run.proofs.ViewLemmas.{Each, each_more, each_set, in_views, was_there}
+use Rattle.kalah_run.proofs.ViewLemmas.{Each, each_more, each_set, in_views, view_at, was_there}
 use Rattle.kalah_run.specs.declared.desk.rule.DrawnRow.{DrawnRow}
 use Rattle.kalah_run.specs.declared.desk.rule.DeskPlan.{DeskPlan}
 use Rattle.kalah_run.specs.declared.desk.rule.DeskView.{DeskView}
 use Rattle.kalah_run.specs.declared.desk.rule.DeskView.TheVariants.{Opening, Drawing, Closing, Ended}
 use Rattle.kalah_jobs.specs.Collecting.Shares.{times_in}
-use Rattle.kalah_run.specs.Desk.Rows.{drawn_numbers, drawn_row, drawn_in, spent_in, AreLawful, DealsEachOnce}
+use Rattle.kalah_run.specs.Desk.Rows.{drawn_numbers, drawn_row, drawn_in, spent_in, DealsEachOnce}
 use Rattle.kalah_run.specs.Desk.Rule.{rows_in, all_rows, passes_in, HasTotal, IsLawful, opening_view, CountsWhatItDeals, DrawsFrom, Draws, DrawsRest, StartsClosing, after_handing_out, pass_handed_out, after_reclaiming_row}
 use Rattle.std.proofs.lemmas.List.Quantifiers.{all_pairs_push}
 use Rattle.std.proofs.lemmas.Bool.{lt-ltb, le-ltb, cases_lt}
@@ -42,16 +42,11 @@ times_rows x (r ∷ rs) =
 -- a sum, after a change of one term
 pub sum_set : {X : Type 0} (f : X → ℕ) (xs : List X) (k : ℕ) (v w : X) → get_elem? xs k ≡ some v
     → sum_by f (set xs k w) + f v ≡ sum_by f xs + f w
-sum_set f [] k v w at = absurd (some-ne-none v (sym at))
-sum_set f (x ∷ xs) zero v w at =
-    omega (arith, ap f (some-injective x v at), sum_by-cons f x xs, sum_by-cons f w xs)
-sum_set f (x ∷ xs) (suc k) v w at = omega (arith, sum_set f xs k v w at, sum_by-cons f x xs, sum_by-cons f x (set xs k w))
+sum_set f xs k v w at = rw (view_at xs k v at) at (sum_by-set f xs k w v (in_views xs k at))
 
 -- a term is within the sum
 sum_at : {X : Type 0} (f : X → ℕ) (xs : List X) (k : ℕ) (v : X) → get_elem? xs k ≡ some v → f v ≤ sum_by f xs
-sum_at f [] k v at = absurd (some-ne-none v (sym at))
-sum_at f (x ∷ xs) zero v at = omega (arith, ap f (some-injective x v at), sum_by-cons f x xs)
-sum_at f (x ∷ xs) (suc k) v at = omega (arith, sum_at f xs k v at, sum_by-cons f x xs)
+sum_at f xs k v at = rw (view_at xs k v at) at (get_or-le-sum_by f xs k v (in_views xs k at))
 
 -- the sum over all rows is one over the seats
 rows_sum : (f : DrawnRow → ℕ) (views : List DeskView) → sum_by f (all_rows views) ≡ sum_by (λ v. sum_by f (rows_in v)) views
@@ -138,8 +133,8 @@ deals_alike {rows = rows} {others} deals drawn same ascending spent = record {
 abbrev Fits : DeskPlan → ℕ → DeskView → Type 0
 Fits plan seat v = HasTotal plan.total v × All Ascends (rows_in v)
 
-fitting : {S : Type 0} (plan : DeskPlan) (s : State S DeskView) → IsLawful plan s → Each (Fits plan) s.views
-fitting plan s kept seat v at = (kept.totals seat v at, all_at Ascends s.views seat v at kept.lawful.ascending)
+fitting : {S : Type 0} {plan : DeskPlan} {s : State S DeskView} → IsLawful plan s → Each (Fits plan) s.views
+fitting {s = s} kept seat v at = (kept.totals seat v at, all_at Ascends s.views seat v at kept.deals.ascending)
 
 -- ==== A draw keeps the rule, and returns what it must
 
@@ -149,168 +144,146 @@ unspent_view total number numbers = Drawing total number (drawn_row numbers fals
 
 -- its view after it was answered n
 abbrev drawn_view : ℕ → ℕ → List ℕ → ℕ → DeskView
-drawn_view total number numbers n = Drawing total number (drawn_row (numbers ++ n ∷ []) false)
+drawn_view total number numbers n = unspent_view total number (numbers ++ n ∷ [])
 
 -- its view after it was answered None
 abbrev spent_view : ℕ → ℕ → List ℕ → DeskView
 spent_view total number numbers = Drawing total number (drawn_row numbers true)
 
--- a number in a row is below the count of all numbers
-stands_below : (views : List DeskView) (seat total number : ℕ) (r : DrawnRow) (plan_total : ℕ)
-    → get_elem? views seat ≡ some (Drawing total number r) → AreLawful plan_total (all_rows views)
-    → All (λ x. x < drawn_in (all_rows views)) r.numbers
-stands_below views seat total number r plan_total at lawful k d within =
-    let x : ℕ = get_or r.numbers k d in
-    let here : cond (x == x) 1 0 ≤ count_by (λ y. y == x) r.numbers = get_or-le-sum_by (λ y. cond (y == x) 1 0) r.numbers k d within in
-    let mine : sum_by (times_in_row x) (r ∷ []) ≤ sum_by (times_in_row x) (all_rows views) =
-    rows_at (times_in_row x) views seat (Drawing total number r) at in
-    below x (drawn_in (all_rows views)) (count_by (λ y. y == x) r.numbers) here
-    (omega (arith, times_rows x (all_rows views), lawful.each_once x))
-  where
-    below : (x c n : ℕ) → cond (x == x) 1 0 ≤ n → n ≤ (if nat_lt x c then 1 else 0) → x < c
-    below x c n here few = grind (arith, nat_tests)
+-- the state with these words, after a change of the view of one seat
+abbrev after_step : {S : Type 0} → State S DeskView → List ℕ → ℕ → DeskView → State S DeskView
+after_step s words seat view = record { words = words; homes = s.homes; views = set s.views seat view }
 
 -- what is to stand once, with one number more
-once_more : (x c n : ℕ) → n ≡ c → (if nat_lt x c then 1 else 0) + cond (n == x) 1 0 ≡ (if nat_lt x (c + 1) then 1 else 0)
-once_more x c n same = grind (arith, nat_tests)
+once_more : (x drawn : ℕ) → (if nat_lt x drawn then 1 else 0) + cond (drawn == x) 1 0 ≡ (if nat_lt x (drawn + 1) then 1 else 0)
+once_more x drawn = grind (arith, nat_tests)
 
 -- no pass is spent, or all numbers are drawn
-none_or_all : {total : ℕ} {rows : List DrawnRow} → AreLawful total rows → (spent_in rows ≡ 0) ⊎ (drawn_in rows ≡ total)
-none_or_all {rows = rows} lawful = elim (cases_lt 0 (spent_in rows)) [
-  | inl some_spent ↦ inr (lawful.spent some_spent)
+none_or_all : {total drawn : ℕ} {rows : List DrawnRow} → DealsEachOnce total drawn rows → (spent_in rows ≡ 0) ⊎ (drawn ≡ total)
+none_or_all {rows = rows} deals = elim (cases_lt 0 (spent_in rows)) [
+  | inl some_spent ↦ inr (deals.spent some_spent)
   | inr few ↦ inl (omega arith)
 ]
 
--- a draw that finds n, of a pass that is not spent
-module _ {S : Type 0} (plan : DeskPlan) (s : State S DeskView) (seat total number : ℕ) (numbers : List ℕ) (n : ℕ)
-    (kept : IsLawful plan s)
-    (at : get_elem? s.views seat ≡ some (unspent_view total number numbers))
-    (is : n ≡ drawn_in (all_rows s.views) + spent_in (all_rows s.views)) where
-  -- the pass's row ascends, and all rows do after a change of it to one that does
+-- no more passes are spent than there are
+few_spent : {S : Type 0} {plan : DeskPlan} {s : State S DeskView} → IsLawful plan s → spent_in (all_rows s.views) ≤ plan.passes
+few_spent {s = s} kept =
+    omega (arith, kept.passes, count_by-le-length (λ (r : DrawnRow). r.spent) (all_rows s.views), rows_within_passes s.views)
+
+-- the word of a lawful desk, which a draw finds
+abbrev word_of : {S : Type 0} {plan : DeskPlan} {s : State S DeskView} → IsLawful plan s → ℕ
+word_of {s = s} kept = kept.drawn + spent_in (all_rows s.views)
+
+-- a draw of a pass that is not spent
+module _ {S : Type 0} {plan : DeskPlan} {s : State S DeskView} (seat : ℕ) {total number : ℕ} {numbers : List ℕ} (kept : IsLawful plan s)
+    (at : get_elem? s.views seat ≡ some (unspent_view total number numbers)) where
+  -- all numbers of the pass's row are below the count of those drawn
+  stands_below : All (λ x. x < kept.drawn) numbers
+  stands_below k d within =
+      let x : ℕ = get_or numbers k d in
+      let here : cond (x == x) 1 0 ≤ count_by (λ y. y == x) numbers = get_or-le-sum_by (λ y. cond (y == x) 1 0) numbers k d within in
+      let mine : sum_by (times_in_row x) (drawn_row numbers false ∷ []) ≤ sum_by (times_in_row x) (all_rows s.views) =
+      rows_at (times_in_row x) s.views seat (unspent_view total number numbers) at in
+      below x kept.drawn (count_by (λ y. y == x) numbers) here (omega (arith, times_rows x (all_rows s.views), kept.deals.each_once x))
+    where
+      below : (x c n : ℕ) → cond (x == x) 1 0 ≤ n → n ≤ (if nat_lt x c then 1 else 0) → x < c
+      below x c n here few = grind (arith, nat_tests)
+
+  -- the row of the pass ascends, and all rows do after a change of it to one that does
   ascends : Ascends (drawn_row numbers false)
-  ascends = All-head Ascends (drawn_row numbers false) []
-      (all_at Ascends s.views seat (unspent_view total number numbers) at kept.lawful.ascending)
+  ascends = All-head Ascends (drawn_row numbers false) [] (fitting kept seat (unspent_view total number numbers) at).1
 
-  stays_ascending : (w : DeskView) → All Ascends (rows_in w) → All Ascends (all_rows (set s.views seat w))
-  stays_ascending w mine = all_from Ascends (set s.views seat w)
-      (each_set (λ k v. All Ascends (rows_in v)) s.views seat w mine (λ j u other there. (fitting plan s kept j u there).1))
+  stays_ascending : (view : DeskView) → All Ascends (rows_in view) → All Ascends (all_rows (set s.views seat view))
+  stays_ascending view mine = all_from Ascends (set s.views seat view)
+      (each_set (λ k v. All Ascends (rows_in v)) s.views seat view mine (λ j u other there. (fitting kept j u there).1))
 
-  -- n is below the total: the rows stay lawful with n at the end of the pass's row, if it is above all others, and the count is
-  -- one more
-  draws_some : n < total → AreLawful plan.total (all_rows (set s.views seat (drawn_view total number numbers n)))
-      × (drawn_in (all_rows (set s.views seat (drawn_view total number numbers n)))
-      + spent_in (all_rows (set s.views seat (drawn_view total number numbers n))) ≡ n + 1)
-      × All (λ x. x < n) numbers
+  -- the rule stays if the row of the pass changes, and the rows deal each of the numbers once that the word counts
+  kept_after : {drawn word : ℕ} (row : DrawnRow)
+      → DealsEachOnce plan.total drawn (all_rows (set s.views seat (Drawing total number row)))
+      → word ≡ drawn + spent_in (all_rows (set s.views seat (Drawing total number row)))
+      → IsLawful plan (after_step s (word ∷ []) seat (Drawing total number row))
+  kept_after {drawn} row deals counts = record {
+    few = kept.few;
+    drawn = drawn;
+    word = ap (λ m. m ∷ []) counts;
+    passes = omega (
+      arith,
+      sum_set passes_in s.views seat (unspent_view total number numbers) (Drawing total number row) at,
+      kept.passes,
+    );
+    deals = deals;
+    totals = each_set (λ k v. HasTotal plan.total v) s.views seat (Drawing total number row)
+        (kept.totals seat (unspent_view total number numbers) at) (λ j u other there. kept.totals j u there);
+  }
+
+  -- it finds a number below the total: the rule stays with that at the end of the pass's row, where it is above all others
+  draws_some : word_of kept < total
+      → IsLawful plan (after_step s ((word_of kept + 1) ∷ []) seat (drawn_view total number numbers (word_of kept))) × All (λ x. x < word_of kept) numbers
   draws_some low =
       let v : DeskView = unspent_view total number numbers in
+      let n : ℕ = kept.drawn in
       let w : DeskView = drawn_view total number numbers n in
+      let rows : List DrawnRow = all_rows (set s.views seat w) in
       let same : total ≡ plan.total = kept.totals seat v at in
-      let within : drawn_in (all_rows s.views) ≤ plan.total = kept.lawful.within in
       let none_spent : spent_in (all_rows s.views) ≡ 0 =
-      elim (none_or_all kept.lawful) [ inl unspent ↦ unspent | inr full ↦ omega arith ] in
-      let found : n ≡ drawn_in (all_rows s.views) = omega arith in
-      let drawn : drawn_in (all_rows (set s.views seat w)) ≡ drawn_in (all_rows s.views) + 1 =
+      elim (none_or_all kept.deals) [ inl unspent ↦ unspent | inr full ↦ omega arith ] in
+      let is : word_of kept ≡ n = omega arith in
+      let drawn : drawn_in rows ≡ drawn_in (all_rows s.views) + 1 =
       omega (arith, rows_set (λ r. length r.numbers) s.views seat v w at, length-append numbers (n ∷ [])) in
-      let spent : spent_in (all_rows (set s.views seat w)) ≡ spent_in (all_rows s.views) =
-      omega (arith, rows_set (λ r. cond r.spent 1 0) s.views seat v w at) in
-      let low_all : All (λ x. x < drawn_in (all_rows s.views)) numbers =
-      stands_below s.views seat total number (drawn_row numbers false) plan.total at kept.lawful in
-      let below : All (λ x. x < n) numbers = subst (λ (c : ℕ). All (λ x. x < c) numbers) (sym found) low_all in
-      let rises : Ascends (drawn_row (numbers ++ n ∷ []) false) = all_pairs_push (λ x y. x < y) numbers n ascends below in (
-        record {
+      let spent : spent_in rows ≡ spent_in (all_rows s.views) = omega (arith, rows_set (λ r. cond r.spent 1 0) s.views seat v w at) in
+      let rises : Ascends (drawn_row (numbers ++ n ∷ []) false) = all_pairs_push (λ x y. x < y) numbers n ascends stands_below in
+      rw is (
+        kept_after (drawn_row (numbers ++ n ∷ []) false) (record {
           within = omega arith;
-          count = refl;
+          count = omega (arith, kept.deals.count);
           each_once = λ x.
-              let t : sum_by (times_in_row x) (all_rows (set s.views seat w)) ≡ sum_by (times_in_row x) (all_rows s.views) + cond (n == x) 1 0 =
+              let more : sum_by (times_in_row x) rows ≡ sum_by (times_in_row x) (all_rows s.views) + cond (n == x) 1 0 =
               omega (arith, rows_set (times_in_row x) s.views seat v w at, sum_by_push (λ y. cond (y == x) 1 0) numbers n) in
-              times_rows x (all_rows (set s.views seat w))
-              ∙ t
-              ∙ ap (λ k. k + cond (n == x) 1 0) (sym (times_rows x (all_rows s.views)) ∙ kept.lawful.each_once x)
-              ∙ once_more x (drawn_in (all_rows s.views)) n found
-              ∙ ap (λ c. if nat_lt x c then 1 else 0) (sym drawn);
+              times_rows x rows ∙ more
+              ∙ ap (λ k. k + cond (n == x) 1 0) (sym (times_rows x (all_rows s.views)) ∙ kept.deals.each_once x)
+              ∙ once_more x n;
           ascending = stays_ascending w (All-cons Ascends (drawn_row (numbers ++ n ∷ []) false) [] rises (All-nil Ascends));
           spent = λ some_spent. absurd (omega arith);
-        },
-        omega arith,
-        below,
+        }) (omega arith),
+        stands_below,
       )
 
-  -- it is not: the rows stay lawful, and one pass more is spent
-  draws_none : total ≤ n → AreLawful plan.total (all_rows (set s.views seat (spent_view total number numbers)))
-      × (drawn_in (all_rows (set s.views seat (spent_view total number numbers)))
-      + spent_in (all_rows (set s.views seat (spent_view total number numbers))) ≡ n + 1)
+  -- it finds none: the rule stays, and the pass is spent
+  draws_none : total ≤ word_of kept → IsLawful plan (after_step s ((word_of kept + 1) ∷ []) seat (spent_view total number numbers))
   draws_none high =
       let v : DeskView = unspent_view total number numbers in
       let w : DeskView = spent_view total number numbers in
       let same : total ≡ plan.total = kept.totals seat v at in
-      let within : drawn_in (all_rows s.views) ≤ plan.total = kept.lawful.within in
-      let full : drawn_in (all_rows s.views) ≡ plan.total =
-      elim (none_or_all kept.lawful) [ inl unspent ↦ omega arith | inr full ↦ full ] in
+      let full : kept.drawn ≡ plan.total =
+      elim (none_or_all kept.deals) [ inl unspent ↦ (let within = kept.deals.within in omega arith) | inr full ↦ full ] in
       let drawn : drawn_in (all_rows (set s.views seat w)) ≡ drawn_in (all_rows s.views) =
       omega (arith, rows_set (λ r. length r.numbers) s.views seat v w at) in
       let spent : spent_in (all_rows (set s.views seat w)) ≡ spent_in (all_rows s.views) + 1 =
-      omega (arith, rows_set (λ r. cond r.spent 1 0) s.views seat v w at) in (
-        subst (λ c. DealsEachOnce plan.total c (all_rows (set s.views seat w))) (sym drawn)
-            (deals_alike kept.lawful drawn (λ x. omega (arith, rows_set (times_in_row x) s.views seat v w at))
-            (stays_ascending w (All-cons Ascends (drawn_row numbers true) [] ascends (All-nil Ascends))) (λ some_spent. full)),
-        omega arith,
-      )
-
--- no more passes are spent than there are
-few_spent : {S : Type 0} (plan : DeskPlan) (s : State S DeskView) → IsLawful plan s → spent_in (all_rows s.views) ≤ plan.passes
-few_spent plan s kept =
-    omega (arith, kept.passes, count_by-le-length (λ (r : DrawnRow). r.spent) (all_rows s.views), rows_within_passes s.views)
-
--- The rule stays if the row of a pass changes, the rows are lawful with that, and the word becomes their count.
-kept_after : {S : Type 0} (plan : DeskPlan) (s : State S DeskView) (seat total number : ℕ) (before after : DrawnRow) (word : ℕ)
-    {words : List ℕ} → IsLawful plan s → get_elem? s.views seat ≡ some (Drawing total number before)
-    → AreLawful plan.total (all_rows (set s.views seat (Drawing total number after)))
-    → drawn_in (all_rows (set s.views seat (Drawing total number after)))
-    + spent_in (all_rows (set s.views seat (Drawing total number after))) ≡ word → words ≡ word ∷ []
-    → IsLawful {S = S} plan (record { words = words; homes = s.homes; views = set s.views seat (Drawing total number after) })
-kept_after plan s seat total number before after word kept at lawful count words = record {
-  few = kept.few;
-  word = words ∙ ap (λ m. m ∷ []) (sym count);
-  passes = omega (
-    arith,
-    sum_set passes_in s.views seat (Drawing total number before) (Drawing total number after) at,
-    kept.passes,
-  );
-  lawful = lawful;
-  totals = each_set (λ k v. HasTotal plan.total v) s.views seat (Drawing total number after)
-      (kept.totals seat (Drawing total number before) at) (λ j u other there. kept.totals j u there);
-}
+      omega (arith, rows_set (λ r. cond r.spent 1 0) s.views seat v w at) in
+      kept_after (drawn_row numbers true)
+      (deals_alike kept.deals drawn (λ x. omega (arith, rows_set (times_in_row x) s.views seat v w at))
+      (stays_ascending w (All-cons Ascends (drawn_row numbers true) [] ascends (All-nil Ascends))) (λ _. full))
+      (omega arith)
 
 -- a draw of a pass that is not spent
 draws_at : {S : Type 0} (plan : DeskPlan) (slots seat total number : ℕ) (numbers : List ℕ)
     → Allows {S = S} (IsLawful plan) slots seat (unspent_view total number numbers, []) 0 (λ n. (n + 1) % 2 ^ 64)
     (Draws (step slots 0 1 0 none) (unspent_view total number numbers, []))
 draws_at {S} plan slots seat total number numbers s kept homes at fits =
-    let n : ℕ = slice_index s.words 0 in
-    let is : n ≡ drawn_in (all_rows s.views) + spent_in (all_rows s.views) = ap (λ ws. slice_index ws 0) kept.word in
-    let small : drawn_in (all_rows s.views) ≤ most_lines = omega (arith, kept.lawful.within, kept.few.0) in
-    let few : spent_in (all_rows s.views) ≤ most_passes = omega (arith, few_spent plan s kept, kept.few.1) in
-    let next : (n + 1) % 2 ^ 64 ≡ n + 1 = mod-eq_of_lt (omega arith) in
-    let words : set s.words 0 ((n + 1) % 2 ^ 64) ≡ (n + 1) ∷ [] = ap (λ ws. set ws 0 ((n + 1) % 2 ^ 64)) kept.word
-    ∙ ap (λ m. m ∷ []) next in
-    let after : DeskView → State S DeskView =
-    λ w. record { words = set s.words 0 ((n + 1) % 2 ^ 64); homes = s.homes; views = set s.views seat w } in
-    let done : (w : DeskView) × IsLawful {S = S} plan (after w) × DrawsFrom (unspent_view total number numbers) n w =
+    let n : ℕ = word_of kept in
+    let is : slice_index s.words 0 ≡ n = ap (λ ws. slice_index ws 0) kept.word in
+    let small : kept.drawn ≤ most_lines = omega (arith, kept.deals.within, kept.few.0) in
+    let few : spent_in (all_rows s.views) ≤ most_passes = omega (arith, few_spent kept, kept.few.1) in
+    let next : (slice_index s.words 0 + 1) % 2 ^ 64 ≡ n + 1 = mod-eq_of_lt (omega arith) ∙ ap (λ m. m + 1) is in
+    let words : set s.words 0 ((slice_index s.words 0 + 1) % 2 ^ 64) ≡ (n + 1) ∷ [] =
+    ap (λ ws. set ws 0 ((slice_index s.words 0 + 1) % 2 ^ 64)) kept.word ∙ ap (λ m. m ∷ []) next in
+    let done : (w : DeskView) × IsLawful {S = S} plan (after_step s ((n + 1) ∷ []) seat w) × DrawsFrom (unspent_view total number numbers) n w =
     ⊎_elim
     (λ (low : n < total).
-    let some = draws_some plan s seat total number numbers n kept at is low in (
-      drawn_view total number numbers n,
-      kept_after plan s seat total number _ _ (n + 1) kept at some.0 some.1 words,
-      rw (lt-ltb n total low) (refl, some.2),
-    ))
-    (λ (high : total ≤ n).
-    let no_more = draws_none plan s seat total number numbers n kept at is high in (
-      spent_view total number numbers,
-      kept_after plan s seat total number _ _ (n + 1) kept at no_more.0 no_more.1 words,
-      rw (le-ltb n total high) refl,
-    ))
+    let some = draws_some seat kept at low in (drawn_view total number numbers n, some.0, rw (lt-ltb n total low) (refl, some.1)))
+    (λ (high : total ≤ n). (spent_view total number numbers, draws_none seat kept at high, rw (le-ltb n total high) refl))
     (cases_lt n total)
-    in (done.0, keeps, tt, done.1, (refl, done.2))
+    in (done.0, keeps, tt, rw words done.1, (refl, rw is done.2))
 
 -- the seat's view, if it is a pass that is not spent
 unspent_me : {S : Type 0} (me : Me S DeskView) → me ≡ (as_pass_view me.0, []) → (row_in me.0).spent ≡ false
@@ -319,88 +292,79 @@ unspent_me me is unspent =
     let v = me.0 in
     is ∙ ap (λ b. (Drawing (total_in v) (number_in v) (drawn_row (row_in v).numbers b), [])) unspent
 
-pub draws : {S : Type 0} (plan : DeskPlan) (slots seat : ℕ) (me : Me S DeskView) → me ≡ (as_pass_view me.0, [])
+pub draw_is_lawful : {S : Type 0} (plan : DeskPlan) (slots seat : ℕ) (me : Me S DeskView) → me ≡ (as_pass_view me.0, [])
     → (row_in me.0).spent ≡ false
     → Allows {S = S} (IsLawful plan) slots seat me 0 (λ n. (n + 1) % 2 ^ 64) (Draws (step slots 0 1 0 none) me)
-draws {S} plan slots seat me is unspent =
+draw_is_lawful {S} plan slots seat me is unspent =
     let v = me.0 in rw (unspent_me me is unspent) (draws_at plan slots seat (total_in v) (number_in v) (row_in v).numbers)
 
 -- ==== A pass draws all that is left: that keeps the rule, as one draw after the other does
 
--- with the numbers from n on, as many as are left
-draws_all : {S : Type 0} (plan : DeskPlan) (left : ℕ) (s : State S DeskView) (seat total number : ℕ) (numbers : List ℕ) (n : ℕ)
-    → IsLawful plan s → get_elem? s.views seat ≡ some (unspent_view total number numbers)
-    → n ≡ drawn_in (all_rows s.views) + spent_in (all_rows s.views) → n + left ≡ total
-    → IsLawful {S = S} plan (record {
-      words = total ∷ [];
-      homes = s.homes;
-      views = set s.views seat (unspent_view total number (numbers ++ range_with_len n left));
-    })
-draws_all {S} plan zero s seat total number numbers n kept at is all =
+-- it draws the numbers that are left, from the first of them on
+draws_all : {S : Type 0} {plan : DeskPlan} (left : ℕ) {s : State S DeskView} (seat : ℕ) {total number : ℕ} {numbers : List ℕ}
+    (kept : IsLawful plan s) (at : get_elem? s.views seat ≡ some (unspent_view total number numbers)) → word_of kept + left ≡ total
+    → IsLawful plan (after_step s (total ∷ []) seat (unspent_view total number (numbers ++ range_with_len (word_of kept) left)))
+draws_all {S} {plan} zero {s} seat {total} {number} {numbers} kept at all =
     let same : set s.views seat (unspent_view total number (numbers ++ [])) ≡ s.views =
     set_again s.views seat _ (at ∙ ap (λ l. some (unspent_view total number l)) (sym (append-nil numbers))) in
     let words : s.words ≡ total ∷ [] = kept.word ∙ ap (λ m. m ∷ []) (omega arith) in
     subst (IsLawful plan) (λ i. let t : State S DeskView = record { words = words i; homes = s.homes; views = sym same i } in t) kept
-draws_all {S} plan (suc left) s seat total number numbers n kept at is all =
+draws_all {S} {plan} (suc left) {s} seat {total} {number} {numbers} kept at all =
+    let n : ℕ = word_of kept in
     let w : DeskView = drawn_view total number numbers n in
-    let one = draws_some plan s seat total number numbers n kept at is (omega arith) in
-    let next : State S DeskView = record { words = (n + 1) ∷ []; homes = s.homes; views = set s.views seat w } in
-    let rest = draws_all plan left next seat total number (numbers ++ n ∷ []) (n + 1)
-    (kept_after plan s seat total number _ _ (n + 1) kept at one.0 one.1 refl)
-    (set_here s.views seat w (in_views s.views seat (unspent_view total number numbers) at)) (sym one.1) (omega arith) in
-    subst (λ (views : List DeskView). IsLawful {S = S} plan (record { words = total ∷ []; homes = s.homes; views = views }))
-    (set-set s.views seat w _ ∙ ap (λ l. set s.views seat (unspent_view total number l))
-    (append_assoc numbers (n ∷ []) (range_with_len (n + 1) left)))
-    rest
+    let one = (draws_some seat kept at (omega arith)).0 in
+    let here = set_here s.views seat w (in_views s.views seat at) in
+    let next : word_of one ≡ n + 1 = ap (λ ws. slice_index ws 0) (sym one.word) in
+    rw (set-set s.views seat w _, append_assoc numbers (n ∷ []) (range_with_len (n + 1) left)) at
+    (rw next at (draws_all left seat one here (omega (arith, next))))
 
 draws_rest_at : {S : Type 0} (plan : DeskPlan) (slots seat total number : ℕ) (numbers : List ℕ) (limit : ℕ) → limit ≡ plan.total
     → Allows {S = S} (IsLawful plan) slots seat (unspent_view total number numbers, []) 0 (λ n. max n limit)
     (DrawsRest (step slots 0 limit 0 none) (unspent_view total number numbers, []))
 draws_rest_at {S} plan slots seat total number numbers limit limit_is s kept homes at fits =
-    let n : ℕ = slice_index s.words 0 in
-    let is : n ≡ drawn_in (all_rows s.views) + spent_in (all_rows s.views) = ap (λ ws. slice_index ws 0) kept.word in
+    let n : ℕ = word_of kept in
+    let is : slice_index s.words 0 ≡ n = ap (λ ws. slice_index ws 0) kept.word in
     let same : total ≡ plan.total = kept.totals seat (unspent_view total number numbers) at in
     let w : DeskView = unspent_view total number (numbers ++ range_with_len n (total - n)) in
-    let words : set s.words 0 (max n limit) ≡ max n limit ∷ [] = ap (λ ws. set ws 0 (max n limit)) kept.word in
-    let done : IsLawful {S = S} plan (record { words = set s.words 0 (max n limit); homes = s.homes; views = set s.views seat w }) =
+    let words : set s.words 0 (max (slice_index s.words 0) limit) ≡ max n limit ∷ [] =
+    ap (λ ws. set ws 0 (max (slice_index s.words 0) limit)) kept.word ∙ ap (λ m. max m limit ∷ []) is in
+    let done : IsLawful {S = S} plan (after_step s (max n limit ∷ []) seat w) =
     ⊎_elim
     (λ (low : n < total).
-    subst (λ (ws : List ℕ). IsLawful {S = S} plan (record { words = ws; homes = s.homes; views = set s.views seat w }))
-    (sym (words ∙ ap (λ m. m ∷ []) (omega arith)))
-    (draws_all plan (total - n) s seat total number numbers n kept at is (omega arith)))
+    let most : total ≡ max n limit = omega arith in
+    subst (λ m. IsLawful plan (after_step s (m ∷ []) seat w)) most (draws_all (total - n) seat kept at (omega arith)))
     (λ (high : total ≤ n).
     let none_left : total - n ≡ 0 = omega arith in
     let row : numbers ++ range_with_len n (total - n) ≡ numbers = ap (λ k. numbers ++ range_with_len n k) none_left ∙ append-nil numbers in
     let views : set s.views seat w ≡ s.views =
     set_again s.views seat w (at ∙ ap (λ l. some (unspent_view total number l)) (sym row)) in
-    let unchanged : set s.words 0 (max n limit) ≡ s.words = words ∙ ap (λ m. m ∷ []) (omega arith) ∙ sym kept.word in
-    subst (IsLawful plan) (λ i. let t : State S DeskView = record { words = sym unchanged i; homes = s.homes; views = sym views i } in t) kept)
+    let unchanged : s.words ≡ max n limit ∷ [] = kept.word ∙ ap (λ m. m ∷ []) (omega arith) in
+    subst (IsLawful plan) (λ i. let t : State S DeskView = record { words = unchanged i; homes = s.homes; views = sym views i } in t) kept)
     (cases_lt n total)
-    in (w, keeps, tt, done, (refl, refl))
+    in (w, keeps, tt, rw words done, (refl, rw is refl))
 
-pub draws_rest : {S : Type 0} (plan : DeskPlan) (slots seat : ℕ) (me : Me S DeskView) (limit : ℕ) → limit ≡ plan.total
+pub draw_rest_is_lawful : {S : Type 0} (plan : DeskPlan) (slots seat : ℕ) (me : Me S DeskView) (limit : ℕ) → limit ≡ plan.total
     → me ≡ (as_pass_view me.0, []) → (row_in me.0).spent ≡ false
     → Allows {S = S} (IsLawful plan) slots seat me 0 (λ n. max n limit) (DrawsRest (step slots 0 limit 0 none) me)
-draws_rest {S} plan slots seat me limit limit_is is unspent =
+draw_rest_is_lawful {S} plan slots seat me limit limit_is is unspent =
     let v = me.0 in
     rw (unspent_me me is unspent) (draws_rest_at plan slots seat (total_in v) (number_in v) (row_in v).numbers limit limit_is)
 
 -- ==== The seats that come and go keep the rule: the first one, that of a pass handed out, the closing one, that of a pass that ends
 
 -- The rule stays if seats change and the sums over all rows don't, and no pass is lost. An empty row that is not spent adds nothing.
-kept_alike : {S : Type 0} (plan : DeskPlan) (s after : State S DeskView) → IsLawful plan s → after.words ≡ s.words
+kept_alike : {S : Type 0} {plan : DeskPlan} {s : State S DeskView} (after : State S DeskView) → IsLawful plan s → after.words ≡ s.words
     → ((f : DrawnRow → ℕ) → f (drawn_row [] false) ≡ 0 → sum_by f (all_rows after.views) ≡ sum_by f (all_rows s.views))
     → sum_by passes_in after.views ≡ sum_by passes_in s.views → Each (Fits plan) after.views → IsLawful plan after
-kept_alike plan s after kept words same passes fits =
-    let drawn : drawn_in (all_rows after.views) ≡ drawn_in (all_rows s.views) = same (λ r. length r.numbers) refl in
-    let spent : spent_in (all_rows after.views) ≡ spent_in (all_rows s.views) = same (λ r. cond r.spent 1 0) refl in
+kept_alike after kept words same passes fits =
+    let spent = same (λ r. cond r.spent 1 0) refl in
     record {
       few = kept.few;
-      word = words ∙ kept.word ∙ ap (λ m. m ∷ []) (omega (arith, drawn, spent));
+      drawn = kept.drawn;
+      word = words ∙ kept.word ∙ ap (λ m. m ∷ []) (omega (arith, spent));
       passes = passes ∙ kept.passes;
-      lawful = subst (λ c. DealsEachOnce plan.total c (all_rows after.views)) (sym drawn)
-          (deals_alike kept.lawful drawn (λ x. same (times_in_row x) refl) (all_from Ascends after.views (λ seat v at. (fits seat v at).1))
-          (λ some_spent. kept.lawful.spent (omega arith)));
+      deals = deals_alike kept.deals (same (λ r. length r.numbers) refl) (λ x. same (times_in_row x) refl)
+          (all_from Ascends after.views (λ seat v at. (fits seat v at).1)) (λ some_spent. kept.deals.spent (omega (arith, spent, some_spent)));
       totals = λ seat v at. (fits seat v at).0;
     }
 
@@ -409,9 +373,10 @@ pub opening_is_lawful : {S : Type 0} (plan : DeskPlan) → plan.total ≤ most_l
     → IsLawful {S = S} plan (opening (0 ∷ []) [] (opening_view plan))
 opening_is_lawful plan total passes = record {
   few = (total, passes);
+  drawn = 0;
   word = refl;
   passes = sum_by-cons passes_in (opening_view plan) [] ∙ omega arith;
-  lawful = record {
+  deals = record {
     within = omega arith;
     count = refl;
     each_once = λ x. grind (arith, nat_tests);
@@ -426,16 +391,16 @@ opening_is_lawful plan total passes = record {
     only (suc seat) v at = absurd (some-ne-none v (sym at))
 
 -- the next pass is handed out
-pub hands_out : {S : Type 0} (plan : DeskPlan) (seat : ℕ) (v : DeskView) (total handed_out left : ℕ)
+pub hand_out_is_lawful : {S : Type 0} (plan : DeskPlan) (seat : ℕ) (v : DeskView) (total handed_out left : ℕ)
     → v ≡ Opening total handed_out left
     → 0 < left → Splits {S = S} (IsLawful plan) seat v (after_handing_out v) (pass_handed_out v)
-hands_out {S} plan seat v total handed_out left is some_left = rw is (λ s kept at.
+hand_out_is_lawful {S} plan seat v total handed_out left is some_left = rw is (λ s kept at.
     let a : DeskView = Opening total (handed_out + 1) (left - 1) in
     let b : DeskView = Drawing total handed_out (drawn_row [] false) in
     let now : List DeskView = set s.views seat a in
     let mine : HasTotal plan.total b = kept.totals seat (Opening total handed_out left) at in
     let none : Ascends (drawn_row [] false) = λ i j d under within. absurd (omega arith) in
-    kept_alike plan s _ kept refl
+    kept_alike _ kept refl
     (λ f nothing. omega (
       arith,
       rows_push f now b,
@@ -445,7 +410,7 @@ hands_out {S} plan seat v total handed_out left is some_left = rw is (λ s kept 
     ))
     (omega (arith, sum_by_push passes_in now b, sum_set passes_in s.views seat (Opening total handed_out left) a at))
     (each_more (Fits plan) now b
-    (each_set (Fits plan) s.views seat a (mine, All-nil Ascends) (λ j u other there. fitting plan s kept j u there))
+    (each_set (Fits plan) s.views seat a (mine, All-nil Ascends) (λ j u other there. fitting kept j u there))
     (mine, All-cons Ascends (drawn_row [] false) [] none (All-nil Ascends))))
 
 pub draw_pass_more : (desk : DeskState) (count : ℕ) (passes : List PassState) (p : PassState) → AreNewPasses desk count passes
@@ -479,13 +444,13 @@ deals_to_others {total} {drawn} passes (Some p) nothing deals =
     (subst (λ (l : List DrawnRow). DealsEachOnce total drawn l) (map-append (λ (p : PassState). p.row) passes (p ∷ [])) deals)
 
 -- a seat that is to reclaim the passes
-pub starts_closing : {S : Type 0} (plan : DeskPlan) (slots : ℕ)
+pub start_closing_is_lawful : {S : Type 0} (plan : DeskPlan) (slots : ℕ)
     → Enters {S = S} (IsLawful plan) slots 0 (λ n w. StartsClosing {S = S} (step slots 0 0 0 none) (opening_view plan, []) n (w, []))
-starts_closing {S} plan slots s kept homes fits = (
+start_closing_is_lawful {S} plan slots s kept homes fits = (
   Closing [],
-  kept_alike plan s _ kept refl (λ f nothing. omega (arith, rows_push f s.views (Closing [])))
+  kept_alike _ kept refl (λ f nothing. omega (arith, rows_push f s.views (Closing [])))
       (omega (arith, sum_by_push passes_in s.views (Closing [])))
-      (each_more (Fits plan) s.views (Closing []) (fitting plan s kept) (tt, All-nil Ascends)),
+      (each_more (Fits plan) s.views (Closing []) (fitting kept) (tt, All-nil Ascends)),
   refl,
 )
 
@@ -497,10 +462,10 @@ reclaims_at {S} plan seat rows other total number r s kept at apart there =
     let w : DeskView = Closing (r ∷ rows) in
     let u : DeskView = Drawing total number r in
     let between : List DeskView = set s.views seat w in
-    let own : All Ascends rows = all_at Ascends s.views seat (Closing rows) at kept.lawful.ascending in
+    let own : All Ascends rows = all_at Ascends s.views seat (Closing rows) at kept.deals.ascending in
     let theirs : All Ascends (r ∷ []) =
-    all_at Ascends s.views other u (was_there s.views seat other w u apart there) kept.lawful.ascending in
-    kept_alike plan s _ kept refl
+    all_at Ascends s.views other u (was_there s.views seat other w u apart there) kept.deals.ascending in
+    kept_alike _ kept refl
     (λ f nothing. omega (
       arith,
       rows_set f s.views seat (Closing rows) w at,
@@ -510,59 +475,55 @@ reclaims_at {S} plan seat rows other total number r s kept at apart there =
     (omega (arith, sum_set passes_in s.views seat (Closing rows) w at, sum_set passes_in between other u Ended there))
     (each_set (Fits plan) between other Ended (tt, All-nil Ascends) (λ i x away here.
     each_set (Fits plan) s.views seat w (tt, All-append Ascends (r ∷ []) rows theirs own)
-    (λ j y other there. fitting plan s kept j y there) i x here))
+    (λ j y other there. fitting kept j y there) i x here))
 
-pub reclaims : {S : Type 0} (plan : DeskPlan) (seat : ℕ) (v : DeskView) (other : ℕ) (w : DeskView)
+pub reclaim_is_lawful : {S : Type 0} (plan : DeskPlan) (seat : ℕ) (v : DeskView) (other : ℕ) (w : DeskView)
     → v ≡ Closing (rows_in v) → w ≡ as_pass_view w → Joins {S = S} (IsLawful plan) seat v other w
     (after_reclaiming_row v w) Ended
-reclaims plan seat v other w is pass =
+reclaim_is_lawful plan seat v other w is pass =
     rw is (rw pass (reclaims_at plan seat (rows_in v) other (total_in w) (number_in w) (row_in w)))
+
+-- ==== The rule of the desk, in plain words
+
+pub counts_what_it_deals : {S : Type 0} {plan : DeskPlan} {s : State S DeskView} → IsLawful plan s
+    → CountsWhatItDeals plan.total plan.passes s.words (all_rows s.views)
+counts_what_it_deals kept =
+    record { drawn = kept.drawn; deals = kept.deals; word = kept.word; most = omega (arith, kept.deals.within, few_spent kept) }
 
 -- ==== What the last word and the closing seat determine of the rows
 
--- if the closing seat has a row for each pass, these rows are lawful, and the closed table's word counts them
-pub ends : {S : Type 0} (plan : DeskPlan) (seat : ℕ) {v : DeskView} {rows : List DrawnRow} (ws : List ℕ) (xs : List S) {word : ℕ}
-    → v ≡ Closing rows → Final {S = S} (Seen (IsLawful plan) seat v) ws xs → length rows ≡ plan.passes
-    → get_elem? ws 0 ≡ some word
-    → (word ≡ drawn_in rows + spent_in rows) × AreLawful plan.total rows
-ends {S} plan seat {rows = rows} ws xs {word} is last whole found =
-    let s = last.0 in
+-- the last word, cut to the total, is how many numbers the rows deal, and it is above the total exactly when some pass is spent
+pub record Determines (word total : ℕ) (rows : List DrawnRow) : Type 0 where
+  pub deals : DealsEachOnce total (min word total) rows
+  pub spent : IsTrue (nat_lt total word) ↔ (0 < spent_in rows)
+
+last_word : {total passes word : ℕ} {words : List ℕ} {rows : List DrawnRow} → CountsWhatItDeals total passes words rows
+    → get_elem? words 0 ≡ some word → Determines word total rows
+last_word {total} {word = word} {rows = rows} counts found =
+    let within = counts.deals.within in
+    let counted : word ≡ counts.drawn + spent_in rows =
+    some-injective _ _ (sym found ∙ ap (λ (l : List ℕ). get_elem? l 0) counts.word) in
+    let drawn : min word total ≡ counts.drawn =
+    elim (none_or_all counts.deals) [ inl unspent ↦ omega (arith, counted) | inr full ↦ omega (arith, counted) ] in
+    record {
+      deals = rw drawn counts.deals;
+      spent = (
+        (λ high. let above : total < word = grind (arith, nat_tests) in omega (arith, counted)),
+        (λ some_spent. let full = counts.deals.spent some_spent in
+            let high : total < word = omega (arith, counted) in grind (arith, nat_tests)),
+      );
+    }
+
+-- so it is once the closing seat has a row for each pass
+pub rows_at_end : {S : Type 0} {plan : DeskPlan} {seat word : ℕ} {v : DeskView} {rows : List DrawnRow} (words : List ℕ) (homes : List S)
+    → v ≡ Closing rows → Final {S = S} (Seen (IsLawful plan) seat v) words homes → length rows ≡ plan.passes
+    → get_elem? words 0 ≡ some word → Determines word plan.total rows
+rows_at_end {rows = rows} words homes is last whole found =
     let kept = last.1.0 in
-    let all : all_rows s.views ≡ rows = has_all s.views seat rows (last.1.1 ∙ ap some is) (whole ∙ sym kept.passes) in
-    let at : some word ≡ some (drawn_in (all_rows s.views) + spent_in (all_rows s.views)) =
-    sym found ∙ ap (λ (l : List ℕ). get_elem? l 0) (sym last.2 ∙ kept.word) in
-    subst (λ (rs : List DrawnRow). (word ≡ drawn_in rs + spent_in rs) × AreLawful plan.total rs) all
-    (some-injective _ _ at, kept.lawful)
-
--- the last word, cut to the total, is how many numbers were drawn
-pub drawn_at_end : (total word : ℕ) (rows : List DrawnRow) → word ≡ drawn_in rows + spent_in rows → AreLawful total rows
-    → min word total ≡ drawn_in rows
-drawn_at_end total word rows is lawful =
-    let within = lawful.within in elim (none_or_all lawful) [ inl unspent ↦ omega arith | inr full ↦ omega arith ]
-
--- the last word is above the total exactly when some pass is spent
-pub spent_at_end : (total word : ℕ) (rows : List DrawnRow) → word ≡ drawn_in rows + spent_in rows → AreLawful total rows
-    → (IsTrue (nat_lt total word) → 0 < spent_in rows) × (0 < spent_in rows → IsTrue (nat_lt total word))
-spent_at_end total word rows is lawful =
-    let within = lawful.within in (
-      (λ high. let above : total < word = grind (arith, nat_tests) in omega arith),
-      (λ some_spent. let full = lawful.spent some_spent in let high : total < word = omega arith in grind (arith, nat_tests)),
-    )
+    let all : all_rows last.0.views ≡ rows = has_all last.0.views _ rows (last.1.1 ∙ ap some is) (whole ∙ sym kept.passes) in
+    last_word (rw (last.2, all) at (counts_what_it_deals kept)) found
 
 -- there are as many rows of numbers as passes
 pub length-drawn_numbers : (passes : List PassState) → length (drawn_numbers (drawn_rows passes)) ≡ length passes
 length-drawn_numbers passes = length-map (drawn_rows passes) (λ (r : DrawnRow). r.numbers)
     ∙ length-map passes (λ (p : PassState). p.row)
-
--- ==== The rule of the desk, in plain words
-
-pub desk_is_lawful : (plan : DeskPlan) (state : State ⊤ DeskView) → IsLawful plan state
-    → CountsWhatItDeals plan.total plan.passes state.words (all_rows state.views)
-desk_is_lawful plan state kept =
-    let rows : List DrawnRow = all_rows state.views in
-    record {
-      drawn = drawn_in rows;
-      deals = kept.lawful;
-      word = kept.word;
-      most = omega (arith, kept.lawful.within, few_spent plan state kept);
-    }

@@ -4,46 +4,48 @@ use Rattle.std.proofs.lemmas.List.{append-nil, length-map, length-set, length_pu
 use Rattle.std.proofs.lemmas.List.Elements.{All-push}
 use Rattle.kalah_jobs.specs.declared.files.job.Job.{Job}
 use Rattle.kalah_jobs.specs.Collecting.Shares.{sent_by_worker}
-use mathlib.Core.Option.{some, some-ne-none}
+use mathlib.Core.Option.{some, some-injective, some-ne-none}
 use lib.ListN.{get_elem?}
 use Rattle.atomic_table.proofs.Lists.{at_longer, set_else, set_here}
-use Rattle.kalah_run.proofs.ViewLemmas.{Each, each_more, each_set, in_views, was_there}
+use Rattle.kalah_run.proofs.ViewLemmas.{each_more, each_set, in_views, was_there}
 use Rattle.kalah_run.specs.declared.queue.rule.QueueView.{QueueView}
 use Rattle.kalah_run.specs.declared.queue.rule.QueueView.TheVariants.{Getting, Putting, Ended}
 use Rattle.atomic_table.specs.Seated.{TableId}
 use Rattle.kalah_run.specs.Queue.States.{PutPassState, ArePassesFrom, Accounts, outcomes_in}
 use Rattle.crossbeam_queue.specs.Fifo.{Pushes, Pops, Forks, Held, Merges, Learns}
-use Rattle.kalah_run.specs.Queue.Rule.{Fits, FitsPut, FitsGet, IsLawful, IsWholeAndInOrder, first_view, after_making_one, one_made, after_put, after_reclaiming_sent, IsGot, KnowsSent}
+use Rattle.kalah_run.specs.Queue.Rule.{Fits, FitsPut, IsLawful, IsWholeAndInOrder, first_view, after_making_one, one_made, after_put, after_reclaiming_sent, IsGot, KnowsSent}
 use Rattle.std.proofs.lemmas.Bool.{cases_lt}
 
 -- ==== What the pairs determine of one worker, and of all
 
-joined : (b : Bool) (x : Job) (xs ys : List Job) → (if b then x ∷ (xs ++ ys) else (xs ++ ys)) ≡ (if b then x ∷ xs else xs) ++ ys
-joined true x xs ys = refl
-joined false x xs ys = refl
-
+-- what a worker sent by two lists of pairs is what it sent by the first, and then by the second
 pub sent_by_worker-append : (w : ℕ) (xs ys : List (ℕ × Job)) → sent_by_worker w (xs ++ ys) ≡ sent_by_worker w xs ++ sent_by_worker w ys
 sent_by_worker-append w [] ys = refl
 sent_by_worker-append w (t ∷ ts) ys =
     ap (λ (l : List Job). if t.0 == w then t.1 ∷ l else l) (sent_by_worker-append w ts ys)
     ∙ joined (t.0 == w) t.1 (sent_by_worker w ts) (sent_by_worker w ys)
-
-own_pair : (w : ℕ) (t : ℕ × Job) → t.0 ≡ w → sent_by_worker w (t ∷ []) ≡ t.1 ∷ []
-own_pair w t e = ap (λ (b : Bool). if b then t.1 ∷ [] else []) (eq-eqb t.0 w e)
+  where
+    joined : (own : Bool) (x : Job) (xs ys : List Job) → (if own then x ∷ (xs ++ ys) else (xs ++ ys)) ≡ (if own then x ∷ xs else xs) ++ ys
+    joined true x xs ys = refl
+    joined false x xs ys = refl
 
 other_pair : (w : ℕ) (t : ℕ × Job) (l : List Job) → t.0 ≢ w → (if t.0 == w then t.1 ∷ l else l) ≡ l
 other_pair w t l e = ap (λ (b : Bool). if b then t.1 ∷ l else l) (ne_eqb t.0 w e)
 
+-- one pair more, of the worker itself
 pub own_pair_goes_last : (w : ℕ) (xs : List (ℕ × Job)) (t : ℕ × Job) → t.0 ≡ w
     → sent_by_worker w (xs ++ t ∷ []) ≡ sent_by_worker w xs ++ t.1 ∷ []
-own_pair_goes_last w xs t e = sent_by_worker-append w xs (t ∷ []) ∙ ap (λ (l : List Job). sent_by_worker w xs ++ l) (own_pair w t e)
+own_pair_goes_last w xs t e = sent_by_worker-append w xs (t ∷ [])
+    ∙ ap (λ (b : Bool). sent_by_worker w xs ++ (if b then t.1 ∷ [] else [])) (eq-eqb t.0 w e)
 
+-- one pair more, of another worker
 pub other_pair_changes_nothing : (w : ℕ) (xs : List (ℕ × Job)) (t : ℕ × Job) → t.0 ≢ w
     → sent_by_worker w (xs ++ t ∷ []) ≡ sent_by_worker w xs
 other_pair_changes_nothing w xs t e =
     sent_by_worker-append w xs (t ∷ [])
     ∙ (ap (λ (l : List Job). sent_by_worker w xs ++ l) (other_pair w t [] e) ∙ append-nil (sent_by_worker w xs))
 
+-- there is nothing of a worker who isn't among them
 pub no_pair_beyond_workers : (workers w : ℕ) (xs : List (ℕ × Job)) → All (λ (t : ℕ × Job). t.0 < workers) xs → workers ≤ w
     → sent_by_worker w xs ≡ []
 no_pair_beyond_workers workers w [] below le = refl
@@ -58,18 +60,20 @@ pub next_below : (workers : ℕ) (taken : List (ℕ × Job)) (t : ℕ × Job) (r
 next_below workers taken t rest below =
     rw (get_or_at taken t rest t _ refl) at (below (length taken) t (omega (arith, length-append taken (t ∷ rest))))
 
+-- if lists are known as they are given, so they are with the next one at the end
 known_more : (known : List (List Job)) (s : List Job) (given : ℕ → List Job)
     → ((k : ℕ) → k < length known → given k ≡ slice_index_or known k []) → given (length known) ≡ s
     → (k : ℕ) → k < length (known ++ s ∷ []) → given k ≡ slice_index_or (known ++ s ∷ []) k []
-known_more known s given h e k lt = elim (cases_lt k (length known)) [
-  | inl old ↦ h k old ∙ sym (get_or_append_left known (s ∷ []) [] k old)
+known_more known s given same next k lt = elim (cases_lt k (length known)) [
+  | inl old ↦ same k old ∙ sym (get_or_append_left known (s ∷ []) [] k old)
   | inr new ↦
       let at : k ≡ length known = omega (arith, length-append known (s ∷ [])) in
-      ap given at ∙ e ∙ sym (get_or_push known s [] k (sym at))
+      ap given at ∙ next ∙ sym (get_or_push known s [] k (sym at))
 ]
 
 -- ---- what the pairs account for
 
+-- there are no workers and no pairs
 pub accounts_none : Accounts 0 [] []
 accounts_none = record { below = λ k d lt. absurd (omega arith); whole = λ w lt. absurd (omega arith) }
 
@@ -106,7 +110,7 @@ abbrev pub known_in : QueueView → List (List Job)
 known_in (Getting made got known) = known
 known_in _ = []
 
--- the pass of the next worker goes last
+-- one pass more, of the next worker
 pub put_pass_more : (id : TableId) (n : ℕ) (ps : List PutPassState) (p : PutPassState) → ArePassesFrom id n ps → p.queue ≡ id
     → p.number ≡ n + length ps
     → ArePassesFrom id n (ps ++ p ∷ [])
@@ -121,116 +125,18 @@ all_are_of id n (x ∷ xs) h (suc k) d lt = all_are_of id (suc n) xs h.2 k d (om
 
 -- ==== Each step keeps the rule of the results queue
 
--- the first view changes if it is set
-first_set : (views : List QueueView) (place : ℕ) (w : QueueView) → place ≡ 0 → 0 < length views
-    → get_elem? (set views place w) 0 ≡ some w
-first_set views place w is some_view = ap (λ n. get_elem? (set views n w) 0) is ∙ set_here views 0 w some_view
-
--- the rule, from what each view fits, how many views there are, and which is the first
-lawful : {pairs taken : List (ℕ × Job)} {items : List Job} {passes made : ℕ} {known : List (List Job)} {views : List QueueView}
-    (inside : List (ℕ × Job)) (closed : ℕ) → outcomes_in inside ≡ items → taken ++ inside ≡ pairs → length views ≡ passes
-    → get_elem? views 0 ≡ some (Getting made taken known) → Each (Fits pairs taken closed passes) views → IsLawful items views
-lawful {taken = taken} {made = made} {known = known} inside closed held e size first h = record {
-  taken = taken;
-  inside = inside;
-  closed = closed;
-  made = made;
-  known = known;
-  held = held;
-  getter = first;
-  fits = rw e (rw size h);
-}
-
--- ---- a queue is made
-
 pub new_queue_is_lawful : IsLawful [] (first_view ∷ [])
-new_queue_is_lawful =
-    let fits : FitsGet [] [] 0 1 0 0 [] [] = record {
-      foremost = refl;
-      count = refl;
-      all_got = refl;
-      ended_known = refl;
-      accounts = accounts_none;
-    } in
-    lawful [] 0 refl refl refl refl (each_more (Fits [] [] 0 1) [] first_view (λ j u e. absurd (some-ne-none u (sym e))) fits)
-
--- ---- the views of a lawful queue
-
-module _ {items : List Job} {views : List QueueView} (h : IsLawful items views) where
-  -- the pairs that were taken out, followed by those inside
-  abbrev pairs : List (ℕ × Job)
-  pairs = h.taken ++ h.inside
-
-  getting_first : (place : ℕ) {made : ℕ} {got : List (ℕ × Job)} {known : List (List Job)}
-      → get_elem? views place ≡ some (Getting made got known) → place ≡ 0
-  getting_first place {made} {got} {known} at =
-      let fit : FitsGet pairs h.taken h.closed (length views) place made got known = h.fits place _ at in
-      fit.foremost
-
-  -- the views of the other passes fit the pairs with one more, of a worker that has not ended
-  fits_more : {place : ℕ} (x : ℕ × Job) → place ≡ suc x.0 → place < length views → h.closed ≤ x.0
-      → (j : ℕ) (u : QueueView) → j ≢ place → get_elem? views j ≡ some u
-      → Fits (pairs ++ x ∷ []) h.taken h.closed (length views) j u
-  fits_more x place_is within running j (Putting number sent) other at =
-      let fit : FitsPut pairs h.closed j number sent = h.fits j _ at in
-      let ne : x.0 ≢ number = (λ q. other (fit.place_is ∙ (ap suc (sym q) ∙ sym place_is))) in
-      record { place_is = fit.place_is; running = fit.running; all_sent = fit.all_sent ∙ sym (other_pair_changes_nothing number pairs x ne) }
-  fits_more x place_is within running j (Getting made got known) other at =
-      let fit : FitsGet pairs h.taken h.closed (length views) j made got known = h.fits j _ at in
-      record {
-        foremost = fit.foremost;
-        count = fit.count;
-        all_got = fit.all_got;
-        ended_known = fit.ended_known;
-        accounts = accounts_pair made known pairs x (omega arith) (omega arith) fit.accounts;
-      }
-  fits_more x place_is within running j Ended other at = tt
-
-  -- the view of another pass states nothing of what was taken out, nor of how many passes there are
-  fits_others : {place : ℕ} (taken : List (ℕ × Job)) (passes : ℕ) → place ≡ 0
-      → (j : ℕ) (u : QueueView) → j ≢ place → get_elem? views j ≡ some u → Fits pairs taken h.closed passes j u
-  fits_others taken passes foremost j (Putting number sent) other at = h.fits j _ at
-  fits_others taken passes foremost j (Getting made got known) other at = absurd (other (getting_first j at ∙ sym foremost))
-  fits_others taken passes foremost j Ended other at = tt
-
-  -- the views of the other passes fit if one worker more has ended
-  fits_ended : {place ended : ℕ} → place ≡ 0 → ended ≡ suc h.closed
-      → (j : ℕ) (u : QueueView) → j ≢ place → get_elem? views j ≡ some u → j ≢ ended
-      → Fits pairs h.taken (h.closed + 1) (length views) j u
-  fits_ended foremost is j (Putting number sent) other at apart =
-      let fit : FitsPut pairs h.closed j number sent = h.fits j _ at in
-      let ne : number ≢ h.closed = (λ q. apart (fit.place_is ∙ (ap suc q ∙ sym is))) in
-      record { place_is = fit.place_is; running = omega arith; all_sent = fit.all_sent }
-  fits_ended foremost is j (Getting made got known) other at apart = absurd (other (getting_first j at ∙ sym foremost))
-  fits_ended foremost is j Ended other at apart = tt
-
--- ---- a worker puts an outcome
-
-pub puts : (n place : ℕ) {v : QueueView} (x : Job) {number : ℕ} {sent : List Job} → v ≡ Putting number sent
-    → Pushes IsLawful n place v x (λ w. w ≡ after_put v x)
-puts n place x {number} {sent} e = rw e (λ items views room h at.
-    let pair : ℕ × Job = (number, x) in
-    let w : QueueView = Putting number (sent ++ x ∷ []) in
-    let mine : FitsPut (pairs h) h.closed place number sent = h.fits place (Putting number sent) at in
-    let fits : FitsPut (pairs h ++ pair ∷ []) h.closed place number (sent ++ x ∷ []) =
-    record {
-      place_is = mine.place_is;
-      running = mine.running;
-      all_sent = ap (λ (l : List Job). l ++ x ∷ []) mine.all_sent ∙ sym (own_pair_goes_last number (pairs h) pair refl);
-    } in
-    let within : place < length views = in_views views place (Putting number sent) at in
-    let all = each_set (Fits (pairs h ++ pair ∷ []) h.taken h.closed (length views)) views place w fits
-    (fits_more h pair mine.place_is within mine.running) in
-    let place_is : place ≡ suc number = mine.place_is in
-    let first = set_else views place 0 w (λ q. omega arith) ∙ h.getter in (
-      w,
-      lawful (h.inside ++ pair ∷ []) h.closed
-          (map-append (λ (p : ℕ × Job). p.1) h.inside (pair ∷ []) ∙ ap (λ (l : List Job). l ++ x ∷ []) h.held)
-          (sym (append_assoc h.taken h.inside (pair ∷ []))) (length-set views place w) first all,
-      refl,
-    ))
-
--- ---- the oldest outcome is got
+new_queue_is_lawful = record {
+  made = 0;
+  taken = [];
+  known = [];
+  inside = [];
+  getter = refl;
+  count = refl;
+  held = refl;
+  accounts = accounts_none;
+  fits = each_more (Fits [] 0) [] first_view (λ j u e. absurd (some-ne-none u (sym e))) refl;
+}
 
 -- the oldest outcome is that of the first pair inside
 oldest : (x : Job) (items : List Job) (inside : List (ℕ × Job)) → outcomes_in inside ≡ x ∷ items
@@ -238,107 +144,168 @@ oldest : (x : Job) (items : List Job) (inside : List (ℕ × Job)) → outcomes_
 oldest x items [] held = absurd (cc)
 oldest x items (p ∷ ps) held = let is : p.1 ≡ x = cc in (p.0, ps, ap (λ (o : Job). (p.0, o) ∷ ps) is, cc)
 
-pub gets : (place : ℕ) {v : QueueView} {made : ℕ} {got : List (ℕ × Job)} {known : List (List Job)} → v ≡ Getting made got known
-    → Pops IsLawful place v (IsGot v)
-gets place {made = made} {got} {known} e = rw e (λ x items views h at.
+module _ {items : List Job} {views : List QueueView} (h : IsLawful items views) where
+  -- the pairs that were taken out, followed by those inside
+  abbrev pairs : List (ℕ × Job)
+  pairs = h.taken ++ h.inside
+
+  -- the pass to get stands first, and knows the truth
+  knows_truth : (place : ℕ) {v : QueueView} {made : ℕ} {got : List (ℕ × Job)} {known : List (List Job)} → v ≡ Getting made got known
+      → get_elem? views place ≡ some v → (place ≡ 0) × (v ≡ Getting h.made h.taken h.known)
+  knows_truth place is at =
+      let first : place ≡ 0 = h.fits place _ (at ∙ ap some is) in
+      (first, some-injective _ _ (sym at ∙ ap (get_elem? views) first ∙ h.getter))
+
+  -- the view of another pass fits if one pair more was sent, by a worker that has not ended
+  fits_more : {place : ℕ} (x : ℕ × Job) → place ≡ suc x.0 → (j : ℕ) (u : QueueView) → j ≢ place → get_elem? views j ≡ some u
+      → Fits (pairs ++ x ∷ []) (length h.known) j u
+  fits_more x place_is j (Putting number sent) other at =
+      let fit : FitsPut pairs (length h.known) j number sent = h.fits j _ at in
+      let ne : x.0 ≢ number = (λ q. other (fit.place_is ∙ (ap suc (sym q) ∙ sym place_is))) in
+      record { place_is = fit.place_is; running = fit.running; all_sent = fit.all_sent ∙ sym (other_pair_changes_nothing number pairs x ne) }
+  fits_more x place_is j (Getting made got known) other at = h.fits j _ at
+  fits_more x place_is j Ended other at = tt
+
+  -- the view of another pass fits if one worker more has ended
+  fits_ended : {ended : ℕ} → ended ≡ suc (length h.known) → (j : ℕ) (u : QueueView) → j ≢ ended → get_elem? views j ≡ some u
+      → Fits pairs (length h.known + 1) j u
+  fits_ended is j (Putting number sent) apart at =
+      let fit : FitsPut pairs (length h.known) j number sent = h.fits j _ at in
+      let ne : number ≢ length h.known = (λ q. apart (fit.place_is ∙ (ap suc q ∙ sym is))) in
+      record { place_is = fit.place_is; running = omega arith; all_sent = fit.all_sent }
+  fits_ended is j (Getting made got known) apart at = h.fits j _ at
+  fits_ended is j Ended apart at = tt
+
+  -- the pass of a worker that has not ended puts an outcome
+  lawful_with_put : (place : ℕ) (x : Job) {number : ℕ} {sent : List Job} → get_elem? views place ≡ some (Putting number sent)
+      → IsLawful (items ++ x ∷ []) (set views place (Putting number (sent ++ x ∷ [])))
+  lawful_with_put place x {number} {sent} at =
+      let pair : ℕ × Job = (number, x) in
+      let w : QueueView = Putting number (sent ++ x ∷ []) in
+      let fit : FitsPut pairs (length h.known) place number sent = h.fits place _ at in
+      let now : FitsPut (pairs ++ pair ∷ []) (length h.known) place number (sent ++ x ∷ []) = record {
+        place_is = fit.place_is;
+        running = fit.running;
+        all_sent = ap (λ (l : List Job). l ++ x ∷ []) fit.all_sent ∙ sym (own_pair_goes_last number pairs pair refl);
+      } in
+      record {
+        made = h.made;
+        taken = h.taken;
+        known = h.known;
+        inside = h.inside ++ pair ∷ [];
+        getter = set_else views place 0 w (λ q. omega (arith, q, fit.place_is)) ∙ h.getter;
+        count = length-set views place w ∙ h.count;
+        held = map-append (λ (p : ℕ × Job). p.1) h.inside (pair ∷ []) ∙ ap (λ (l : List Job). l ++ x ∷ []) h.held;
+        accounts = rw (← append_assoc h.taken h.inside (pair ∷ [])) (accounts_pair h.made h.known pairs pair
+            (omega (arith, fit.place_is, h.count, in_views views place at)) fit.running h.accounts);
+        fits = rw (← append_assoc h.taken h.inside (pair ∷ []))
+            (each_set (Fits (pairs ++ pair ∷ []) (length h.known)) views place w now (fits_more pair fit.place_is));
+      }
+
+  -- a pass is made for the next worker, before any has ended
+  lawful_with_pass : h.known ≡ []
+      → IsLawful items (set views 0 (Getting (h.made + 1) h.taken h.known) ++ Putting h.made [] ∷ [])
+  lawful_with_pass none =
+      let w : QueueView = Getting (h.made + 1) h.taken h.known in
+      let vs : List QueueView = set views 0 w in
+      let same : length vs ≡ length views = length-set views 0 w in
+      let fresh : FitsPut pairs (length h.known) (length vs) h.made [] = record {
+        place_is = same ∙ h.count;
+        running = omega (arith, ap length none);
+        all_sent = sym (no_pair_beyond_workers h.made h.made _ h.accounts.below (omega arith));
+      } in
+      record {
+        made = h.made + 1;
+        taken = h.taken;
+        known = h.known;
+        inside = h.inside;
+        getter = at_longer vs (Putting h.made [] ∷ []) 0 _ (set_here views 0 w (in_views views 0 h.getter));
+        count = omega (arith, length_push vs (Putting h.made []), same, h.count);
+        held = h.held;
+        accounts = accounts_worker h.made h.known pairs h.accounts;
+        fits = each_more (Fits pairs (length h.known)) vs (Putting h.made [])
+            (each_set (Fits pairs (length h.known)) views 0 w refl (λ j u other at. h.fits j u at)) fresh;
+      }
+
+  -- the pass of the next worker to end is reclaimed
+  lawful_with_end : (other : ℕ) {sent : List Job} → other ≢ 0 → get_elem? views other ≡ some (Putting (length h.known) sent)
+      → IsLawful items (set (set views 0 (Getting h.made h.taken (h.known ++ sent ∷ []))) other Ended)
+  lawful_with_end other {sent} apart at =
+      let w : QueueView = Getting h.made h.taken (h.known ++ sent ∷ []) in
+      let vs : List QueueView = set views 0 w in
+      let fit : FitsPut pairs (length h.known) other (length h.known) sent = h.fits other _ at in
+      let F : ℕ → QueueView → Type 0 = Fits pairs (length h.known + 1) in
+      let others = each_set (λ j u. j ≢ other → F j u) views 0 w (λ _. refl) (λ j u ne at apart. fits_ended fit.place_is j u apart at) in
+      record {
+        made = h.made;
+        taken = h.taken;
+        known = h.known ++ sent ∷ [];
+        inside = h.inside;
+        getter = set_else vs other 0 Ended (λ q. apart (sym q)) ∙ set_here views 0 w (in_views views 0 h.getter);
+        count = length-set vs other Ended ∙ length-set views 0 w ∙ h.count;
+        held = h.held;
+        accounts = accounts_known h.made h.known pairs sent fit.all_sent h.accounts;
+        fits = rw (length_push h.known sent) (each_set F vs other Ended tt (λ j u ne at. others j u at ne));
+      }
+
+-- the oldest outcome is got, which is of one of the workers
+lawful_with_get : {x : Job} {items : List Job} {views : List QueueView} (h : IsLawful (x ∷ items) views)
+    → (worker : ℕ) × (worker < h.made) × IsLawful items (set views 0 (Getting h.made (h.taken ++ (worker, x) ∷ []) h.known))
+lawful_with_get {x} {items} {views} h =
     let first = oldest x items h.inside h.held in
     let pair : ℕ × Job = (first.0, x) in
-    let after : List (ℕ × Job) = h.taken ++ pair ∷ [] in
-    let w : QueueView = Getting made (got ++ pair ∷ []) known in
-    let mine : FitsGet (pairs h) h.taken h.closed (length views) place made got known = h.fits place (Getting made got known) at in
-    let fits : FitsGet (pairs h) after h.closed (length views) place made (got ++ pair ∷ []) known =
-    record {
-      foremost = mine.foremost;
-      count = mine.count;
-      all_got = ap (λ (l : List (ℕ × Job)). l ++ pair ∷ []) mine.all_got;
-      ended_known = mine.ended_known;
-      accounts = mine.accounts;
-    } in
-    let all = each_set (Fits (pairs h) after h.closed (length views)) views place w fits
-    (fits_others h after (length views) mine.foremost) in
-    let got_now : Getting made (got ++ pair ∷ []) known ≡ Getting made after known =
-    ap (λ (l : List (ℕ × Job)). Getting made (l ++ pair ∷ []) known) mine.all_got in (
-      w,
-      lawful first.1 h.closed first.3 (append_assoc h.taken (pair ∷ []) first.1 ∙ ap (λ l. h.taken ++ l) (sym first.2))
-          (length-set views place w)
-          (first_set views place w mine.foremost (in_views views 0 _ h.getter) ∙ ap some got_now) all,
-      (first.0, next_below made h.taken pair first.1 (rw first.2 at mine.accounts.below), refl),
-    ))
+    let w : QueueView = Getting h.made (h.taken ++ pair ∷ []) h.known in
+    let same : (h.taken ++ pair ∷ []) ++ first.1 ≡ pairs h =
+    append_assoc h.taken (pair ∷ []) first.1 ∙ ap (λ l. h.taken ++ l) (sym first.2) in (
+      first.0,
+      next_below h.made h.taken pair first.1 (rw first.2 at h.accounts.below),
+      record {
+        made = h.made;
+        taken = h.taken ++ pair ∷ [];
+        known = h.known;
+        inside = first.1;
+        getter = set_here views 0 w (in_views views 0 h.getter);
+        count = length-set views 0 w ∙ h.count;
+        held = first.3;
+        accounts = rw same h.accounts;
+        fits = rw same (each_set (Fits (pairs h) (length h.known)) views 0 w refl (λ j u other at. h.fits j u at));
+      },
+    )
 
--- ---- a pass is made for the next worker
+-- ---- the same, as a queue asks for it
 
-pub forks : (place : ℕ) {v : QueueView} {made : ℕ} {got : List (ℕ × Job)} → v ≡ Getting made got []
+pub put_is_lawful : (n place : ℕ) {v : QueueView} (x : Job) {number : ℕ} {sent : List Job} → v ≡ Putting number sent
+    → Pushes IsLawful n place v x (λ w. w ≡ after_put v x)
+put_is_lawful n place x is = rw is (λ items views room h at. (_, lawful_with_put h place x at, refl))
+
+pub get_is_lawful : (place : ℕ) {v : QueueView} {made : ℕ} {got : List (ℕ × Job)} {known : List (List Job)} → v ≡ Getting made got known
+    → Pops IsLawful place v (IsGot v)
+get_is_lawful place is = λ x items views h at.
+    let truth = knows_truth h place is at in
+    let now = lawful_with_get h in
+    rw (truth.0, truth.1) (_, now.2, (now.0, now.1, refl))
+
+pub new_pass_is_lawful : (place : ℕ) {v : QueueView} {made : ℕ} {got : List (ℕ × Job)} → v ≡ Getting made got []
     → Forks IsLawful place v (after_making_one v) (one_made v)
-forks place {made = made} {got} e = rw e (λ items views h at.
-    let mine : FitsGet (pairs h) h.taken h.closed (length views) place made got [] = h.fits place (Getting made got []) at in
-    let count : length views ≡ suc made = mine.count in
-    let ended : 0 ≡ h.closed = mine.ended_known in
-    let left : QueueView = Getting (made + 1) got [] in
-    let vs : List QueueView = set views place left in
-    let same : length vs ≡ length views = length-set views place left in
-    let F : ℕ → QueueView → Type 0 = Fits (pairs h) h.taken h.closed (made + 2) in
-    let fits : FitsGet (pairs h) h.taken h.closed (made + 2) place (made + 1) got [] =
-    record {
-      foremost = mine.foremost;
-      count = omega arith;
-      all_got = mine.all_got;
-      ended_known = ended;
-      accounts = accounts_worker made [] (pairs h) mine.accounts;
-    } in
-    let old = each_set F views place left fits (fits_others h h.taken (made + 2) mine.foremost) in
-    let fresh : FitsPut (pairs h) h.closed (length vs) made [] =
-    record { place_is = omega arith; running = omega arith; all_sent = sym (no_pair_beyond_workers made made _ mine.accounts.below (omega arith)) } in
-    let longer : length (vs ++ Putting made [] ∷ []) ≡ length vs + 1 = length_push vs (Putting made []) in
-    let got_now : left ≡ Getting (made + 1) h.taken [] = ap (λ (l : List (ℕ × Job)). Getting (made + 1) l []) mine.all_got in
-    let first = at_longer vs (Putting made [] ∷ []) 0 _
-    (first_set views place left mine.foremost (in_views views 0 _ h.getter) ∙ ap some got_now) in
-    lawful h.inside h.closed h.held refl (omega arith) first
-    (each_more F vs (Putting made []) old fresh))
+new_pass_is_lawful place is = λ items views h at.
+    let truth = knows_truth h place is at in
+    rw (truth.0, truth.1) (lawful_with_pass h (ap known_in (sym truth.1 ∙ is)))
 
--- ---- a worker's pass is reclaimed
-
-pub merges : (place other : ℕ) {v u : QueueView} {made : ℕ} {got : List (ℕ × Job)} {known : List (List Job)} {number : ℕ}
-    {sent : List Job}
-    → v ≡ Getting made got known → u ≡ Putting number sent → number ≡ length known
+pub reclaim_is_lawful : (place other : ℕ) {v u : QueueView} {made : ℕ} {got : List (ℕ × Job)} {known : List (List Job)} {number : ℕ}
+    {sent : List Job} → v ≡ Getting made got known → u ≡ Putting number sent → number ≡ length known
     → Merges IsLawful place v other u (after_reclaiming_sent v u) Ended
-merges place other {made = made} {got} {known} {sent = sent} e e' is = rw e (rw (e' ∙ ap (λ (n : ℕ). Putting n sent) is) (λ items views h at
-    two at_other.
-    let both : QueueView = Getting made got (known ++ sent ∷ []) in
-    let theirs : QueueView = Putting (length known) sent in
-    let mine : FitsGet (pairs h) h.taken h.closed (length views) place made got known = h.fits place (Getting made got known) at in
-    let ended : length known ≡ h.closed = mine.ended_known in
-    let vs : List QueueView = set views place both in
-    let their_fit : FitsPut (pairs h) h.closed other (length known) sent =
-    h.fits other theirs (was_there views place other both theirs two at_other) in
-    let last : other ≡ suc h.closed = their_fit.place_is ∙ ap suc ended in
-    let longer : length (known ++ sent ∷ []) ≡ length known + 1 = length_push known sent in
-    let fits : FitsGet (pairs h) h.taken (h.closed + 1) (length views) place made got (known ++ sent ∷ []) =
-    record {
-      foremost = mine.foremost;
-      count = mine.count;
-      all_got = mine.all_got;
-      ended_known = omega arith;
-      accounts = accounts_known made known (pairs h) sent their_fit.all_sent mine.accounts;
-    } in
-    let F : ℕ → QueueView → Type 0 = Fits (pairs h) h.taken (h.closed + 1) (length views) in
-    let Apart : ℕ → QueueView → Type 0 = λ j u. j ≢ other → F j u in
-    let apart = each_set Apart views place both (λ _. fits) (fits_ended h mine.foremost last) in
-    let done : Each F (set vs other Ended) = each_set F vs other Ended tt (λ j u ne e. apart j u e ne) in
-    let got_now : both ≡ Getting made h.taken (known ++ sent ∷ []) =
-    ap (λ (l : List (ℕ × Job)). Getting made l (known ++ sent ∷ [])) mine.all_got in
-    let first = set_else vs other 0 Ended (λ q. omega arith)
-    ∙ first_set views place both mine.foremost (in_views views 0 _ h.getter) ∙ ap some got_now in
-    lawful h.inside (h.closed + 1) h.held refl
-    (length-set vs other Ended ∙ length-set views place both) first done))
+reclaim_is_lawful place other {sent = sent} is theirs next = λ items views h at apart there.
+    let truth = knows_truth h place is at in
+    let number = next ∙ ap (λ v. length (known_in v)) (sym is ∙ truth.1) in
+    let here = was_there views place other _ _ apart there ∙ ap some (theirs ∙ ap (λ n. Putting n sent) number) in
+    rw (truth.0, truth.1, theirs) (lawful_with_end h other (λ q. apart (q ∙ sym truth.0)) here)
 
--- ---- what the pass to get learns of the queue
-
-pub tells : (place : ℕ) {v : QueueView} {made : ℕ} {got : List (ℕ × Job)} {known : List (List Job)} → v ≡ Getting made got known
+-- what the pass to get learns of the queue
+pub getter_knows_sent : (place : ℕ) {v : QueueView} {made : ℕ} {got : List (ℕ × Job)} {known : List (List Job)} → v ≡ Getting made got known
     → Learns IsLawful place v (KnowsSent v)
-tells place {made = made} {got} {known} e = rw e (λ items views h at.
-    let mine : FitsGet (pairs h) h.taken h.closed (length views) place made got known =
-    h.fits place (Getting made got known) at in
-    (h.inside, h.held, subst (λ (g : List (ℕ × Job)). Accounts made known (g ++ h.inside)) (sym mine.all_got) mine.accounts))
+getter_knows_sent place is = λ items views h at. rw (knows_truth h place is at).1 (h.inside, h.held, h.accounts)
+
+-- ==== What the pass to get knows once it has reclaimed the others
 
 -- the pass to get has reclaimed one pass more
 pub reclaimed : {v u after : QueueView} {made : ℕ} {got : List (ℕ × Job)} {known : List (List Job)} {number : ℕ} {sent : List Job}
@@ -362,23 +329,17 @@ whole_when_reclaimed {made = made} {got = got} {known} [] getting none whole hel
 -- ==== The rule of the results queue, in plain words
 
 pub queue_is_lawful : (items : List Job) (views : List QueueView) → IsLawful items views → IsWholeAndInOrder items views
-queue_is_lawful items views h =
-    let first : FitsGet (pairs h) h.taken h.closed (length views) 0 h.made h.taken h.known =
-    h.fits 0 (Getting h.made h.taken h.known) h.getter in
-    let count : length views ≡ suc h.made = first.count in
-    record {
-      workers = h.made;
-      got = h.taken;
-      inside = h.inside;
-      ended = h.known;
-      held = h.held;
-      gets = h.getter;
-      no_other_gets = λ place others them lists at. getting_first h place at;
-      below = first.accounts.below;
-      running = λ place worker sent at.
-          let fits : FitsPut (pairs h) h.closed place worker sent = h.fits place (Putting worker sent) at in
-          let place_is : place ≡ suc worker = fits.place_is in
-          let within : place < length views = in_views views place (Putting worker sent) at in
-          (omega arith, sym fits.all_sent);
-      reclaimed = first.accounts.whole;
-    }
+queue_is_lawful items views h = record {
+  workers = h.made;
+  got = h.taken;
+  inside = h.inside;
+  ended = h.known;
+  held = h.held;
+  gets = h.getter;
+  no_other_gets = λ place others taken lists at. h.fits place (Getting others taken lists) at;
+  below = h.accounts.below;
+  running = λ place worker sent at.
+      let fit : FitsPut (pairs h) (length h.known) place worker sent = h.fits place (Putting worker sent) at in
+      (omega (arith, fit.place_is, h.count, in_views views place at), sym fit.all_sent);
+  reclaimed = h.accounts.whole;
+}

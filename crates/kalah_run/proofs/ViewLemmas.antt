@@ -1,5 +1,5 @@
 -- The views of seats or passes, each at its place: what holds of each view still does after a change of one, and with one more.
-use Rattle.std.proofs.Common.{◌≡◌, ◌≢◌, ℕ, zero, suc, ◌<◌, List, [], ◌∷◌, ◌++◌, length, set, refl, sym, ap, subst, arith, ◌⊎◌, ⊎_elim, inl, inr}
+use Rattle.std.proofs.Common.{◌≡◌, ◌≢◌, ℕ, zero, suc, ◌<◌, List, [], ◌∷◌, ◌++◌, length, get_or, set, refl, sym, ap, subst, arith, ◌⊎◌, ⊎_elim, inl, inr}
 use mathlib.Core.Option.{some, some-injective, some-ne-none}
 use lib.ListN.{get_elem?}
 use Rattle.atomic_table.proofs.Lists.{at_set}
@@ -10,10 +10,16 @@ module _ {V : Type 0} where
   Each F views = (place : ℕ) (v : V) → get_elem? views place ≡ some v → F place v
 
   -- a place that has a view is below the number of views
-  pub in_views : (views : List V) (place : ℕ) (v : V) → get_elem? views place ≡ some v → place < length views
-  in_views [] place v e = absurd (some-ne-none v (sym e))
-  in_views (x ∷ xs) zero v e = omega arith
-  in_views (x ∷ xs) (suc place) v e = let h = in_views xs place v e in omega arith
+  pub in_views : (views : List V) (place : ℕ) {v : V} → get_elem? views place ≡ some v → place < length views
+  in_views [] place {v} e = absurd (some-ne-none v (sym e))
+  in_views (x ∷ xs) zero e = omega arith
+  in_views (x ∷ xs) (suc place) e = omega (arith, in_views xs place e)
+
+  -- what stands there is that view
+  pub view_at : (views : List V) (place : ℕ) {v : V} (d : V) → get_elem? views place ≡ some v → get_or views place d ≡ v
+  view_at [] place {v} d e = absurd (some-ne-none v (sym e))
+  view_at (x ∷ xs) zero {v} d e = some-injective x v e
+  view_at (x ∷ xs) (suc place) d e = view_at xs place d e
 
   -- a view of a list with one more stood there before, or is the one more
   pub at_end : (views : List V) (a b : V) (place : ℕ) → get_elem? (views ++ a ∷ []) place ≡ some b

@@ -26,7 +26,3 @@ pub record DealsEachOnce (total drawn : ℕ) (rows : List DrawnRow) : Type 0 whe
   pub each_once : (number : ℕ) → times_in number (drawn_numbers rows) ≡ (if nat_lt number drawn then 1 else 0)
   pub ascending : All (λ row. AllPairs (λ x y. x < y) row.numbers) rows
   pub spent : 0 < spent_in rows → drawn ≡ total
-
--- so it is with all numbers in the rows
-abbrev pub AreLawful : ℕ → List DrawnRow → Type 0
-AreLawful total rows = DealsEachOnce total (drawn_in rows) rows

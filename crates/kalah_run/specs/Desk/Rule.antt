@@ -9,7 +9,7 @@ use Rattle.kalah_run.specs.declared.desk.rule.DrawnRow.{DrawnRow}
 use Rattle.kalah_run.specs.declared.desk.rule.DeskPlan.{DeskPlan}
 use Rattle.kalah_run.specs.declared.desk.rule.DeskView.{DeskView}
 use Rattle.kalah_run.specs.declared.desk.rule.DeskView.TheVariants.{Opening, Drawing, Closing, Ended}
-use Rattle.kalah_run.specs.Desk.Rows.{drawn_in, spent_in, AreLawful, DealsEachOnce, drawn_row}
+use Rattle.kalah_run.specs.Desk.Rows.{spent_in, DealsEachOnce, drawn_row}
 use Rattle.std.specs.List.{range_with_len}
 
 -- the first seat: all passes are yet to be handed out
@@ -39,12 +39,14 @@ HasTotal t (Opening total handed_out left) = total ≡ t
 HasTotal t (Drawing total number r) = total ≡ t
 HasTotal t _ = Unit {0}
 
--- Between any two steps: the word counts the numbers drawn and the spent passes, no pass is lost, and the rows of all passes are lawful
+-- Between any two steps the rows of all passes deal each of the numbers once that were drawn, the word counts these and the spent passes,
+-- and no pass is lost.
 pub record IsLawful {S : Type 0} (plan : DeskPlan) (s : State S DeskView) : Type 0 where
   pub few : (plan.total ≤ most_lines) × (plan.passes ≤ most_passes)
-  pub word : s.words ≡ (drawn_in (all_rows s.views) + spent_in (all_rows s.views)) ∷ []
   pub passes : sum_by passes_in s.views ≡ plan.passes
-  pub lawful : AreLawful plan.total (all_rows s.views)
+  pub drawn : ℕ
+  pub deals : DealsEachOnce plan.total drawn (all_rows s.views)
+  pub word : s.words ≡ (drawn + spent_in (all_rows s.views)) ∷ []
   pub totals : (seat : ℕ) (v : DeskView) → get_elem? s.views seat ≡ some v → HasTotal plan.total v
 
 -- ==== What each step returns, and which views it leaves

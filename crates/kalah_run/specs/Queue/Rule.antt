@@ -8,41 +8,31 @@ use Rattle.kalah_run.specs.declared.queue.rule.QueueView.{QueueView}
 use Rattle.kalah_run.specs.declared.queue.rule.QueueView.TheVariants.{Getting, Putting, Ended}
 use Rattle.kalah_run.specs.Queue.States.{Accounts, outcomes_in}
 
--- A pass to put stands after the one to get, at the place of its worker's number, and knows what that worker has sent. The first `closed`
--- workers have ended.
-pub record FitsPut (pairs : List (ℕ × Job)) (closed place number : ℕ) (sent : List Job) : Type 0 where
+-- A pass to put stands after the one to get, at the place of its worker's number. It knows what that worker has sent, who is not one of
+-- the first `ended`.
+pub record FitsPut (pairs : List (ℕ × Job)) (ended place number : ℕ) (sent : List Job) : Type 0 where
   pub place_is : place ≡ suc number
-  pub running : closed ≤ number
+  pub running : ended ≤ number
   pub all_sent : sent ≡ sent_by_worker number pairs
 
--- The one pass to get stands first. It knows how many passes to put were made, what was taken out, and what the workers sent that have
--- ended.
-pub record FitsGet (pairs taken : List (ℕ × Job)) (closed passes place made : ℕ) (got : List (ℕ × Job))
-    (known : List (List Job)) : Type 0 where
-  pub foremost : place ≡ 0
-  pub count : passes ≡ suc made
-  pub all_got : got ≡ taken
-  pub ended_known : length known ≡ closed
-  pub accounts : Accounts made known pairs
+-- the view of the pass at this place fits all pairs, if the first `ended` workers have ended
+abbrev pub Fits : List (ℕ × Job) → ℕ → ℕ → QueueView → Type 0
+Fits pairs ended place (Putting number sent) = FitsPut pairs ended place number sent
+Fits pairs ended place (Getting made got known) = place ≡ 0
+Fits pairs ended place Ended = Unit {0}
 
--- the view of the pass at this place fits all pairs, if the first `taken` were taken out
-abbrev pub Fits : List (ℕ × Job) → List (ℕ × Job) → ℕ → ℕ → ℕ → QueueView → Type 0
-Fits pairs taken closed passes place (Putting number sent) = FitsPut pairs closed place number sent
-Fits pairs taken closed passes place (Getting made got known) = FitsGet pairs taken closed passes place made got known
-Fits pairs taken closed passes place Ended = Unit {0}
-
--- Each pass knows the truth: some pairs were taken out, others are inside and have the outcomes that the queue holds, some workers have
--- ended, and each view fits all pairs. The pass to get is there, and stands first.
+-- Each pass knows the truth. The one pass to get stands first, and knows how many passes to put were made, which pairs were taken out, and
+-- what the workers sent that have ended. The pairs inside have the outcomes that the queue holds, and each view fits all pairs.
 pub record IsLawful (items : List Job) (views : List QueueView) : Type 0 where
-  pub taken : List (ℕ × Job)
-  pub inside : List (ℕ × Job)
-  pub closed : ℕ
   pub made : ℕ
+  pub taken : List (ℕ × Job)
   pub known : List (List Job)
-  pub held : outcomes_in inside ≡ items
+  pub inside : List (ℕ × Job)
   pub getter : get_elem? views 0 ≡ some (Getting made taken known)
-  pub fits : (place : ℕ) (v : QueueView) → get_elem? views place ≡ some v
-      → Fits (taken ++ inside) taken closed (length views) place v
+  pub count : length views ≡ suc made
+  pub held : outcomes_in inside ≡ items
+  pub accounts : Accounts made known (taken ++ inside)
+  pub fits : (place : ℕ) (v : QueueView) → get_elem? views place ≡ some v → Fits (taken ++ inside) (length known) place v
 
 -- ==== How each step changes what a pass knows
 

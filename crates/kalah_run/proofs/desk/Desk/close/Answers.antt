@@ -1,14 +1,13 @@
-use Rattle.std.proofs.Common.{rules, List, [], ◌∷◌, ◌++◌, length, get_or, length-append, arith, ◌≡◌, ◌+◌, ◌<◌, ℕ, sym, ap, ◌∙◌, subst}
+use Rattle.std.proofs.Common.{rules, List, [], ◌∷◌, ◌++◌, length, get_or, length-append, arith, ◌≡◌, ◌<◌, sym, ap, ◌∙◌}
 use Rattle.std.proofs.lemmas.List.{length-map, map-append, append_assoc, get_or_append_left}
-use Rattle.kalah_run.specs.Desk.Rows.{drawn_in, spent_in, AreLawful, DealsEachOnce}
 use Rattle.kalah_run.specs.Desk.Rule.{rows_in}
 use Rattle.kalah_run.specs.Desk.States.{PassState, drawn_rows}
 use Rattle.kalah_run.specs.declared.desk.rule.DeskView.TheVariants.{Closing}
-use Rattle.kalah_run.proofs.DeskLemmas.{reclaims, starts_closing, ends, drawn_at_end, spent_at_end}
+use Rattle.kalah_run.proofs.DeskLemmas.{Determines, reclaim_is_lawful, rows_at_end, start_closing_is_lawful}
 use Rattle.kalah_run.proofs.desk.Desk.close.Goals as goal
 
 pub load_new_seat-closer-requires : goal.load_new_seat-closer-requires
-load_new_seat-closer-requires c = (search rules, starts_closing _ _)
+load_new_seat-closer-requires c = (search rules, start_closing_is_lawful _ _)
 
 -- no pass is left, so the seat has the rows of all
 closed : (c : goal.After-drop-rest) → c.loop-pass.closer.me.0 ≡ Closing (drawn_rows c.args.passes.items)
@@ -18,23 +17,15 @@ closed c =
     ∙ ap Closing (ap (λ (l : List PassState). drawn_rows l ++ rows_in c.loop-pass.closer.me.0) (sym none) ∙ c.loop-pass.invariant.rows)
 
 -- the last word, and the rows
-last : (c : goal.After-drop-rest)
-    → (c.word-word.result ≡ drawn_in (drawn_rows c.args.passes.items) + spent_in (drawn_rows c.args.passes.items))
-    × AreLawful c.self.inside.total (drawn_rows c.args.passes.items)
-last c =
-    let all = length-map c.args.passes.items (λ p. p.row) ∙ c.requires.all ∙ sym (ap (λ d. d.passes) c.self.view_is) in
-    let e = ends c.self.inside.table.shared.key _ _ _ (closed c) c.close_with-closed.ensures.values.2 all c.word-word.ensures in
-    (e.0, subst (λ (t : ℕ). AreLawful t (drawn_rows c.args.passes.items)) c.self.invariant.2 e.1)
+last : (c : goal.After-drop-rest) → Determines c.word-word.result c.self.inside.table.shared.key.total (drawn_rows c.args.passes.items)
+last c = rows_at_end _ _ (closed c) c.close_with-closed.ensures.values.2
+    (length-map c.args.passes.items (λ p. p.row) ∙ c.requires.all ∙ sym (ap (λ d. d.passes) c.self.view_is)) c.word-word.ensures
 
 pub returns-clause-deals : goal.returns-clause-deals
-returns-clause-deals c =
-    let drawn = c.min.ensures ∙ drawn_at_end c.self.inside.total c.word-word.result (drawn_rows c.args.passes.items) (last c).0
-    (last c).1 in
-    subst (λ (n : ℕ). DealsEachOnce c.args.self.total n (drawn_rows c.args.passes.items)) (sym drawn)
-    (subst (λ (t : ℕ). AreLawful t (drawn_rows c.args.passes.items)) (ap (λ d. d.total) c.self.view_is) (last c).1)
+returns-clause-deals c = rw (c.min.ensures, ← ap (λ d. d.total) c.self.view_is, ← c.self.invariant.2) (last c).deals
 
 pub returns-clause-spent : goal.returns-clause-spent
-returns-clause-spent c = spent_at_end c.self.inside.total c.word-word.result (drawn_rows c.args.passes.items) (last c).0 (last c).1
+returns-clause-spent c = rw c.self.invariant.2 at (last c).spent
 
 pub join_seat-requires : goal.join_seat-requires
 join_seat-requires c = (
@@ -42,7 +33,7 @@ join_seat-requires c = (
   search rules,
   search rules,
   search rules,
-  reclaims _ _ _ _ _ c.loop-pass.invariant.closing
+  reclaim_is_lawful _ _ _ _ _ c.loop-pass.invariant.closing
       (ap (λ m. m.0) c.pass.invariant.0),
 )
 

@@ -1,5 +1,5 @@
 use Rattle.std.proofs.Common.{◌∙◌, ◌+◌, List, [], rules, ap, arith, subst, sym}
-use Rattle.kalah_run.proofs.DeskLemmas.{opening_is_lawful, hands_out, draw_pass_more}
+use Rattle.kalah_run.proofs.DeskLemmas.{opening_is_lawful, hand_out_is_lawful, draw_pass_more}
 use Rattle.kalah_run.specs.Desk.Rule.{after_handing_out, pass_handed_out}
 use Rattle.kalah_run.specs.Desk.States.{DeskState, PassState, AreNewPasses, number_in, row_in, total_in}
 use Rattle.kalah_run.specs.declared.desk.rule.DeskView.TheVariants.{Opening}
@@ -9,7 +9,7 @@ pub of_words-requires : goal.of_words-requires
 of_words-requires c = opening_is_lawful _ (search rules) (search rules)
 
 pub split_seat-seat-requires : goal.split_seat-seat-requires
-split_seat-seat-requires c = (search rules, search rules, hands_out _ _ _ _ _ _ (ap (λ m. m.0) c.loop.invariant.opener) (omega arith))
+split_seat-seat-requires c = (search rules, search rules, hand_out_is_lawful _ _ _ _ _ _ (ap (λ m. m.0) c.loop.invariant.opener) (omega arith))
 
 pub loop-preserved : goal.loop-preserved
 loop-preserved c =

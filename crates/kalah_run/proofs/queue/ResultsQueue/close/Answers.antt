@@ -5,17 +5,17 @@ use Rattle.std.specs.Vec.Iter.{into_iter_deque, into_iter_items}
 use Rattle.crossbeam_queue.specs.Passes.{view}
 use Rattle.kalah_run.specs.declared.queue.rule.QueueView.TheVariants.{Getting, Putting}
 use Rattle.kalah_run.specs.Queue.States.{ArePassesFrom, PutPassState, sent_by}
-use Rattle.kalah_run.proofs.QueueLemmas.{merges, tells, reclaimed, whole_when_reclaimed, known_in}
+use Rattle.kalah_run.proofs.QueueLemmas.{reclaim_is_lawful, getter_knows_sent, reclaimed, whole_when_reclaimed, known_in}
 use Rattle.kalah_run.proofs.queue.ResultsQueue.close.Goals as goal
 
 pub absorb-requires-clause-rule : goal.absorb-requires-clause-rule
 absorb-requires-clause-rule g c =
     let step : into_iter_items c.loop-put.put-iterator ≡ c.in-Some.put ∷ into_iter_items c.next.new.self = c.in-Some.ensures.steps.0 in
     let passes = rw step at c.loop-put.invariant.passes in
-    merges _ _ c.loop-put.invariant.getting c.put.invariant.1 (ap (λ p. p.number) c.put.view_is ∙ passes.1)
+    reclaim_is_lawful _ _ c.loop-put.invariant.getting c.put.invariant.1 (ap (λ p. p.number) c.put.view_is ∙ passes.1)
 
 pub len_as-left-requires-clause-rule : goal.len_as-left-requires-clause-rule
-len_as-left-requires-clause-rule g c = tells _ c.loop-put.invariant.getting
+len_as-left-requires-clause-rule g c = getter_knows_sent _ c.loop-put.invariant.getting
 
 pub returns-clause-whole : goal.returns-clause-whole
 returns-clause-whole g c =

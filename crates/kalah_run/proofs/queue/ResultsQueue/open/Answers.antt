@@ -2,14 +2,14 @@ use Rattle.std.proofs.lemmas.Grind.{common_steps}
 use Rattle.std.proofs.Common.{rules, arith, ◌≡◌, [], ap, ◌∙◌}
 use Rattle.std.proofs.lemmas.List.Elements.{All-push}
 use Rattle.kalah_run.specs.Queue.Rule.{sent_in, after_making_one, one_made}
-use Rattle.kalah_run.proofs.QueueLemmas.{new_queue_is_lawful, forks, put_pass_more}
+use Rattle.kalah_run.proofs.QueueLemmas.{new_queue_is_lawful, new_pass_is_lawful, put_pass_more}
 use Rattle.kalah_run.proofs.queue.ResultsQueue.open.Goals as goal
 
 pub ruled-requires-clause-rule : goal.ruled-requires-clause-rule
 ruled-requires-clause-rule c = new_queue_is_lawful
 
 pub another-theirs-requires-clause-rule : goal.another-theirs-requires-clause-rule
-another-theirs-requires-clause-rule c = forks _ c.loop.invariant.made
+another-theirs-requires-clause-rule c = new_pass_is_lawful _ c.loop.invariant.made
 
 pub loop-preserved : goal.loop-preserved
 loop-preserved c =
