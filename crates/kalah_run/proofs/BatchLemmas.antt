@@ -3,7 +3,7 @@ use Rattle.std.proofs.Common.{add-one, IfErr, ◌≡◌, ◌≤◌, ◌<◌, ◌
 use Rattle.std.proofs.lemmas.List.{nil_from_length, map-append, reverse-append, append-nil, take-append-drop, take_all, take_more, flat_map_more, get_or-map, length-append, length-map}
 use Rattle.kalah_jobs.specs.declared.files.entry.Entry.{Entry}
 use Rattle.kalah_jobs.specs.declared.files.job.Job.{Job}
-use Rattle.std.specs.Prelude.{max, min, vec_capacity, ◌⊎◌, All, Some, IfSome, fold, slice_get, Option, None, Result, Ok, Err, sum_by, OnOk, count_by, IfOk, IfNone}
+use Rattle.std.specs.Prelude.{◌⊎◌, All, Some, IfSome, fold, slice_get, Option, None, Result, Ok, Err, sum_by, OnOk, count_by, IfOk}
 use Rattle.std.proofs.lemmas.List.Sums.{fold-append, sum_by-cons}
 use Rattle.std.proofs.lemmas.Option.{get_or_from_slice_get, slice_get_within}
 use Rattle.kalah_jobs.specs.Files.JobList.{job_list, jobs_from, file_jobs, line_job, entries_of, entry_at}
@@ -17,8 +17,8 @@ use Rattle.std.proofs.Math.Seq.{take-nil}
 use Rattle.std.proofs.KnownBytes.{Appends-kept, Appends-nil, Appends-trans, Keeps-refl}
 use Rattle.kalah_jobs.specs.Writing.Sink.{AppendsPrefix, SinkState, WasGiven}
 use Rattle.kalah_jobs.proofs.WritingLemmas.{start_none, start_then, start_longer, start_kept, files_are_their_jobs}
-use Rattle.kalah_run.specs.Batch.OrderedOutput.{WasGivenSince, text_of_job, written_upto, IsUnderWay, text_of, IsNew, HasWritten, whole_output, Waits, WritesReady}
-use Rattle.kalah_run.specs.Batch.Leaving.{rest_of, pass_in, HasDrawnNothing, IsLeft, NothingIsLeft, DrawsOnlyTheRest}
+use Rattle.kalah_run.specs.Batch.OrderedOutput.{IsOnlyFlushed, WasGivenSince, text_of_job, written_upto, IsUnderWay, text_of, IsNew, HasWritten, whole_output, Waits, WritesReady}
+use Rattle.kalah_run.specs.Batch.Leaving.{rest_of, pass_in, HasDrawnNothing, IsLeft, DrawsOnlyTheRest}
 use Rattle.std.specs.List.{flat_map, enumerate_from}
 use Rattle.std.proofs.lemmas.Bool.{cases_eq, cases_lt, lt-ltb, both_ways, true_from_ne_false}
 use Rattle.std.proofs.lemmas.Grind.{flat_map-append}
@@ -35,11 +35,10 @@ use Rattle.kalah_jobs.specs.Files.Lines.{line_feed}
 use Rattle.kalah_jobs.specs.Files.NamedBytes.{NamedBytes}
 use Rattle.kalah_run.specs.declared.batch.ordered_output.OrderedOutput.{OrderedOutput}
 use Rattle.std.proofs.lemmas.List.Elements.{All-cons, All-map, All-push, All-tail}
-use Rattle.kalah_run.specs.Queue.States.{GetPassState, HasGot, MayGet, PutPassState, ArePassesFrom, sent_by, Accounts, outcomes_in}
+use Rattle.kalah_run.specs.Queue.States.{GetPassState, HasGot, PutPassState, ArePassesFrom, sent_by, Accounts, outcomes_in}
 use Rattle.kalah_run.specs.Desk.States.{DeskState, PassState, IsPassAt, AreNewPasses, new_pass, drawn_rows}
 use Rattle.kalah_run.specs.declared.batch.worker.Worker.{Worker}
-use Rattle.kalah_run.specs.Batch.Running.{HasOwnTable, HaveOwnTables, IsReadyToRun, MayHaveGot, HasCollected}
-use Rattle.kalah_run.specs.declared.batch.open_batch.OpenBatch.{OpenBatch}
+use Rattle.kalah_run.specs.Batch.Running.{HasOwnTable, HaveOwnTables, MayHaveGot, HasCollected}
 use Rattle.kalah_run.specs.declared.batch.receiver.CallerPasses.{CallerPasses}
 use Rattle.kalah_jobs.specs.Files.Jobs.{MakesJobs, job_count, jobs_to, lines_in_all}
 use Rattle.kalah_jobs.proofs.FilesLemmas.{length-job_list, job_count-jobs_to, lines_between, slice_get-job_list}
@@ -57,15 +56,12 @@ use Rattle.kalah_run.specs.declared.batch.run_fault.RunFault.TheVariants.{TooMan
 
 -- ==== A worker with one job more: what it sends, and that less is left to draw
 
--- job number n is what stands there in the list of jobs
-job_at : (jobs : List (List Entry)) (n : ℕ) (o : Job) → slice_get (job_list jobs) n ≡ Some o → job jobs n ≡ o
-job_at jobs n o at = get_or_from_slice_get (job_list jobs) n o (line_job 0 0 (Bad Empty)) at
-
 -- the outcome of the job that was drawn stands after those of the row so far
 pub drawn_jobs-more : (jobs : List (List Entry)) (numbers : List ℕ) (n : ℕ) (o : Job) → slice_get (job_list jobs) n ≡ Some o
     → drawn_jobs jobs (numbers ++ n ∷ []) ≡ drawn_jobs jobs numbers ++ o ∷ []
 drawn_jobs-more jobs numbers n o is =
-    map-append (job jobs) numbers (n ∷ []) ∙ ap (λ x. drawn_jobs jobs numbers ++ x ∷ []) (job_at jobs n o is)
+    map-append (job jobs) numbers (n ∷ [])
+    ∙ ap (λ x. drawn_jobs jobs numbers ++ x ∷ []) (get_or_from_slice_get (job_list jobs) n o (line_job 0 0 (Bad Empty)) is)
 
 -- one above the last number of a row, and 0 for an empty row: it grows with each draw, so the total bounds the draws of a loop
 abbrev pub least_above : List ℕ → ℕ
@@ -89,10 +85,11 @@ less_left numbers more number total is above below =
 
 -- ==== A sink that is given bytes
 
+-- at first a sink was given nothing
 pub since_none : (begun : SinkState) → WasGivenSince begun begun []
 since_none begun = record { start = start_none begun.written []; whole = λ sound. Appends-nil begun.written }
 
--- a sink that has failed writes nothing more
+-- a sink that has failed is not called again
 since_failed : {begun out : SinkState} (bs cs : List ℕ) → WasGivenSince begun out bs → out.has_failed ≡ true
     → WasGivenSince begun out (bs ++ cs)
 since_failed {begun} {out} bs cs given broken = record {
@@ -111,23 +108,24 @@ since_more {state = state} {begun} {old} {new} bs cs given more = by (state old)
     whole = λ still. Appends-trans begun.written (state old).written (state new).written bs cs (given.whole sound) (more.whole still).1;
   }
 
--- what was given stays given if nothing more is written, and no failure is undone
-pub since_kept : {begun out more : SinkState} {bs : List ℕ} → WasGivenSince begun out bs → Keeps out.written more.written
-    → (more.has_failed ≡ false → out.has_failed ≡ false) → WasGivenSince begun more bs
-since_kept {begun} {out} {more} {bs} given keeps was_sound = record {
-  start = start_kept begun.written out.written more.written bs given.start keeps;
-  whole = λ sound. Appends-kept begun.written out.written more.written bs (given.whole (was_sound sound)) keeps;
+-- what was given stays given if nothing more is written
+pub since_kept : {begun out more : SinkState} {bs : List ℕ} → WasGivenSince begun out bs → IsOnlyFlushed out more → WasGivenSince begun more bs
+since_kept {begun} {out} {more} {bs} given flushed = record {
+  start = start_kept begun.written out.written more.written bs given.start flushed.keeps;
+  whole = λ sound. Appends-kept begun.written out.written more.written bs (given.whole (flushed.sound sound)) flushed.keeps;
 }
 
 -- ==== The loop that writes each line once it is ready and all before it were written
 
 -- what is written, line by line and file by file
 module _ (text : ℕ → Taken → List ℕ) (jobs : List (List Entry)) where
+  -- the texts of the jobs of one file
   texts_of_lines : (f n : ℕ) (own : List Entry)
       → flat_map (text_of_job text) (file_jobs f n own) ≡ flat_map (text_of_line text f) (enumerate_from n own)
   texts_of_lines f n [] = refl
   texts_of_lines f n (e ∷ own) = rw add-one (ap (λ l. text_of_line text f (n, e) ++ l) (texts_of_lines f (suc n) own))
 
+  -- those of all jobs, from file f on
   texts_from : (f : ℕ) (files : List (List Entry))
       → flat_map (text_of_job text) (jobs_from f files) ≡ flat_map (text_of_file text) (enumerate_from f files)
   texts_from f [] = refl
@@ -135,6 +133,7 @@ module _ (text : ℕ → Taken → List ℕ) (jobs : List (List Entry)) where
       rw add-one (flat_map-append (text_of_job text) (file_jobs f 0 own) (jobs_from (suc f) files)
       ∙ λ i. texts_of_lines f 0 own i ++ texts_from (suc f) files i)
 
+  -- one line more of the file is written
   written_line : (f n : ℕ) (e : Entry) → entry_at jobs f n ≡ Some e
       → written_upto text jobs f n ++ text f (answered_line (n, e)) ≡ written_upto text jobs f (n + 1)
   unfolding written_upto
@@ -148,6 +147,7 @@ module _ (text : ℕ → Taken → List ℕ) (jobs : List (List Entry)) where
       ∙ ap (flat_map (text_of_job text)) (sym (take_more (job_list jobs) m o (slice_get_within (job_list jobs) m o at)))
       ∙ ap (λ k. flat_map (text_of_job text) (take k (job_list jobs))) next
 
+  -- all lines of the file are written
   written_file : (f : ℕ) → f < length jobs → written_upto text jobs f (length (entries_of jobs f)) ≡ written_upto text
       jobs (f + 1) 0
   unfolding written_upto
@@ -156,6 +156,7 @@ module _ (text : ℕ → Taken → List ℕ) (jobs : List (List Entry)) where
       omega (arith, lines_between jobs f low) in
       ap (λ k. flat_map (text_of_job text) (take k (job_list jobs))) next
 
+  -- all lines of all files are written
   written_all : (f n : ℕ) → length jobs ≤ f → written_upto text jobs f n ≡ text_of_jobs text jobs
   unfolding written_upto
   written_all f n high =
@@ -305,19 +306,19 @@ written_on is same_files same_jobs on =
 
 -- what an output has written stays if nothing more is written
 pub written_kept : {files : List NamedBytes} {jobs : List (List Entry)} {past : List Job} {begun out later : SinkState}
-    {r : OrderedOutput} → Keeps out.written later.written → (later.has_failed ≡ false → out.has_failed ≡ false)
-    → HasWritten files jobs past begun out r → HasWritten files jobs past begun later r
-written_kept keeps sound is = record {
+    {r : OrderedOutput} → IsOnlyFlushed out later → HasWritten files jobs past begun out r → HasWritten files jobs past begun later r
+written_kept flushed is = record {
   of_files = is.of_files;
   of_jobs = is.of_jobs;
   progress = record {
     kept = is.progress.kept;
     before = is.progress.before;
     later = is.progress.later;
-    written = since_kept is.progress.written keeps sound;
+    written = since_kept is.progress.written flushed;
   };
 }
 
+-- a new output has written nothing
 pub new_written : (begun : SinkState) (r : OrderedOutput) → IsNew r → HasWritten r.files.now r.jobs.now [] begun begun r
 new_written begun r new = record {
   of_files = refl;
@@ -331,6 +332,7 @@ ready_lines files = sum_by (λ (s : ArrivalsState). front s - s.taken) files
 
 -- ==== Workers put together from their passes, the last one first, and taken apart, the first one first
 
+-- the last worker is the first of the reversed list
 last_first : (workers workers' : List Worker) (w : Worker) → workers' ≡ workers ++ w ∷ []
     → reverse workers' ≡ w ∷ reverse workers
 last_first workers workers' w is = ap (λ (l : List Worker). reverse l) is ∙ reverse-append workers (w ∷ [])
@@ -347,6 +349,7 @@ one_given {X} f workers {workers'} {w} rest {x} is its took so_far =
     ∙ ap (λ (l : List X). l ++ map f (reverse workers)) (sym took)
     ∙ so_far
 
+-- one worker more has its table
 pub tables_more : (workers workers' : List Worker) (w : Worker) (entries : ℕ) → workers' ≡ workers ++ w ∷ []
     → HasOwnTable entries w
     → HaveOwnTables entries (reverse workers) → HaveOwnTables entries (reverse workers')
@@ -378,12 +381,7 @@ pub as_many_workers : (workers : List Worker) (passes : List PassState) (count :
 as_many_workers workers passes count are many =
     sym (length-map workers (λ (w : Worker). w.pass)) ∙ ap length are ∙ many
 
--- a new batch has a worker for each job up to the number asked for, and one for no job
-pub as_asked : (workers : List Worker) (passes : List PassState) {count fewer total : ℕ} (wanted jobs : ℕ)
-    → passes_of workers ≡ passes → length passes ≡ count → count ≡ max fewer 1 → fewer ≡ min wanted total → total ≡ jobs
-    → length workers ≡ max 1 (min wanted jobs)
-as_asked workers passes wanted jobs are many some few total = omega (arith, as_many_workers workers passes _ are many, some, few, total)
-
+-- workers with new passes, that have sent nothing, are at work
 pub new_at_work : {G : Type 0} {knows : G → ℕ → Bool} (shared : SharedWork G) (workers : List Worker) (count : ℕ)
     → AreNewPasses shared.desk count (passes_of workers)
     → ArePassesFrom shared.queue.id 0 (puts_of workers)
@@ -428,9 +426,11 @@ have_run is as_many each = rw (← is) (record { as_many = as_many; each = each 
 -- each worker that has run
 module _ {G : Type 0} {knows : G → ℕ → Bool} (shared : SharedWork G) (before after : List Worker)
     (run : HaveRun knows shared before after) where
+  -- it is at work
   pub run_at_work : AreAtWork knows shared after
   run_at_work = λ k d within. (run.each k d (omega (arith, run.as_many))).at_work
 
+  -- its pass is of the desk
   run_passes : All (IsPassAt shared.desk) (passes_of after)
   run_passes = All-map (IsPassAt shared.desk) (λ (w : Worker). w.pass) after (λ k d within. (run_at_work k d within).draws)
 
@@ -558,22 +558,6 @@ draws_on {failed = failed} {first} {second} {third} one two = record {
   ];
 }
 
--- an outcome, or none, was got through the queue, after what was drawn of the rest
-pub got_by : {desk : DeskState} {Ended : Type 0} {before between after : CallerPasses} {old new : SinkState} {result : Option Job}
-    → between.get_pass ≡ before.get_pass → DrawsOnlyTheRest desk new.has_failed before.rest_pass between.rest_pass
-    → after.rest_pass ≡ between.rest_pass → MayGet between.get_pass result after.get_pass
-    → IfNone result (IsLeft (rest_of before.rest_pass) new.has_failed × NothingIsLeft between.rest_pass) → IfNone result Ended
-    → Keeps old.written new.written → (new.has_failed ≡ false → old.has_failed ≡ false)
-    → MayHaveGot desk Ended before after old new result
-got_by same draws same_rest got left ended keeps sound = record {
-  got = rw (← same) got;
-  draws = rw same_rest draws;
-  left = rw same_rest left;
-  ended = ended;
-  keeps = keeps;
-  sound = sound;
-}
-
 -- what was got after more of the rest was drawn
 pub got_after : {desk : DeskState} {Ended : Type 0} {before between after : CallerPasses} {rest_pass : Option PassState}
     {old new : SinkState} {result : Option Job} → between.get_pass ≡ before.get_pass
@@ -581,45 +565,17 @@ pub got_after : {desk : DeskState} {Ended : Type 0} {before between after : Call
     → MayHaveGot desk Ended between after old new result → MayHaveGot desk Ended before after old new result
 got_after same draws same_rest got = record {
   got = rw (← same) got.got;
-  draws = draws_on (draws_still _ got.sound draws) (rw same_rest at got.draws);
+  draws = draws_on (draws_still _ got.flushed.sound draws) (rw same_rest at got.draws);
   left = rw (← draws.rest, ← same_rest) got.left;
   ended = got.ended;
-  keeps = got.keeps;
-  sound = got.sound;
+  flushed = got.flushed;
 }
 
 -- if it is new, it is a pass of the desk, and has drawn nothing
-new_left : (desk : DeskState) (number : ℕ) (left : Option PassState) → IfSome left (λ p. p ≡ new_pass desk number)
+pub new_left : (desk : DeskState) (number : ℕ) (left : Option PassState) → IfSome left (λ p. p ≡ new_pass desk number)
     → IfSome left (IsPassAt desk) × HasDrawnNothing left
 new_left desk number None new = (tt, tt)
 new_left desk number (Some p) new = rw new ((refl, refl), refl)
-
--- A new batch is ready to run: `count` workers with the new passes, and with room in the two lists from which these were taken.
-pub ready_to_run : {G : Type 0} {knows : G → ℕ → Bool} (b : OpenBatch G) {count places room puts_room : ℕ} {passes : List PassState}
-    (fewer : ℕ) (puts : List PutPassState) → count ≡ max fewer 1 → passes_of b.workers.items ≡ passes → AreNewPasses b.shared.desk count passes
-    → puts_of b.workers.items ≡ puts → (places ≡ count) × ArePassesFrom b.shared.queue.id 0 puts × All (λ p. p.sent ≡ []) puts
-    → (places ≡ length puts) × (places ≤ puts_room) → IfSome b.caller.rest_pass (λ pass. pass ≡ new_pass b.shared.desk count)
-    → count + length (pass_in b.caller.rest_pass) ≡ b.shared.desk.passes
-    → b.caller.get_pass ≡ record { queue = b.shared.queue.id; workers = count; got = [] }
-    → IsNew b.output → b.output.jobs.now ≡ b.shared.jobs.now → (b.passes.items ≡ []) × (b.puts.items ≡ [])
-    → (vec_capacity b.passes ≡ room) × (vec_capacity b.puts ≡ puts_room) → count + length (pass_in b.caller.rest_pass) ≤ room
-    → IsReadyToRun knows b
-ready_to_run b {count} fewer puts some are new are_puts opened fits left all get output jobs empty same room =
-    let many = as_many_workers b.workers.items _ count are new.0 in
-    let queue = b.shared.queue.id in
-    let from : ArePassesFrom queue 0 (puts_of b.workers.items) = rw are_puts opened.1 in
-    record {
-      some = omega (arith, many, some);
-      passes = omega (arith, many, all);
-      own = (new_left b.shared.desk count b.caller.rest_pass left).0;
-      drawn = (new_left b.shared.desk count b.caller.rest_pass left).1;
-      at_work = new_at_work b.shared b.workers.items count (rw are new) from (rw are_puts opened.2);
-      puts = from;
-      get = get ∙ ap (λ n. let p : GetPassState = record { queue = queue; workers = n; got = [] } in p) (sym many);
-      output = output;
-      jobs = jobs;
-      room = record { empty = empty; passes = omega (arith, many, same, room); puts = omega (arith, many, same, opened.0, fits) };
-    }
 
 -- the calling thread has a pass if it had one
 as_many_left : (before after : Option PassState) → rest_of after ≡ rest_of before
@@ -672,6 +628,7 @@ pub record AreCollected (desk : DeskState) (output : OrderedOutput) (begun out :
   pub draws : DrawsOnlyTheRest desk out.has_failed before.rest_pass now.rest_pass
   pub progress : HasWritten output.files.now output.jobs.now (outcomes_in now.get_pass.got) begun out r × Waits r
 
+-- at first nothing was got
 pub collected_at_start : {desk : DeskState} {output r : OrderedOutput} {begun out : SinkState} {before : CallerPasses}
     → before.get_pass.got ≡ [] → IfSome before.rest_pass (IsPassAt desk) → IsNew output → WritesReady output begun r out
     → AreCollected desk output begun out before before r
@@ -682,6 +639,7 @@ collected_at_start {output = output} {begun = begun} none own new writes = recor
   progress = rw none (writes output.files.now output.jobs.now [] begun (new_written begun output new));
 }
 
+-- one outcome more was got
 pub one_longer : (before : GetPassState) {after : GetPassState} (outcome : Job) → HasGot before outcome after
     → length after.got ≡ length before.got + 1
 one_longer before outcome has_got =
@@ -698,13 +656,13 @@ module _ {desk : DeskState} {Ended : Type 0} {output r : OrderedOutput} {begun o
       → AreCollected desk output begun more before next written
   one_collected {outcome} gave {more} {offered} {written} got files jobs current offers sound writes =
       let is = got.got.2 in
-      let was = written_kept got.keeps got.sound so_far.progress.0 in
+      let was = written_kept got.flushed so_far.progress.0 in
       let more_got : outcomes_in next.get_pass.got ≡ outcomes_in now.get_pass.got ++ outcome ∷ [] =
       ap (λ (p : GetPassState). outcomes_in p.got) is ∙ map-append (λ (p : ℕ × Job). p.1) now.get_pass.got ((got.got.0, outcome) ∷ []) in
       record {
         queue = ap (λ (p : GetPassState). p.queue) is ∙ so_far.queue;
         workers = ap (λ (p : GetPassState). p.workers) is ∙ so_far.workers;
-        draws = draws_still _ sound (draws_on (draws_still _ got.sound so_far.draws) got.draws);
+        draws = draws_still _ sound (draws_on (draws_still _ got.flushed.sound so_far.draws) got.draws);
         progress = rw more_got (writes _ _ _ _ (record {
           of_files = files ∙ was.of_files;
           of_jobs = jobs ∙ was.of_jobs;
@@ -719,8 +677,8 @@ module _ {desk : DeskState} {Ended : Type 0} {output r : OrderedOutput} {begun o
     record {
       queue = ap (λ (p : GetPassState). p.queue) got.got ∙ so_far.queue;
       workers = ap (λ (p : GetPassState). p.workers) got.got ∙ so_far.workers;
-      draws = draws_on (draws_still _ got.sound so_far.draws) got.draws;
-      progress = (rw got.got (written_kept got.keeps got.sound so_far.progress.0), so_far.progress.1);
+      draws = draws_on (draws_still _ got.flushed.sound so_far.draws) got.draws;
+      progress = (rw got.got (written_kept got.flushed so_far.progress.0), so_far.progress.1);
     },
     (sym so_far.draws.rest ∙ got.left.0.0, got.left.0.1),
   )
@@ -729,11 +687,10 @@ module _ {desk : DeskState} {Ended : Type 0} {output r : OrderedOutput} {begun o
 pub has_collected : {desk : DeskState} {output r : OrderedOutput} {begun out later : SinkState} {before now after : CallerPasses}
     → AreCollected desk output begun out before now r → after ≡ now
     → (length now.get_pass.got ≡ job_count output.jobs.now) ⊎ IsLeft (rest_of before.rest_pass) later.has_failed
-    → Keeps out.written later.written → (later.has_failed ≡ false → out.has_failed ≡ false)
-    → HasCollected desk output begun later before after
+    → IsOnlyFlushed out later → HasCollected desk output begun later before after
 unfolding text_of
-has_collected {output = output} {r} {begun} {later = later} {before} {now} so_far is all_got keeps sound =
-    let written = written_kept keeps sound so_far.progress.0 in
+has_collected {output = output} {r} {begun} {later = later} {before} {now} so_far is all_got flushed =
+    let written = written_kept flushed so_far.progress.0 in
     let whole : text_of_jobs (text_of output.files.now) r.jobs.now ≡ whole_output output =
     ap (λ l. text_of_jobs (text_of output.files.now) l) written.of_jobs in
     rw is (record {
@@ -745,7 +702,7 @@ has_collected {output = output} {r} {begun} {later = later} {before} {now} so_fa
           (subst (λ l. AreJobsInSomeOrder l (outcomes_in now.get_pass.got)) (sym written.of_jobs) each) so_far.progress.1)
           (λ (left : IsLeft (rest_of before.rest_pass) later.has_failed). progress_failed written.progress left.1)
           known);
-      draws = draws_still _ sound so_far.draws;
+      draws = draws_still _ flushed.sound so_far.draws;
     })
 
 -- the output of the jobs of the files is that of the files
@@ -770,6 +727,7 @@ counted_tally question files = λ i. record {
 
 -- ==== The result of a batch whose files have no line follows from that of a batch of any files
 
+-- if nothing was added, all was kept
 appends_none : (old new : Option (List ℕ)) (bytes : List ℕ) → bytes ≡ [] → Appends old new bytes → Keeps old new
 appends_none None new bytes none appends = tt
 appends_none (Some xs) None bytes none appends = absurd appends
@@ -797,10 +755,12 @@ module _ {W : Type 0} (state : W → SinkState) (question : Question) (files : L
   answered made new (Err e) given counted sound fault =
       subst (λ e. AnswersBatch state (output_to question files) files old new (Err e)) (sym fault.0) (made.0, given.start, fault.1)
 
+-- a sink that is as it was keeps what it has
 left_same : {W : Type 0} (state : W → SinkState) {old new : W} → new ≡ old → Keeps (state old).written (state new).written
 left_same state {old} same = subst (λ o. Keeps (state old).written (state o).written) (sym same) (Keeps-refl (state old).written)
 
 module _ (question : Question) (files : List NamedBytes) (none : lines_in_all files ≡ 0) where
+  -- there is no job, and no output
   no_jobs : job_list (jobs_to question files) ≡ []
   no_jobs = nil_from_length (job_list (jobs_to question files))
       (length-job_list (jobs_to question files) ∙ job_count-jobs_to question files ∙ none)
@@ -815,6 +775,7 @@ module _ (question : Question) (files : List NamedBytes) (none : lines_in_all fi
   pub since_no_output : (begun : SinkState) → WasGivenSince begun begun (output_to question files)
   since_no_output begun = subst (WasGivenSince begun begun) (sym no_output) (since_none begun)
 
+  -- the result is one of a batch without a line
   pub nothing_answered : {W : Type 0} (state : W → SinkState) (old new : W) (result : Result Tally RunFault)
       → AnswersBatch state (output_to question files) files old new result → AnswersNothing (state old).written (state new).written result
   nothing_answered state old new (Ok tally) is = record {

@@ -1,7 +1,7 @@
 -- What is known of the output of a batch: what has come, and what was written of it.
 use Rattle.std.specs.Prelude.{◌≡◌, ℕ, ◌+◌, ◌<◌, List, length, take, false}
 use Rattle.std.specs.List.{flat_map}
-use Rattle.std.specs.Io.KnownBytes.{Appends}
+use Rattle.std.specs.Io.KnownBytes.{Appends, Keeps}
 use Rattle.kalah_jobs.specs.declared.files.entry.Entry.{Entry}
 use Rattle.kalah_jobs.specs.declared.writing.answer.Taken.{Taken}
 use Rattle.kalah_jobs.specs.declared.files.job.Job.{Job}
@@ -19,6 +19,11 @@ use Rattle.kalah_run.specs.declared.batch.ordered_output.OrderedOutput.{OrderedO
 pub record WasGivenSince (begun out : SinkState) (bs : List ℕ) : Type 0 where
   pub start : AppendsPrefix begun.written out.written bs
   pub whole : out.has_failed ≡ false → Appends begun.written out.written bs
+
+-- Nothing more is written to a sink, and a failure isn't undone.
+pub record IsOnlyFlushed (old new : SinkState) : Type 0 where
+  pub keeps : Keeps old.written new.written
+  pub sound : new.has_failed ≡ false → old.has_failed ≡ false
 
 -- the text of a job, if `text` gives the text of what is taken of a file
 abbrev pub text_of_job : (ℕ → Taken → List ℕ) → Job → List ℕ

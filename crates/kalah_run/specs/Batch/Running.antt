@@ -1,7 +1,6 @@
 -- What is known of a batch: once it is open, while it is run, and when it has ended.
-use Rattle.std.specs.Prelude.{◌≡◌, ℕ, ◌+◌, ◌<◌, ◌≤◌, Bool, max, min, List, [], length, vec_capacity, ◌⊎◌, Option, IfSome, IfNone, false}
+use Rattle.std.specs.Prelude.{◌≡◌, ℕ, ◌+◌, ◌<◌, ◌≤◌, Bool, max, min, List, [], length, vec_capacity, ◌⊎◌, Option, IfSome, IfNone}
 use Rattle.std.specs.List.{All}
-use Rattle.std.specs.Io.KnownBytes.{Keeps}
 use Rattle.std.specs.declared.alloc.Global.{Global}
 use Rattle.crossbeam_utils.specs.Padded.{padded_value}
 use Rattle.kalah_solve.specs.declared.solver.Solver.{Solver}
@@ -13,7 +12,7 @@ use Rattle.kalah_solve.specs.Table.Entries.{empty_table}
 use Rattle.kalah_run.specs.Desk.States.{DeskState, IsPassAt}
 use Rattle.kalah_run.specs.Queue.States.{ArePassesFrom, MayGet, outcomes_in}
 use Rattle.kalah_run.specs.Batch.AtWork.{puts_of, AreAtWork}
-use Rattle.kalah_run.specs.Batch.OrderedOutput.{IsNew, whole_output, WasGivenSince}
+use Rattle.kalah_run.specs.Batch.OrderedOutput.{IsNew, IsOnlyFlushed, whole_output, WasGivenSince}
 use Rattle.kalah_run.specs.declared.batch.request.BatchRequest.{BatchRequest}
 use Rattle.kalah_run.specs.declared.limits.TheConstants.{QUEUE_CAPACITY}
 use Rattle.kalah_run.specs.declared.batch.worker.Worker.{Worker}
@@ -62,16 +61,15 @@ module _ {G : Type 0} where
     pub jobs : b.output.jobs.now ≡ b.shared.jobs.now
     pub room : HasRoom b
 
--- The outcome was got, or none if the rest is left and the workers have ended. The calling thread has drawn only the rest. What was
--- written stays, and a failure isn't undone.
+-- The outcome was got, or none if the rest is left and the workers have ended. The calling thread has drawn only the rest, and written
+-- nothing.
 pub record MayHaveGot (desk : DeskState) (Ended : Type 0) (before after : CallerPasses) (old new : SinkState) (result : Option Job) : Type 0
   where
     pub got : MayGet before.get_pass result after.get_pass
     pub draws : DrawsOnlyTheRest desk new.has_failed before.rest_pass after.rest_pass
     pub left : IfNone result (IsLeft (rest_of before.rest_pass) new.has_failed × NothingIsLeft after.rest_pass)
     pub ended : IfNone result Ended
-    pub keeps : Keeps old.written new.written
-    pub sound : new.has_failed ≡ false → old.has_failed ≡ false
+    pub flushed : IsOnlyFlushed old new
 
 -- One outcome was got for each job, unless the rest is left. If they are those of all jobs, or the rest is left, the sink was given
 -- what is to be written. The calling thread has drawn only the rest.

@@ -1,11 +1,10 @@
 //! Runs the workers on further threads, while the calling thread accepts what they send.
 ghost use Rattle.std.specs.Prelude.{◌≡◌, ◌⊎◌, [], length, false, IfErr, IfOk, IfSome, OnErr};
-ghost use Rattle.std.specs.Io.KnownBytes.{Keeps};
 ghost use Rattle.std.specs.Thread.{IsSync};
 ghost use Rattle.kalah_jobs.specs.Files.Jobs.{job_count};
 ghost use Rattle.kalah_jobs.specs.Writing.Sink.{IsReady};
 ghost use Rattle.kalah_run.specs.Batch.AtWork.{AreAtWork, HaveRun, OnceRun};
-ghost use Rattle.kalah_run.specs.Batch.OrderedOutput.{IsNew};
+ghost use Rattle.kalah_run.specs.Batch.OrderedOutput.{IsNew, IsOnlyFlushed};
 ghost use Rattle.kalah_run.specs.Batch.Running.{CanRun, HasCollected, MayHaveGot};
 ghost use Rattle.kalah_run.specs.Batch.Leaving.{NothingIsLeft};
 ghost use Rattle.kalah_run.specs.Desk.States.{IsPassAt};
@@ -42,8 +41,7 @@ impl<'a, 'b, G: Gate> Promise<AfterEnd<Vec<Worker>>> for AllHaveRun<'a, 'b, G> {
 
 // Lets the output flush what it buffers, as its caller may wait then.
 fn flush_to_wait<W: Sink>(out: &mut W)
-    ensures keeps { Keeps (W.state out.old).written (W.state out.new).written }
-    ensures sound { (W.state out.new).has_failed ≡ false → (W.state out.old).has_failed ≡ false }
+    ensures flushed { IsOnlyFlushed (W.state out.old) (W.state out.new) }
     ensures ready { IsReady (W.state out.new) }
 {
     if !out.failed() {

@@ -1,8 +1,8 @@
 ghost use Rattle.std.specs.Prelude.{◌<◌, ◌≤◌, false};
 
-mod gates;
+mod gate;
+mod in_parallel;
 mod out_of_memory;
-mod told;
 mod writers;
 
 use crate::{BatchRequest, Gate, OpenGate, Rest, RunFault, Tally, solve_batch};
@@ -101,7 +101,7 @@ fn comes_to(counter: &AtomicU32, count: u32) -> bool {
     false
 }
 
-// The tally of a batch of this many lines, none of which is answered by a fault.
+// The tally of a batch of this many lines, without a fault.
 fn tally_of(lines: u32) -> Tally {
     Tally { lines, faults: 0 }
 }

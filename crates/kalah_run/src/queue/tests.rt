@@ -1,4 +1,4 @@
-//! Many small batches through queues of every capacity, which run full and empty in parallel, with more threads than
+//! Many small batches through queues small and large, which run full and empty in parallel, with more threads than
 //! processors: a wake-up that is lost leaves a thread asleep, and the test has no end.
 ghost use Rattle.std.specs.Prelude.{◌≡◌, ◌<◌, ◌≤◌, ◌*◌, All};
 
@@ -9,26 +9,6 @@ use std::alloc::{AllocError, Global};
 use std::sync::Wait;
 use std::thread;
 use std::thread::Threads;
-
-/// Draws numbers from a sequence that its first number determines: the same ones in each run.
-#[derive(Drop)]
-struct Drawn {
-    state: u64,
-}
-
-impl Drawn {
-    // Returns a number below `limit`.
-    fn below(&mut self, limit: u32) -> u32
-        requires { 0 < limit }
-        ensures { result < limit }
-    {
-        self.state = self
-            .state
-            .wrapping_mul(6_364_136_223_846_793_005)
-            .wrapping_add(1_442_695_040_888_963_407);
-        ((self.state >> 33) % limit as u64) as u32
-    }
-}
 
 // Puts the outcome repeatedly.
 fn put_often<R: Wait>(
@@ -100,57 +80,33 @@ fn through_threads<R: Threads + Wait + Sync>(
     );
 }
 
-/// The number of places of a queue, and the number of outcomes that each of some workers puts.
-#[derive(Clone, Copy)]
-struct Batch {
+// Sends `each` outcomes of each worker through a queue of this capacity.
+fn run_batch<R: Threads + Wait + Sync>(
+    rt: &R,
+    alloc: Global,
     capacity: u32,
     workers: u32,
     each: u32,
-    ghost places: { (0 < capacity) × (capacity ≤ 1024) },
-    ghost passes: { (0 < workers) × (workers ≤ 64) },
-    ghost few: { each ≤ 200 },
+    outcome: Outcome,
+) -> Result<(), AllocError>
+    requires capacity { (0 < capacity) × (capacity ≤ 1024) }
+    requires workers { (0 < workers) × (workers ≤ 64) }
+    requires few { each ≤ 200 }
+{
+    let (queue, puts, pass) = ResultsQueue::open(alloc, capacity, workers)?;
+    through_threads(rt, &queue, (puts, pass), each, workers * each, outcome);
+    Ok(())
 }
 
-impl Batch {
-    // Up to 200 outcomes, mostly few; half of the batches have at most four workers, and half of the queues at most four
-    // places.
-    fn drawn(drawn: &mut Drawn) -> Batch {
-        let most_workers = if drawn.below(2) == 0 { 4 } else { 64 };
-        let workers = 1 + drawn.below(most_workers);
-        let places = if drawn.below(2) == 0 { 4 } else { 1024 };
-        let most_lines = drawn.below(201);
-        let lines = drawn.below(most_lines + 1);
-        Batch {
-            capacity: 1 + drawn.below(places),
-            workers,
-            each: lines / workers,
-        }
-    }
-
-    // Sends all outcomes through a queue.
-    fn run<R: Threads + Wait + Sync>(
-        &self,
-        rt: &R,
-        alloc: Global,
-        outcome: Outcome,
-    ) -> Result<(), AllocError> {
-        let (queue, puts, pass) = ResultsQueue::open(alloc, self.capacity, self.workers)?;
-        let (each, total) = (self.each, self.workers * self.each);
-        through_threads(rt, &queue, (puts, pass), each, total, outcome);
-        Ok(())
-    }
-}
-
-// Runs the batches of a stream sequentially.
-fn run_stream<R: Threads + Wait + Sync>(
-    rt: &R,
-    alloc: Global,
-    stream: u64,
-) -> Result<(), AllocError> {
+// Runs batches sequentially, of up to 200 outcomes.
+fn run_stream<R: Threads + Wait + Sync>(rt: &R, alloc: Global) -> Result<(), AllocError> {
     let (outcome, _) = two_outcomes(alloc)?;
-    let mut drawn = Drawn { state: stream };
-    for _ in 0..125 {
-        Batch::drawn(&mut drawn).run(rt, alloc, outcome)?;
+    for capacity in [1, 2, 3, 4, 1024] {
+        for workers in [1, 2, 3, 4, 64] {
+            for lines in [7, 20, 64, 100, 200] {
+                run_batch(rt, alloc, capacity, workers, lines / workers, outcome)?;
+            }
+        }
     }
     Ok(())
 }
@@ -162,7 +118,7 @@ fn a_thousand_small_batches_come_through(rt: HostRuntime) {
         &rt,
         rt.alloc(),
         8,
-        &|stream: usize| { run_stream(&rt, rt.alloc(), stream as u64) },
+        &|_stream: usize| { run_stream(&rt, rt.alloc()) },
     );
     for came_through in streams.expect(&rt, "no memory for the streams").as_slice() {
         assert!(rt; came_through.is_ok());

@@ -32,7 +32,7 @@ returns-clause-answers g c =
           rw w.out-is (since_no_output c.args.request.now.question c.args.request.now.files.now
           (omega (arith, w.if-total-gt0.false, c.total.ensures.lines, as_many_jobs _ _ _ jobs.1)) _)
     ])
-    (starts_none _ _ [] refl end.given.start) (λ sound. (end.given.whole sound).0)) end.counted end.all_flushed end.fault
+    (record { keeps = starts_none _ _ [] refl end.given.start; sound = λ sound. (end.given.whole sound).0 })) end.counted end.all_flushed end.fault
 
 -- the gate knows each job, if the rest is to be solved or no write has failed
 pub returns-clause-gate_hears_all : goal.returns-clause-gate_hears_all

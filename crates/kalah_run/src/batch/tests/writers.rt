@@ -1,7 +1,7 @@
 //! Batches whose writer fails.
 ghost use Rattle.std.specs.Prelude.{◌<◌, ◌≤◌};
 
-use super::told::{ROOM, wait_for_begun};
+use super::gate::{ROOM, wait_for_begun};
 use super::{ANSWERS, Counting, SEVEN_LINES, four_files, request_of, same_lines};
 use crate::limits::QUEUE_CAPACITY;
 use crate::{NoWatch, Rest, RunFault, Tally, answer_batch, solve_batch};

@@ -1,10 +1,10 @@
-use Rattle.std.proofs.Common.{◌≡◌, ◌+◌, false, ℕ, List, inl, inr, length, refl, sym, ap, ◌∙◌, arith, rules}
+use Rattle.std.proofs.Common.{◌+◌, ℕ, List, inl, inr, length, refl, ap, ◌∙◌, arith, rules}
 use Rattle.std.proofs.lemmas.Grind.{common_steps}
 use Rattle.std.specs.Prelude.{Some}
 use Rattle.std.proofs.KnownBytes.{Keeps-refl}
 use Rattle.kalah_jobs.specs.declared.files.job.Job.{Job}
 use Rattle.kalah_run.specs.Batch.Running.{MayHaveGot}
-use Rattle.kalah_run.proofs.BatchLemmas.{failed_still, got_after, got_by, has_collected, collected_at_start, one_collected, one_longer, rest_left}
+use Rattle.kalah_run.proofs.BatchLemmas.{failed_still, got_after, has_collected, collected_at_start, one_collected, one_longer, rest_left}
 use Rattle.kalah_run.proofs.batch.running.collect.Given as given
 use Rattle.kalah_run.proofs.batch.running.collect.Goals as goal
 use Rattle.kalah_run.proofs.batch.running.collect.Goals.{in-Some, in-None+in-Some-flush_and_get, else-loop-test, then-loop-test+in-None+in-None-flush_and_get}
@@ -22,8 +22,13 @@ next : (g : given.Over) (c : goal.After-accepts g) → MayHaveGot c.args.shared.
 next g c =
     let draws = rw c.failed.ensures at c.leave_after.ensures.draws in
     elim c.match-get_soon.branch [
-      | in-Some w ↦ rw (w.out-is, w.receiver-is, w.outcome-is) (got_by c.leave_after.ensures.get_pass draws
-          w.in-Some.ensures.rest_pass w.in-Some.ensures.got tt tt (Keeps-refl _) (λ still. still))
+      | in-Some w ↦ rw (w.out-is, w.receiver-is, w.outcome-is) (record {
+        got = rw (← c.leave_after.ensures.get_pass) w.in-Some.ensures.got;
+        draws = rw w.in-Some.ensures.rest_pass draws;
+        left = tt;
+        ended = tt;
+        flushed = record { keeps = Keeps-refl _; sound = λ still. still };
+      })
       | in-None+in-Some-flush_and_get w ↦ rw (w.out-is, w.receiver-is, w.outcome-is)
           (got_after (w.in-None.ensures.got ∙ c.leave_after.ensures.get_pass) draws w.in-None.ensures.rest_pass
           w.in-Some-flush_and_get.ensures)
@@ -43,19 +48,18 @@ loop-preserved g c =
 pub returns-clause-collected : goal.returns-clause-collected
 returns-clause-collected g c =
     let State = g.W.Sink.state in
-    let flushed = c.flush_to_wait.ensures in
+    let flushed = c.flush_to_wait.ensures.flushed in
     let so_far = c.loop.invariant in
     elim c.loop-test.branch [
       | else-loop-test w ↦ has_collected so_far.collected (c.into_passes.ensures ∙ ap (λ r. r.passes) w.receiver-is)
           (inl (omega (arith, so_far.all, w.loop-test.false, c.total-total.ensures.lines)))
-          (rw (← w.out-is) flushed.keeps) (λ still. ap (λ o. (State o).has_failed) (sym w.out-is) ∙ flushed.sound still)
+          (rw w.out-is at flushed)
       | then-loop-test+in-None+in-None-flush_and_get w ↦
           let last = rest_left so_far.collected (got_after (w.in-None.ensures.got ∙ w.leave_after.ensures.get_pass)
           (rw w.failed.ensures at w.leave_after.ensures.draws) w.in-None.ensures.rest_pass w.in-None-flush_and_get.ensures) in
-          let sound : (State c.flush_to_wait.new.out).has_failed ≡ false → (State w.flush_and_get.new.out).has_failed ≡ false =
-          λ still. ap (λ o. (State o).has_failed) (sym w.out-is) ∙ flushed.sound still in
+          let flushed = rw w.out-is at flushed in
           has_collected last.0 (c.into_passes.ensures ∙ ap (λ r. r.passes) w.receiver-is)
-          (inr (last.1.0, failed_still _ sound last.1.1)) (rw (← w.out-is) flushed.keeps) sound
+          (inr (last.1.0, failed_still _ flushed.sound last.1.1)) flushed
     ]
 
 pub returns-clause-ended : goal.returns-clause-ended

@@ -1,5 +1,5 @@
 use Rattle.kalah_run.proofs.QueueLemmas.{all_are_of}
-use Rattle.kalah_run.proofs.queue.tests.Batch.run.Goals as goal
+use Rattle.kalah_run.proofs.queue.tests.run_batch.Goals as goal
 
 pub through_threads-requires-clause-puts : goal.through_threads-requires-clause-puts
 through_threads-requires-clause-puts g c κs within = all_are_of c.in_ok-queue.queue.id 0 c.in_ok-queue.puts.items

@@ -1,12 +1,11 @@
-//! What the gate observes: each job once, before it is solved and afterwards, and that an outcome is sent only once there is room for it.
-use super::{Counting, comes_to, file_of, lines_are_answered, same_lines};
+//! What the gate observes: each job once, before and after it, and that an outcome is sent only once there is room for it.
+use super::{Counting, comes_to, lines_are_answered, same_lines};
 use crate::limits::QUEUE_CAPACITY;
 use crate::{Gate, solve_batch};
 use kalah_jobs::Stream;
 use std::io::Write;
 use std::sync::atomic::Ordering::SeqCst;
-use std::sync::atomic::{AtomicBool, AtomicU32, AtomicU64};
-use std::time::CpuClock;
+use std::sync::atomic::{AtomicBool, AtomicU32};
 use std::{hint, io};
 
 /// Counts the calls for each job: there is one before it, and then one after it.
@@ -55,55 +54,6 @@ fn the_gate_observes_each_job_once(rt: HostRuntime) {
     for calls in gate.calls.as_slice() {
         assert!(rt; calls.load(SeqCst) == 2);
     }
-}
-
-/// Adds up the processor time that the only worker takes before its jobs, and for them, in nanoseconds.
-#[derive(Drop)]
-struct Measuring<'a, R> {
-    rt: &'a R,
-    last: AtomicU64,
-    outside: AtomicU64,
-    inside: AtomicU64,
-}
-
-impl<R: CpuClock> Measuring<'_, R> {
-    // Adds the time since the last call.
-    fn add_to(&self, sum: &AtomicU64) {
-        if let Ok(spent) = self.rt.thread_cpu_time() {
-            let seconds = spent.as_secs().saturating_mul(1_000_000_000);
-            let now = seconds.saturating_add(u64::from(spent.subsec_nanos()));
-            let last = self.last.swap(now, SeqCst);
-            sum.fetch_add(now.saturating_sub(last), SeqCst);
-        }
-    }
-}
-
-impl<R: CpuClock + Sync> Gate for Measuring<'_, R> {
-    fn before(&self, _job: u32) {
-        self.add_to(&self.outside);
-    }
-
-    fn after(&self, _job: u32) {
-        self.add_to(&self.inside);
-    }
-}
-
-// Two positions that take some milliseconds each.
-const TWO_GAMES: &str = "2,2,2,2,2,2/0 2,2,2,2,2,2/0\n5,5,5/0 5,5,5/0\n";
-
-#[test]
-fn a_job_is_solved_between_the_calls_for_it(rt: HostRuntime) {
-    let files = [file_of(rt.alloc(), "n", TWO_GAMES).expect(&rt, "no memory")];
-    let gate = Measuring {
-        rt: &rt,
-        last: AtomicU64::new(0),
-        outside: AtomicU64::new(0),
-        inside: AtomicU64::new(0),
-    };
-    let mut out = Stream::new(Vec::<u8>::new(rt.alloc()));
-    assert!(rt; solve_batch(&rt, rt.alloc(), &files, 1, 16, &gate, &mut out).is_ok());
-    let (outside, inside) = (gate.outside.load(SeqCst), gate.inside.load(SeqCst));
-    assert!(rt; outside < inside / 2, "{outside} {inside}");
 }
 
 // The number of outcomes that are got, or wait in the queue, while the first line is written.
