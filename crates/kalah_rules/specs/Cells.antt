@@ -1,4 +1,4 @@
--- The six cells in which a row of at most six houses is kept.
+-- Rows of at most six houses in six cells, as a caller gives them, and what may be given.
 use Rattle.std.specs.Prelude.{◌≡◌, ℕ, ◌+◌, ◌-◌, ◌≤◌, List, ◌++◌, length, take, drop, replicate, All, sum}
 use Rattle.std.proofs.Common.{arith, length-take-le}
 use Rattle.kalah_rules.specs.Limits.{most_houses, most_seeds, most_in_store}

@@ -40,10 +40,10 @@ side_at k = k / 2 ^ 60 % 8
 abbrev pub rule_at : ℕ → Rule
 rule_at k = if k / 2 ^ 63 == 0 then Classic else EmptyCapture
 
--- the number is a key: it names 1 to 6 houses a side, its cells past the last house are 0, and they hold at most 31 seeds
+-- a number below 2^64 is a key: it names 1 to 6 houses a side, its cells past the last house are 0, and they hold at most 31 seeds
 abbrev pub IsKey : ℕ → Type 0
 IsKey k = CanBeHouses (side_at k) (cells 6 k) (cells 6 (k / 2 ^ 30))
 
--- the houses whose key the number is
+-- the houses whose key such a number is
 abbrev pub houses_at : ℕ → HousesState
 houses_at k = houses_from (side_at k) (cells 6 k) (cells 6 (k / 2 ^ 30)) (rule_at k)

@@ -27,7 +27,8 @@ use crate::table::Table;
 use kalah_rules::{House, Houses, HousesStep};
 use std::alloc::{Allocator, Global};
 
-/// What is known of houses with at most this many seeds is kept in their slot, and of others among the entries.
+/// What is learned on the way of houses with at most this many seeds is kept in their slot; of others, and of houses that are asked for,
+/// among the entries.
 const MOST_SLOTTED: u8 = 24;
 
 /// An answer that took fewer nodes than this is not worth an entry.
@@ -59,7 +60,7 @@ macro_rules! in_its_variant {
 pub struct Search<A: Allocator + Clone = Global> {
     pub(crate) table: Table<A>,
     order: MoveOrder,
-    // Houses with at most this many seeds are kept in slots.
+    // What is learned on the way of houses with at most this many seeds is kept in slots.
     most_slotted: u8,
     // Answers that took fewer nodes get no entry.
     least_nodes: u64,
@@ -289,7 +290,8 @@ impl<A: Allocator + Clone> Search<A> {
         most
     }
 
-    // Tries the moves that end in the store, the nearest to it first. Returns the most that they win, or a bound that is enough.
+    // Tries the moves that end in the store, the nearest to it first, until one wins enough. Returns a lower bound of what that one wins,
+    // or else, below `beta`, an upper bound for all.
     #[inline(always)]
     #[cycle(search)]
     fn bound_into_store<const VARIANT: u8>(&mut self, houses: &Houses, beta: u8) -> u8
@@ -313,8 +315,9 @@ impl<A: Allocator + Clone> Search<A> {
         most
     }
 
-    // Plays each of the remaining moves once. Returns the most that they win, or a bound that is enough. The turns that must be searched
-    // wait: they are written down, each with its priority, which is 0 for all else.
+    // Plays the remaining moves, each once, until one wins enough. Returns a lower bound of what that one wins, or else, below `beta`, an
+    // upper bound for all that don't wait. The turns that must be searched wait: they are written down, each with its priority, which is
+    // 0 for all else.
     #[inline(always)]
     #[cycle(search)]
     fn try_remaining<const VARIANT: u8>(

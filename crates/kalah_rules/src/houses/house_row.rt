@@ -9,7 +9,7 @@ use crate::limits::{MOST_HOUSES, MOST_SEEDS};
 use std::marker::Model;
 
 /// The houses of one side, house 1 first: at most six, with at most 31 seeds together. They are stored as they stand in the key of
-/// a board, with their number and the number of their seeds.
+/// houses, with their number and the number of their seeds.
 #[derive(Drop)]
 pub struct HouseRow {
     number: u64,

@@ -55,7 +55,7 @@ pub record AreSlotsFor (capacity count : ℕ) : Type 0 where
 abbrev pub AreSlots : ℕ → List Slot → Type 0
 AreSlots capacity slots = AreSlotsFor (min capacity FIRST_SLOTS) (length slots) ⊎ AreSlotsFor (min capacity most_entries) (length slots)
 
--- a slot for each value of a key's bits from `shift` on, and enough that no two keys share a slot and a tag
+-- a slot for each value of a mixed key's bits from `shift` on, and enough that no two keys share a slot and a tag
 pub record AreEnough (shift count : ℕ) : Type 0 where
   pub all : count ≡ 2 ^ (64 - shift)
   pub least : shift ≤ 54

@@ -77,7 +77,7 @@ fn small_positions_take_few_nodes(rt: HostRuntime) {
     assert!(rt; search_all(&rt, &SMALL, 428) == 8_192);
 }
 
-// Houses with that many seeds get no slot. The second search finds nothing kept, and keeps nothing, either.
+// Houses with that many seeds get no slot, and neither search gives them an entry.
 #[test]
 fn answers_after_few_nodes_get_no_entry(rt: HostRuntime) {
     let table = Table::new(rt.alloc(), 1).expect(&rt, "no memory for a table");

@@ -23,8 +23,8 @@ const MIX: u64 = 0x9E37_79B9_7F4A_7C15;
 // The number of tags.
 const TAG_COUNT: u64 = 0x40_0000_0000_0000;
 
-// What is known of some houses that have this slot, as one number. From bit 10 on it has the tag of their key, and below that the most
-// and the least that the mover wins. Initially it holds what is known of all houses.
+// What is known of some houses that have this slot, as one number. From bit 10 on it has the tag of their mixed key, and below that the
+// most and the least that the mover wins. Initially it holds what is known of all houses.
 #[derive(Clone, Copy)]
 struct Slot {
     stored: u64,
