@@ -1,4 +1,10 @@
 -- The moves that the search has tried, and those that wait for it.
+--
+-- The life of a legal move, and what the loop that it is in keeps of it and all others (`most` is the most that a tried one wins):
+-- marked, it ends in the store, and `bound_into_store` is still to try it: of such moves the unmarked were tried (`UnmarkedWinAtMost`);
+-- marked, it does not, and `try_remaining` is still to play it: of such moves each unmarked one waits or was tried (`ArePlayed`);
+-- waiting: its turn must be searched, is written down, and has a priority (`AreTurns`, `WaitsWith`; `AreWaiting` once all were played);
+-- tried: it wins at most `most`. `explore` tries those that wait, and all without a priority were tried (`AreUntried`).
 use Rattle.std.proofs.Common.{◌≡◌, ℕ, ◌+◌, ◌%◌, ◌^◌, ◌-◌, ◌<◌, ◌≤◌, inl, inr, List, get_or, arith, sym, ap, ◌∙◌, length, subst, ◌↔◌, Bool, false, IsTrue, Contains, max, slice_set, length-set}
 use Rattle.std.proofs.lemmas.Bool.{cases_lt, cases_eq}
 use Rattle.kalah_solve.specs.Marks.{cell, IsLastMark}

@@ -8,6 +8,8 @@ use Rattle.kalah_solve.proofs.MarksLemmas.{AreMovable}
 use Rattle.kalah_solve.proofs.SearchLemmas.{UnmarkedWinAtMost, ArePlayed, AreUntried, WaitsWith}
 use Rattle.kalah_solve.proofs.search.Search.+search.Given as goal
 
+-- Each function calls those below it on the same houses, and so on down to the houses after a move, which have fewer moves left. With 9 for a
+-- move, 8 is that of a step whose houses are known, and 3 that of the functions which play it.
 abbrev pub decreases-bound : goal.decreases-bound
 decreases-bound g l = 9 * moves_left (storeless l.houses) + 6
 
