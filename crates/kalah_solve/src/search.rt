@@ -191,6 +191,7 @@ impl<A: Allocator + Clone> Search<A> {
     }
 
     // Returns whether the move of this house wins at least `beta` seeds, for houses of this variant.
+    #[tactic(auto, using(crate::proofs::WorthLemmas::goes_on))]
     fn move_reaches_in_variant<const VARIANT: u8>(
         &mut self,
         houses: &Houses,

@@ -37,6 +37,7 @@ impl SeedBounds {
     ghost use Rattle.kalah_solve.specs.Bounds.Won.{won, IsWithinBounds};
 
     // Returns what the mover can win of the seeds in these houses.
+    #[tactic(auto, using(crate::proofs::BoundsLemmas::won_of_houses))]
     pub(crate) fn unknown(houses: &Houses) -> SeedBounds
         ensures least { result.least ≡ 0 }
         ensures most { result.most ≡ seeds_in_houses (storeless houses.now) }

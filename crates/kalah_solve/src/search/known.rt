@@ -12,6 +12,7 @@ use std::alloc::Allocator;
 
 impl<A: Allocator + Clone> Search<A> {
     // Returns an interval that holds the worth of the houses.
+    #[tactic(auto, using(crate::proofs::BoundsLemmas::worth_low, crate::proofs::BoundsLemmas::worth_high))]
     pub(super) fn known_margins(&mut self, houses: &Houses) -> Interval
         requires { IsWithinHouses houses.now }
         ensures { Encloses result (houses_worth houses.now) }
@@ -35,6 +36,7 @@ impl<A: Allocator + Clone> Search<A> {
 
     // Returns what the entries know of the seeds that the mover wins.
     #[inline(never)]
+    #[tactic(auto, using(crate::proofs::BoundsLemmas::won_of_houses, crate::proofs::BoundsLemmas::worth_of_won))]
     fn known_by_entry(&mut self, houses: Houses) -> SeedBounds
         ensures { IsWithinBounds result (won houses) }
     {
@@ -45,6 +47,7 @@ impl<A: Allocator + Clone> Search<A> {
     }
 
     // Stores what was learned of the houses in this many nodes.
+    #[tactic(auto, using(crate::proofs::BoundsLemmas::won_of_houses, crate::proofs::BoundsLemmas::worth_of_won))]
     pub(super) fn learn(&mut self, houses: &Houses, bounds: SeedBounds, nodes: u64)
         requires { IsWithinBounds bounds (won houses.now) }
     {

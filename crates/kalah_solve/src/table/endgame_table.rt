@@ -60,6 +60,7 @@ impl<A: Allocator> Model for EndgameTable<A> {
 }
 
 // Returns cell `i` of the choices, from the cells before it.
+#[tactic(auto, using(crate::proofs::TableLemmas::choice_first, crate::proofs::TableLemmas::choice_next, crate::proofs::TableLemmas::choice_small))]
 fn choice(choices: &[u32; CHOICES], i: usize) -> u32
     requires inside { i < CHOICES }
     requires before { AreChoices i choices.now }
@@ -87,6 +88,7 @@ fn choices() -> [u32; CHOICES]
 }
 
 // Returns cell `i` of the pairs, from the choices.
+#[tactic(auto, using(crate::proofs::TableLemmas::choice_small))]
 fn pair_cell(choices: &[u32; CHOICES], i: usize) -> u32
     requires inside { i < PAIRS }
     requires choices { AreChoices CHOICES choices.now }

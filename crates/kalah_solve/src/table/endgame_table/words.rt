@@ -51,6 +51,7 @@ impl Play<(), ()> for Writes {
 }
 
 // Returns the index of the word for houses of this rank in their variant.
+#[tactic(auto, using(crate::proofs::TableLemmas::word_inside))]
 pub(super) fn word_of(houses: &Houses, rank: u32) -> usize
     requires rank { rank ≡ rank_of_houses houses.now }
     requires few { IsEnding houses.now }
