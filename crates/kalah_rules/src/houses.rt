@@ -147,6 +147,7 @@ impl Houses {
 
     /// Returns these houses, which must be of this variant. If it is a constant, what is computed of the result is compiled for this variant.
     #[inline(always)]
+    #[tactic(auto, using(crate::proofs::KeyLemmas::pack_of))]
     pub fn known_variant(self, variant: u8) -> Houses
         requires { variant_of self ≡ variant }
         ensures { result ≡ self }

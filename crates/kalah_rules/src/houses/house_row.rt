@@ -87,6 +87,7 @@ impl HouseRow {
     }
 
     // Returns the houses as a number.
+    #[tactic(auto, using(crate::proofs::KeyLemmas::row_is_small))]
     pub(super) fn number(&self) -> u64
         ensures value { result ≡ number_of self.now }
         ensures small { result < 2 ^ 30 }

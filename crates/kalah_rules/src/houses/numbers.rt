@@ -134,6 +134,7 @@ pub(super) fn one_each_within(m: u8, x: u8) -> u64
 }
 
 // Returns a row of `m` houses with `seeds` seeds in each.
+#[tactic(auto, using(crate::proofs::KeyLemmas::product_small))]
 pub(super) fn the_same_each(m: u8, seeds: u8) -> u64
     requires side { m ≤ 6 }
     requires few { seeds ≤ 10 }
@@ -145,6 +146,7 @@ pub(super) fn the_same_each(m: u8, seeds: u8) -> u64
 
 // Returns what the mover's houses gain by a sowing from house `h` of `m`. It has `laps` whole laps, and then one seed for each cell up
 // to place `reach`. Places are counted round the lap from house 1 on, and the store has place m + 1.
+#[tactic(auto, using(crate::proofs::KeyLemmas::up_to_past))]
 pub(super) fn own_gains(m: u8, h: u8, laps: u8, reach: u8) -> u64
     requires first { 1 ≤ h }
     requires last { h ≤ m }
