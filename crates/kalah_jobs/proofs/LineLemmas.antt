@@ -8,7 +8,6 @@ use Rattle.std.proofs.lemmas.Option.{cond_some}
 use Rattle.std.proofs.lemmas.Fmt.{decimal_digit, decimal_step, length-decimal-le}
 use Rattle.kalah_jobs.specs.Line.Line.{IsNumber, comma, slash, AreHouses, IsSide, space, suffix_of, IsLineOf, without_cr, HasSidesInLimits, Reads, Holds, HasFault, side_text, line_text_of, carriage_return}
 use Rattle.kalah_jobs.specs.Line.Reading.{number_from, number_at, ◌>>=◌, SideRead, store_at, house_followed, side_from, side_at, rule_of, position_of, position_from, written_of, admitted, admitted_if_written, reading_of}
-use Rattle.std.proofs.lemmas.List.{nil_from_length}
 use Rattle.kalah_jobs.specs.Line.Side.{AreKept}
 use Rattle.kalah_jobs.specs.declared.line.side.Side.{Side}
 use Rattle.kalah_rules.specs.Position.{Position, side_length, seeds_in_houses, IsWithinLimits}

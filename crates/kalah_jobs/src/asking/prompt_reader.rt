@@ -104,10 +104,11 @@ impl<'a, I: Read + Drop, O: Sink> PromptReader<'a, I, O> {
             }
             read_ahead(self.input, &mut self.budget, out)?;
         }
-        let byte = self.input.buffer().first().copied();
-        let count = usize::from(byte.is_some());
-        self.input.consume(count);
-        self.budget -= count as u64;
-        Ok(byte)
+        let [byte, ..] = *self.input.buffer() else {
+            return Ok(None);
+        };
+        self.input.consume(1);
+        self.budget -= 1;
+        Ok(Some(byte))
     }
 }

@@ -42,7 +42,7 @@ impl Collector {
     {
         let mut files = Vec::with_capacity(alloc, jobs.files() as usize)?;
         for f in 0..jobs.files() {
-            files.push(Arrivals::new(alloc, jobs.lines(f))?)?;
+            files.push_reserved(Arrivals::new(alloc, jobs.lines(f))?);
         }
         Ok(Collector { files })
     }

@@ -94,8 +94,8 @@ impl Jobs {
         let mut before = 0;
         let mut faults = 0;
         for file in files {
-            let mut entries = Vec::with_capacity(alloc, file.lines())?;
-            faults += read_entries(question, &file.bytes, &mut entries)?;
+            let (entries, faulty) = read_entries(alloc, question, file)?;
+            faults += faulty;
             starts.push_reserved(before as u32);
             before += entries.len();
             read.push_reserved(entries);
@@ -205,19 +205,19 @@ fn few_lines(files: &[FileText]) -> Option<usize>
     Some(MOST_LINES - room)
 }
 
-// Appends the entries of the lines of some bytes, with this question. Returns how many of these lines are answered by a fault.
+// Returns the entries of the lines of a file, with this question, and how many of these lines are answered by a fault.
 #[tactic(auto, using(crate::proofs::FilesLemmas::no_line), unfolding(crate::specs::Files::Jobs::entries_to))]
 fn read_entries(
+    alloc: Global,
     question: Question,
-    bytes: &[u8],
-    entries: &mut Vec<Entry>,
-) -> Result<usize, AllocError>
-    ensures read { OnOk result (entries.new.items ≡ entries.old.items ++ entries_to question bytes.now) }
-    ensures faults { IfOk result (λ faults. count_by is_faulty_entry entries.new.items
-        ≡ count_by is_faulty_entry entries.old.items + faults) }
+    file: &FileText,
+) -> Result<(Vec<Entry>, usize), AllocError>
+    ensures read { IfOk result (λ read. read.0.items ≡ entries_to question file.now.bytes) }
+    ensures faults { IfOk result (λ read. read.1 ≡ count_by is_faulty_entry read.0.items) }
 {
+    let mut entries = Vec::with_capacity(alloc, file.lines())?;
     let mut faults = 0;
-    let mut rest = bytes;
+    let mut rest = file.bytes.as_slice();
     while !rest.is_empty() {
         let (line, after) = first_line(rest);
         let entry = Entry::of_line(question, line);
@@ -227,7 +227,7 @@ fn read_entries(
         entries.push(entry)?;
         rest = after;
     }
-    Ok(faults)
+    Ok((entries, faults))
 }
 
 #[cfg(test)]

@@ -9,7 +9,7 @@ use crate::writing::answer::{Answer, Taken};
 use crate::writing::named_text::write_named;
 use crate::writing::sink::{Sink, write_unless_failed};
 use crate::writing::stack_text::{ROOM, StackText};
-use crate::writing::steps::{push_steps, write_steps};
+use crate::writing::steps::{text_of_steps, write_steps};
 use crate::writing::steps_in_line::write_steps_in_line;
 use kalah_solve::{MoveValue, MoveValues};
 use std::alloc::{AllocError, Global};
@@ -95,20 +95,15 @@ fn prepend_place(text: &mut StackText, line: u32)
 pub fn answer_text(alloc: Global, name: &str, taken: &Taken) -> Result<String, AllocError>
     ensures { IfOk result (λ text. string_bytes text ≡ answer_line name.now taken.now) }
 {
-    let mut text = String::new(alloc);
     let mut rest = StackText::new();
-    match &taken.answer {
-        Answer::Steps(board) => {
-            prepend_place(&mut rest, taken.line);
-            push_steps(&mut text, name, rest.as_str(), board)?;
-        }
-        _ => {
-            prepend_joined_text(&mut rest, &taken.answer);
-            prepend_place(&mut rest, taken.line);
-            text.push_str(name)?;
-            text.push_str(rest.as_str())?;
-        }
+    if let Answer::Steps(board) = &taken.answer {
+        prepend_place(&mut rest, taken.line);
+        return text_of_steps(alloc, name, rest.as_str(), board);
     }
+    prepend_joined_text(&mut rest, &taken.answer);
+    prepend_place(&mut rest, taken.line);
+    let mut text = String::from_str(alloc, name)?;
+    text.push_str(rest.as_str())?;
     Ok(text)
 }
 

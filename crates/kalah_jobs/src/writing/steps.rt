@@ -1,5 +1,5 @@
 //! The steps of a position, a line each.
-ghost use Rattle.std.specs.Prelude.{◌≡◌, ◌≤◌, ◌∷◌, [], ◌++◌, if◌then◌else◌, OnOk, length, map, string_bytes};
+ghost use Rattle.std.specs.Prelude.{◌≡◌, ◌≤◌, ◌∷◌, [], ◌++◌, if◌then◌else◌, IfOk, length, map, string_bytes};
 ghost use Rattle.std.specs.List.{join_with_byte};
 ghost use Rattle.kalah_jobs.specs.Files.Lines.{line_feed};
 ghost use Rattle.kalah_jobs.specs.Line.Line.{step_text_of};
@@ -10,7 +10,7 @@ use crate::writing::named_text::write_named;
 use crate::writing::position_text::text_of_step;
 use crate::writing::sink::{Sink, write_unless_failed};
 use kalah_rules::{Board, Step};
-use std::alloc::AllocError;
+use std::alloc::{AllocError, Global};
 
 // Writes the line of a move: the name, the place, the text of the move and a line feed.
 fn write_step_line<W: Sink>(out: &mut W, name: &str, place: &str, h: u8, step: &Step)
@@ -46,25 +46,27 @@ fn before_line(is_first: bool) -> &'static str
     if is_first { "" } else { "\n" }
 }
 
-/// Pushes a line for each legal house of a board, in ascending order: the name, the place and the text of its move. Between any two
+/// Returns a line for each legal house of a board, in ascending order: the name, the place and the text of its move. Between any two
 /// stands a line feed.
-pub(crate) fn push_steps(
-    text: &mut String,
+pub(crate) fn text_of_steps(
+    alloc: Global,
     name: &str,
     place: &str,
     board: &Board,
-) -> Result<(), AllocError>
-    ensures { OnOk result (string_bytes text.new ≡ string_bytes text.old
-        ++ join_with_byte line_feed (map (λ text. (name.now ++ place.now) ++ text) (steps_texts board.now))) }
+) -> Result<String, AllocError>
+    requires { length place.now ≤ 22 }
+    ensures { IfOk result (λ text. string_bytes text
+        ≡ join_with_byte line_feed (map (λ text. (name.now ++ place.now) ++ text) (steps_texts board.now))) }
 {
+    let mut text = String::new(alloc);
     let moves = board.legal();
     for i in 0..moves.len() {
         let h = moves.get(i);
-        let step = text_of_step(h, &board.apply(h), "");
+        let mut step = text_of_step(h, &board.apply(h), "");
+        step.prepend(place);
         text.push_str(before_line(i == 0))?;
         text.push_str(name)?;
-        text.push_str(place)?;
         text.push_str(step.as_str())?;
     }
-    Ok(())
+    Ok(text)
 }

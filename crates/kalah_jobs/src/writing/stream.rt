@@ -44,12 +44,14 @@ pub fn write_pieces<W: Write>(writer: &mut W, bytes: &[u8]) -> io::Result<()>
         return Ok(());
     }
     // Mostly the first call takes all. A result that is passed on whole would be kept in memory, so it is tested, here and by callers.
-    match writer.write(bytes) {
+    let taken = match writer.write(bytes) {
         Ok(0) => return Err(io::Error::from(ErrorKind::WriteZero)),
-        Ok(taken) if taken < bytes.len() => write_rest(writer, &bytes[taken..])?,
-        Ok(_) => {}
-        Err(error) if error.kind() == ErrorKind::Interrupted => write_rest(writer, bytes)?,
+        Ok(taken) => taken,
+        Err(error) if error.kind() == ErrorKind::Interrupted => 0,
         Err(error) => return Err(error),
+    };
+    if taken < bytes.len() {
+        write_rest(writer, &bytes[taken..])?;
     }
     Ok(())
 }

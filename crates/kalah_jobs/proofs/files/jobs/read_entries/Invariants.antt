@@ -1,4 +1,4 @@
-use Rattle.std.proofs.Common.{◌≡◌, ◌+◌, ◌++◌, length, map, count_by}
+use Rattle.std.proofs.Common.{◌≡◌, ◌++◌, length, map, count_by}
 use Rattle.kalah_jobs.specs.Files.Lines.{lines_of}
 use Rattle.kalah_jobs.specs.Files.Entry.{entry_to}
 use Rattle.kalah_jobs.specs.Writing.Answer.{is_faulty_entry}
@@ -6,9 +6,8 @@ use Rattle.kalah_jobs.proofs.files.jobs.read_entries.Given as goal
 
 abbrev pub invariant-loop-rest : goal.invariant-loop-rest
 invariant-loop-rest l = record {
-  read : l.entries.items ++ map (entry_to l.question) (lines_of l.rest)
-      ≡ l.fn.entries.items ++ map (entry_to l.question) (lines_of l.fn.bytes);
-  faults : count_by is_faulty_entry l.entries.items ≡ count_by is_faulty_entry l.fn.entries.items + l.faults;
+  read : l.entries.items ++ map (entry_to l.question) (lines_of l.rest) ≡ map (entry_to l.question) (lines_of l.file.bytes);
+  faults : l.faults ≡ count_by is_faulty_entry l.entries.items;
 }
 
 abbrev pub decreases-loop-rest : goal.decreases-loop-rest

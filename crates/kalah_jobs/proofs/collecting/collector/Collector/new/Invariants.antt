@@ -1,6 +1,10 @@
-use Rattle.std.proofs.Common.{◌≡◌, map, length, take}
+use Rattle.std.proofs.Common.{◌≡◌, ◌≤◌, map, length, take}
+use Rattle.std.specs.Prelude.{vec_capacity}
 use Rattle.kalah_jobs.specs.Collecting.CollectorState.{new_file}
 use Rattle.kalah_jobs.proofs.collecting.collector.Collector.new.Given as goal
 
 abbrev pub invariant-loop-f : goal.invariant-loop-f
-invariant-loop-f l = l.files.items ≡ map (λ entries. new_file (length entries)) (take l.f l.jobs)
+invariant-loop-f l = record {
+  files : l.files.items ≡ map (λ entries. new_file (length entries)) (take l.f l.jobs);
+  room : length l.jobs ≤ vec_capacity l.files;
+}

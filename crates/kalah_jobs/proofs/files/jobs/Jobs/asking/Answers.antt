@@ -1,9 +1,8 @@
-use Rattle.std.proofs.Common.{◌∷◌, [], ◌∙◌, ◌++◌, ap, count_by, arith}
+use Rattle.std.proofs.Common.{◌∷◌, [], ◌∙◌, ap, sym, arith}
 use Rattle.std.proofs.lemmas.Grind.{common_steps}
 use Rattle.std.proofs.lemmas.List.{drop_all, take_all, length-map, map-append}
 use Rattle.std.proofs.lemmas.List.Sums.{sum_by-drop_more}
-use Rattle.kalah_jobs.specs.Files.Jobs.{jobs_to, lines_in, lines_in_all, entries_to}
-use Rattle.kalah_jobs.specs.Writing.Answer.{is_faulty_entry}
+use Rattle.kalah_jobs.specs.Files.Jobs.{jobs_to, lines_in, lines_in_all}
 use Rattle.kalah_jobs.proofs.FilesLemmas.{length-entries_to, one_read}
 use Rattle.kalah_jobs.proofs.files.jobs.Jobs.asking.Goals as goal
 
@@ -55,17 +54,14 @@ push_reserved-requires-in-loop-file c =
 pub loop-file-preserved : goal.loop-file-preserved
 loop-file-preserved c =
     let so_far = c.loop-file.invariant in
-    let none = c.in_ok-entries.ensures.items in
-    let bytes = c.deref.ensures.value ∙ ap (λ f. f.bytes) c.file.view_is in
+    let own = c.in_ok-entries.entries in
     record {
       files = rw (
         c.push_reserved.ensures.items,
         c.push_reserved-in-loop-file.ensures.items,
-        map-append (λ own. own.items) c.loop-file.read.items (c.read_entries.new.entries ∷ []),
+        map-append (λ own. own.items) c.loop-file.read.items (own ∷ []),
       ) (one_read c.file-item.result so_far.files c.loop-file-test.true c.file-item.is
-          (c.in_ok-faults.ensures.read ∙ (λ i. none i ++ entries_to c.args.question (bytes i)))
-          (c.len.ensures ∙ c.read_entries.new.entries.ok.0)
-          (omega (arith, c.in_ok-faults.ensures.faults, ap (count_by is_faulty_entry) none)));
+          c.in_ok-entries.ensures.read (c.len-before.ensures ∙ own.ok.0) (sym c.in_ok-entries.ensures.faults));
       room = omega (arith, c.push_reserved-in-loop-file.ensures.capacity, so_far.room);
       starts_room = omega (arith, c.push_reserved.ensures.capacity, so_far.starts_room);
     }
