@@ -80,7 +80,8 @@ pub ruleset fronts = (front_within, front_came, front_more)
 
 -- ==== A test by which one offer is found in a list: it holds only of that offer
 
--- entries distinguished by a code
+-- Counting needs a Boolean test of entries, and equality of values is none. So `codes` finds a code for each entry, no two the same (`inj`):
+-- a tree of numbers (`Gv`), and these can be compared.
 coded_entry : Coded Entry
 coded_entry = hlevel codes
 
@@ -171,17 +172,19 @@ rows_count : (n : ℕ) (rows : List (List ℕ)) (q : ℕ → Bool) → ((x : ℕ
     sum_by (count_by q) rows ≡ count_by q (range_with_len 0 n)
 rows_count n rows q once =
     let flat : List ℕ = flat_map (λ r. r) rows in
-    let times_offered : (x : ℕ) → count_by (λ y. y == x) flat ≡ (if nat_lt x n then 1 else 0) = λ x. count_flat (λ y. y == x) rows ∙ once x in
-    let worth : ℕ → ℕ = λ x. cond (q x) 1 0 in
-    let many : length (map worth (range_with_len 0 n)) ≡ n = length-map-range_with_len worth 0 n in
-    sym (count_flat q rows)
-    ∙ by_class (λ y. y) q flat (map worth (range_with_len 0 n))
-    (λ k d within. let z = get_or flat k d in
-    let some = rw (eq-eqb z z refl) at (get_or-le-sum_by (λ y. cond (y == z) 1 0) flat k d within) in
-    let low : z < n = grind (arith, times_offered z, some, nat_tests) in omega (arith, many))
-    (λ x low. class_of_number q x flat ∙ ap (λ c. if q x then c else 0) (times_offered x ∙ rw (lt-ltb x n (omega (arith, low, many))) refl)
-    ∙ sym (get_or-map-range_with_len worth 0 n x x 0 (omega (arith, low, many)) (omega arith)))
-    ∙ sum-map worth (range_with_len 0 n)
+    let times_in_flat : (x : ℕ) → count_by (λ y. y == x) flat ≡ (if nat_lt x n then 1 else 0) = λ x. count_flat (λ y. y == x) rows ∙ once x in
+    let passes : ℕ → ℕ = λ x. cond (q x) 1 0 in
+    let many : length (map passes (range_with_len 0 n)) ≡ n = length-map-range_with_len passes 0 n in
+    let below : All (λ z. z < length (map passes (range_with_len 0 n))) flat = λ k d within.
+        let z = get_or flat k d in
+        let some = rw (eq-eqb z z refl) at (get_or-le-sum_by (λ y. cond (y == z) 1 0) flat k d within) in
+        let low : z < n = grind (arith, times_in_flat z, some, nat_tests) in
+        omega (arith, many) in
+    let own : (x : ℕ) → x < length (map passes (range_with_len 0 n)) →
+        in_class (λ y. y) q x flat ≡ get_or (map passes (range_with_len 0 n)) x 0 = λ x low.
+        class_of_number q x flat ∙ ap (λ c. if q x then c else 0) (times_in_flat x ∙ rw (lt-ltb x n (omega (arith, low, many))) refl)
+        ∙ sym (get_or-map-range_with_len passes 0 n x x 0 (omega (arith, low, many)) (omega arith)) in
+    sym (count_flat q rows) ∙ by_class (λ y. y) q flat (map passes (range_with_len 0 n)) below own ∙ sum-map passes (range_with_len 0 n)
 
 -- for each test, the number of received results that pass it equals that of the results of all numbers
 got_all_once : {X : Type 0} (p : X → Bool) (n : ℕ) (f : ℕ → X) (rows : List (List ℕ)) (got : List (ℕ × X))
@@ -452,22 +455,22 @@ module _ {jobs : List (List Entry)} {past : List Job} {files after : List Arriva
       (λ f other. rw (ne_eqb g f (λ same. other (sym same))) (append-nil (take (state_of files f).taken (answered_lines_of jobs f)))))
 
 -- any list of events
-runs : (jobs : List (List Entry)) (past : List Job) (events : List Event) (files after : List ArrivalsState)
+runs_keep : (jobs : List (List Entry)) (past : List Job) (events : List Event) (files after : List ArrivalsState)
     → Runs jobs files events after → Kept jobs past files →
     Kept jobs (past ++ offers events) after × WereTaken jobs files (λ f. takes f events) after
-runs jobs past [] files after run kept =
+runs_keep jobs past [] files after run kept =
     rw (← run, append-nil) (kept, λ f. append-nil (take (state_of files f).taken (answered_lines_of jobs f)))
-runs jobs past (Offered o gave ∷ events) files after run kept =
+runs_keep jobs past (Offered o gave ∷ events) files after run kept =
     let now = kept_by_offer kept o gave run.1 in
-    let rest = runs jobs (past ++ o ∷ []) events run.0 after run.2 now.0 in (
+    let rest = runs_keep jobs (past ++ o ∷ []) events run.0 after run.2 now.0 in (
       subst (λ (l : List Job). Kept jobs l after) (append_assoc past (o ∷ []) (offers events)) rest.0,
       λ f. ap (λ n. take n (answered_lines_of jobs f) ++ takes f events) (sym (now.1 f)) ∙ rest.1 f,
     )
-runs jobs past (Took g None ∷ events) files after run kept =
+runs_keep jobs past (Took g None ∷ events) files after run kept =
     let step = run.1 in
-    runs jobs past events files after (subst (λ (s : List ArrivalsState). Runs jobs s events after) step.unchanged run.2) kept
-runs jobs past (Took g (Some t) ∷ events) files after run kept =
-    let rest = runs jobs past events run.0 after run.2 (kept_by_take kept g t run.1) in
+    runs_keep jobs past events files after (subst (λ (s : List ArrivalsState). Runs jobs s events after) step.unchanged run.2) kept
+runs_keep jobs past (Took g (Some t) ∷ events) files after run kept =
+    let rest = runs_keep jobs past events run.0 after run.2 (kept_by_take kept g t run.1) in
     (rest.0, λ f. grind (arith, append_assoc, taken_next kept g t run.1 f, rest.1 f))
 
 -- ---- new files
@@ -490,8 +493,8 @@ new_taken (entries ∷ jobs) zero = refl
 new_taken (entries ∷ jobs) (suc f) = new_taken jobs f
 
 -- to new files nothing was offered, and nothing was taken of them
-pub start : (jobs : List (List Entry)) → Kept jobs [] (new_files jobs)
-start jobs = record {
+pub new_files_kept : (jobs : List (List Entry)) → Kept jobs [] (new_files jobs)
+new_files_kept jobs = record {
   offered = record {
     counts = new_lines jobs;
     came = λ f k e is has. absurd (let h = has.1 in omega arith);
@@ -505,11 +508,11 @@ start jobs = record {
 -- after these events the offers have come
 pub offers_held : (jobs : List (List Entry)) (events : List Event) (files : List ArrivalsState) → Runs jobs (new_files jobs) events files
     → HoldsOffered jobs (offers events) files
-offers_held jobs events files run = (runs jobs [] events (new_files jobs) files run (start jobs)).0.offered
+offers_held jobs events files run = (runs_keep jobs [] events (new_files jobs) files run (new_files_kept jobs)).0.offered
 
-pub law_holds : KeepsItsLaw
-law_holds jobs events files run =
-    let all = runs jobs [] events (new_files jobs) files run (start jobs) in
+pub keeps_its_law : KeepsItsLaw
+keeps_its_law jobs events files run =
+    let all = runs_keep jobs [] events (new_files jobs) files run (new_files_kept jobs) in
     let holds = all.0.offered in
     let came : (f k : ℕ) → HasArrived jobs events f k → IsSome (arrived_for (state_of files f) k) =
     λ f k c. grind (arith, c, holds.came f k) in
