@@ -130,7 +130,7 @@ module _ (a : HousesState) (w : IsWithinHouses a) where
       let most = (worth_is_most (storeless a) (omega arith) (legal_going (storeless a) h has)).most h has in
       omega (arith, ints, (won_of_move h has).is, (won_of_houses w).is)
 
-  -- some move wins as many as best play
+  -- some move wins what best play wins
   pub won_reached : is_over (storeless a) ≡ false → (h : ℕ) × Contains (legal_houses (storeless a)) h
       × (won_by_step (houses_step a h) ≡ won a)
   won_reached going =

@@ -9,7 +9,7 @@ use Rattle.kalah_rules.specs.Key.{number_of}
 use Rattle.kalah_rules.specs.Packed.{BeginsHouse, ones}
 use Rattle.kalah_rules.specs.Sowing.{row_of}
 use Rattle.kalah_rules.proofs.KeyLemmas.{pow_five, ones_le}
-use Rattle.kalah_solve.specs.Marks.{cell, AreMarks, IsLastMark, MarksFilled, MarksEnding, all_end_in_store}
+use Rattle.kalah_solve.specs.Marks.{cell, AreMarks, IsLastMark, MarksFilled, MarksEnding, all_end_in_store, without_mark}
 use Rattle.std.proofs.lemmas.List.FromFn.{get_or-map-range_with_len}
 use Rattle.std.proofs.lemmas.List.{get_or_past}
 use Rattle.kalah_rules.specs.Position.{HousesState, IsWithinHouses, is_over, storeless}
@@ -57,12 +57,12 @@ module _ (m : ℕ) (f : ℕ → ℕ) (few : (h : ℕ) → f h < 32) where
   cell_outside : (i : ℕ) → m ≤ i → cell (number_of (row_of m f)) i ≡ 0
   cell_outside i past = grind (arith, cell_of_row, row_of-few, get_or_past, length-row_of)
 
--- the cells of two numbers are taken exclusively one by one
+-- each cell of an exclusive or is that of the two cells
 cell_xor : (i a b : ℕ) → cell (bit_xor a b) i ≡ bit_xor (cell a i) (cell b i)
 cell_xor zero a b = xor_mod a b 5
 cell_xor (suc i) a b = ap (λ n. cell n i) (xor_shr a b 5) ∙ cell_xor i (a / 32) _
 
--- six cells with one at most are marks
+-- six cells with at most one each are marks
 six_marks : {marks : ℕ} → marks < 2 ^ 30 → ((i : ℕ) → i < 6 → cell marks i ≤ 1) → AreMarks marks
 six_marks {marks} small single = record {
   small = small;
@@ -71,12 +71,12 @@ six_marks {marks} small single = record {
 
 -- ==== The last mark
 
--- the highest cell with something
+-- the highest cell holds something
 pub highest_cell_some : (q n : ℕ) → 32 ^ q ≤ n → n < 32 ^ suc q → 0 < cell n q
 highest_cell_some zero n low high = omega arith
 highest_cell_some (suc q) n low high = highest_cell_some q _ (omega arith) (omega arith)
 
--- one less there leaves the others
+-- one less in the highest cell leaves the others
 pub other_cells_kept : (q i n : ℕ) → 32 ^ q ≤ n → n < 32 ^ suc q → i ≢ q → cell (n - 32 ^ q) i ≡ cell n i
 other_cells_kept zero zero n low high other = omega arith
 other_cells_kept zero (suc i) n low high other = grind arith
@@ -85,36 +85,36 @@ other_cells_kept (suc q) (suc i) n low high other =
     let rest : (n - 32 ^ suc q) / 32 ≡ n / 32 - 32 ^ q = omega arith in
     ap (λ k. cell k i) rest ∙ other_cells_kept q i (n / 32) (omega arith) (omega arith) (omega arith)
 
--- one less there leaves no more in that cell
+-- one less there leaves no more there
 highest_cell_falls : (q n : ℕ) → 32 ^ q ≤ n → n < 32 ^ suc q → cell (n - 32 ^ q) q ≤ cell n q
 highest_cell_falls zero n low high = omega arith
 highest_cell_falls (suc q) n low high =
     let rest : (n - 32 ^ suc q) / 32 ≡ n / 32 - 32 ^ q = omega arith in
     rw rest (highest_cell_falls q _ (omega arith) (omega arith))
 
--- the highest cell with one bounds the number
+-- if the highest cell holds one, it bounds the number
 below_twice_highest : (q n : ℕ) → n < 32 ^ suc q → cell n q ≤ 1 → n < 2 * 32 ^ q
 below_twice_highest zero n high single = omega arith
 below_twice_highest (suc q) n high single =
     let rest = below_twice_highest q _ (omega arith) single in
     omega arith
 
--- what is left of some marks without the last was there before, and each that is missing was that one or was not marked
+-- without the last mark all other marks stay, and no mark is new
 module _ (marks h : ℕ) (is : IsLastMark marks h) where
   -- the last mark is one
   pub last_marked : 0 < cell marks (h - 1)
   last_marked = highest_cell_some _ _ is.low is.high
 
   -- what is left was marked before
-  pub marked_before : (i : ℕ) → 0 < cell (marks - 32 ^ (h - 1)) i → 0 < cell marks i
+  pub marked_before : (i : ℕ) → 0 < cell (without_mark marks h) i → 0 < cell marks i
   marked_before i some = grind (arith, cases_eq, last_marked, other_cells_kept)
 
   -- each other unmarked house was unmarked before
-  pub unmarked_before : (i : ℕ) → i ≢ h - 1 → cell (marks - 32 ^ (h - 1)) i ≡ 0 → cell marks i ≡ 0
+  pub unmarked_before : (i : ℕ) → i ≢ h - 1 → cell (without_mark marks h) i ≡ 0 → cell marks i ≡ 0
   unmarked_before i other none = omega (arith, other_cells_kept)
 
 -- without the last mark the number is lower
-pub without_last_less : {marks h : ℕ} → IsLastMark marks h → marks - 32 ^ (h - 1) < marks
+pub without_last_less : {marks h : ℕ} → IsLastMark marks h → without_mark marks h < marks
 without_last_less {marks} {h} is = omega arith
 
 -- the last mark is found by the leading zeros
@@ -162,7 +162,7 @@ pub last_mark_is_power : {marks bit : ℕ} → marks < 2 ^ 30 → IsLastMark mar
 last_mark_is_power {marks} {bit} small is begins = grind (arith, pow_five)
 
 -- the others are marks still
-pub without_last_marks : {marks h : ℕ} → AreMarks marks → IsLastMark marks h → AreMarks (marks - 32 ^ (h - 1))
+pub without_last_marks : {marks h : ℕ} → AreMarks marks → IsLastMark marks h → AreMarks (without_mark marks h)
 without_last_marks {marks} {h} are is = grind (arith, cases_eq, highest_cell_falls, other_cells_kept)
 
 -- ==== Cells that hold something
@@ -231,7 +231,7 @@ marks_filled row =
 apart_or_equal : (x y : ℕ) → (0 < bit_xor (min 1 (bit_xor x y)) 1) ↔ (x ≡ y)
 apart_or_equal x y = grind (arith, cases_eq, bit_xor, xor_self, min, xor_add_and, and_le_l, and_le_r)
 
--- the marks of a row of m cells, of which those that don't hold their distance are given
+-- the marks of a row of m cells, if those that don't hold their distance are given
 module _ (row : ℕ) {m others marks : ℕ} (few : m ≤ 6) (others_are : MarksFilled (bit_xor row (all_end_in_store m)) others)
     (marks_are : marks ≡ bit_xor others (ones m)) where
   -- a cell is marked unless it is among the others
@@ -255,12 +255,12 @@ module _ (row : ℕ) {m others marks : ℕ} (few : m ≤ 6) (others_are : MarksF
 
 -- ==== Marks of a player's houses
 
--- of two marks, of which the second is only where the first is, one remains where the first is and the second is not
+-- if the second of two marks is only where the first is, one remains where the first is and the second is not
 one_remaining : (first second : ℕ) → first ≤ 1 → second ≤ 1 → (0 < second → 0 < first)
     → (0 < bit_xor first second) ↔ ((0 < first) × ¬ (0 < second))
 one_remaining first second single single' within = grind (arith, bit_xor)
 
--- what is equivalent to one thing and not another is so to their equivalents, one part of the other being implied
+-- from "X and not N" to "S and not E", if X is S, and N is "L and E", where S implies L
 unless_both : {A X N S L E : Type 0} → A ↔ (X × ¬ N) → X ↔ S → N ↔ (L × E) → (S → L) → A ↔ (S × ¬ E)
 unless_both a x n implied = (
   λ p. let q = a.0 p in (x.0 q.0, λ e. q.1 (n.1 (implied (x.0 q.0), e))),
@@ -352,7 +352,7 @@ into_store_legal {a} i w going inside ends =
 
 -- what holds of each marked house holds of those that stay marked
 pub each_before_last : (P : ℕ → Type 0) {marks h : ℕ} → IsLastMark marks h → ((i : ℕ) → 0 < cell marks i → P (i + 1)) →
-    (i : ℕ) → 0 < cell (marks - 32 ^ (h - 1)) i → P (i + 1)
+    (i : ℕ) → 0 < cell (without_mark marks h) i → P (i + 1)
 each_before_last P {marks} {h} last each i some = each i (marked_before marks h last i some)
 
 -- what holds of each marked house holds of the last one
@@ -369,7 +369,7 @@ pub last_is_legal : {a : HousesState} {marks h : ℕ} → AreMovable a marks →
 last_is_legal may last = each_at_last (Contains _) last may.legal
 
 -- the houses before the last may be moved
-pub movable_before_last : {a : HousesState} {marks h : ℕ} → AreMovable a marks → IsLastMark marks h → AreMovable a (marks - 32 ^ (h - 1))
+pub movable_before_last : {a : HousesState} {marks h : ℕ} → AreMovable a marks → IsLastMark marks h → AreMovable a (without_mark marks h)
 movable_before_last {a} {marks} {h} may last = record {
   are = without_last_marks may.are last;
   legal = each_before_last (Contains _) last may.legal;
@@ -378,7 +378,7 @@ movable_before_last {a} {marks} {h} may last = record {
 -- what holds of the last marked house, and of each other unmarked one that may be moved, holds of each that is unmarked without it
 pub each_unmarked_without_last : (a : HousesState) {marks h : ℕ} (P : ℕ → Type 0) → IsLastMark marks h → P h
     → ((i : ℕ) → Contains (legal_houses (storeless a)) i → i - 1 ≢ h - 1 → cell marks (i - 1) ≡ 0 → P i)
-    → (i : ℕ) → Contains (legal_houses (storeless a)) i → cell (marks - 32 ^ (h - 1)) (i - 1) ≡ 0 → P i
+    → (i : ℕ) → Contains (legal_houses (storeless a)) i → cell (without_mark marks h) (i - 1) ≡ 0 → P i
 each_unmarked_without_last a {marks} {h} P last here each i may gone = elim (cases_eq i h) [
   | inl same ↦ subst P (sym same) here
   | inr other ↦

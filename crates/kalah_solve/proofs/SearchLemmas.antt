@@ -5,9 +5,9 @@
 -- marked, it does not, and `try_remaining` is still to play it: of such moves each unmarked one waits or was tried (`ArePlayed`);
 -- waiting: its turn must be searched, is written down, and has a priority (`AreTurns`, `WaitsWith`; `AreWaiting` once all were played);
 -- tried: it wins at most `most`. `explore` tries those that wait, and all without a priority were tried (`AreUntried`).
-use Rattle.std.proofs.Common.{◌≡◌, ℕ, ◌+◌, ◌%◌, ◌^◌, ◌-◌, ◌<◌, ◌≤◌, inl, inr, List, get_or, arith, sym, ap, ◌∙◌, length, subst, ◌↔◌, Bool, false, IsTrue, Contains, max, slice_set, length-set}
+use Rattle.std.proofs.Common.{◌≡◌, ℕ, ◌+◌, ◌%◌, ◌-◌, ◌<◌, ◌≤◌, inl, inr, List, get_or, arith, sym, ap, ◌∙◌, length, subst, ◌↔◌, Bool, false, IsTrue, Contains, max, slice_set, length-set}
 use Rattle.std.proofs.lemmas.Bool.{cases_lt, cases_eq}
-use Rattle.kalah_solve.specs.Marks.{cell, IsLastMark}
+use Rattle.kalah_solve.specs.Marks.{cell, IsLastMark, without_mark}
 use Rattle.kalah_solve.proofs.MarksLemmas.{each_unmarked_without_last}
 use Rattle.std.proofs.lemmas.List.{get_or-set_same, get_or-set_other, get_or_default}
 use Rattle.kalah_rules.specs.Position.{HousesState, IsWithinHouses, seeds, seeds_in_houses, is_over, storeless}
@@ -139,7 +139,7 @@ module _ {a : HousesState} {most marks h : ℕ} {priorities : List ℕ} {turns :
     (last : IsLastMark marks h) where
   -- the last marked house was played, and waits with a priority
   pub played_and_waits : (v : ℕ) (b : HousesState) → 0 < v → IsTurnOf a h v b →
-      ArePlayed a most (marks - 32 ^ (h - 1)) (slice_set priorities (h - 1) v) (slice_set turns (h - 1) b)
+      ArePlayed a most (without_mark marks h) (slice_set priorities (h - 1) v) (slice_set turns (h - 1) b)
   played_and_waits v b some turn = let inside : h - 1 < length priorities = omega arith in record {
     waiting = turns_with_one_more is.waiting is.slots last.first last.last turn;
     slots = length-set turns _ b ∙ is.slots;
@@ -151,7 +151,7 @@ module _ {a : HousesState} {most marks h : ℕ} {priorities : List ℕ} {turns :
 
   -- the last marked house was played, and wins at most `bound`
   pub played_and_bounded : (bound new : ℕ) → WinsAtMost a bound h → new ≡ max most bound
-      → ArePlayed a new (marks - 32 ^ (h - 1)) priorities turns
+      → ArePlayed a new (without_mark marks h) priorities turns
   played_and_bounded bound new takes new_is = record {
     waiting = is.waiting;
     slots = is.slots;
@@ -192,7 +192,7 @@ unmarked_at_start a most marks marked h may ends gone = absurd (
 -- the last of them was tried
 pub unmarked_without_last : (a : HousesState) (most : ℕ) {marks h : ℕ} (bound : ℕ) {new : ℕ} → UnmarkedWinAtMost a most marks → IsLastMark marks h
     → WinsAtMost a bound h → new ≡ max most bound →
-    UnmarkedWinAtMost a new (marks - 32 ^ (h - 1))
+    UnmarkedWinAtMost a new (without_mark marks h)
 unmarked_without_last a most {marks} {h} bound {new} are last takes new_is i may ends gone =
     each_unmarked_without_last a (λ i. EndsInStore a i → WinsAtMost a new i) last
     (λ e. omega arith) (λ j may_j place gone_j e. omega (arith, are j may_j e gone_j)) i may gone ends

@@ -145,7 +145,7 @@ pub record IsBounded (mine theirs : Policy) (p : Position) (z : ℤ) : Type 0 wh
   pub low : PlaysBest mine → worth p ≤ℤ z
   pub high : PlaysBest theirs → z ≤ℤ worth p
 
--- a game by the rules ends on the right side of the worth for whoever plays best: by induction on its moves, for both players
+-- a game by the rules ends on the right side of the worth for a player who plays best: by induction on its moves, for both players
 pub game_is_bounded : {mine theirs : Policy} {p : Position} {houses : List ℕ} {final : Position} → IsWithin mine legal_houses
     → IsWithin theirs legal_houses → HasEqualSides p → Game mine theirs p houses final → IsBounded mine theirs p (final_margin final)
 game_is_bounded {p = p} m t even (is_at_end over) = grind (arith, worth_of_over)

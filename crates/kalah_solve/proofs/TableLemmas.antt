@@ -19,7 +19,7 @@ use Rattle.kalah_solve.specs.Bounds.Won.{won, won_by_step}
 use Rattle.kalah_rules.specs.Play.{legal_houses}
 use Rattle.kalah_rules.specs.HousesStep.{houses_step}
 use Rattle.kalah_rules.proofs.PlayLemmas.{legal_holds}
-use Rattle.kalah_solve.specs.Marks.{cell, IsLastMark}
+use Rattle.kalah_solve.specs.Marks.{cell, IsLastMark, without_mark}
 use Rattle.kalah_solve.proofs.MarksLemmas.{cell_of_zero, each_unmarked_without_last}
 use Rattle.kalah_solve.proofs.BoundsLemmas.{won_at_most, won_reached, won_of_houses}
 use Rattle.std.specs.Map.{lookup}
@@ -339,17 +339,17 @@ pairs_more pairs i v inside before is k below few = grind (arith, cases_eq, get_
 
 -- ---- the words of different variants are different
 
--- the ways to choose 0, 1, .. of one thing more
+-- the binomial coefficients of the next number, by those of this one
 abbrev next_binomials : ℕ → List ℕ → List ℕ
 next_binomials before [] = []
 next_binomials before (w ∷ ws) = (before + w) ∷ next_binomials w ws
 
--- the ways to choose 0 to 12 of n things
+-- the ways to choose 0 to 12 of n things: binomial coefficients
 abbrev binomials : ℕ → List ℕ
 binomials zero = 1 ∷ 0 ∷ 0 ∷ 0 ∷ 0 ∷ 0 ∷ 0 ∷ 0 ∷ 0 ∷ 0 ∷ 0 ∷ 0 ∷ 0 ∷ []
 binomials (suc n) = next_binomials 0 (binomials n)
 
--- it is as long
+-- there are equally many of the next number
 length-next_binomials : (before : ℕ) (ws : List ℕ) → length (next_binomials before ws) ≡ length ws
 length-next_binomials before [] = refl
 length-next_binomials before (w ∷ ws) = ap suc (length-next_binomials w ws)
@@ -358,7 +358,7 @@ length-binomials : (n : ℕ) → length (binomials n) ≡ 13
 length-binomials zero = refl
 length-binomials (suc n) = length-next_binomials 0 _ ∙ length-binomials n
 
--- each is a sum of two
+-- each is a sum of two of this number
 next_binomials-suc : (before : ℕ) (ws : List ℕ) (k : ℕ) → suc k < length ws →
     get_or (next_binomials before ws) (suc k) 0 ≡ get_or ws k 0 + get_or ws (suc k) 0
 next_binomials-suc before [] k inside = refl
@@ -486,7 +486,7 @@ most_at_start {a} marked = record {
 -- the last marked house was tried
 pub most_more : {a : HousesState} {marks most h : ℕ} (v new : ℕ) → IsWithinHouses a → IsMost a marks most → IsLastMark marks h →
     Contains (legal_houses (storeless a)) h →
-    v ≡ won_by_step (houses_step a h) → new ≡ max most v → IsMost a (marks - 32 ^ (h - 1)) new
+    v ≡ won_by_step (houses_step a h) → new ≡ max most v → IsMost a (without_mark marks h) new
 most_more {a} {marks} {most} {h} v new w is last has v_is new_is = record {
   reached = omega (arith, won_at_most a w h has);
   all = each_unmarked_without_last a (λ i. won_by_step (houses_step a i) ≤ new) last (omega arith)

@@ -20,6 +20,10 @@ pub record IsLastMark (marks h : ℕ) : Type 0 where
   pub low : 32 ^ (h - 1) ≤ marks
   pub high : marks < 32 ^ suc (h - 1)
 
+-- the marks without that of house h
+abbrev pub without_mark : ℕ → ℕ → ℕ
+without_mark marks h = marks - 32 ^ (h - 1)
+
 -- the cells of a row that hold something are marked
 pub record MarksFilled (row marks : ℕ) : Type 0 where
   pub cells : (i : ℕ) → i < 6 → cell marks i ≡ min 1 (cell row i)

@@ -3,7 +3,7 @@ ghost use Rattle.std.specs.Prelude.{◌≡◌, ◌↔◌, ◌+◌, ◌-◌, ◌�
 ghost use Rattle.kalah_rules.specs.Position.{IsWithinHouses};
 ghost use Rattle.kalah_solve.specs.Search.{EndsInStore};
 ghost use Rattle.kalah_rules.specs.Packed.{ones};
-ghost use Rattle.kalah_solve.specs.Marks.{cell, AreMarks, IsLastMark, MarksFilled, MarksEnding, all_end_in_store};
+ghost use Rattle.kalah_solve.specs.Marks.{cell, AreMarks, IsLastMark, without_mark, MarksFilled, MarksEnding, all_end_in_store};
 
 use kalah_rules::{House, Houses};
 
@@ -87,7 +87,7 @@ pub(crate) fn split_last(marks: u64) -> (House, u64)
     requires some { 0 < marks }
     requires marks { AreMarks marks }
     ensures last { IsLastMark marks result.0 }
-    ensures rest { result.1 ≡ marks - 32 ^ (result.0 - 1) }
+    ensures rest { result.1 ≡ without_mark marks result.0 }
 {
     let bit = 63 - marks.leading_zeros();
     (House::at(bit as u8), marks - (1 << bit))

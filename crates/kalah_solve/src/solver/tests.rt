@@ -78,7 +78,7 @@ const WORKED: [Worked; 28] = [
 ];
 
 // The verdicts, in order.
-pub(crate) fn tells_worked_positions(rt: &impl Abort, solver: &mut Solver) {
+pub(crate) fn solves_worked_positions(rt: &impl Abort, solver: &mut Solver) {
     for (m, own, other, rule, margin, house) in WORKED {
         let board = board(rt, m, own, other, rule);
         assert!(rt; solver.solve(&board) == verdict(margin, house), "{board:?}");
@@ -86,7 +86,7 @@ pub(crate) fn tells_worked_positions(rt: &impl Abort, solver: &mut Solver) {
 }
 
 #[test]
-fn tells_worked_positions_with_each_table(rt: HostRuntime) {
+fn solves_worked_positions_with_each_table(rt: HostRuntime) {
     for (entries, keeps_all) in [
         (1, false),
         (4, false),
@@ -95,13 +95,13 @@ fn tells_worked_positions_with_each_table(rt: HostRuntime) {
         (65_536, true),
     ] {
         let mut solver = solver_of(&rt, rt.alloc(), entries, keeps_all);
-        tells_worked_positions(&rt, &mut solver);
+        solves_worked_positions(&rt, &mut solver);
     }
 }
 
 // Of long positions that differ in their stores alone only the first is solved.
 #[test]
-fn the_plain_recursion_tells_worked_positions(rt: HostRuntime) {
+fn the_plain_recursion_solves_worked_positions(rt: HostRuntime) {
     for (m, own, other, rule, margin, house) in WORKED {
         if m == 3 && own[3] > 0 {
             continue;
@@ -163,7 +163,7 @@ const VALUES: [(u8, [u8; 4], [u8; 4], Rule, &[i16]); 6] = [
 ];
 
 #[test]
-fn tells_values_of_worked_positions(rt: HostRuntime) {
+fn values_of_worked_positions_are_known(rt: HostRuntime) {
     let mut solver = solver_of(&rt, rt.alloc(), 1, false);
     for (m, own, other, rule, want) in VALUES {
         let values = solver.values(&board(&rt, m, own, other, rule));
@@ -172,10 +172,10 @@ fn tells_values_of_worked_positions(rt: HostRuntime) {
             "{own:?} {other:?} {rule:?}"
         );
         for i in 0..values.len() {
-            let told = values.get(i);
-            assert!(rt; told.house == i + 1, "{own:?} {other:?} {rule:?}");
+            let move_value = values.get(i);
+            assert!(rt; move_value.house == i + 1, "{own:?} {other:?} {rule:?}");
             assert!(rt;
-                Some(&told.value) == want.get(usize::from(i)),
+                Some(&move_value.value) == want.get(usize::from(i)),
                 "{own:?} {other:?} {rule:?}"
             );
         }

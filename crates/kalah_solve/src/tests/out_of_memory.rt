@@ -1,7 +1,7 @@
 //! Tests in which each request for memory of the global allocator is refused once. With ample memory these tests just pass.
 //! `tests/refuse` runs each of them repeatedly, with the first request refused, then the second, and so on: the test must
 //! pass each time, until the request that is refused is one of its own marks.
-use crate::solver::tests::{solver_with, tells_worked_positions};
+use crate::solver::tests::{solver_with, solves_worked_positions};
 use crate::{Solver, Table, Verdict, pack, unpack};
 use kalah_rules::{Board, Houses, Rule};
 use std::alloc::{AllocError, Global};
@@ -39,7 +39,7 @@ fn a_key_and_a_solver_take_no_memory(rt: HostRuntime) -> Result<(), Fail> {
 }
 
 // Solves two positions that differ only in their stores.
-fn tells_both(rt: &impl Abort, solver: &mut Solver) {
+fn solves_both(rt: &impl Abort, solver: &mut Solver) {
     for (own_store, other_store, margin) in [(0, 0, 2), (9, 4, 7)] {
         let board = Board::new(2, ONES, own_store, ONES, other_store, Rule::Classic);
         let verdict = solver.solve(&board.expect(rt, "beyond the limits"));
@@ -51,7 +51,7 @@ fn tells_both(rt: &impl Abort, solver: &mut Solver) {
 fn one_table_for_two_positions(rt: HostRuntime) -> Result<(), Fail> {
     let alloc = rt.alloc();
     let table = new_table(alloc)?;
-    tells_both(&rt, &mut solver_with(table, false));
+    solves_both(&rt, &mut solver_with(table, false));
     mark(alloc, "after all")
 }
 
@@ -60,7 +60,7 @@ fn one_table_for_two_positions(rt: HostRuntime) -> Result<(), Fail> {
 fn one_entry_for_two_positions(rt: HostRuntime) -> Result<(), Fail> {
     let alloc = rt.alloc();
     let table = new_table(alloc)?;
-    tells_both(&rt, &mut solver_with(table, true));
+    solves_both(&rt, &mut solver_with(table, true));
     mark(alloc, "after all")
 }
 
@@ -72,7 +72,7 @@ fn many_entries(rt: HostRuntime) -> Result<(), Fail> {
         Ok(table) => table,
         Err(_) => Table::new(alloc, 1_024)?,
     };
-    tells_worked_positions(&rt, &mut solver_with(table, true));
+    solves_worked_positions(&rt, &mut solver_with(table, true));
     mark(alloc, "after all")
 }
 
@@ -84,6 +84,6 @@ fn a_solver_beside_another(rt: HostRuntime) -> Result<(), Fail> {
         Ok(second) => second,
         Err(_) => first.sharing_endings(alloc, 1)?,
     };
-    tells_both(&rt, &mut second);
+    solves_both(&rt, &mut second);
     mark(alloc, "after all")
 }

@@ -4,15 +4,15 @@ use Rattle.std.proofs.lemmas.Bool.Decides.{nat_tests}
 use Rattle.kalah_solve.specs.declared.search.move_order.weights.TheConstants.{PLACE_PRIORITIES}
 use Rattle.kalah_solve.proofs.search.move_order.place_priority.Goals as goal
 
--- a cell names the house of its turn, is not 0, and is small
+-- a cell of either list names the house of its turn, is not 0, and is small
 abbrev is_right : ℕ → ℕ → Bool
-is_right row k = (get_or (get_or PLACE_PRIORITIES row []) k 0 % 8 == k / 5 - row) && nat_lt 0 (get_or (get_or PLACE_PRIORITIES row []) k 0)
-    && nat_lt (get_or (get_or PLACE_PRIORITIES row []) k 0) 422
+is_right list k = (get_or (get_or PLACE_PRIORITIES list []) k 0 % 8 == k / 5 - list) && nat_lt 0 (get_or (get_or PLACE_PRIORITIES list []) k 0)
+    && nat_lt (get_or (get_or PLACE_PRIORITIES list []) k 0) 422
 
-all_right : (row k : ℕ) → row < 2 → k < 31 → is_right row k ≡ true
+all_right : (list k : ℕ) → list < 2 → k < 31 → is_right list k ≡ true
 all_right zero k few within = agree_below_at (is_right 0) (λ k. true) 31 k refl within
 all_right (suc zero) k few within = agree_below_at (is_right 1) (λ k. true) 31 k refl within
-all_right (suc (suc row)) k few within = absurd (omega arith)
+all_right (suc (suc list)) k few within = absurd (omega arith)
 
 pub returns-clause-house : goal.returns-clause-house
 returns-clause-house c = grind (arith, nat_tests, all_right (c.args.m / 6) (c.args.m + c.bit.result - 1) (omega arith) (omega arith))

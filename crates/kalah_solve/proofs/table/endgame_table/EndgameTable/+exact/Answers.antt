@@ -1,6 +1,7 @@
-use Rattle.std.proofs.Common.{arith, rules, ◌-◌, ◌^◌, sym, ◌∙◌}
+use Rattle.std.proofs.Common.{arith, rules, sym, ◌∙◌}
 use Rattle.kalah_solve.proofs.BoundsLemmas.{won_of_houses}
 use Rattle.kalah_solve.proofs.WorthLemmas.{leads_by}
+use Rattle.kalah_solve.specs.Marks.{without_mark}
 use Rattle.kalah_solve.proofs.MarksLemmas.{without_last_less, seeded_is_legal, movable_before_last, last_is_legal}
 use Rattle.kalah_solve.proofs.TableLemmas.{most_at_start, most_more, most_all, won_is_most}
 use Rattle.kalah_solve.proofs.table.endgame_table.EndgameTable.+exact.Goals as goal
@@ -27,7 +28,7 @@ most_won-returns-then-most-seeds g t c =
     let before = c.loop-untried.invariant in
     let limits = c.seeds-seeds.ensures.limits in
     let has = last_is_legal before.may last in
-    most_all c.args.houses.now (marks - 32 ^ (h - 1)) c.max-most.result limits
+    most_all c.args.houses.now (without_mark marks h) c.max-most.result limits
     (most_more _ _ limits before.is last has c.move_wins.ensures
     (search (rules, c.max-most.ensures)))
     (omega arith)
