@@ -20,7 +20,7 @@ use Rattle.kalah_solve.specs.Bounds.Won.{won, won_by_step}
 use Rattle.kalah_solve.proofs.WorthLemmas.{LeadsTo, leads_by}
 use Rattle.kalah_solve.proofs.BoundsLemmas.{won_at_most, won_of_houses, won_reached}
 
--- ==== The moves that were tried, and those that wait with a priority
+-- ==== Bounds that are enough, and bounds that fall short
 
 -- the meaning of a failed test
 pub below_if_test_fails : (r : Bool) (beta x : ℕ) → (IsTrue r ↔ beta ≤ x) → r ≡ false → x < beta
@@ -47,6 +47,13 @@ bound_of_rest {beta} {number} {bound} all seeds gained is few b = elim (cases_lt
 pub enough_is_won : (a : HousesState) (beta h bound : ℕ) → IsWithinHouses a → Contains (legal_houses (storeless a)) h →
     IsSoftBound beta (won_by_step (houses_step a h)) bound → beta ≤ bound → bound ≤ won a
 enough_is_won a beta h bound w has is enough = omega (arith, won_at_most a w h has)
+
+-- if no legal move wins more than `most`, best play wins no more
+won_at_most_of_all : (a : HousesState) (most : ℕ) → IsWithinHouses a → is_over (storeless a) ≡ false →
+    ((h : ℕ) → Contains (legal_houses (storeless a)) h → WinsAtMost a most h) → won a ≤ most
+won_at_most_of_all a most w going each = grind (arith, won_reached)
+
+-- ==== Turns, and what the reply to one leaves
 
 -- a turn leads on to the houses that it leaves
 turn_leads : {a b : HousesState} {h priority : ℕ} → IsWithinHouses a → IsTurnOf a h priority b →
@@ -84,10 +91,7 @@ step_is_turn {a} {h} {priority} {gained} {b} w has is house =
     let brought : gained ≡ seeds_in_houses (storeless a) - seeds_in_houses (storeless b) = omega arith in
     record { legal = has; step = sym is ∙ ap (λ g. Turn g b) brought; house = house }
 
--- if no legal move wins more than `most`, best play wins no more
-pub won_at_most_of_all : (a : HousesState) (most : ℕ) → IsWithinHouses a → is_over (storeless a) ≡ false →
-    ((h : ℕ) → Contains (legal_houses (storeless a)) h → WinsAtMost a most h) → won a ≤ most
-won_at_most_of_all a most w going each = grind (arith, won_reached)
+-- ==== Turns that wait with a priority
 
 -- each house with a priority waits with its turn
 pub record AreTurns (a : HousesState) (priorities : List ℕ) (turns : List HousesState) : Type 0 where
@@ -102,9 +106,9 @@ turns_with_one_more are slots low last is =
     grind (arith, length-set, cases_eq, get_or-set_same, get_or-set_other)
 
 -- one that waits no more
-turns_without_one : (a : HousesState) (priorities : List ℕ) (turns : List HousesState) (at : ℕ) → AreTurns a priorities turns → at < 6 →
+turns_without_one : {a : HousesState} {priorities : List ℕ} {turns : List HousesState} (at : ℕ) → AreTurns a priorities turns → at < 6 →
     AreTurns a (slice_set priorities at 0) turns
-turns_without_one a priorities turns at are place = let inside : at < length priorities = omega arith in record {
+turns_without_one {priorities = priorities} at are place = let inside : at < length priorities = omega arith in record {
   cells = length-set _ at 0 ∙ are.cells;
   each = λ k high. elim (cases_eq k at) [
     | inl same ↦
@@ -116,15 +120,17 @@ turns_without_one a priorities turns at are place = let inside : at < length pri
 }
 
 -- the house that a priority names waits with it
-pub record WaitsWith (a : HousesState) (priorities : List ℕ) (turns : List HousesState) (r : ℕ) : Type 0 where
-  pub place : r % 8 < 6
-  pub priority : get_or priorities (r % 8) 0 ≡ r
-  pub turn : (d : HousesState) → IsTurnOf a (r % 8 + 1) r (get_or turns (r % 8) d)
+pub record WaitsWith (a : HousesState) (priorities : List ℕ) (turns : List HousesState) (priority : ℕ) : Type 0 where
+  pub place : priority % 8 < 6
+  pub stands : get_or priorities (priority % 8) 0 ≡ priority
+  pub turn : (d : HousesState) → IsTurnOf a (priority % 8 + 1) priority (get_or turns (priority % 8) d)
 
 -- the turn that is read there is that of the priority's house
-pub waits_there : {a : HousesState} {priorities : List ℕ} {turns : List HousesState} {r : ℕ} {b : HousesState}
-    → WaitsWith a priorities turns r → b ≡ get_or turns (r % 8) b → IsTurnOf a (r % 8 + 1) r b
-waits_there {a} {r = r} {b = b} waits is = subst (IsTurnOf a (r % 8 + 1) r) (sym is) (waits.turn b)
+pub waits_there : {a : HousesState} {priorities : List ℕ} {turns : List HousesState} {priority : ℕ} {b : HousesState}
+    → WaitsWith a priorities turns priority → b ≡ get_or turns (priority % 8) b → IsTurnOf a (priority % 8 + 1) priority b
+waits_there {a} {priority = priority} {b = b} waits is = subst (IsTurnOf a (priority % 8 + 1) priority) (sym is) (waits.turn b)
+
+-- ==== The remaining moves, played one by one
 
 -- each house with a priority waits, and each other one that may be moved wins at most `most` seeds, or ends in the store, or is
 -- still marked
@@ -174,6 +180,8 @@ played_at_start {a} cells slots empty marked = record {
       omega arith);
 }
 
+-- ==== The moves that end in the store, tried one by one
+
 -- each house that ends in the store is still marked, or wins at most `most` seeds
 abbrev pub UnmarkedWinAtMost : HousesState → ℕ → ℕ → Type 0
 UnmarkedWinAtMost a most marks = (h : ℕ) → Contains (legal_houses (storeless a)) h → EndsInStore a h → cell marks (h - 1) ≡ 0
@@ -197,6 +205,8 @@ unmarked_without_last a most {marks} {h} bound {new} are last takes new_is i may
     each_unmarked_without_last a (λ i. EndsInStore a i → WinsAtMost a new i) last
     (λ e. omega arith) (λ j may_j place gone_j e. omega (arith, are j may_j e gone_j)) i may gone ends
 
+-- ==== The turns that waited, tried by their priority
+
 -- the moves with a priority are still to be tried, and the others win at most `most` seeds
 pub record AreUntried (a : HousesState) (most : ℕ) (priorities : List ℕ) (turns : List HousesState) : Type 0 where
   pub waiting : AreTurns a priorities turns
@@ -213,7 +223,7 @@ next_waits {a} {most} {priorities} {turns} {priority} w untried found some =
     λ d. subst (λ r. IsTurnOf a (k + 1) r (get_or turns k d)) here (are.each k (omega arith) d) in
     let same : priority % 8 ≡ k = omega (arith, (turn a).house) in
     let holds = legal_holds (storeless a) _ (turn a).legal in
-    record { place = omega arith; priority = rw same here; turn = rw same turn }
+    record { place = omega arith; stands = rw same here; turn = rw same turn }
 
 -- before any move with a priority was tried: all others were
 pub untried_at_start : {a : HousesState} {beta others new : ℕ} {priorities : List ℕ} {turns : List HousesState} (again : ℕ)
@@ -228,7 +238,7 @@ pub untried_fewer : {a : HousesState} {most new : ℕ} {priorities : List ℕ} {
     → AreUntried a most priorities turns →
     at < 6 → WinsAtMost a bound (at + 1) → new ≡ max most bound → AreUntried a new (slice_set priorities at 0) turns
 untried_fewer {a} {priorities = priorities} at bound is place takes new_is = record {
-  waiting = turns_without_one a _ _ at is.waiting place;
+  waiting = turns_without_one at is.waiting place;
   tried = λ h has none. elim (cases_eq (h - 1) at) [
     | inl same ↦
         let first = (legal_holds (storeless a) h has).first in

@@ -139,11 +139,7 @@ rank_below (x ∷ xs) =
     let all : sum (x ∷ xs) + suc (length xs) ≡ suc (x + sum xs + length xs) = omega arith in
     rw all (omega (arith, rank_below xs, choose_rises (sum xs + length xs) (x + sum xs + length xs) (length xs) (omega arith)))
 
--- few seeds have a low rank
-rank_small : (xs : List ℕ) → sum xs + length xs ≤ 21 → row_rank xs < 2 ^ 21
-rank_small xs few = omega (arith, rank_below xs, choose_small _ 21 (length xs) few)
-
--- of two rows with as many cells the one with fewer seeds has the lower rank
+-- of two rows of the same length the one with fewer seeds has the lower rank
 rank_apart : (xs ys : List ℕ) → length xs ≡ length ys → sum xs < sum ys → row_rank xs < row_rank ys
 rank_apart xs [] long less = omega arith
 rank_apart xs (y ∷ ys) long less =
@@ -221,10 +217,11 @@ pub both_rows : {a : HousesState} (own other m : ℕ) → IsWithinHouses a → o
 both_rows {a} own other m within own_is other_is own_small other_small side =
     grind (arith, pow_mono, mul-le, length, number_of, pow_five, mul_comm, number_of-append)
 
--- the sums of a row of few from its cell 2 * passed on, and what the cells before it add to its rank
-pub record IsRanked (row : List ℕ) (passed sums at : ℕ) : Type 0 where
+-- ---- the cells of a row, two at a time
+-- the sums of a row from its cell 2 * passed on, and what the cells before it add to its rank
+pub record IsRanked (row : List ℕ) (passed sums added : ℕ) : Type 0 where
   pub left : sums ≡ sums_number (drop (2 * passed) row)
-  pub rank : at + row_rank (drop (2 * passed) row) ≡ row_rank row
+  pub rank : added + row_rank (drop (2 * passed) row) ≡ row_rank row
 
 -- the sums of two cells
 record AreTwo (sums : ℕ) (x y : ℕ) (ys : List ℕ) : Type 0 where
@@ -232,12 +229,14 @@ record AreTwo (sums : ℕ) (x y : ℕ) (ys : List ℕ) : Type 0 where
   second : sums % 1024 / 32 ≡ y + sum ys
   past : sums / 1024 ≡ sums_number ys
 
+-- they are in the lowest ten bits
 two_sums : (x y : ℕ) (ys : List ℕ) → sum (x ∷ y ∷ ys) ≤ 9 → AreTwo (sums_number (x ∷ y ∷ ys)) x y ys
 two_sums x y ys few = omega (arith, sum_by-cons)
 
 -- two cells more of a row
-module _ (row : List ℕ) (few : sum row ≤ 9) (m passed sums at : ℕ) (long : length row ≡ 2 * m) (most : m ≤ 6) (more : passed < m)
-    (is : IsRanked row passed sums at) where
+module _ (row : List ℕ) (few : sum row ≤ 9) (m passed sums added : ℕ) (long : length row ≡ 2 * m) (most : m ≤ 6) (more : passed < m)
+    (is : IsRanked row passed sums added) where
+  -- the next two cells, and those past them
   abbrev two_first : ℕ
   two_first = get_or row (2 * passed) 0
 
@@ -247,22 +246,24 @@ module _ (row : List ℕ) (few : sum row ≤ 9) (m passed sums at : ℕ) (long :
   abbrev two_past : List ℕ
   two_past = drop (2 * (passed + 1)) row
 
+  -- they are what is left of the row
   two_more : drop (2 * passed) row ≡ two_first ∷ two_second ∷ two_past
   two_more = grind (arith, drop_more)
 
+  -- they hold few seeds
   two_less : sum (two_first ∷ two_second ∷ two_past) ≤ 9
   two_less =
       let less : sum (drop (2 * passed) row) ≤ 9 = omega (arith, sum_by-take-drop (λ (y : ℕ). y) row (2 * passed)) in
       rw two_more at less
 
+  -- their sums are read off the sums that are left
   two_are : AreTwo sums two_first two_second two_past
-  two_are =
-      rw (is.left, two_more) (two_sums _ _ _ two_less)
+  two_are = rw (is.left, two_more) (two_sums _ _ _ two_less)
 
   -- the rank of two cells more
   pub rank_next : (c : ℕ) → c ≡ choose (sums % 1024 % 32 + 2 * (m - passed - 1) + 1) (2 * (m - passed - 1) + 2) + choose
       (sums % 1024 / 32 + 2 * (m - passed - 1)) (2 * (m - passed - 1) + 1) →
-      IsRanked row (passed + 1) (sums / 1024) (at + c)
+      IsRanked row (passed + 1) (sums / 1024) (added + c)
   rank_next c is_c =
       let past = m - passed - 1 in
       let rest = two_second ∷ two_past in
@@ -277,10 +278,10 @@ module _ (row : List ℕ) (few : sum row ≤ 9) (m passed sums at : ℕ) (long :
       rw (first, first_cells) refl in
       let ways' : choose (two_second + sum two_past + length two_past) (suc (length two_past))
       ≡ choose (sums % 1024 / 32 + 2 * past) (2 * past + 1) = rw (second, second_cells) refl in
-      let added : row_rank (drop (2 * passed) row) ≡ c + row_rank two_past = rw two_more (omega arith) in
+      let two_add : row_rank (drop (2 * passed) row) ≡ c + row_rank two_past = rw two_more (omega arith) in
       record { left = two_are.past; rank = omega arith }
 
-  -- no more seeds are there than few
+  -- both sums are below ten
   pub two_few : (sums % 1024 % 32 < 10) × (sums % 1024 / 32 < 10)
   two_few =
       let cons = sum_by-cons (λ (z : ℕ). z) two_first (two_second ∷ two_past) in
@@ -288,18 +289,20 @@ module _ (row : List ℕ) (few : sum row ≤ 9) (m passed sums at : ℕ) (long :
       (omega (arith, two_are.first, two_less), omega (arith, two_are.second, two_less))
 
 -- what is added so far is small
-pub ranked_small : (row : List ℕ) (passed sums at : ℕ) → sum row ≤ 9 → length row ≤ 12 → IsRanked row passed sums at
-    → at < 2 ^ 21
-ranked_small row passed sums at few long is = omega (arith, rank_small)
+pub ranked_small : (row : List ℕ) (passed sums added : ℕ) → sum row ≤ 9 → length row ≤ 12 → IsRanked row passed sums added
+    → added < 2 ^ 21
+ranked_small row passed sums added few long is =
+    omega (arith, rank_below row, choose_small (sum row + length row) 21 (length row) (omega arith))
 
+-- a row without cells has the rank 0
 rank_none : (xs : List ℕ) → length xs ≡ 0 → row_rank xs ≡ 0
 rank_none [] none = refl
 rank_none (x ∷ xs) none = omega arith
 
 -- what is added is the rank once all cells are passed
-pub ranked_all : (row : List ℕ) (passed sums at : ℕ) → length row ≤ 2 * passed → IsRanked row passed sums at
-    → at ≡ row_rank row
-ranked_all row passed sums at all is = grind (arith, rank_none, drop, length-drop)
+pub ranked_all : (row : List ℕ) (passed sums added : ℕ) → length row ≤ 2 * passed → IsRanked row passed sums added
+    → added ≡ row_rank row
+ranked_all row passed sums added all is = grind (arith, rank_none, drop, length-drop)
 
 -- ==== The choices, cell by cell
 

@@ -6,20 +6,24 @@ use Rattle.kalah_solve.proofs.TableLemmas.{IsRanked, two_few, rank_next, ranked_
 use Rattle.kalah_solve.proofs.table.endgame_table.EndgameTable.rank.Goals.{then-step-m-ge6, else-step-m-ge6}
 use Rattle.kalah_solve.proofs.table.endgame_table.EndgameTable.rank.Goals as goal
 
+-- the joined rows of an ending hold few seeds
 few : (a : HousesState) → seeds_in_houses (storeless a) ≤ 9 → sum (a.own ++ a.other) ≤ 9
 few a less = omega (arith, sum_by-append (λ x. x) a.own a.other)
 
+-- they have the cells of both sides
 long : (a : HousesState) → IsWithinHouses a → length (a.own ++ a.other) ≡ 2 * length a.own
 long a within = omega (arith, length-append a.own a.other)
 
--- a step from the first on that passes two cells
-module _ (a : HousesState) (within : IsWithinHouses a) (less : seeds_in_houses (storeless a) ≤ 9) (step sums rank : ℕ) (low : step < 6)
+-- a step that passes two cells
+module _ {a : HousesState} {step sums rank : ℕ} (within : IsWithinHouses a) (less : seeds_in_houses (storeless a) ≤ 9) (low : step < 6)
     (passes : 6 ≤ step + length a.own) (is : IsRanked (a.own ++ a.other) (step + length a.own - 6) sums rank) where
+  -- both sums are below ten
   few_here : (sums % 1024 % 32 < 10) × (sums % 1024 / 32 < 10)
   few_here =
       two_few (a.own ++ a.other) (few a less) (length a.own) (step + length a.own - 6) sums rank (long a within) within.at_most_six
       (omega arith) is
 
+  -- what the two cells add
   ranked_here : (r : ℕ) →
       r ≡ choose (sums % 1024 % 32 + 2 * (5 - step) + 1) (2 * (5 - step) + 2) + choose (sums % 1024 / 32 + 2 * (5 - step))
       (2 * (5 - step) + 1) →
@@ -38,21 +42,17 @@ loop-step-init g c =
 
 pub pair_rank-rank-requires-clause-first : goal.pair_rank-rank-requires-clause-first
 pair_rank-rank-requires-clause-first g c =
-    (few_here c.args.houses.now c.m-m.ensures.limits c.requires c.loop-step.step c.loop-step.sums c.loop-step.rank c.loop-step-test.true
-    (omega arith) c.loop-step.invariant).0
+    (few_here c.m-m.ensures.limits c.requires c.loop-step-test.true (omega arith) c.loop-step.invariant).0
 
 pub pair_rank-rank-requires-clause-second : goal.pair_rank-rank-requires-clause-second
 pair_rank-rank-requires-clause-second g c =
-    (few_here c.args.houses.now c.m-m.ensures.limits c.requires c.loop-step.step c.loop-step.sums c.loop-step.rank c.loop-step-test.true
-    (omega arith) c.loop-step.invariant).1
+    (few_here c.m-m.ensures.limits c.requires c.loop-step-test.true (omega arith) c.loop-step.invariant).1
 
 pub loop-step-preserved : goal.loop-step-preserved
 loop-step-preserved g c = elim c.if-step-m-ge6.branch [
   | then-step-m-ge6 w ↦
-      rw (w.sums-is, w.rank-is) (ranked_here c.args.houses.now c.m-m.ensures.limits c.requires c.loop-step.step c.loop-step.sums
-      c.loop-step.rank
-      c.loop-step-test.true (omega arith) c.loop-step.invariant w.pair_rank-rank.result
-      w.pair_rank-rank.ensures.value)
+      rw (w.sums-is, w.rank-is) (ranked_here c.m-m.ensures.limits c.requires c.loop-step-test.true (omega arith) c.loop-step.invariant
+      w.pair_rank-rank.result w.pair_rank-rank.ensures.value)
   | else-step-m-ge6 w ↦
       let same : c.loop-step.step + 1 + length c.args.houses.now.own - 6 ≡ c.loop-step.step + length c.args.houses.now.own - 6 =
       omega arith in
@@ -63,8 +63,8 @@ pub overflow_add-rank : goal.overflow_add-rank
 overflow_add-rank g c =
     let a = c.args.houses.now in
     let limits = c.m-m.ensures.limits in
-    let next = ranked_here a limits c.requires c.loop-step.step c.loop-step.sums c.loop-step.rank c.loop-step-test.true
-    (omega arith) c.loop-step.invariant c.pair_rank-rank.result c.pair_rank-rank.ensures.value in
+    let next = ranked_here limits c.requires c.loop-step-test.true (omega arith) c.loop-step.invariant c.pair_rank-rank.result
+    c.pair_rank-rank.ensures.value in
     omega (arith, ranked_small _ _ _ _ (few a c.requires) (omega (arith, long a limits)) next)
 
 pub returns-clause-rank : goal.returns-clause-rank
