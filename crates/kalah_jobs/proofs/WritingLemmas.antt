@@ -137,10 +137,6 @@ module _ (old now next : Option (List ℕ)) (bytes rest : List ℕ) (left : IsPa
   pub left_whole : Appends now next rest → Appends old next bytes
   left_whole adds = subst (Appends old next) (sym left.is) (Appends-trans old now next left.done rest left.written adds)
 
-  -- nothing was written
-  pub left_kept : Keeps now next → IsPartWritten old next bytes rest
-  left_kept keeps = record { done = left.done; is = left.is; written = Appends-kept old now next left.done left.written keeps }
-
   -- a part of the rest was written
   pub left_part : (taken : ℕ) → Appends now next (take taken rest)
       → IsPartWritten old next bytes (take (length rest - taken) (drop taken rest))
@@ -154,7 +150,7 @@ module _ (old now next : Option (List ℕ)) (bytes rest : List ℕ) (left : IsPa
       }
 
 -- what writing bytes in parts needs
-pub ruleset parts_written = (left_all, left_whole, left_kept, left_part)
+pub ruleset parts_written = (left_all, left_whole, left_part)
 
 -- ==== The lines of several moves
 

@@ -12,12 +12,13 @@ fn take_number(bytes: &[u8]) -> Option<(u8, &[u8])>
     ensures read { IfSome result (λ found. number_at bytes.now ≡ Some (found.0, found.1.now)) }
     ensures none { IfNone result (number_at bytes.now ≡ None) }
 {
-    match bytes {
-        [tens @ b'1'..=b'9', ones @ b'0'..=b'9', rest @ ..] => {
-            Some((10 * (*tens - b'0') + (*ones - b'0'), rest))
-        }
-        [digit @ b'0'..=b'9', rest @ ..] => Some((*digit - b'0', rest)),
-        _ => None,
+    let [first @ b'0'..=b'9', rest @ ..] = bytes else {
+        return None;
+    };
+    let high = *first - b'0';
+    match rest {
+        [ones @ b'0'..=b'9', more @ ..] if high > 0 => Some((10 * high + (*ones - b'0'), more)),
+        _ => Some((high, rest)),
     }
 }
 

@@ -1,11 +1,26 @@
 //! The sink over a writer.
-ghost use Rattle.std.specs.Prelude.{◌≡◌, false, true, OnOk};
-ghost use Rattle.std.specs.Io.KnownBytes.{Appends};
+ghost use Rattle.std.specs.Prelude.{◌≡◌, ◌≤◌, false, true, IfOk, OnErr, OnOk, length, take};
+ghost use Rattle.std.specs.Io.KnownBytes.{Appends, Keeps};
 ghost use Rattle.kalah_jobs.specs.Writing.Sink.{AppendsPrefix};
 
 use crate::Sink;
 use std::io;
 use std::io::{ErrorKind, Write};
+
+// Writes bytes by one call, and returns how many were written: none if it was interrupted.
+#[inline(always)]
+fn write_once<W: Write>(writer: &mut W, bytes: &[u8]) -> io::Result<usize>
+    ensures within { IfOk result (λ taken. taken ≤ length bytes.now) }
+    ensures adds { IfOk result (λ taken. Appends (W.contents writer.old) (W.contents writer.new) (take taken bytes.now)) }
+    ensures keeps { OnErr result (Keeps (W.contents writer.old) (W.contents writer.new)) }
+{
+    match writer.write(bytes) {
+        Ok(0) => Err(io::Error::from(ErrorKind::WriteZero)),
+        Ok(taken) => Ok(taken),
+        Err(error) if error.kind() == ErrorKind::Interrupted => Ok(0),
+        Err(error) => Err(error),
+    }
+}
 
 // Writes all the bytes as `write_pieces` does.
 #[tactic(auto, using(crate::proofs::WritingLemmas::parts_written))]
@@ -21,12 +36,8 @@ fn write_rest<W: Write>(writer: &mut W, bytes: &[u8]) -> io::Result<()>
         if rest.is_empty() {
             return Ok(());
         }
-        match writer.write(rest) {
-            Ok(0) => return Err(io::Error::from(ErrorKind::WriteZero)),
-            Ok(taken) => rest = &rest[taken..],
-            Err(error) if error.kind() == ErrorKind::Interrupted => continue,
-            Err(error) => return Err(error),
-        }
+        let taken = write_once(writer, rest)?;
+        rest = &rest[taken..];
     }
     Err(io::Error::from(ErrorKind::Interrupted))
 }
@@ -44,12 +55,7 @@ pub fn write_pieces<W: Write>(writer: &mut W, bytes: &[u8]) -> io::Result<()>
         return Ok(());
     }
     // Mostly the first call takes all. A result that is passed on whole would be kept in memory, so it is tested, here and by callers.
-    let taken = match writer.write(bytes) {
-        Ok(0) => return Err(io::Error::from(ErrorKind::WriteZero)),
-        Ok(taken) => taken,
-        Err(error) if error.kind() == ErrorKind::Interrupted => 0,
-        Err(error) => return Err(error),
-    };
+    let taken = write_once(writer, bytes)?;
     if taken < bytes.len() {
         write_rest(writer, &bytes[taken..])?;
     }
