@@ -31,6 +31,7 @@ use Rattle.kalah_jobs.specs.Collecting.AnyOrder.{job, AreJobsInSomeOrder, GetsEa
 
 -- ==== How many of the first lines of a file have come without a gap
 
+-- the front is at most past the last line
 pub front_within : (xs : List (Option Answer)) → front_of xs ≤ length xs
 front_within [] = omega arith
 front_within (None ∷ xs) = omega arith
@@ -75,7 +76,7 @@ pub front_least : (xs : List (Option Answer)) (m : ℕ) → ((k : ℕ) → k < m
     → m ≤ front_of xs
 front_least xs m all = grind (arith, front_more xs (front_of xs), all (front_of xs))
 
--- what taking an answer needs
+-- the lemmas for taking an answer
 pub ruleset fronts = (front_within, front_came, front_more)
 
 -- ==== A test by which one offer is found in a list: it holds only of that offer
@@ -92,10 +93,11 @@ same_or_not (gnum m) (gnum n) = grind (arith, cases_eq m n)
 same_or_not (gcons a b) (gcons c d) = grind (arith, same_or_not a c, same_or_not b d)
 same_or_not x y = inr (λ e. cc)
 
--- the tests
+-- the entries are the same
 same_entry : Entry → Entry → Bool
 same_entry a b = elim (same_or_not (coded_entry.code a) (coded_entry.code b)) [ inl same ↦ true | inr other ↦ false ]
 
+-- the jobs are the same
 abbrev same_job : Job → Job → Bool
 same_job a b = a.file == b.file && (a.line == b.line && same_entry a.entry b.entry)
 
@@ -119,6 +121,7 @@ same_job_means a b h =
 
 -- ==== What is got of jobs that were shared out: each job's result, once
 
+-- a test counts one element more if it passes
 count_by-cons : {X : Type 0} (p : X → Bool) (x : X) (xs : List X) → count_by p (x ∷ xs) ≡ cond (p x) 1 0 + count_by p xs
 count_by-cons p x xs = sum_by-cons (λ y. cond (p y) 1 0) x xs
 
@@ -291,19 +294,19 @@ still_offered {jobs} {past} {f} {k} o old = record {
 pub holds_accepted : (jobs : List (List Entry)) (past : List Job) (files : List ArrivalsState) (o : Job) → HoldsOffered jobs past files →
     IsWanted jobs files o
     → HoldsOffered jobs (past ++ o ∷ []) (after_offer files o.file o.line (answer_of o.entry))
-holds_accepted jobs past files o holds ((((there, not_ended), line), entry_is), first) =
+holds_accepted jobs past files o holds wanted =
     let a : Answer = answer_of o.entry in
     record {
       counts = counts_set files o.file (with_answer (state_of files o.file) o.line a)
           (length-set (state_of files o.file).arrived o.line (Some a)) ∙ holds.counts;
-      came = each_line files o a there line
+      came = each_line files o a wanted.file_there wanted.line_there
           (λ f k now. (e : Entry) → entry_at jobs f k ≡ Some e → Contains (past ++ o ∷ []) (line_job f k e)
           → now ≡ Some (answer_of e))
-          (λ e is has. cc (entry_is, is))
+          (λ e is has. cc (wanted.entry_is, is))
           (λ f k apart e is has. grind (arith, apart, Contains-push_cases past o (line_job f k e) has, holds.came f k e is));
-      only = each_line files o a there line
+      only = each_line files o a wanted.file_there wanted.line_there
           (λ f k now. (b : Answer) → now ≡ Some b → IsOffered jobs (past ++ o ∷ []) f k b)
-          (λ b same. record { entry = o.entry; at = entry_is; is = (cc); offered = Contains-push past o })
+          (λ b same. record { entry = o.entry; at = wanted.entry_is; is = (cc); offered = Contains-push past o })
           (λ f k apart b is. still_offered o (holds.only f k b is));
     }
 
@@ -357,23 +360,13 @@ holds_take jobs past files f low holds =
           (holds.only f) (λ g other. holds.only g);
     }
 
--- what keeps the counts of lines
+-- the lemmas for counts of lines
 pub ruleset counts = (counts_set, get_or_default, length-set, lines_are)
 
 -- ==== An offer is accepted or meets one refusal, and never both
 
--- an offer that is wanted meets no refusal
-wanted_or_refused : (jobs : List (List Entry)) (files : List ArrivalsState) (o : Job) (r : Refusal) → IsWanted jobs files o →
-    IsRefusedFor jobs files o r → ⊥
-wanted_or_refused jobs files o r wanted refused = grind arith
-
--- no offer meets two refusals
-refused_for_one : (jobs : List (List Entry)) (files : List ArrivalsState) (o : Job) (q r : Refusal) → IsRefusedFor jobs files o q →
-    IsRefusedFor jobs files o r → q ≡ r
-refused_for_one jobs files o q r a b = grind arith
-
 pub answers_in_one_way : AnswersInOneWay
-answers_in_one_way = record { wanted = wanted_or_refused; one = refused_for_one }
+answers_in_one_way = record { wanted = λ jobs files o r wanted refused. grind arith; one = λ jobs files o q r first second. grind arith }
 
 -- ==== After any list of offers and takes a collector has the state that the list determines
 
@@ -420,7 +413,7 @@ module _ {jobs : List (List Entry)} {past : List Job} {files after : List Arriva
   pub kept_by_offer : (o : Job) (gave : Result ℕ Refusal) → Offers jobs files o gave after
       → Kept jobs (past ++ o ∷ []) after × ((f : ℕ) → (state_of after f).taken ≡ (state_of files f).taken)
   kept_by_offer o (Ok ready) step =
-      let low : o.file < length files = step.wanted.0.0.0.0 in
+      let low : o.file < length files = step.wanted.file_there in
       let new : ArrivalsState = with_answer (state_of files o.file) o.line (answer_of o.entry) in
       let taken = each_file files o.file new low (λ f s. s.taken ≡ (state_of files f).taken) refl (λ f other. refl) in
       let ahead = each_file files o.file new low (λ f s. front (state_of files f) ≤ front s)
@@ -530,13 +523,14 @@ keeps_its_law jobs events files run =
       taken_within = all.0.within;
     }
 
--- the counts of lines of new files
+-- the lemmas for counts of lines of new files
 pub ruleset new_counts = (new_lines, take_all)
 
 -- ==== Offers of each job once, in any order
 
 -- ---- how often an offer stands in a list
 
+-- how often the offer stands in the list
 abbrev times_offered : Job → List Job → ℕ
 times_offered o xs = count_by (same_job o) xs
 
@@ -556,11 +550,12 @@ times_from_contains o xs has =
     let least = get_or-le-sum_by (λ x. cond (same_job o x) 1 0) xs has.0 o has.1 in
     grind (arith, nat_tests, has.2, least, same_itself o.entry)
 
--- how often it stands at a place with this entry
+-- how often an offer with this entry stands at a place with that one
 abbrev hits : Entry → Option Entry → ℕ
 hits e None = 0
 hits e (Some at) = cond (same_entry e at) 1 0
 
+-- if it stands there, the entries are the same, and it stands there once
 hit : (e : Entry) (r : Option Entry) → 0 < hits e r → (r ≡ Some e) × (hits e r ≤ 1)
 hit e None some = absurd (omega arith)
 hit e (Some at) some = grind (arith, same_means e at)

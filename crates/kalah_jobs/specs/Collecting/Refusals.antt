@@ -23,9 +23,13 @@ HasLine files o = HasOpenFile files o × (o.line < line_count (state_of files o.
 abbrev pub HasEntry : List (List Entry) → List ArrivalsState → Job → Type 0
 HasEntry jobs files o = HasLine files o × (entry_at jobs o.file o.line ≡ Some o.entry)
 
--- the offer has its line's entry, and is the first of it: none of the refusals holds
-abbrev pub IsWanted : List (List Entry) → List ArrivalsState → Job → Type 0
-IsWanted jobs files o = HasEntry jobs files o × (arrived_for (state_of files o.file) o.line ≡ None)
+-- the offer is the first of a line, with its entry, of a file that has not ended: none of the refusals holds
+pub record IsWanted (jobs : List (List Entry)) (files : List ArrivalsState) (o : Job) : Type 0 where
+  pub file_there : o.file < length files
+  pub not_ended : ¬ HasEnded (state_of files o.file)
+  pub line_there : o.line < line_count (state_of files o.file)
+  pub entry_is : entry_at jobs o.file o.line ≡ Some o.entry
+  pub first : arrived_for (state_of files o.file) o.line ≡ None
 
 -- the refusal holds, and none of those before it
 abbrev pub IsRefusedFor : List (List Entry) → List ArrivalsState → Job → Refusal → Type 0
