@@ -70,29 +70,6 @@ fn texts_of_answers(rt: HostRuntime) -> Result<(), Fail> {
     mark(alloc, "after all")
 }
 
-// Lines, each with the word of its fault, or `read`.
-const LINES: &[(&str, &str)] = &[
-    ("1,1/0 1,1/0", "read"),
-    ("31/99 0/0 e", "read"),
-    ("", "empty"),
-    ("01/0 1/0", "shape"),
-    ("1,1/0 1/0", "houses"),
-    ("16/0 16/0", "seeds"),
-];
-
-#[test]
-fn lines_are_read_without_memory(rt: HostRuntime) -> Result<(), Fail> {
-    mark(rt.alloc(), "before the calls without memory")?;
-    for (line, want) in LINES {
-        let word = match read_line(line.as_bytes()) {
-            Ok(_) => "read",
-            Err(fault) => fault.word(),
-        };
-        assert!(rt; word == *want);
-    }
-    mark(rt.alloc(), "after all")
-}
-
 // The writer has all its room.
 #[test]
 fn answers_are_written_without_memory(rt: HostRuntime) -> Result<(), Fail> {

@@ -1,9 +1,9 @@
-//! Offers in each order, with duplicates and unknown results between them, and what is taken.
+//! Offers in each order, accepted and refused, and what is taken.
 ghost use Rattle.kalah_jobs.specs.Collecting.CollectorState.{HasLinesOf};
 
 mod out_of_memory;
 
-use crate::{Answer, Collector, Entry, FileText, Jobs, LineFault, Outcome, Refusal, Taken};
+use crate::{Answer, Collector, Entry, FileText, Jobs, Outcome, Refusal, Taken};
 use Refusal::{Double, FileEnded, NoSuchFile, NoSuchLine, WrongPosition};
 use kalah_rules::{Board, Rule};
 use kalah_solve::Solver;
@@ -37,8 +37,8 @@ impl Trial {
         answered: Answered,
     ) {
         let outcome = Outcome::of(file, line, entry, &mut self.solver);
-        let told = self.collector.offer(&self.jobs, outcome);
-        assert!(rt; told == answered, "{file}, {line} with {entry:?}");
+        let result = self.collector.offer(&self.jobs, outcome);
+        assert!(rt; result == answered, "{file}, {line} with {entry:?}");
     }
 
     // Offers a line with `seeds` seeds, and compares the answer.
@@ -67,10 +67,10 @@ impl Trial {
         assert!(rt; self.collector.all_taken());
     }
 
-    // Makes each offer, after which all lines can be taken.
-    fn assert_each_offer(&mut self, rt: &impl Abort) {
-        for (place, seeds, (_, _, own)) in EACH_OFFER {
-            self.assert_offer(rt, *place, *seeds, *own);
+    // Makes each of the offers, after which all lines can be taken.
+    fn assert_offers(&mut self, rt: &impl Abort) {
+        for (place, seeds, answered) in OFFERS {
+            self.assert_offer(rt, *place, *seeds, *answered);
         }
         self.assert_takes_all(rt);
     }
@@ -97,59 +97,36 @@ fn two_texts(alloc: Global) -> Result<Vec<FileText>, AllocError> {
     Ok(files)
 }
 
-// The results of an unknown outcome for the line past the last of the first file, of one with the offer's own file and
-// line and another entry, and to the offer itself.
-type EachAnswered = (Answered, Answered, Answered);
-
-const PAST: Answered = Err(NoSuchLine);
-
-const WRONG: Answered = Err(WrongPosition);
-
-const NOWHERE: Answered = Err(NoSuchFile);
-
-const ENDED: Answered = Err(FileEnded);
-
-// An offer of each kind, and its answers.
-const EACH_OFFER: &[((u32, u32), u8, EachAnswered)] = &[
-    ((0, 2), 3, (PAST, WRONG, Ok(0))),
-    ((0, 0), 1, (PAST, WRONG, Ok(1))),
-    ((0, 0), 1, (PAST, WRONG, Err(Double))),
-    ((0, 0), 2, (PAST, WRONG, WRONG)),
-    ((0, 3), 1, (PAST, PAST, PAST)),
-    ((2, 0), 1, (PAST, NOWHERE, NOWHERE)),
-    ((0, 1), 2, (PAST, WRONG, Ok(2))),
-    ((0, 1), 2, (ENDED, ENDED, ENDED)),
-    ((0, 7), 1, (ENDED, ENDED, ENDED)),
-    ((1, 0), 1, (ENDED, ENDED, ENDED)),
+// Offers of each kind: the file and the line, the seeds of the entry, and the answer.
+const OFFERS: &[((u32, u32), u8, Answered)] = &[
+    ((0, 2), 3, Ok(0)),
+    ((0, 0), 1, Ok(1)),
+    ((0, 0), 1, Err(Double)),
+    ((0, 0), 2, Err(WrongPosition)),
+    ((0, 3), 1, Err(NoSuchLine)),
+    ((2, 0), 1, Err(NoSuchFile)),
+    ((0, 1), 2, Ok(2)),
+    ((0, 1), 2, Err(FileEnded)),
+    ((0, 7), 1, Err(FileEnded)),
+    ((1, 0), 1, Err(FileEnded)),
 ];
 
-// A line of the first file, and its seeds.
-type Line = (u32, u8);
-
-const ONE: Line = (0, 1);
-
-const TWO: Line = (1, 2);
-
-const THREE: Line = (2, 3);
-
-const ORDERED: [Line; 3] = [ONE, TWO, THREE];
-
-// The lines in each order, and how many become ready by each offer.
-const ORDERS: &[[(Line, u32); 3]] = &[
-    [(ONE, 1), (TWO, 1), (THREE, 1)],
-    [(ONE, 1), (THREE, 0), (TWO, 2)],
-    [(TWO, 0), (ONE, 2), (THREE, 1)],
-    [(TWO, 0), (THREE, 0), (ONE, 3)],
-    [(THREE, 0), (ONE, 1), (TWO, 2)],
-    [(THREE, 0), (TWO, 0), (ONE, 3)],
+// The lines of the first file in each order, and how many become ready by each offer.
+const ORDERS: &[[(u8, u32); 3]] = &[
+    [(0, 1), (1, 1), (2, 1)],
+    [(0, 1), (2, 0), (1, 2)],
+    [(1, 0), (0, 2), (2, 1)],
+    [(1, 0), (2, 0), (0, 3)],
+    [(2, 0), (0, 1), (1, 2)],
+    [(2, 0), (1, 0), (0, 3)],
 ];
 
 #[test]
 fn releases_lines_in_order(rt: HostRuntime) {
     for offers in ORDERS {
         let mut trial = Trial::new(&rt);
-        for ((line, seeds), ready) in offers {
-            trial.assert_offer(&rt, (0, *line), *seeds, Ok(*ready));
+        for (line, ready) in offers {
+            trial.assert_offer(&rt, (0, u32::from(*line)), *line + 1, Ok(*ready));
         }
     }
 }
@@ -167,20 +144,6 @@ fn refuses_a_line_that_was_taken(rt: HostRuntime) {
 fn refuses_a_position_under_the_other_rule(rt: HostRuntime) {
     let mut trial = Trial::new(&rt);
     let other = one_house(&rt, 1, Rule::EmptyCapture);
-    trial.assert_answers(&rt, (0, 0), other, WRONG);
+    trial.assert_answers(&rt, (0, 0), other, Err(WrongPosition));
     trial.assert_offer(&rt, (0, 0), 1, Ok(1));
-}
-
-// Before each offer come three unknown results: one for a file that is not there, one for a line past the last, and one with the
-// offer's own file and line and another entry.
-#[test]
-fn strangers_change_nothing(rt: HostRuntime) {
-    let mut trial = Trial::new(&rt);
-    for (place, seeds, (past, other, own)) in EACH_OFFER {
-        trial.assert_offer(&rt, (5, place.1), *seeds, NOWHERE);
-        trial.assert_offer(&rt, (0, 3), *seeds, *past);
-        trial.assert_answers(&rt, *place, Entry::Bad(LineFault::Empty), *other);
-        trial.assert_offer(&rt, *place, *seeds, *own);
-    }
-    trial.assert_takes_all(&rt);
 }

@@ -1,14 +1,10 @@
-use crate::{Entry, LineFault, Question, read_line};
+use crate::{LineFault, read_line};
 use kalah_rules::{Board, Rule};
 use std::process::Abort;
 
 // The line can't be read, for this fault.
 fn assert_fault(rt: &impl Abort, line: &[u8], fault: LineFault) {
     assert!(rt; read_line(line).err() == Some(fault), "{line:?}");
-    assert!(rt;
-        Entry::of_line(Question::BestMove, line) == Entry::Bad(fault),
-        "{line:?}"
-    );
 }
 
 // Lines that can't be read, and why.
@@ -71,23 +67,5 @@ fn lines_that_are_read(rt: HostRuntime) {
         let board = Board::new(1, own_row, own.1, other_row, other.1, *rule);
         let board = board.expect(&rt, "within the limits");
         assert!(rt; read_line(line) == Ok(board), "{line:?}");
-        assert!(rt;
-            Entry::of_line(Question::BestMove, line) == Entry::Position(board),
-            "{line:?}"
-        );
     }
-}
-
-#[test]
-fn six_houses_in_their_order(rt: HostRuntime) {
-    let board = Board::new(
-        6,
-        [1, 2, 3, 4, 5, 0],
-        7,
-        [0, 0, 0, 0, 0, 9],
-        8,
-        Rule::Classic,
-    )
-    .expect(&rt, "beyond the limits");
-    assert!(rt; read_line(b"1,2,3,4,5,0/7 0,0,0,0,0,9/8").ok() == Some(board));
 }
