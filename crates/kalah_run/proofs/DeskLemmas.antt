@@ -220,17 +220,17 @@ module _ {S : Type 0} {plan : DeskPlan} {s : State S DeskView} (seat : ℕ) {tot
   draws_some : word_of kept < total
       → IsLawful plan (after_step s ((word_of kept + 1) ∷ []) seat (drawn_view total number numbers (word_of kept))) × All (λ x. x < word_of kept) numbers
   draws_some low =
-      let v : DeskView = unspent_view total number numbers in
+      let before : DeskView = unspent_view total number numbers in
       let n : ℕ = kept.drawn in
-      let w : DeskView = drawn_view total number numbers n in
-      let rows : List DrawnRow = all_rows (set s.views seat w) in
-      let same : total ≡ plan.total = kept.totals seat v at in
+      let after : DeskView = drawn_view total number numbers n in
+      let rows : List DrawnRow = all_rows (set s.views seat after) in
+      let same : total ≡ plan.total = kept.totals seat before at in
       let none_spent : spent_in (all_rows s.views) ≡ 0 =
       elim (none_or_all kept.deals) [ inl unspent ↦ unspent | inr full ↦ omega arith ] in
       let is : word_of kept ≡ n = omega arith in
       let drawn : drawn_in rows ≡ drawn_in (all_rows s.views) + 1 =
-      omega (arith, rows_set (λ r. length r.numbers) s.views seat v w at, length-append numbers (n ∷ [])) in
-      let spent : spent_in rows ≡ spent_in (all_rows s.views) = omega (arith, rows_set (λ r. cond r.spent 1 0) s.views seat v w at) in
+      omega (arith, rows_set (λ r. length r.numbers) s.views seat before after at, length-append numbers (n ∷ [])) in
+      let spent : spent_in rows ≡ spent_in (all_rows s.views) = omega (arith, rows_set (λ r. cond r.spent 1 0) s.views seat before after at) in
       let rises : Ascends (drawn_row (numbers ++ n ∷ []) false) = all_pairs_push (λ x y. x < y) numbers n ascends stands_below in
       rw is (
         kept_after (drawn_row (numbers ++ n ∷ []) false) (record {
@@ -238,11 +238,11 @@ module _ {S : Type 0} {plan : DeskPlan} {s : State S DeskView} (seat : ℕ) {tot
           count = omega (arith, kept.deals.count);
           each_once = λ x.
               let more : sum_by (times_in_row x) rows ≡ sum_by (times_in_row x) (all_rows s.views) + cond (n == x) 1 0 =
-              omega (arith, rows_set (times_in_row x) s.views seat v w at, sum_by_push (λ y. cond (y == x) 1 0) numbers n) in
+              omega (arith, rows_set (times_in_row x) s.views seat before after at, sum_by_push (λ y. cond (y == x) 1 0) numbers n) in
               times_rows x rows ∙ more
               ∙ ap (λ k. k + cond (n == x) 1 0) (sym (times_rows x (all_rows s.views)) ∙ kept.deals.each_once x)
               ∙ once_more x n;
-          ascending = stays_ascending w (All-cons Ascends (drawn_row (numbers ++ n ∷ []) false) [] rises (All-nil Ascends));
+          ascending = stays_ascending after (All-cons Ascends (drawn_row (numbers ++ n ∷ []) false) [] rises (All-nil Ascends));
           spent = λ some_spent. absurd (omega arith);
         }) (omega arith),
         stands_below,
@@ -251,18 +251,18 @@ module _ {S : Type 0} {plan : DeskPlan} {s : State S DeskView} (seat : ℕ) {tot
   -- it finds none: the rule stays, and the pass is spent
   draws_none : total ≤ word_of kept → IsLawful plan (after_step s ((word_of kept + 1) ∷ []) seat (spent_view total number numbers))
   draws_none high =
-      let v : DeskView = unspent_view total number numbers in
-      let w : DeskView = spent_view total number numbers in
-      let same : total ≡ plan.total = kept.totals seat v at in
+      let before : DeskView = unspent_view total number numbers in
+      let after : DeskView = spent_view total number numbers in
+      let same : total ≡ plan.total = kept.totals seat before at in
       let full : kept.drawn ≡ plan.total =
       elim (none_or_all kept.deals) [ inl unspent ↦ (let within = kept.deals.within in omega arith) | inr full ↦ full ] in
-      let drawn : drawn_in (all_rows (set s.views seat w)) ≡ drawn_in (all_rows s.views) =
-      omega (arith, rows_set (λ r. length r.numbers) s.views seat v w at) in
-      let spent : spent_in (all_rows (set s.views seat w)) ≡ spent_in (all_rows s.views) + 1 =
-      omega (arith, rows_set (λ r. cond r.spent 1 0) s.views seat v w at) in
+      let drawn : drawn_in (all_rows (set s.views seat after)) ≡ drawn_in (all_rows s.views) =
+      omega (arith, rows_set (λ r. length r.numbers) s.views seat before after at) in
+      let spent : spent_in (all_rows (set s.views seat after)) ≡ spent_in (all_rows s.views) + 1 =
+      omega (arith, rows_set (λ r. cond r.spent 1 0) s.views seat before after at) in
       kept_after (drawn_row numbers true)
-      (deals_alike kept.deals drawn (λ x. omega (arith, rows_set (times_in_row x) s.views seat v w at))
-      (stays_ascending w (All-cons Ascends (drawn_row numbers true) [] ascends (All-nil Ascends))) (λ _. full))
+      (deals_alike kept.deals drawn (λ x. omega (arith, rows_set (times_in_row x) s.views seat before after at))
+      (stays_ascending after (All-cons Ascends (drawn_row numbers true) [] ascends (All-nil Ascends))) (λ _. full))
       (omega arith)
 
 -- a draw of a pass that is not spent

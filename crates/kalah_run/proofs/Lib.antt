@@ -1,5 +1,7 @@
 pub mod ViewLemmas
 pub mod DeskLemmas
 pub mod QueueLemmas
+pub mod OutputLemmas
+pub mod WorkerLemmas
 pub mod BatchLemmas
 pub mod Crossing

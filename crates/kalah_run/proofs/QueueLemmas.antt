@@ -144,36 +144,36 @@ oldest : (x : Job) (items : List Job) (inside : List (ℕ × Job)) → outcomes_
 oldest x items [] held = absurd (cc)
 oldest x items (p ∷ ps) held = let is : p.1 ≡ x = cc in (p.0, ps, ap (λ (o : Job). (p.0, o) ∷ ps) is, cc)
 
-module _ {items : List Job} {views : List QueueView} (h : IsLawful items views) where
+module _ {items : List Job} {views : List QueueView} (kept : IsLawful items views) where
   -- the pairs that were taken out, followed by those inside
   abbrev pairs : List (ℕ × Job)
-  pairs = h.taken ++ h.inside
+  pairs = kept.taken ++ kept.inside
 
   -- the pass to get stands first, and knows the truth
   knows_truth : (place : ℕ) {v : QueueView} {made : ℕ} {got : List (ℕ × Job)} {known : List (List Job)} → v ≡ Getting made got known
-      → get_elem? views place ≡ some v → (place ≡ 0) × (v ≡ Getting h.made h.taken h.known)
+      → get_elem? views place ≡ some v → (place ≡ 0) × (v ≡ Getting kept.made kept.taken kept.known)
   knows_truth place is at =
-      let first : place ≡ 0 = h.fits place _ (at ∙ ap some is) in
-      (first, some-injective _ _ (sym at ∙ ap (get_elem? views) first ∙ h.getter))
+      let first : place ≡ 0 = kept.fits place _ (at ∙ ap some is) in
+      (first, some-injective _ _ (sym at ∙ ap (get_elem? views) first ∙ kept.getter))
 
   -- the view of another pass fits if one pair more was sent, by a worker that has not ended
   fits_more : {place : ℕ} (x : ℕ × Job) → place ≡ suc x.0 → (j : ℕ) (u : QueueView) → j ≢ place → get_elem? views j ≡ some u
-      → Fits (pairs ++ x ∷ []) (length h.known) j u
+      → Fits (pairs ++ x ∷ []) (length kept.known) j u
   fits_more x place_is j (Putting number sent) other at =
-      let fit : FitsPut pairs (length h.known) j number sent = h.fits j _ at in
+      let fit : FitsPut pairs (length kept.known) j number sent = kept.fits j _ at in
       let ne : x.0 ≢ number = (λ q. other (fit.place_is ∙ (ap suc (sym q) ∙ sym place_is))) in
       record { place_is = fit.place_is; running = fit.running; all_sent = fit.all_sent ∙ sym (other_pair_changes_nothing number pairs x ne) }
-  fits_more x place_is j (Getting made got known) other at = h.fits j _ at
+  fits_more x place_is j (Getting made got known) other at = kept.fits j _ at
   fits_more x place_is j Ended other at = tt
 
   -- the view of another pass fits if one worker more has ended
-  fits_ended : {ended : ℕ} → ended ≡ suc (length h.known) → (j : ℕ) (u : QueueView) → j ≢ ended → get_elem? views j ≡ some u
-      → Fits pairs (length h.known + 1) j u
+  fits_ended : {ended : ℕ} → ended ≡ suc (length kept.known) → (j : ℕ) (u : QueueView) → j ≢ ended → get_elem? views j ≡ some u
+      → Fits pairs (length kept.known + 1) j u
   fits_ended is j (Putting number sent) apart at =
-      let fit : FitsPut pairs (length h.known) j number sent = h.fits j _ at in
-      let ne : number ≢ length h.known = (λ q. apart (fit.place_is ∙ (ap suc q ∙ sym is))) in
+      let fit : FitsPut pairs (length kept.known) j number sent = kept.fits j _ at in
+      let ne : number ≢ length kept.known = (λ q. apart (fit.place_is ∙ (ap suc q ∙ sym is))) in
       record { place_is = fit.place_is; running = omega arith; all_sent = fit.all_sent }
-  fits_ended is j (Getting made got known) apart at = h.fits j _ at
+  fits_ended is j (Getting made got known) apart at = kept.fits j _ at
   fits_ended is j Ended apart at = tt
 
   -- the pass of a worker that has not ended puts an outcome
@@ -182,93 +182,93 @@ module _ {items : List Job} {views : List QueueView} (h : IsLawful items views) 
   lawful_with_put place x {number} {sent} at =
       let pair : ℕ × Job = (number, x) in
       let w : QueueView = Putting number (sent ++ x ∷ []) in
-      let fit : FitsPut pairs (length h.known) place number sent = h.fits place _ at in
-      let now : FitsPut (pairs ++ pair ∷ []) (length h.known) place number (sent ++ x ∷ []) = record {
+      let fit : FitsPut pairs (length kept.known) place number sent = kept.fits place _ at in
+      let now : FitsPut (pairs ++ pair ∷ []) (length kept.known) place number (sent ++ x ∷ []) = record {
         place_is = fit.place_is;
         running = fit.running;
         all_sent = ap (λ (l : List Job). l ++ x ∷ []) fit.all_sent ∙ sym (own_pair_goes_last number pairs pair refl);
       } in
       record {
-        made = h.made;
-        taken = h.taken;
-        known = h.known;
-        inside = h.inside ++ pair ∷ [];
-        getter = set_else views place 0 w (λ q. omega (arith, q, fit.place_is)) ∙ h.getter;
-        count = length-set views place w ∙ h.count;
-        held = map-append (λ (p : ℕ × Job). p.1) h.inside (pair ∷ []) ∙ ap (λ (l : List Job). l ++ x ∷ []) h.held;
-        accounts = rw (← append_assoc h.taken h.inside (pair ∷ [])) (accounts_pair h.made h.known pairs pair
-            (omega (arith, fit.place_is, h.count, in_views views place at)) fit.running h.accounts);
-        fits = rw (← append_assoc h.taken h.inside (pair ∷ []))
-            (each_set (Fits (pairs ++ pair ∷ []) (length h.known)) views place w now (fits_more pair fit.place_is));
+        made = kept.made;
+        taken = kept.taken;
+        known = kept.known;
+        inside = kept.inside ++ pair ∷ [];
+        getter = set_else views place 0 w (λ q. omega (arith, q, fit.place_is)) ∙ kept.getter;
+        count = length-set views place w ∙ kept.count;
+        held = map-append (λ (p : ℕ × Job). p.1) kept.inside (pair ∷ []) ∙ ap (λ (l : List Job). l ++ x ∷ []) kept.held;
+        accounts = rw (← append_assoc kept.taken kept.inside (pair ∷ [])) (accounts_pair kept.made kept.known pairs pair
+            (omega (arith, fit.place_is, kept.count, in_views views place at)) fit.running kept.accounts);
+        fits = rw (← append_assoc kept.taken kept.inside (pair ∷ []))
+            (each_set (Fits (pairs ++ pair ∷ []) (length kept.known)) views place w now (fits_more pair fit.place_is));
       }
 
   -- a pass is made for the next worker, before any has ended
-  lawful_with_pass : h.known ≡ []
-      → IsLawful items (set views 0 (Getting (h.made + 1) h.taken h.known) ++ Putting h.made [] ∷ [])
+  lawful_with_pass : kept.known ≡ []
+      → IsLawful items (set views 0 (Getting (kept.made + 1) kept.taken kept.known) ++ Putting kept.made [] ∷ [])
   lawful_with_pass none =
-      let w : QueueView = Getting (h.made + 1) h.taken h.known in
+      let w : QueueView = Getting (kept.made + 1) kept.taken kept.known in
       let vs : List QueueView = set views 0 w in
       let same : length vs ≡ length views = length-set views 0 w in
-      let fresh : FitsPut pairs (length h.known) (length vs) h.made [] = record {
-        place_is = same ∙ h.count;
+      let fresh : FitsPut pairs (length kept.known) (length vs) kept.made [] = record {
+        place_is = same ∙ kept.count;
         running = omega (arith, ap length none);
-        all_sent = sym (no_pair_beyond_workers h.made h.made _ h.accounts.below (omega arith));
+        all_sent = sym (no_pair_beyond_workers kept.made kept.made _ kept.accounts.below (omega arith));
       } in
       record {
-        made = h.made + 1;
-        taken = h.taken;
-        known = h.known;
-        inside = h.inside;
-        getter = at_longer vs (Putting h.made [] ∷ []) 0 _ (set_here views 0 w (in_views views 0 h.getter));
-        count = omega (arith, length_push vs (Putting h.made []), same, h.count);
-        held = h.held;
-        accounts = accounts_worker h.made h.known pairs h.accounts;
-        fits = each_more (Fits pairs (length h.known)) vs (Putting h.made [])
-            (each_set (Fits pairs (length h.known)) views 0 w refl (λ j u other at. h.fits j u at)) fresh;
+        made = kept.made + 1;
+        taken = kept.taken;
+        known = kept.known;
+        inside = kept.inside;
+        getter = at_longer vs (Putting kept.made [] ∷ []) 0 _ (set_here views 0 w (in_views views 0 kept.getter));
+        count = omega (arith, length_push vs (Putting kept.made []), same, kept.count);
+        held = kept.held;
+        accounts = accounts_worker kept.made kept.known pairs kept.accounts;
+        fits = each_more (Fits pairs (length kept.known)) vs (Putting kept.made [])
+            (each_set (Fits pairs (length kept.known)) views 0 w refl (λ j u other at. kept.fits j u at)) fresh;
       }
 
   -- the pass of the next worker to end is reclaimed
-  lawful_with_end : (other : ℕ) {sent : List Job} → other ≢ 0 → get_elem? views other ≡ some (Putting (length h.known) sent)
-      → IsLawful items (set (set views 0 (Getting h.made h.taken (h.known ++ sent ∷ []))) other Ended)
+  lawful_with_end : (other : ℕ) {sent : List Job} → other ≢ 0 → get_elem? views other ≡ some (Putting (length kept.known) sent)
+      → IsLawful items (set (set views 0 (Getting kept.made kept.taken (kept.known ++ sent ∷ []))) other Ended)
   lawful_with_end other {sent} apart at =
-      let w : QueueView = Getting h.made h.taken (h.known ++ sent ∷ []) in
+      let w : QueueView = Getting kept.made kept.taken (kept.known ++ sent ∷ []) in
       let vs : List QueueView = set views 0 w in
-      let fit : FitsPut pairs (length h.known) other (length h.known) sent = h.fits other _ at in
-      let F : ℕ → QueueView → Type 0 = Fits pairs (length h.known + 1) in
+      let fit : FitsPut pairs (length kept.known) other (length kept.known) sent = kept.fits other _ at in
+      let F : ℕ → QueueView → Type 0 = Fits pairs (length kept.known + 1) in
       let others = each_set (λ j u. j ≢ other → F j u) views 0 w (λ _. refl) (λ j u ne at apart. fits_ended fit.place_is j u apart at) in
       record {
-        made = h.made;
-        taken = h.taken;
-        known = h.known ++ sent ∷ [];
-        inside = h.inside;
-        getter = set_else vs other 0 Ended (λ q. apart (sym q)) ∙ set_here views 0 w (in_views views 0 h.getter);
-        count = length-set vs other Ended ∙ length-set views 0 w ∙ h.count;
-        held = h.held;
-        accounts = accounts_known h.made h.known pairs sent fit.all_sent h.accounts;
-        fits = rw (length_push h.known sent) (each_set F vs other Ended tt (λ j u ne at. others j u at ne));
+        made = kept.made;
+        taken = kept.taken;
+        known = kept.known ++ sent ∷ [];
+        inside = kept.inside;
+        getter = set_else vs other 0 Ended (λ q. apart (sym q)) ∙ set_here views 0 w (in_views views 0 kept.getter);
+        count = length-set vs other Ended ∙ length-set views 0 w ∙ kept.count;
+        held = kept.held;
+        accounts = accounts_known kept.made kept.known pairs sent fit.all_sent kept.accounts;
+        fits = rw (length_push kept.known sent) (each_set F vs other Ended tt (λ j u ne at. others j u at ne));
       }
 
 -- the oldest outcome is got, which is of one of the workers
-lawful_with_get : {x : Job} {items : List Job} {views : List QueueView} (h : IsLawful (x ∷ items) views)
-    → (worker : ℕ) × (worker < h.made) × IsLawful items (set views 0 (Getting h.made (h.taken ++ (worker, x) ∷ []) h.known))
-lawful_with_get {x} {items} {views} h =
-    let first = oldest x items h.inside h.held in
+lawful_with_get : {x : Job} {items : List Job} {views : List QueueView} (kept : IsLawful (x ∷ items) views)
+    → (worker : ℕ) × (worker < kept.made) × IsLawful items (set views 0 (Getting kept.made (kept.taken ++ (worker, x) ∷ []) kept.known))
+lawful_with_get {x} {items} {views} kept =
+    let first = oldest x items kept.inside kept.held in
     let pair : ℕ × Job = (first.0, x) in
-    let w : QueueView = Getting h.made (h.taken ++ pair ∷ []) h.known in
-    let same : (h.taken ++ pair ∷ []) ++ first.1 ≡ pairs h =
-    append_assoc h.taken (pair ∷ []) first.1 ∙ ap (λ l. h.taken ++ l) (sym first.2) in (
+    let w : QueueView = Getting kept.made (kept.taken ++ pair ∷ []) kept.known in
+    let same : (kept.taken ++ pair ∷ []) ++ first.1 ≡ pairs kept =
+    append_assoc kept.taken (pair ∷ []) first.1 ∙ ap (λ l. kept.taken ++ l) (sym first.2) in (
       first.0,
-      next_below h.made h.taken pair first.1 (rw first.2 at h.accounts.below),
+      next_below kept.made kept.taken pair first.1 (rw first.2 at kept.accounts.below),
       record {
-        made = h.made;
-        taken = h.taken ++ pair ∷ [];
-        known = h.known;
+        made = kept.made;
+        taken = kept.taken ++ pair ∷ [];
+        known = kept.known;
         inside = first.1;
-        getter = set_here views 0 w (in_views views 0 h.getter);
-        count = length-set views 0 w ∙ h.count;
+        getter = set_here views 0 w (in_views views 0 kept.getter);
+        count = length-set views 0 w ∙ kept.count;
         held = first.3;
-        accounts = rw same h.accounts;
-        fits = rw same (each_set (Fits (pairs h) (length h.known)) views 0 w refl (λ j u other at. h.fits j u at));
+        accounts = rw same kept.accounts;
+        fits = rw same (each_set (Fits (pairs kept) (length kept.known)) views 0 w refl (λ j u other at. kept.fits j u at));
       },
     )
 
@@ -329,17 +329,17 @@ whole_when_reclaimed {made = made} {got = got} {known} [] getting none whole hel
 -- ==== The rule of the results queue, in plain words
 
 pub queue_is_lawful : (items : List Job) (views : List QueueView) → IsLawful items views → IsWholeAndInOrder items views
-queue_is_lawful items views h = record {
-  workers = h.made;
-  got = h.taken;
-  inside = h.inside;
-  ended = h.known;
-  held = h.held;
-  gets = h.getter;
-  no_other_gets = λ place others taken lists at. h.fits place (Getting others taken lists) at;
-  below = h.accounts.below;
+queue_is_lawful items views kept = record {
+  workers = kept.made;
+  got = kept.taken;
+  inside = kept.inside;
+  ended = kept.known;
+  held = kept.held;
+  gets = kept.getter;
+  no_other_gets = λ place others taken lists at. kept.fits place (Getting others taken lists) at;
+  below = kept.accounts.below;
   running = λ place worker sent at.
-      let fit : FitsPut (pairs h) (length h.known) place worker sent = h.fits place (Putting worker sent) at in
-      (omega (arith, fit.place_is, h.count, in_views views place at), sym fit.all_sent);
-  reclaimed = h.accounts.whole;
+      let fit : FitsPut (pairs kept) (length kept.known) place worker sent = kept.fits place (Putting worker sent) at in
+      (omega (arith, fit.place_is, kept.count, in_views views place at), sym fit.all_sent);
+  reclaimed = kept.accounts.whole;
 }

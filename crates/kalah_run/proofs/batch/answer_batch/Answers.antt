@@ -2,7 +2,8 @@ use Rattle.std.proofs.lemmas.Grind.{common_steps}
 use Rattle.std.proofs.Common.{◌≡◌, ◌∙◌, [], Err, false, refl, sym, ap, ⊎_elim, inl, inr, arith, rules}
 use Rattle.kalah_jobs.specs.Files.Jobs.{job_count}
 use Rattle.kalah_run.specs.declared.batch.run_fault.RunFault.TheVariants.{NoWorker}
-use Rattle.kalah_run.proofs.BatchLemmas.{answered, as_many_jobs, since_kept, since_no_output, since_output, starts_none}
+use Rattle.kalah_run.proofs.OutputLemmas.{since_kept}
+use Rattle.kalah_run.proofs.BatchLemmas.{answered, as_many_jobs, since_no_output, since_output, starts_none}
 use Rattle.kalah_run.proofs.batch.answer_batch.Goals.{then-total-gt0+in_ok-open+in_ok-run, else-total-gt0}
 use Rattle.kalah_run.proofs.batch.answer_batch.Goals as goal
 

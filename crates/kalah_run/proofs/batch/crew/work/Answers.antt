@@ -3,7 +3,7 @@ use Rattle.kalah_run.specs.declared.desk.rule.DrawnRow.{DrawnRow}
 use Rattle.kalah_run.specs.Desk.States.{PassState}
 use Rattle.kalah_run.specs.Queue.States.{PutPassState}
 use Rattle.std.proofs.lemmas.List.Elements.{All-push}
-use Rattle.kalah_run.proofs.BatchLemmas.{drawn_jobs-more, less_left}
+use Rattle.kalah_run.proofs.WorkerLemmas.{drawn_jobs-more, less_left}
 use Rattle.kalah_run.proofs.batch.crew.work.Goals as goal
 
 -- with no job in hand, all that was drawn is sent

@@ -1,5 +1,5 @@
 use Rattle.std.proofs.Common.{◌≡◌, ◌-◌}
-use Rattle.kalah_run.proofs.BatchLemmas.{least_above}
+use Rattle.kalah_run.proofs.WorkerLemmas.{least_above}
 use Rattle.kalah_run.specs.Batch.AtWork.{IsAtWork}
 use Rattle.kalah_run.proofs.batch.crew.work.Given as goal
 

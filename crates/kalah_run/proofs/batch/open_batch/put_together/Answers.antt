@@ -1,7 +1,7 @@
 use Rattle.std.proofs.lemmas.Grind.{common_steps}
 use Rattle.std.proofs.Common.{arith, ◌∙◌}
 use Rattle.kalah_run.specs.declared.batch.worker.Worker.{Worker}
-use Rattle.kalah_run.proofs.BatchLemmas.{one_given, tables_more}
+use Rattle.kalah_run.proofs.WorkerLemmas.{one_given, tables_more}
 use Rattle.kalah_run.proofs.batch.open_batch.put_together.Goals as goal
 
 pub loop-pass-preserved : goal.loop-pass-preserved

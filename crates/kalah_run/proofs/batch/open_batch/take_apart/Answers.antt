@@ -1,5 +1,5 @@
 use Rattle.kalah_run.specs.declared.batch.worker.Worker.{Worker}
-use Rattle.kalah_run.proofs.BatchLemmas.{one_taken, room_for_one, room_still}
+use Rattle.kalah_run.proofs.WorkerLemmas.{one_taken, room_for_one, room_still}
 use Rattle.kalah_run.proofs.batch.open_batch.take_apart.Goals as goal
 
 pub push_reserved-requires : goal.push_reserved-requires

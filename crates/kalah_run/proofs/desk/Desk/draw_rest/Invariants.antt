@@ -1,5 +1,5 @@
 use Rattle.std.proofs.Common.{◌≡◌, ◌-◌}
-use Rattle.kalah_run.proofs.BatchLemmas.{least_above}
+use Rattle.kalah_run.proofs.WorkerLemmas.{least_above}
 use Rattle.kalah_run.specs.Desk.States.{IsPassAt}
 use Rattle.kalah_run.proofs.desk.Desk.draw_rest.Given as goal
 

@@ -1,7 +1,7 @@
 use Rattle.std.proofs.Common.{◌∙◌, ap, length, sym}
 use Rattle.std.proofs.lemmas.List.{with_items_is}
 use denote.Param.Send.{sendable}
-use Rattle.kalah_run.proofs.BatchLemmas.{have_run}
+use Rattle.kalah_run.proofs.WorkerLemmas.{have_run}
 use Rattle.kalah_run.proofs.Crossing.{worker_send}
 use Rattle.kalah_run.proofs.batch.crew.Crew.run.Goals as goal
 

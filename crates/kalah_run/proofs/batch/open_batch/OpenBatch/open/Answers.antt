@@ -1,6 +1,7 @@
 use Rattle.std.proofs.Common.{◌≡◌, [], ap, arith, length, refl, sym, ◌∙◌}
 use Rattle.kalah_run.specs.Queue.States.{GetPassState}
-use Rattle.kalah_run.proofs.BatchLemmas.{as_many_workers, new_at_work, new_left}
+use Rattle.kalah_run.proofs.WorkerLemmas.{as_many_workers, new_at_work}
+use Rattle.kalah_run.proofs.BatchLemmas.{new_left}
 use Rattle.kalah_run.proofs.batch.open_batch.OpenBatch.open.Goals as goal
 
 pub returns-clause-asked : goal.returns-clause-asked

@@ -6,7 +6,8 @@ use Rattle.kalah_run.specs.Desk.States.{drawn_rows}
 use Rattle.kalah_run.specs.Queue.States.{GetPassState, outcomes_in}
 use Rattle.kalah_run.specs.Batch.AtWork.{passes_of}
 use Rattle.kalah_run.specs.Batch.Leaving.{rest_of, HasDrawnNothing}
-use Rattle.kalah_run.proofs.BatchLemmas.{passes_are_back, each_job_known, each_job_got, nothing_drawn, own_back, passes_fit, puts_back, unless_left}
+use Rattle.kalah_run.proofs.WorkerLemmas.{each_job_known, each_job_got}
+use Rattle.kalah_run.proofs.BatchLemmas.{passes_are_back, nothing_drawn, own_back, passes_fit, puts_back, unless_left}
 use Rattle.kalah_run.proofs.DeskLemmas.{deals_to_others}
 use Rattle.kalah_run.proofs.batch.open_batch.OpenBatch.run.Given.{Over}
 use Rattle.kalah_run.proofs.batch.open_batch.OpenBatch.run.Goals as goal

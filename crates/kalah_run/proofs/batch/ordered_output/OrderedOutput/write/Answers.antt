@@ -4,7 +4,7 @@ use Rattle.kalah_jobs.specs.Collecting.CollectorState.{ArrivalsState, front, sta
 use Rattle.kalah_jobs.specs.Files.NamedBytes.{NamedBytes}
 use Rattle.kalah_jobs.proofs.CollectingLemmas.{files_many}
 use Rattle.kalah_run.specs.Batch.OrderedOutput.{WasGivenSince}
-use Rattle.kalah_run.proofs.BatchLemmas.{wrote_file, wrote_line, wrote_nothing, since_more, written_on, text_of_taken}
+use Rattle.kalah_run.proofs.OutputLemmas.{wrote_file, wrote_line, wrote_nothing, since_more, written_on, text_of_taken}
 use Rattle.kalah_run.proofs.batch.ordered_output.OrderedOutput.write.Goals as goal
 
 pub bounds-files-f : goal.bounds-files-f

@@ -4,7 +4,7 @@ use Rattle.kalah_jobs.specs.Writing.Sink.{SinkState}
 use Rattle.kalah_jobs.specs.declared.files.job.Job.{Job}
 use Rattle.kalah_jobs.specs.declared.files.entry.Entry.{Entry}
 use Rattle.kalah_run.specs.Batch.OrderedOutput.{HasWritten}
-use Rattle.kalah_run.proofs.BatchLemmas.{ready_lines}
+use Rattle.kalah_run.proofs.OutputLemmas.{ready_lines}
 use Rattle.kalah_run.proofs.batch.ordered_output.OrderedOutput.write.Given as goal
 
 abbrev pub invariant-loop-self : goal.invariant-loop-self

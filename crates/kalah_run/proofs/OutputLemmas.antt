@@ -1,0 +1,276 @@
+-- The output of a batch: what its sink was given, and the loop that writes each line once it is ready.
+use Rattle.std.proofs.Common.{[], add-one, ◌≡◌, ◌≤◌, ◌<◌, ◌+◌, ◌-◌, ℕ, suc, List, ◌∷◌, ◌++◌, arith, sym, ap, ◌∙◌, Bool, true, false, refl, ⊎_elim, length, get_or, take, drop, subst, inl, inr}
+use Rattle.std.proofs.lemmas.List.{take-append-drop, take_all, take_more, flat_map_more, get_or-map}
+use Rattle.kalah_jobs.specs.declared.files.entry.Entry.{Entry}
+use Rattle.kalah_jobs.specs.declared.files.job.Job.{Job}
+use Rattle.std.specs.Prelude.{Some, slice_get, None, Result, sum_by}
+use Rattle.std.proofs.lemmas.Option.{get_or_from_slice_get, slice_get_within}
+use Rattle.kalah_jobs.specs.Files.JobList.{job_list, jobs_from, file_jobs, line_job, entries_of, entry_at}
+use Rattle.kalah_jobs.specs.Collecting.AnyOrder.{AreJobsInSomeOrder}
+use Rattle.std.proofs.KnownBytes.{Appends-kept, Appends-nil, Appends-trans}
+use Rattle.kalah_jobs.specs.Writing.Sink.{SinkState, WasGiven}
+use Rattle.kalah_jobs.proofs.WritingLemmas.{start_none, start_then, start_longer, start_kept}
+use Rattle.kalah_run.specs.Batch.OrderedOutput.{IsOnlyFlushed, WasGivenSince, text_of_job, written_upto, IsUnderWay, text_of, IsNew, HasWritten}
+use Rattle.std.specs.List.{flat_map, enumerate_from}
+use Rattle.std.proofs.lemmas.Bool.{cases_eq, cases_lt, both_ways}
+use Rattle.std.proofs.lemmas.Grind.{flat_map-append}
+use Rattle.kalah_jobs.specs.declared.writing.answer.Taken.{Taken}
+use Rattle.kalah_jobs.specs.declared.collecting.refusal.Refusal.{Refusal}
+use Rattle.kalah_jobs.specs.Writing.Answer.{answer_line}
+use Rattle.kalah_jobs.specs.Collecting.CollectorState.{ArrivalsState, state_of, front, HasEnded, with_one_taken, new_files, after_take}
+use Rattle.kalah_jobs.specs.Collecting.CollectorEvents.{Offers, Takes, answered_line}
+use Rattle.kalah_jobs.specs.Writing.Output.{text_of_line, text_of_file, text_of_jobs}
+use Rattle.kalah_jobs.proofs.CollectingLemmas.{state_same, state_other, files_many, lines_are, start, taken_is, new_taken, fronts_full, kept_by_offer, kept_by_take}
+use Rattle.kalah_jobs.specs.Collecting.Held.{Kept}
+use Rattle.kalah_jobs.specs.Files.Lines.{line_feed}
+use Rattle.kalah_jobs.specs.Files.NamedBytes.{NamedBytes}
+use Rattle.kalah_run.specs.declared.batch.ordered_output.OrderedOutput.{OrderedOutput}
+use Rattle.kalah_jobs.specs.Files.Jobs.{job_count}
+use Rattle.kalah_jobs.proofs.FilesLemmas.{length-job_list, lines_between, slice_get-job_list}
+
+-- ==== A sink that is given bytes
+
+-- at first a sink was given nothing
+pub since_none : (begun : SinkState) → WasGivenSince begun begun []
+since_none begun = record { start = start_none begun.written []; whole = λ sound. Appends-nil begun.written }
+
+-- a sink that has failed is not called again
+since_failed : {begun out : SinkState} (bs cs : List ℕ) → WasGivenSince begun out bs → out.has_failed ≡ true
+    → WasGivenSince begun out (bs ++ cs)
+since_failed {begun} {out} bs cs given broken = record {
+  start = start_longer begun.written out.written bs cs given.start;
+  whole = λ sound. absurd (both_ways _ sound broken);
+}
+
+-- a sink is given more, unless it has failed
+pub since_more : {W : Type 0} {state : W → SinkState} {begun : SinkState} {old new : W} (bs cs : List ℕ)
+    → WasGivenSince begun (state old) bs → WasGiven state old new cs → WasGivenSince begun (state new) (bs ++ cs)
+since_more {state = state} {begun} {old} {new} bs cs given more = by (state old).has_failed refl where
+  by : (b : Bool) → (state old).has_failed ≡ b → WasGivenSince begun (state new) (bs ++ cs)
+  by true failed = subst (λ o. WasGivenSince begun (state o) (bs ++ cs)) (sym (more.quiet failed)) (since_failed bs cs given failed)
+  by false sound = record {
+    start = start_then begun.written (state old).written (state new).written (bs ++ cs) bs cs refl (given.whole sound) more.start;
+    whole = λ still. Appends-trans begun.written (state old).written (state new).written bs cs (given.whole sound) (more.whole still).1;
+  }
+
+-- what was given stays given if nothing more is written
+pub since_kept : {begun out more : SinkState} {bs : List ℕ} → WasGivenSince begun out bs → IsOnlyFlushed out more → WasGivenSince begun more bs
+since_kept {begun} {out} {more} {bs} given flushed = record {
+  start = start_kept begun.written out.written more.written bs given.start flushed.keeps;
+  whole = λ sound. Appends-kept begun.written out.written more.written bs (given.whole (flushed.sound sound)) flushed.keeps;
+}
+
+-- ==== The loop that writes each line once it is ready and all before it were written
+
+-- what is written, line by line and file by file
+module _ (text : ℕ → Taken → List ℕ) (jobs : List (List Entry)) where
+  -- the texts of the jobs of one file
+  texts_of_lines : (f n : ℕ) (own : List Entry)
+      → flat_map (text_of_job text) (file_jobs f n own) ≡ flat_map (text_of_line text f) (enumerate_from n own)
+  texts_of_lines f n [] = refl
+  texts_of_lines f n (e ∷ own) = rw add-one (ap (λ l. text_of_line text f (n, e) ++ l) (texts_of_lines f (suc n) own))
+
+  -- those of all jobs, from file f on
+  pub texts_from : (f : ℕ) (files : List (List Entry))
+      → flat_map (text_of_job text) (jobs_from f files) ≡ flat_map (text_of_file text) (enumerate_from f files)
+  texts_from f [] = refl
+  texts_from f (own ∷ files) =
+      rw add-one (flat_map-append (text_of_job text) (file_jobs f 0 own) (jobs_from (suc f) files)
+      ∙ λ i. texts_of_lines f 0 own i ++ texts_from (suc f) files i)
+
+  -- one line more of the file is written
+  written_line : (f n : ℕ) (e : Entry) → entry_at jobs f n ≡ Some e
+      → written_upto text jobs f n ++ text f (answered_line (n, e)) ≡ written_upto text jobs f (n + 1)
+  unfolding written_upto
+  written_line f n e is =
+      let m : ℕ = job_count (take f jobs) + n in
+      let o : Job = line_job f n e in
+      let at : slice_get (job_list jobs) m ≡ Some o = slice_get-job_list jobs f n m e refl is in
+      let next : m + 1 ≡ job_count (take f jobs) + (n + 1) = omega arith in
+      flat_map_more (text_of_job text) [] (take m (job_list jobs)) o
+      ∙ ap (λ x. flat_map (text_of_job text) (take m (job_list jobs) ++ x ∷ [])) (sym (get_or_from_slice_get (job_list jobs) m o o at))
+      ∙ ap (flat_map (text_of_job text)) (sym (take_more (job_list jobs) m o (slice_get_within (job_list jobs) m o at)))
+      ∙ ap (λ k. flat_map (text_of_job text) (take k (job_list jobs))) next
+
+  -- all lines of the file are written
+  written_file : (f : ℕ) → f < length jobs → written_upto text jobs f (length (entries_of jobs f)) ≡ written_upto text
+      jobs (f + 1) 0
+  unfolding written_upto
+  written_file f low =
+      let next : job_count (take f jobs) + length (entries_of jobs f) ≡ job_count (take (f + 1) jobs) + 0 =
+      omega (arith, lines_between jobs f low) in
+      ap (λ k. flat_map (text_of_job text) (take k (job_list jobs))) next
+
+  -- all lines of all files are written
+  written_all : (f n : ℕ) → length jobs ≤ f → written_upto text jobs f n ≡ text_of_jobs text jobs
+  unfolding written_upto
+  written_all f n high =
+      ap (flat_map (text_of_job text)) (take_all (job_count (take f jobs) + n) (job_list jobs)
+      (omega (arith, length-job_list jobs, ap job_count (take_all f jobs high))))
+      ∙ texts_from 0 jobs
+
+  -- what is written is the first part of all
+  written_first : (f n : ℕ) → (rest : List ℕ) × (written_upto text jobs f n ++ rest ≡ text_of_jobs text jobs)
+  unfolding written_upto
+  written_first f n =
+      let m : ℕ = job_count (take f jobs) + n in
+      let T = text_of_job text in (
+        flat_map T (drop m (job_list jobs)),
+        sym (flat_map-append T (take m (job_list jobs)) (drop m (job_list jobs)))
+            ∙ ap (flat_map T) (take-append-drop m (job_list jobs)) ∙ texts_from 0 jobs,
+      )
+
+  -- nothing was offered and nothing taken
+  pub progress_start : (begun : SinkState) → IsUnderWay text jobs [] (new_files jobs) 0 begun begun
+  unfolding written_upto
+  progress_start begun =
+      record {
+        kept = start jobs;
+        before = λ g low. absurd (omega arith);
+        later = λ g high. new_taken jobs g;
+        written = subst (λ (l : List ℕ). WasGivenSince begun begun l)
+            (sym (ap (λ n. written_upto text jobs 0 n) (new_taken jobs 0))) (since_none begun);
+      }
+
+-- a step of a batch that is under way
+module _ {text : ℕ → Taken → List ℕ} {jobs : List (List Entry)} {past : List Job} {files : List ArrivalsState} {f : ℕ}
+    {begun out : SinkState} (progress : IsUnderWay text jobs past files f begun out) where
+  -- A line is taken, and its text passed to the sink.
+  pub wrote_line : (after : List ArrivalsState) (t : Taken) (more : SinkState) → Takes files f (Some t) after
+      → ((given : List ℕ) → WasGivenSince begun out given → WasGivenSince begun more (given ++ text f t))
+      → IsUnderWay text jobs past after f begun more
+  wrote_line after t more step gives =
+      let n : ℕ = (state_of files f).taken in
+      let now : List ArrivalsState = after_take files f in
+      let other : (g : ℕ) → (g ≡ f → ⊥) → state_of now g ≡ state_of files g =
+      λ g np. state_other files f g (with_one_taken (state_of files f)) np in
+      let w = progress.kept.offered.only f t.line t.answer step.next_line.came in
+      let line : t.line ≡ n = step.next_line.first in
+      let at : entry_at jobs f n ≡ Some w.entry = ap (λ k. entry_at jobs f k) (sym line) ∙ w.at in
+      let taken : (state_of now f).taken ≡ n + 1 =
+      ap (λ (s : ArrivalsState). s.taken) (state_same files f (with_one_taken (state_of files f)) step.file_there) in
+      let text_is : written_upto text jobs f n ++ text f t ≡ written_upto text jobs f (state_of now f).taken =
+      ap (λ x. written_upto text jobs f n ++ text f x) (taken_is t n w.entry line w.is)
+      ∙ written_line text jobs f n w.entry at
+      ∙ ap (λ m. written_upto text jobs f m) (sym taken) in
+      let new : IsUnderWay text jobs past now f begun more = record {
+        kept = subst (λ (s : List ArrivalsState). Kept jobs past s) step.kept (kept_by_take progress.kept f t step);
+        before = λ g g_low. ap (λ (s : ArrivalsState). s.taken) (other g (λ q. omega arith)) ∙ progress.before g g_low;
+        later = λ g g_high. ap (λ (s : ArrivalsState). s.taken) (other g (λ q. omega arith)) ∙ progress.later g g_high;
+        written = subst (λ (l : List ℕ). WasGivenSince begun more l) text_is (gives (written_upto text jobs f n) progress.written);
+      } in
+      subst (λ (s : List ArrivalsState). IsUnderWay text jobs past s f begun more) (sym step.kept) new
+
+  -- no line is taken
+  pub wrote_nothing : (after : List ArrivalsState) → Takes files f None after → IsUnderWay text jobs past after f begun out
+  wrote_nothing after step = subst (λ (s : List ArrivalsState). IsUnderWay text jobs past s f begun out) (sym step.unchanged) progress
+
+  -- a file is completely written, and the next becomes the current one
+  pub wrote_file : f < length files → HasEnded (state_of files f) → front (state_of files f) ≤ (state_of files f).taken
+      → IsUnderWay text jobs past files (f + 1) begun out
+  wrote_file low ended all =
+      let up : (state_of files f).taken ≤ front (state_of files f) = progress.kept.within f in
+      let counts = progress.kept.offered.counts in
+      let whole : (state_of files f).taken ≡ length (entries_of jobs f) = omega (arith, lines_are jobs files counts f) in
+      let jobs_low : f < length jobs = (let m = files_many jobs files counts in omega arith) in
+      let none : (state_of files (f + 1)).taken ≡ 0 = progress.later (f + 1) (omega arith) in
+      let text_is : written_upto text jobs f (state_of files f).taken ≡ written_upto text jobs (f + 1) (state_of files (f + 1)).taken =
+      ap (λ m. written_upto text jobs f m) whole
+      ∙ written_file text jobs f jobs_low
+      ∙ ap (λ m. written_upto text jobs (f + 1) m) (sym none) in
+      record {
+        kept = progress.kept;
+        before = λ g g_low.
+            ⊎_elim
+            (λ (p : g ≡ f). subst (λ x. (state_of files x).taken ≡ length (entries_of jobs x)) (sym p) whole)
+            (λ (np : g ≡ f → ⊥). progress.before g (omega arith))
+            (cases_eq g f);
+        later = λ g g_high. progress.later g (omega arith);
+        written = subst (WasGivenSince begun out) text_is progress.written;
+      }
+
+  -- an outcome is offered, and accepted or refused: what was written stays
+  pub progress_offered : (o : Job) (after : List ArrivalsState) (gave : Result ℕ Refusal) → Offers jobs files o gave after
+      → IsUnderWay text jobs (past ++ o ∷ []) after f begun out
+  progress_offered o after gave step =
+      let now = kept_by_offer progress.kept o gave step in
+      record {
+        kept = now.0;
+        before = λ g g_low. now.1 g ∙ progress.before g g_low;
+        later = λ g g_high. now.1 g ∙ progress.later g g_high;
+        written = subst (λ n. WasGivenSince begun out (written_upto text jobs f n)) (sym (now.1 f)) progress.written;
+      }
+
+  -- a sink that has failed was given all, as far as it took it
+  pub progress_failed : out.has_failed ≡ true → WasGivenSince begun out (text_of_jobs text jobs)
+  progress_failed broken =
+      let all = written_first text jobs f (state_of files f).taken in
+      subst (WasGivenSince begun out) all.1 (since_failed _ all.0 progress.written broken)
+
+  -- Each job was offered once, and the current file, if there is one, has not ended.
+  module _ (each : AreJobsInSomeOrder jobs past) (waits : f < length files → HasEnded (state_of files f) → ⊥) where
+    -- the current file is past the last
+    past_all : length files ≤ f
+    past_all = elim (cases_lt f (length files)) [
+      | inl low ↦ absurd (waits low (fronts_full jobs past files each progress.kept.offered f))
+      | inr high ↦ high
+    ]
+
+    -- the sink was given all
+    pub progress_end : WasGivenSince begun out (text_of_jobs text jobs)
+    progress_end =
+        let many : length files ≡ length jobs = files_many jobs files progress.kept.offered.counts in
+        let high : length files ≤ f = past_all in
+        subst (WasGivenSince begun out) (written_all text jobs f (state_of files f).taken (omega arith))
+        progress.written
+
+-- ==== What an output writes, line by line
+
+-- the text of a line of file f begins with that file's name
+pub text_of_taken : (files : List NamedBytes) (f : ℕ) (file : NamedBytes) (name : List ℕ) (taken : Taken) → f < length files →
+    file ≡ get_or files f file → name ≡ file.name → text_of files f taken ≡ answer_line name taken ++ line_feed ∷ []
+unfolding text_of
+text_of_taken files f file name taken low at is =
+    ap (λ n. answer_line n taken ++ line_feed ∷ [])
+    (get_or-map (λ (x : NamedBytes). x.name) files f file [] low ∙ sym (ap (λ (x : NamedBytes). x.name) at) ∙ sym is)
+
+-- an output advances with the state of what is under way
+pub written_on : {files : List NamedBytes} {jobs : List (List Entry)} {past : List Job} {begun out more : SinkState}
+    {r after : OrderedOutput} → HasWritten files jobs past begun out r → after.files.now ≡ r.files.now
+    → after.jobs.now ≡ r.jobs.now
+    → (IsUnderWay (text_of r.files.now) r.jobs.now past r.collector r.current begun out
+    → IsUnderWay (text_of r.files.now) r.jobs.now past after.collector after.current begun more)
+    → HasWritten files jobs past begun more after
+written_on is same_files same_jobs on =
+    record {
+      of_files = same_files ∙ is.of_files;
+      of_jobs = same_jobs ∙ is.of_jobs;
+      progress =
+          rw same_jobs (rw (← is.of_files) (on (rw is.of_files is.progress)));
+    }
+
+-- what an output has written stays if nothing more is written
+pub written_kept : {files : List NamedBytes} {jobs : List (List Entry)} {past : List Job} {begun out later : SinkState}
+    {r : OrderedOutput} → IsOnlyFlushed out later → HasWritten files jobs past begun out r → HasWritten files jobs past begun later r
+written_kept flushed is = record {
+  of_files = is.of_files;
+  of_jobs = is.of_jobs;
+  progress = record {
+    kept = is.progress.kept;
+    before = is.progress.before;
+    later = is.progress.later;
+    written = since_kept is.progress.written flushed;
+  };
+}
+
+-- a new output has written nothing
+pub new_written : (begun : SinkState) (r : OrderedOutput) → IsNew r → HasWritten r.files.now r.jobs.now [] begun begun r
+new_written begun r new = record {
+  of_files = refl;
+  of_jobs = refl;
+  progress = rw new.0 (rw new.1 (progress_start (text_of r.files.now) r.jobs.now begun));
+}
+
+-- how many lines are ready and were not taken, of all files
+abbrev pub ready_lines : List ArrivalsState → ℕ
+ready_lines files = sum_by (λ (s : ArrivalsState). front s - s.taken) files

@@ -1,0 +1,253 @@
+-- The workers of a batch: what each sends, and what is known once all have run.
+use Rattle.std.proofs.Common.{[], ◌≡◌, ◌≤◌, ◌<◌, ◌+◌, ◌-◌, ℕ, suc, List, ◌∷◌, ◌++◌, arith, sym, ap, ◌∙◌, Bool, true, length, get_or, append_assoc, subst, zero, map, reverse, ◌==◌, if◌then◌else◌, ne_eqb, inl, inr}
+use Rattle.std.proofs.lemmas.List.{map-append, reverse-append, get_or-map, length-append, length-map}
+use Rattle.kalah_jobs.specs.declared.files.entry.Entry.{Entry}
+use Rattle.kalah_jobs.specs.declared.files.job.Job.{Job}
+use Rattle.std.specs.Prelude.{All, Some, fold, slice_get, count_by}
+use Rattle.std.proofs.lemmas.List.Sums.{fold-append, sum_by-cons}
+use Rattle.std.proofs.lemmas.Option.{get_or_from_slice_get}
+use Rattle.kalah_jobs.specs.Files.JobList.{job_list, line_job}
+use Rattle.kalah_jobs.specs.declared.files.entry.Entry.TheVariants.{Bad}
+use Rattle.kalah_jobs.specs.declared.line.line_fault.LineFault.TheVariants.{Empty}
+use Rattle.kalah_jobs.specs.Collecting.AnyOrder.{job, AreJobsInSomeOrder}
+use Rattle.kalah_run.specs.declared.desk.rule.DrawnRow.{DrawnRow}
+use Rattle.kalah_run.specs.Batch.AtWork.{drawn_jobs, passes_of, puts_of, AreAtWork, HasRun, HaveRun}
+use Rattle.std.proofs.lemmas.Bool.{cases_eq, cases_lt, lt-ltb}
+use Rattle.kalah_jobs.proofs.CollectingLemmas.{gets_each_job_once, as_many_as_numbers}
+use Rattle.std.proofs.lemmas.List.Elements.{All-cons, All-map, All-tail}
+use Rattle.kalah_run.specs.Queue.States.{PutPassState, ArePassesFrom, sent_by, Accounts, outcomes_in}
+use Rattle.kalah_run.specs.Desk.States.{PassState, IsPassAt, AreNewPasses, new_pass, drawn_rows}
+use Rattle.kalah_run.specs.declared.batch.worker.Worker.{Worker}
+use Rattle.kalah_run.specs.Batch.Running.{HasOwnTable, HaveOwnTables}
+use Rattle.kalah_jobs.specs.Files.Jobs.{job_count}
+use Rattle.kalah_jobs.proofs.FilesLemmas.{length-job_list}
+use Rattle.kalah_jobs.specs.Collecting.Shares.{AreShared, times_in}
+use Rattle.kalah_run.specs.Desk.Rows.{drawn_numbers, DealsEachOnce, spent_in}
+use Rattle.kalah_run.specs.declared.batch.shared_work.SharedWork.{SharedWork}
+use Rattle.kalah_run.proofs.DeskLemmas.{length-drawn_numbers}
+use Rattle.kalah_run.proofs.QueueLemmas.{all_are_of}
+
+-- ==== A worker with one job more: what it sends, and that less is left to draw
+
+-- the outcome of the job that was drawn stands after those of the row so far
+pub drawn_jobs-more : (jobs : List (List Entry)) (numbers : List ℕ) (n : ℕ) (o : Job) → slice_get (job_list jobs) n ≡ Some o
+    → drawn_jobs jobs (numbers ++ n ∷ []) ≡ drawn_jobs jobs numbers ++ o ∷ []
+drawn_jobs-more jobs numbers n o is =
+    map-append (job jobs) numbers (n ∷ [])
+    ∙ ap (λ x. drawn_jobs jobs numbers ++ x ∷ []) (get_or_from_slice_get (job_list jobs) n o (line_job 0 0 (Bad Empty)) is)
+
+-- one above the last number of a row, and 0 for an empty row: it grows with each draw, so the total bounds the draws of a loop
+abbrev pub least_above : List ℕ → ℕ
+least_above numbers = fold (λ above x. x + 1) 0 numbers
+
+-- one above the last of numbers below a limit is at most the limit
+none_above : (numbers : List ℕ) (first limit : ℕ) → first ≤ limit → All (λ x. x < limit) numbers
+    → fold (λ above x. x + 1) first numbers ≤ limit
+none_above [] first limit low below = low
+none_above (x ∷ xs) first limit low below = none_above xs (x + 1) limit (let least = below 0 x (omega arith) in omega arith)
+    (λ k d within. below (suc k) d (omega arith))
+
+-- with one number more there is less left to draw
+pub less_left : (numbers more : List ℕ) (number total : ℕ) → more ≡ numbers ++ number ∷ [] → All (λ x. x < number) numbers
+    → number < total
+    → total - least_above more < total - least_above numbers
+less_left numbers more number total is above below =
+    let last : least_above more ≡ number + 1 = ap least_above is ∙ fold-append (λ above x. x + 1) 0 numbers (number ∷ []) in
+    let before = none_above numbers 0 number (omega arith) above in
+    omega (arith, last, before, below)
+
+-- ==== Workers put together from their passes, the last one first, and taken apart, the first one first
+
+-- the last worker is the first of the reversed list
+last_first : (workers workers' : List Worker) (w : Worker) → workers' ≡ workers ++ w ∷ []
+    → reverse workers' ≡ w ∷ reverse workers
+last_first workers workers' w is = ap (λ (l : List Worker). reverse l) is ∙ reverse-append workers (w ∷ [])
+
+-- the last of what waits is given to one worker more
+pub one_given : {X : Type 0} (f : Worker → X) (workers : List Worker) {workers' : List Worker} {w : Worker} {waiting all : List X}
+    (rest : List X) {x : X}
+    → workers' ≡ workers ++ w ∷ [] → f w ≡ x → waiting ≡ rest ++ x ∷ []
+    → waiting ++ map f (reverse workers) ≡ all → rest ++ map f (reverse workers') ≡ all
+one_given {X} f workers {workers'} {w} rest {x} is its took so_far =
+    ap (λ (l : List Worker). rest ++ map f l) (last_first workers workers' w is)
+    ∙ ap (λ (y : X). rest ++ y ∷ map f (reverse workers)) its
+    ∙ sym (append_assoc rest (x ∷ []) (map f (reverse workers)))
+    ∙ ap (λ (l : List X). l ++ map f (reverse workers)) (sym took)
+    ∙ so_far
+
+-- one worker more has its table
+pub tables_more : (workers workers' : List Worker) (w : Worker) (entries : ℕ) → workers' ≡ workers ++ w ∷ []
+    → HasOwnTable entries w
+    → HaveOwnTables entries (reverse workers) → HaveOwnTables entries (reverse workers')
+tables_more workers workers' w entries is has so_far =
+    subst (λ l. HaveOwnTables entries l) (sym (last_first workers workers' w is))
+    (All-cons (HasOwnTable entries) w (reverse workers) has so_far)
+
+-- one worker more has given one of its passes
+pub one_taken : {X : Type 0} (f : Worker → X) (workers : List Worker) (w : Worker) {given given' : List X}
+    → given' ≡ given ++ f w ∷ [] → given ≡ map f workers → given' ≡ map f (workers ++ w ∷ [])
+one_taken f workers w is so_far = is ∙ ap (λ l. l ++ f w ∷ []) so_far ∙ sym (map-append f workers (w ∷ []))
+
+-- a list that has room for one element of each worker that is left, and for some more, has room for the first worker's
+pub room_for_one : {w : Worker} {workers workers' : List Worker} {len capacity : ℕ} (more : ℕ) → workers ≡ w ∷ workers'
+    → length workers + (len + more) ≤ capacity → len < capacity
+room_for_one more is room = omega (arith, room, ap length is)
+
+-- then it has room for those of the others
+pub room_still : {w : Worker} {workers workers' : List Worker} {len' capacity capacity' : ℕ} (len more : ℕ) → workers ≡ w ∷ workers'
+    → len' ≡ len + 1 → capacity' ≡ capacity → length workers + (len + more) ≤ capacity → length workers' + (len' + more) ≤ capacity'
+room_still len more is longer same room = omega (arith, room, longer, same, ap length is)
+
+-- ==== The workers of a batch, from their passes to what was got of them
+
+-- there are as many workers as passes
+pub as_many_workers : (workers : List Worker) (passes : List PassState) (count : ℕ) → passes_of workers ≡ passes
+    → length passes ≡ count
+    → length workers ≡ count
+as_many_workers workers passes count are many =
+    sym (length-map workers (λ (w : Worker). w.pass)) ∙ ap length are ∙ many
+
+-- workers with new passes, that have sent nothing, are at work
+pub new_at_work : {G : Type 0} {knows : G → ℕ → Bool} (shared : SharedWork G) (workers : List Worker) (count : ℕ)
+    → AreNewPasses shared.desk count (passes_of workers)
+    → ArePassesFrom shared.queue.id 0 (puts_of workers)
+    → All (λ p. p.sent ≡ []) (puts_of workers) → AreAtWork knows shared workers
+new_at_work {knows = knows} shared workers count new from unsent = λ k d within.
+    let w = get_or workers k d in
+    let low : k < count = omega (arith, new.0, length-map workers (λ (x : Worker). x.pass)) in
+    let put_low : k < length (puts_of workers) = omega (arith, length-map workers (λ (x : Worker). x.put_pass)) in
+    let pass : w.pass ≡ new_pass shared.desk k = sym (get_or-map (λ (x : Worker). x.pass) workers k d w.pass within)
+    ∙ new.1 k w.pass low in
+    let put : get_or (puts_of workers) k w.put_pass ≡ w.put_pass = get_or-map (λ (x : Worker). x.put_pass) workers k d w.put_pass within in
+    record {
+      draws = (ap (λ (p : PassState). p.desk) pass, ap (λ (p : PassState). p.total) pass);
+      known = rw pass (λ j e low. absurd (omega arith));
+      sends = ap (λ (p : PutPassState). p.queue) (sym put) ∙ all_are_of shared.queue.id 0 (puts_of workers) from k w.put_pass put_low;
+      sent = ap (λ (p : PutPassState). p.sent) (sym put) ∙ unsent k w.put_pass put_low
+          ∙ sym (ap (λ (p : PassState). drawn_jobs shared.jobs.now p.row.numbers) pass);
+    }
+
+-- after the run each pass to put is still of the queue, and in its place
+pub puts_after : {G : Type 0} {knows : G → ℕ → Bool} (shared : SharedWork G) (before after : List Worker) (n : ℕ)
+    → HaveRun knows shared before after
+    → ArePassesFrom shared.queue.id n (puts_of before) → ArePassesFrom shared.queue.id n (puts_of after)
+puts_after shared [] [] n run from = tt
+puts_after shared [] (a ∷ others) n run from = absurd (omega (arith, run.as_many))
+puts_after shared (b ∷ bs) [] n run from = absurd (omega (arith, run.as_many))
+puts_after {knows = knows} shared (b ∷ bs) (a ∷ others) n run from =
+    let first = run.each 0 a (omega arith) in
+    let rest : HaveRun knows shared bs others = record {
+      as_many = (omega (arith, run.as_many));
+      each = λ k d within. run.each (suc k) d (omega arith);
+    } in
+    (first.at_work.sends, first.number ∙ from.1, puts_after shared bs others (suc n) rest from.2)
+
+-- the workers have run if each element of their list has
+pub have_run : {G : Type 0} {knows : G → ℕ → Bool} {shared : SharedWork G} {before list after : List Worker} → list ≡ before
+    → length after ≡ length list
+    → ((k : ℕ) (w : Worker) → k < length list → HasRun knows shared (get_or list k w) (get_or after k w))
+    → HaveRun knows shared before after
+have_run is as_many each = rw (← is) (record { as_many = as_many; each = each })
+
+-- each worker that has run
+module _ {G : Type 0} {knows : G → ℕ → Bool} (shared : SharedWork G) (before after : List Worker)
+    (run : HaveRun knows shared before after) where
+  -- it is at work
+  pub run_at_work : AreAtWork knows shared after
+  run_at_work = λ k d within. (run.each k d (omega (arith, run.as_many))).at_work
+
+  -- its pass is of the desk
+  pub run_passes : All (IsPassAt shared.desk) (passes_of after)
+  run_passes = All-map (IsPassAt shared.desk) (λ (w : Worker). w.pass) after (λ k d within. (run_at_work k d within).draws)
+
+-- what worker w sent are the outcomes of its row
+sent_in_order : {G : Type 0} {knows : G → ℕ → Bool} (shared : SharedWork G) (workers : List Worker) (w : ℕ)
+    → AreAtWork knows shared workers
+    → w < length workers →
+    get_or (sent_by (puts_of workers)) w [] ≡ drawn_jobs shared.jobs.now (get_or (drawn_numbers (drawn_rows (passes_of workers))) w [])
+sent_in_order shared [] w at_work within = absurd (omega arith)
+sent_in_order shared (x ∷ xs) zero at_work within = (at_work 0 x (omega arith)).sent
+sent_in_order shared (x ∷ xs) (suc w) at_work within = sent_in_order shared xs w (λ k d low. at_work (suc k) d (omega arith))
+    (omega arith)
+
+-- Each number below the count of those drawn stands in the rows once, the pairs that were got and those left inside account for what was
+-- sent, and as many were got as there are jobs: so each job was got once.
+pub each_job_got : {G : Type 0} {knows : G → ℕ → Bool} {shared : SharedWork G} {before after : List Worker}
+    {count drawn left : ℕ} {puts : List PutPassState} {jobs : List (List Entry)} (run : HaveRun knows shared before after) (got : List (ℕ × Job))
+    → count ≡ length before → DealsEachOnce (job_count shared.jobs.now) drawn (drawn_rows (passes_of after)) → puts ≡ puts_of after
+    → (rest : List (ℕ × Job)) × (length rest ≡ left) × Accounts count (sent_by puts) (got ++ rest)
+    → jobs ≡ shared.jobs.now → length got ≡ job_count jobs → AreJobsInSomeOrder jobs (outcomes_in got)
+each_job_got {shared = shared} {before} {after = workers} {count} {drawn} run got each deals are inside is all =
+    let rest = inside.0 in
+    let accounts : Accounts count (sent_by (puts_of workers)) (got ++ rest) = rw are at inside.2 in
+    rw is (let all : length got ≡ job_count shared.jobs.now = all ∙ ap job_count is in
+    let jobs = shared.jobs.now in
+    let rows = drawn_numbers (drawn_rows (passes_of workers)) in
+    let row_count : length rows ≡ length workers = length-drawn_numbers (passes_of workers)
+    ∙ length-map workers (λ (w : Worker). w.pass) in
+    let sent_count : length (sent_by (puts_of workers)) ≡ length workers =
+    length-map (puts_of workers) (λ (p : PutPassState). p.sent) ∙ length-map workers (λ (w : Worker). w.put_pass) in
+    let row_workers : count ≡ length rows = each ∙ sym run.as_many ∙ sym row_count in
+    let are_shared : AreShared drawn (job jobs) rows (got ++ rest) = record {
+      each_once = deals.each_once;
+      workers = subst (λ n. All (λ (t : ℕ × Job). t.0 < n) (got ++ rest)) row_workers accounts.below;
+      whole = λ w within.
+          let low : w < length workers = omega arith in
+          accounts.whole w (omega arith) ∙ sent_in_order shared workers w (run_at_work shared before workers run) low;
+    } in
+    let many : length (job_list jobs) ≡ job_count jobs = length-job_list jobs in
+    let whole : drawn ≡ length (job_list jobs) =
+    omega (arith, as_many_as_numbers drawn (job jobs) rows (got ++ rest) are_shared, length-append got rest, all, deals.within, many) in
+    gets_each_job_once jobs rows got rest (subst (λ n. AreShared n (job jobs) rows (got ++ rest)) whole are_shared) (all ∙ sym many))
+
+-- ==== The gate knows each job, if all are drawn
+
+-- a number that stands in a list has what all numbers there have
+has_of_list : (P : ℕ → Type 0) (x : ℕ) (xs : List ℕ) → 0 < count_by (λ y. y == x) xs → All P xs → P x
+has_of_list P x [] some all = absurd (omega arith)
+has_of_list P x (y ∷ ys) some all =
+    elim (cases_eq y x) [
+      | inl same ↦ subst P same (all 0 y (omega arith))
+      | inr other ↦ has_of_list P x ys
+          (let none = ap {B = ℕ} (λ (b : Bool). if b then 1 else 0) (ne_eqb y x other) in
+          omega (arith, some, none, sum_by-cons (λ z. if z == x then 1 else 0) y ys)) (All-tail P y ys all)
+    ]
+
+-- a number that stands in some row has what all numbers there have
+has_of_rows : (P : ℕ → Type 0) (x : ℕ) (rows : List DrawnRow) → 0 < times_in x (drawn_numbers rows)
+    → All (λ r. All P r.numbers) rows → P x
+has_of_rows P x [] some all = absurd (omega arith)
+has_of_rows P x (r ∷ rs) some all =
+    elim (cases_lt 0 (count_by (λ y. y == x) r.numbers)) [
+      | inl here ↦ has_of_list P x r.numbers here (all 0 r (omega arith))
+      | inr none ↦ has_of_rows P x rs
+          (omega (arith, some, none, sum_by-cons (λ (l : List ℕ). count_by (λ y. y == x) l) r.numbers (drawn_numbers rs)))
+          (All-tail (λ r. All P r.numbers) r rs all)
+    ]
+
+-- some pass is spent, if each is
+some_spent : (workers : List Worker) → 0 < length workers → All (λ (w : Worker). w.pass.row.spent ≡ true) workers
+    → 0 < spent_in (drawn_rows (passes_of workers))
+some_spent [] some spent = absurd (omega arith)
+some_spent (w ∷ ws) some spent =
+    omega (
+      arith,
+      sum_by-cons (λ (r : DrawnRow). if r.spent then 1 else 0) w.pass.row (drawn_rows (passes_of ws)),
+      ap {B = ℕ} (λ (b : Bool). if b then 1 else 0) (spent 0 w (omega arith)),
+    )
+
+-- Each worker has run: all jobs were drawn, and if they were drawn by workers the gate knows them.
+pub each_job_known : {G : Type 0} {knows : G → ℕ → Bool} {shared : SharedWork G} {before after : List Worker} {drawn : ℕ}
+    → HaveRun knows shared before after → 0 < length before
+    → DealsEachOnce (job_count shared.jobs.now) drawn (drawn_rows (passes_of after))
+    → (job : ℕ) → job < job_count shared.jobs.now → knows shared.gate.now job ≡ true
+each_job_known {knows = knows} {shared} {before} {after} {drawn} run some deals job low =
+    let Known : ℕ → Type 0 = λ n. knows shared.gate.now n ≡ true in
+    let spent = λ (k : ℕ) (w : Worker) (within : k < length after).
+    (run.each k w (omega (arith, run.as_many))).spent in
+    let all : drawn ≡ job_count shared.jobs.now = deals.spent (some_spent after (omega (arith, run.as_many)) spent) in
+    let once = deals.each_once job ∙ ap {B = ℕ} (λ (b : Bool). if b then 1 else 0) (lt-ltb job drawn (omega arith)) in
+    has_of_rows Known job (drawn_rows (passes_of after)) (omega (arith, once))
+    (All-map (λ (r : DrawnRow). All Known r.numbers) (λ (p : PassState). p.row) (passes_of after)
+    (All-map (λ (p : PassState). All Known p.row.numbers) (λ (w : Worker). w.pass) after
+    (λ k w within. (run_at_work shared before after run k w within).known)))
