@@ -6,8 +6,8 @@ use std::io::Write;
 use std::rt::Clock;
 use std::time::Duration;
 
-/// Shows how many lines of a batch are answered, and how long the others will take at that rate. It writes one line for each per cent.
-/// On a terminal without the answers it rewrites one line ten times as often. Text that standard error does not accept is dropped.
+/// Shows how many lines of a batch are answered, and how long the others will take at that rate. It writes at most a line for each per
+/// cent. On a terminal without the answers it rewrites one line ten times as often. Text that standard error does not accept is dropped.
 #[derive(Drop)]
 pub(crate) struct Progress<'a, R, E> {
     rt: &'a R,

@@ -9,7 +9,7 @@ pub trait Watch {
     /// it is true.
     ghost is_waiting: { Self → Bool } = { λ _. true };
 
-    /// One more line is answered.
+    /// One more outcome was accepted.
     fn accepts(&mut self);
 
     /// The next outcome has not come yet.
