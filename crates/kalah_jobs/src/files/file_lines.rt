@@ -65,6 +65,7 @@ fn count_feeds_in_block(block: &[u8]) -> u8
 }
 
 // Returns the number of lines.
+#[tactic(auto, using(crate::proofs::FilesLemmas::line_numbers))]
 pub(crate) fn count_lines(bytes: &[u8]) -> usize
     ensures { result ≡ length (lines_of bytes.now) }
 {
