@@ -5,3 +5,4 @@ pub mod SearchLemmas
 pub mod TableLemmas
 pub mod Crossing
 pub mod SolverLemmas
+pub mod MoveValuesLemmas

@@ -1,7 +1,6 @@
 -- Games, best play, and what a solver says of it.
-use Rattle.std.proofs.Common.{zero, suc, negsuc, ◌≡◌, ℕ, ◌<◌, ◌≤◌, inl, inr, List, [], ◌∷◌, length, get_or, arith, ap, sym, subst, ◌∙◌, refl, ◌+◌, w32, to_z, of_z, FitsSigned, false, Contains, ℤ, ◌≤ℤ◌, Bool, nat_lt, neg_ℤ, true, map, pos, ◌<ℤ◌, All, find, option_map, Some, ◌+ℤ◌, ◌-ℤ◌, int_eq, ◌*◌, ◌/◌, ◌%◌, ◌^◌, ◌-◌}
+use Rattle.std.proofs.Common.{zero, suc, ◌≡◌, ℕ, ◌<◌, ◌≤◌, inl, inr, List, [], ◌∷◌, length, get_or, arith, ap, sym, subst, ◌∙◌, refl, ◌+◌, w32, to_z, of_z, FitsSigned, false, Contains, ℤ, ◌≤ℤ◌, Bool, nat_lt, neg_ℤ, true, map, pos, ◌<ℤ◌, All, find, option_map, Some, ◌+ℤ◌, ◌-ℤ◌, int_eq}
 use Rattle.std.proofs.lemmas.Bool.{both_ways, cases_Bool, cases_eq, cond_both}
-use Rattle.std.proofs.Math.Nat.{pow-succ'}
 use Rattle.kalah_rules.specs.Position.{Position, HasEqualSides, is_over, swapped, final_margin, side_length, seeds, IsWithinLimits, IsSmallMargin, HousesState, IsWithinHouses, houses_in, storeless}
 use Rattle.kalah_rules.specs.Sowing.{after}
 use Rattle.kalah_rules.specs.Play.{legal_houses}
@@ -20,15 +19,14 @@ use Rattle.kalah_solve.specs.Solver.Verdict.{verdict_of, IsSmallBest, StatesBest
 use Rattle.kalah_solve.specs.declared.solver.Verdict.TheVariants.{Best, Over}
 use Rattle.kalah_solve.specs.declared.solver.Verdict.{Verdict}
 use Rattle.std.proofs.lemmas.List.Elements.{All-map, All-from_get_or, Contains-get_or}
-use Rattle.kalah_solve.specs.Solver.MoveValues.{StateValues, ValueIsWorthOfMove, WorthOfMoveIsOne, ValuesTellVerdict, move_value, values_of, IsMoveValue, digit_of, value_at, values_number, values_in, IsValuesNumber}
+use Rattle.kalah_solve.specs.Solver.MoveValues.{StateValues, ValueIsWorthOfMove, WorthOfMoveIsOne, ValuesTellVerdict, move_value, values_of, IsMoveValue}
 use Rattle.kalah_solve.specs.declared.solver.move_values.MoveValue.{MoveValue}
 use Rattle.kalah_rules.proofs.PackedLemmas.{houses_within, is_over-swapped}
 use Rattle.kalah_solve.specs.Bounds.Intervals.{least_margin, most_margin, clamped}
 use Rattle.kalah_rules.specs.HousesStep.{houses_step}
-use Rattle.kalah_solve.specs.Bounds.Won.{won, won_by_step, nat_or_zero}
+use Rattle.kalah_solve.specs.Bounds.Won.{won, won_by_step}
 use Rattle.kalah_solve.proofs.BoundsLemmas.{worth_low, worth_high, won_of_houses, won_of_move, won_at_most}
-use Rattle.kalah_rules.specs.Limits.{most_houses, most_in_play}
-use Rattle.kalah_solve.specs.declared.solver.move_values.TheConstants.{VALUES, BASE}
+use Rattle.kalah_rules.specs.Limits.{most_houses}
 
 -- ==== The games that players play
 
@@ -480,115 +478,3 @@ house_small p h limits has = omega (arith, (legal_holds p h has).last)
 pub move_value_small : (p : Position) (h : ℕ) → IsWithinLimits p → Contains (legal_houses p) h → IsMoveValue (move_value p h)
 move_value_small p h limits has =
     record { first = (legal_holds p h has).first; last = house_small p h limits has; small = value_small p h limits has }
-
--- ==== Values in a number
-
--- an integer from 1 on is a natural number
-nat_or_zero_again : (z : ℤ) → pos 1 ≤ℤ z → pos (nat_or_zero z) ≡ z
-nat_or_zero_again (pos n) some = refl
-nat_or_zero_again (negsuc n) some = grind (arith, ints)
-
--- a value has a digit of the base other than 0, and is the one that has it
-pub value_of_its_digit : (v : MoveValue) → IsMoveValue v → (1 ≤ digit_of v) × (digit_of v < BASE) × (value_at (digit_of v) ≡ v)
-value_of_its_digit v small =
-    let again : pos (nat_or_zero (v.value +ℤ pos (most_in_play + 1))) ≡ v.value +ℤ pos (most_in_play + 1) =
-    nat_or_zero_again _ (omega (arith, ints, small.small.low)) in
-    let few : nat_or_zero (v.value +ℤ pos (most_in_play + 1)) ≤ VALUES = omega (arith, ints, small.small.high) in
-    let some : 1 ≤ nat_or_zero (v.value +ℤ pos (most_in_play + 1)) = omega (arith, ints, small.small.low) in
-    let house : (digit_of v - 1) / VALUES + 1 ≡ v.house = omega (arith, small.first) in
-    let place : (digit_of v - 1) % VALUES + 1 ≡ nat_or_zero (v.value +ℤ pos (most_in_play + 1)) = omega (arith, small.first) in
-    let value : pos ((digit_of v - 1) % VALUES) -ℤ pos most_in_play ≡ v.value = omega (arith, ints) in
-    (omega arith, omega (arith, small.last), rw (house, value) refl)
-
--- a digit is that of its value
-digit_of_its_value : (d : ℕ) → 1 ≤ d → d < BASE → digit_of (value_at d) ≡ d
-digit_of_its_value d some few =
-    let up : (pos ((d - 1) % VALUES) -ℤ pos most_in_play) +ℤ pos (most_in_play + 1) ≡ pos ((d - 1) % VALUES + 1) = omega (arith, ints) in
-    rw up (omega arith)
-
--- there is at most one for each digit
-pub length-values_in : (n k : ℕ) → length (values_in n k) ≤ n
-length-values_in zero k = omega arith
-length-values_in (suc n) k = grind (arith, length-values_in n (k / BASE))
-
--- the value of the lowest digit, and those of the others
-pub values_in-positive : (n k : ℕ) → 0 < k → values_in (suc n) k ≡ value_at (k % BASE) ∷ values_in n (k / BASE)
-values_in-positive n k some = grind arith
-
--- the lowest digit of a packed number is that of a value, and the other digits are packed
-pub rest_packed : (n k : ℕ) → 0 < k → IsValuesNumber (suc n) k → (1 ≤ k % BASE) × IsValuesNumber n (k / BASE)
-rest_packed n k some packed =
-    let is : digit_of (value_at (k % BASE)) + BASE * values_number (values_in n (k / BASE)) ≡ k = rw (values_in-positive n k some) at packed in
-    elim (cases_eq (k % BASE) 0) [
-      | inl none ↦
-          let one : digit_of (value_at (k % BASE)) ≡ 1 = rw none refl in
-          (omega arith, omega arith)
-      | inr other ↦
-          let same : digit_of (value_at (k % BASE)) ≡ k % BASE = digit_of_its_value _ (omega arith) (omega arith) in
-          (omega arith, omega arith)
-    ]
-
--- the digits past the last value are 0
-pub values_in-one_digit_more : (n k : ℕ) → IsValuesNumber n k → values_in (suc n) k ≡ values_in n k
-values_in-one_digit_more zero k packed = rw (← packed) refl
-values_in-one_digit_more (suc n) k packed = elim (cases_eq k 0) [
-  | inl none ↦ rw none refl
-  | inr other ↦
-      let some : 0 < k = omega arith in
-      rw (values_in-positive (suc n) k some, values_in-positive n k some)
-      (ap (λ vs. value_at (k % BASE) ∷ vs) (values_in-one_digit_more n _ (rest_packed n k some packed).1))
-]
-
--- fewer digits are enough for fewer values
-pub values_in-fewer_digits : (n k : ℕ) → length (values_in (suc n) k) ≤ n → values_in n k ≡ values_in (suc n) k
-values_in-fewer_digits zero k few = elim (cases_eq k 0) [
-  | inl none ↦ rw none refl
-  | inr other ↦
-      let is = values_in-positive 0 k (omega arith) in
-      absurd (omega (arith, ap length is))
-]
-values_in-fewer_digits (suc n) k few = elim (cases_eq k 0) [
-  | inl none ↦ rw none refl
-  | inr other ↦
-      let some : 0 < k = omega arith in
-      rw (values_in-positive (suc n) k some, values_in-positive n k some)
-      (ap (λ vs. value_at (k % BASE) ∷ vs) (values_in-fewer_digits n _ (omega (arith, ap length (values_in-positive (suc n) k some)))))
-]
-
--- a packed number with no value is 0
-no_values_no_number : (n k : ℕ) → IsValuesNumber n k → 0 < k → length (values_in n k) ≤ 0 → ⊥
-no_values_no_number zero k packed some few = omega (arith, packed)
-no_values_no_number (suc n) k packed some few = omega (arith, ap length (values_in-positive n k some))
-
--- few values make a small number
-packed_le_power : (m n k : ℕ) → IsValuesNumber n k → length (values_in n k) ≤ m → k < BASE ^ m
-packed_le_power zero n k packed few = elim (cases_eq k 0) [
-  | inl none ↦ omega arith
-  | inr other ↦ absurd (no_values_no_number n k packed (omega arith) (omega arith))
-]
-packed_le_power (suc m) zero k packed few = rw pow-succ' (omega (arith, packed, packed_le_power m zero 0 refl (omega arith)))
-packed_le_power (suc m) (suc n) k packed few = elim (cases_eq k 0) [
-  | inl none ↦ rw pow-succ' (omega (arith, packed_le_power m zero 0 refl (omega arith)))
-  | inr other ↦
-      let some : 0 < k = omega arith in
-      let rest = packed_le_power m n (k / BASE) (rest_packed n k some packed).1 (omega (arith, ap length (values_in-positive n k some))) in
-      rw pow-succ' (omega arith)
-]
-
--- one value more, in front of fewer than six
-module _ (v : MoveValue) (k : ℕ) (small : IsMoveValue v) (packed : IsValuesNumber 6 k) (room : length (values_in 6 k) < 6) where
-  pub values_prepended : values_in 6 (digit_of v + BASE * k) ≡ v ∷ values_in 6 k
-  values_prepended =
-      let again = value_of_its_digit v small in
-      let low : (digit_of v + BASE * k) % BASE ≡ digit_of v = omega arith in
-      let high : (digit_of v + BASE * k) / BASE ≡ k = omega arith in
-      rw (values_in-positive 5 (digit_of v + BASE * k) (omega arith), low, high, again.2, values_in-fewer_digits 5 k (omega arith)) refl
-
-  pub packed_prepended : IsValuesNumber 6 (digit_of v + BASE * k)
-  packed_prepended = rw values_prepended (omega arith)
-
-  pub fits_prepended : digit_of v + BASE * k < 2 ^ 64
-  fits_prepended =
-      let again = value_of_its_digit v small in
-      let few = packed_le_power 5 6 k packed (omega arith) in
-      omega arith

@@ -1,5 +1,5 @@
 use Rattle.std.proofs.Common.{◌∷◌, ◌∙◌, arith, ap, length}
-use Rattle.kalah_solve.proofs.SolverLemmas.{values_prepended, packed_prepended, fits_prepended}
+use Rattle.kalah_solve.proofs.MoveValuesLemmas.{values_prepended, packed_prepended, fits_prepended}
 use Rattle.kalah_solve.proofs.solver.move_values.MoveValues.prepend.Goals as goal
 
 pub overflow_mul-self : goal.overflow_mul-self

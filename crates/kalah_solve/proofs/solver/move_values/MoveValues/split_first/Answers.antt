@@ -1,5 +1,5 @@
 use Rattle.std.proofs.Common.{◌∙◌, arith, refl, sym}
-use Rattle.kalah_solve.proofs.SolverLemmas.{values_in-positive, rest_packed, values_in-one_digit_more}
+use Rattle.kalah_solve.proofs.MoveValuesLemmas.{values_in-positive, rest_packed, values_in-one_digit_more}
 use Rattle.kalah_solve.proofs.solver.move_values.MoveValues.split_first.Goals as goal
 
 pub invariant_of-rest : goal.invariant_of-rest

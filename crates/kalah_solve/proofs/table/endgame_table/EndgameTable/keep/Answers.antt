@@ -1,4 +1,4 @@
-use Rattle.std.proofs.Common.{arith, rules, sym, ◌∙◌, ◌≡◌, ◌≤◌, ◌+◌, ◌%◌, suc, subst}
+use Rattle.std.proofs.Common.{arith, rules, ◌≡◌, ◌≤◌, ◌+◌, ◌%◌, suc, subst}
 use Rattle.kalah_solve.specs.Table.RowRank.{rank_of_houses}
 use Rattle.kalah_solve.specs.Table.EndgameTable.{StoresWon, stored_at}
 use Rattle.kalah_solve.specs.Bounds.Won.{won}
@@ -17,7 +17,7 @@ swap_new_seat-requires g c =
     let word = c.load_new_seat-word.result.0 in
     let before = subst (λ i. StoresWon i word) at.word c.load_new_seat-word.ensures.2 in
     let none : stored_at word (rank_of_houses a % 16) ≡ 0 =
-    rw (← c.requires.rank) (sym c.stored_at.ensures ∙ c.if-stored_at-eq0.true) in
+    rw (← c.requires.rank, ← c.stored_at.ensures) c.if-stored_at-eq0.true in
     let few : won a ≤ 9 = omega (arith, (won_of_houses at.limits).few) in
     let one_more : c.args.known + 1 ≡ suc (won a) = omega arith in
     let after : StoresWon c.word_of-at.result c.with_stored-word.result =
