@@ -6,7 +6,7 @@ use Rattle.kalah_rules.specs.Position.{Position}
 use Rattle.kalah_jobs.specs.Line.Line.{Reads}
 use Rattle.kalah_jobs.specs.Writing.Sink.{SinkState, WasGiven}
 use Rattle.kalah_jobs.proofs.LineLemmas.{no_line_reads_twice}
-use Rattle.kalah_jobs.proofs.WritingLemmas.{given_flushed, start_none, start_then}
+use Rattle.kalah_jobs.proofs.WritingLemmas.{given_flushed, prefix_none, prefix_then}
 use Rattle.kalah_cli.specs.Ends.{Ends, IsPrinted, IsUnread, Prints, ended_by}
 use Rattle.kalah_cli.specs.declared.failure.Failure.{Failure}
 use Rattle.kalah_cli.specs.Line.{MayPrint, command_output}
@@ -82,7 +82,7 @@ module _ {O : Type 0} (state : O → SinkState) {status : ExitStatus} where
   }
 
   pub prints_nothing : {out : O} {text : List ℕ} → status ≡ Failed → Prints state out out status text
-  prints_nothing {out} {text} failed = record { start = start_none (state out).written text; whole = λ went. absurd (went failed) }
+  prints_nothing {out} {text} failed = record { start = prefix_none (state out).written text; whole = λ went. absurd (went failed) }
 
   module _ (command : LineCommand) {line : List ℕ} where
     module _ (p : Position) (reads : Reads line p) where
@@ -186,7 +186,7 @@ module _ {O : Type 0} (state : O → SinkState) {status : ExitStatus} {may_give 
       named = named;
       given = inr given;
       printed = record {
-        start = start_then _ _ _ _ _ [] (sym (append-nil _)) does.written (start_none _ []);
+        start = prefix_then _ _ _ _ _ [] (sym (append-nil _)) does.written (prefix_none _ []);
         whole = λ _. does.written;
       };
       one_line = λ _. one_line;

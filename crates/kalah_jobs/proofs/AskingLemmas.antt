@@ -52,12 +52,14 @@ one_line (byte ∷ piece) none = rw (rest_is_one_line byte piece none) (omega ar
 
 -- ---- the answers
 
+-- the answers to whole lines and more are those to both, in order
 pub answers_split : (question : Question) (lines more : List ℕ) → EndsWithItsLine lines →
     answers_to question (lines ++ more) ≡ answers_to question lines ++ answers_to question more
 unfolding answers_to
 answers_split question lines more ends =
     simp ((files_split_between_lines.parts lines more ends).lines, flat_map-append)
 
+-- nothing is answered by nothing
 pub no_answers : (question : Question) → answers_to question [] ≡ []
 unfolding answers_to
 no_answers question = ap (flat_map (reply question)) (lines_of-empty [] refl)
@@ -74,6 +76,7 @@ pub answers_to_more : (question : Question) (lines more line : List ℕ) → End
 answers_to_more question lines more line ends one =
     answers_split question lines more ends ∙ ap (λ l. answers_to question lines ++ l) (answers_to_one question more line one)
 
+-- two lines are read if neither is faulty
 both_read : (a b : Bool) → not (a || (b || false)) ≡ (not a && not b)
 both_read true b = refl
 both_read false true = refl
@@ -98,6 +101,7 @@ too_long : (question : Question) (line : List ℕ) → kept_bytes ≤ length lin
 unfolding entry_to
 too_long question line long = ap (entry_of_reading question) (long_is_read line (omega (arith, cr_is_one line, long)))
 
+-- the bytes that are kept have the entry of the line
 pub kept_bytes_have_the_entry : (question : Question) (line : List ℕ) → entry_to question (take kept_bytes line) ≡ entry_to question line
 kept_bytes_have_the_entry question line = elim (cases_lt kept_bytes (length line)) [
   | inl long ↦
@@ -110,6 +114,7 @@ kept_bytes_have_the_entry question line = elim (cases_lt kept_bytes (length line
 pub kept_reply : (question : Question) (line : List ℕ) → reply question (take kept_bytes line) ≡ reply question line
 kept_reply question line = ap (λ entry. joined_text (answer_of entry) ++ line_feed ∷ []) (kept_bytes_have_the_entry question line)
 
+-- they are answered by a fault if and only if the line is
 pub kept_faulty : (line : List ℕ) → is_faulty (take kept_bytes line) ≡ is_faulty line
 kept_faulty line = ap (λ entry. is_fault (answer_of entry)) (kept_bytes_have_the_entry BestMove line)
 
@@ -130,6 +135,7 @@ last_reply_is question [] none = no_answers question
 last_reply_is question (byte ∷ piece) none =
     answers_to_one question (byte ∷ piece) (byte ∷ piece) (rest_is_one_line byte piece none) ∙ sym (kept_reply question (byte ∷ piece))
 
+-- all lines are read if those before the last line feed are, and what stands after it
 pub last_read : (lines piece : List ℕ) → EndsWithItsLine lines → HasNoLineFeed piece
     → are_all_read (lines ++ piece) ≡ (are_all_read lines && is_last_read (take kept_bytes piece))
 last_read lines [] ends none = ap are_all_read (append-nil lines) ∙ sym (and-true (are_all_read lines))
@@ -158,6 +164,7 @@ line_parts question other name number line =
     ap (λ l. l ++ line_feed ∷ []) (one_line_parts name number answer (λ p e. subst IsOfOneLine e (one_line_read question other (reading_of line))))
     ∙ append_assoc (place_text name number) (joined_text answer) (line_feed ∷ [])
 
+-- so is each answer line of a file
 lines_parts : (question : Question) → question ≢ Steps → (name : List ℕ) (number : ℕ) (lines : List (List ℕ)) →
     flat_map (line_output question name) (enumerate_from number lines)
     ≡ flat_map (λ p. place_text name p.0 ++ reply question p.1) (enumerate_from number lines)
@@ -177,7 +184,7 @@ answers_are_those_of_a_file = record {
 -- ==== How far the lines of a stream are answered
 
 -- Lines were read, and a part of the next one, whose first bytes are kept. The lines were answered.
-pub record Underway (question : Question) (before now old new : Option (List ℕ)) (line : List ℕ) (all_read : Bool) : Type 0 where
+pub record IsUnderway (question : Question) (before now old new : Option (List ℕ)) (line : List ℕ) (all_read : Bool) : Type 0 where
   pub lines : List ℕ
   pub part : List ℕ
   pub ended : EndsWithItsLine lines
@@ -187,8 +194,9 @@ pub record Underway (question : Question) (before now old new : Option (List ℕ
   pub written : Appends old new (answers_to question lines)
   pub status : all_read ≡ are_all_read lines
 
+-- before anything is read, nothing is answered
 pub nothing_read : (question : Question) (before old : Option (List ℕ)) (line : List ℕ) → line ≡ [] →
-    Underway question before before old old line true
+    IsUnderway question before before old old line true
 unfolding lines_of
 nothing_read question before old line empty = record {
   lines = [];
@@ -203,7 +211,7 @@ nothing_read question before old line empty = record {
 
 -- what is underway goes on, or ends
 module _ {question : Question} {before now old new : Option (List ℕ)} {line : List ℕ} {all_read : Bool}
-    (u : Underway question before now old new line all_read) where
+    (u : IsUnderway question before now old new line all_read) where
   -- what was written is kept
   answers_kept : (kept : Option (List ℕ)) → Keeps new kept → Appends old kept (answers_to question u.lines)
   answers_kept kept keeps = Appends-kept old new kept (answers_to question u.lines) u.written keeps
@@ -214,12 +222,14 @@ module _ {question : Question} {before now old new : Option (List ℕ)} {line : 
   more_written kept more bytes keeps appends =
       Appends-trans old kept more (answers_to question u.lines) bytes (answers_kept kept keeps) appends
 
+  -- more bytes are taken after those of the lines and of the part
   more_taken : (next : Option (List ℕ)) (bytes : List ℕ) → Consumes now next bytes →
       Consumes before next (u.lines ++ (u.part ++ bytes))
   more_taken next bytes taken =
       subst (Consumes before next) (append_assoc u.lines u.part bytes)
       (Consumes-trans before now next (u.lines ++ u.part) bytes u.taken taken)
 
+  -- at the end the bytes of the lines and of the part are all
   all_taken : (next : Option (List ℕ)) → Consumes now next [] → Consumes before next (u.lines ++ u.part)
   all_taken next end = subst (λ l. Consumes before next (u.lines ++ l)) (append-nil u.part) (more_taken next [] end)
 
@@ -233,7 +243,7 @@ module _ {question : Question} {before now old new : Option (List ℕ)} {line : 
 
   -- a byte more was read, which ends no line
   pub byte_read : {next kept : Option (List ℕ)} (byte : ℕ) → byte ≢ line_feed → Consumes now next (byte ∷ []) → Keeps new kept
-      → Underway question before next old kept (take kept_bytes (line ++ byte ∷ [])) all_read
+      → IsUnderway question before next old kept (take kept_bytes (line ++ byte ∷ [])) all_read
   byte_read {next} {kept} byte other taken keeps = record {
     lines = u.lines;
     part = u.part ++ byte ∷ [];
@@ -248,7 +258,7 @@ module _ {question : Question} {before now old new : Option (List ℕ)} {line : 
   -- a line feed was read, and the line that it ends was answered
   pub line_read : {next more : Option (List ℕ)} {is_read : Bool} (kept : Option (List ℕ)) → Consumes now next (line_feed ∷ [])
       → Keeps new kept → Appends kept more (reply question line) → is_read ≡ not (is_faulty line)
-      → Underway question before next old more [] (all_read && is_read)
+      → IsUnderway question before next old more [] (all_read && is_read)
   line_read {next} {more} {is_read} kept end keeps tells read =
       let whole : List ℕ = u.part ++ line_feed ∷ [] in
       let one = feed_ends_one_line u.part u.unended in
@@ -348,7 +358,8 @@ pub of_reader : {question : Question} {first last before after : Option (List �
     first ≡ before → last ≡ after → AnswersLines question first last old new result → AnswersLines question before after old new result
 of_reader is same holds = rw (sym is, sym same) holds
 
+-- while lines are underway, all whole lines are answered
 pub answered_so_far : {asking : Asking} {question : Question} {before now old new : Option (List ℕ)} {line : List ℕ} {all_read : Bool}
-    → asking ≡ record { question = question; before = before; old = old } → Underway question before now old new line all_read
+    → asking ≡ record { question = question; before = before; old = old } → IsUnderway question before now old new line all_read
     → AreAnswered asking now new
 answered_so_far {now = now} {new = new} is u = rw is (cut_off u (Keeps-refl now) (Keeps-refl new))

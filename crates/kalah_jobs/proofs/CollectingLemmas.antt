@@ -20,7 +20,7 @@ use Rattle.kalah_jobs.specs.declared.collecting.refusal.Refusal.{Refusal}
 use Rattle.kalah_jobs.specs.Writing.Answer.{answer_of}
 use Rattle.kalah_jobs.specs.Files.JobList.{entries_of, entry_at, line_job, file_jobs, jobs_from, job_list}
 use Rattle.kalah_jobs.specs.Collecting.Refusals.{IsWanted, IsRefusedFor, AnswersInOneWay}
-use Rattle.kalah_jobs.specs.Collecting.Held.{IsOffered, HoldsOffered, Kept}
+use Rattle.kalah_jobs.specs.Collecting.Held.{IsOffered, HoldsOffered, AreInStep}
 use Rattle.std.proofs.lemmas.List.FromFn.{fill_by_all, length-range_with_len, length-map-range_with_len, get_or-map-range_with_len, length-enumerate_from, get_or-enumerate_from}
 use Rattle.kalah_jobs.specs.declared.writing.answer.Taken.{Taken}
 use Rattle.kalah_jobs.specs.Collecting.CollectorEvents.{Event, Offered, Took, Offers, Gives, offers, takes, with_taken, HasArrived, answered_line, answered_lines}
@@ -408,10 +408,10 @@ WereTaken jobs files took after = (f : ℕ) →
     take (state_of files f).taken (answered_lines_of jobs f) ++ took f ≡ take (state_of after f).taken (answered_lines_of jobs f)
 
 -- the state is kept by each event
-module _ {jobs : List (List Entry)} {past : List Job} {files after : List ArrivalsState} (kept : Kept jobs past files) where
+module _ {jobs : List (List Entry)} {past : List Job} {files after : List ArrivalsState} (kept : AreInStep jobs past files) where
   -- by an offer, accepted or refused, which takes nothing
   pub kept_by_offer : (o : Job) (gave : Result ℕ Refusal) → Offers jobs files o gave after
-      → Kept jobs (past ++ o ∷ []) after × ((f : ℕ) → (state_of after f).taken ≡ (state_of files f).taken)
+      → AreInStep jobs (past ++ o ∷ []) after × ((f : ℕ) → (state_of after f).taken ≡ (state_of files f).taken)
   kept_by_offer o (Ok ready) step =
       let low : o.file < length files = step.wanted.file_there in
       let new : ArrivalsState = with_answer (state_of files o.file) o.line (answer_of o.entry) in
@@ -430,7 +430,7 @@ module _ {jobs : List (List Entry)} {past : List Job} {files after : List Arriva
       (record { offered = holds_refused jobs past files o r kept.offered step.cause; within = kept.within }, λ f. refl)
 
   -- by a take of a line
-  pub kept_by_take : (g : ℕ) (t : Taken) → Gives files g t after → Kept jobs past after
+  pub kept_by_take : (g : ℕ) (t : Taken) → Gives files g t after → AreInStep jobs past after
   kept_by_take g t step =
       let taken : ArrivalsState = with_one_taken (state_of files g) in
       rw step.kept (record {
@@ -449,14 +449,14 @@ module _ {jobs : List (List Entry)} {past : List Job} {files after : List Arriva
 
 -- any list of events
 runs_keep : (jobs : List (List Entry)) (past : List Job) (events : List Event) (files after : List ArrivalsState)
-    → Runs jobs files events after → Kept jobs past files →
-    Kept jobs (past ++ offers events) after × WereTaken jobs files (λ f. takes f events) after
+    → Runs jobs files events after → AreInStep jobs past files →
+    AreInStep jobs (past ++ offers events) after × WereTaken jobs files (λ f. takes f events) after
 runs_keep jobs past [] files after run kept =
     rw (← run, append-nil) (kept, λ f. append-nil (take (state_of files f).taken (answered_lines_of jobs f)))
 runs_keep jobs past (Offered o gave ∷ events) files after run kept =
     let now = kept_by_offer kept o gave run.1 in
     let rest = runs_keep jobs (past ++ o ∷ []) events run.0 after run.2 now.0 in (
-      subst (λ (l : List Job). Kept jobs l after) (append_assoc past (o ∷ []) (offers events)) rest.0,
+      subst (λ (l : List Job). AreInStep jobs l after) (append_assoc past (o ∷ []) (offers events)) rest.0,
       λ f. ap (λ n. take n (answered_lines_of jobs f) ++ takes f events) (sym (now.1 f)) ∙ rest.1 f,
     )
 runs_keep jobs past (Took g None ∷ events) files after run kept =
@@ -486,8 +486,8 @@ new_taken (entries ∷ jobs) zero = refl
 new_taken (entries ∷ jobs) (suc f) = new_taken jobs f
 
 -- to new files nothing was offered, and nothing was taken of them
-pub new_files_kept : (jobs : List (List Entry)) → Kept jobs [] (new_files jobs)
-new_files_kept jobs = record {
+pub new_files_are_in_step : (jobs : List (List Entry)) → AreInStep jobs [] (new_files jobs)
+new_files_are_in_step jobs = record {
   offered = record {
     counts = new_lines jobs;
     came = λ f k e is has. absurd (let h = has.1 in omega arith);
@@ -501,11 +501,11 @@ new_files_kept jobs = record {
 -- after these events the offers have come
 pub offers_held : (jobs : List (List Entry)) (events : List Event) (files : List ArrivalsState) → Runs jobs (new_files jobs) events files
     → HoldsOffered jobs (offers events) files
-offers_held jobs events files run = (runs_keep jobs [] events (new_files jobs) files run (new_files_kept jobs)).0.offered
+offers_held jobs events files run = (runs_keep jobs [] events (new_files jobs) files run (new_files_are_in_step jobs)).0.offered
 
 pub keeps_its_law : KeepsItsLaw
 keeps_its_law jobs events files run =
-    let all = runs_keep jobs [] events (new_files jobs) files run (new_files_kept jobs) in
+    let all = runs_keep jobs [] events (new_files jobs) files run (new_files_are_in_step jobs) in
     let holds = all.0.offered in
     let came : (f k : ℕ) → HasArrived jobs events f k → IsSome (arrived_for (state_of files f) k) =
     λ f k c. grind (arith, c, holds.came f k) in

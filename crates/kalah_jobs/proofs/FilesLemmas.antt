@@ -45,6 +45,7 @@ pub lines_of-byte : (byte : ℕ) (bytes : List ℕ) → byte ≢ line_feed →
 unfolding lines_of
 lines_of-byte byte bytes not = grind arith
 
+-- the byte is no line feed
 abbrev pub IsNoFeed : ℕ → Type 0
 IsNoFeed byte = byte ≢ line_feed
 
@@ -88,6 +89,7 @@ lines_of-last bytes n some none =
 -- what cutting off the first line needs
 pub ruleset first_lines = (lines_of-cut, lines_of-last, take_all)
 
+-- no bytes have no lines
 pub lines_of-empty : (bytes : List ℕ) → length bytes ≡ 0 → lines_of bytes ≡ []
 unfolding lines_of
 lines_of-empty [] none = refl
@@ -95,6 +97,7 @@ lines_of-empty (byte ∷ bytes) none = absurd (omega arith)
 
 -- ---- how many lines there are
 
+-- a byte that goes to the head of a line makes no new line
 length-onto_first-same : (byte : ℕ) (lines : List (List ℕ)) → 0 < length lines → length (onto_first byte lines) ≡ length lines
 length-onto_first-same byte [] some = absurd (omega arith)
 length-onto_first-same byte (line ∷ lines) some = refl
@@ -122,6 +125,7 @@ pub ruleset no_line = (lines_of-empty, append-nil)
 
 -- ---- the lines of the bytes are lines of them
 
+-- a byte other than a line feed leaves the lines without one
 whole_after_byte : (byte : ℕ) (lines : List (List ℕ)) → byte ≢ line_feed → All HasNoLineFeed lines →
     All HasNoLineFeed (onto_first byte lines)
 whole_after_byte byte [] not whole = All-cons HasNoLineFeed (byte ∷ []) [] (All-cons IsNoFeed byte [] not (All-nil IsNoFeed)) whole
@@ -158,6 +162,7 @@ parts_after_feed bytes lines (inl closed) = inl (ap (λ rest. line_feed ∷ rest
 parts_after_feed bytes lines (inr h) =
     open_lines ([] ∷ h.before) h.last h.some_bytes (ap (λ ls. [] ∷ ls) h.pieces_are) (ap (λ rest. line_feed ∷ rest) h.bytes_are)
 
+-- the lines of the bytes are lines of them
 pub are_lines_of : (bytes : List ℕ) → AreLines bytes (lines_of bytes)
 unfolding lines_of
 are_lines_of [] = record { whole = All-nil HasNoLineFeed; parts = inl refl }
@@ -205,6 +210,7 @@ lines_are_one = record { some = are_lines_of; one = no_others }
 
 -- ==== Each line has one entry
 
+-- a line says its entry only
 says_once : (line : List ℕ) (entry : Entry) → Says line entry → entry ≡ entry_of line
 unfolding entry_to
 says_once line (Position p) is = ap (entry_of_reading BestMove) (sym (only_reading line (Ok p) is))
@@ -238,10 +244,12 @@ count_flat {X} q (r ∷ rs) = omega (
 abbrev pub all_entries : List (List Entry) → List Entry
 all_entries jobs = flat_map (λ own. own) jobs
 
+-- the jobs of a file have the entries of its lines
 entries_of_file : (f k : ℕ) (own : List Entry) → map (λ (o : Job). o.entry) (file_jobs f k own) ≡ own
 entries_of_file f k [] = refl
 entries_of_file f k (e ∷ own) = ap (λ others. e ∷ others) (entries_of_file f (suc k) own)
 
+-- the jobs of the files have the entries of all lines
 entries_from : (f : ℕ) (jobs : List (List Entry)) → map (λ (o : Job). o.entry) (jobs_from f jobs) ≡ all_entries jobs
 entries_from f [] = refl
 entries_from f (own ∷ jobs) =
@@ -259,22 +267,26 @@ length-job_list jobs =
 
 -- ---- the place of a line in the list of jobs
 
+-- an index within the first list finds its item
 slice_get-left : {X : Type 0} (xs ys : List X) (i : ℕ) → i < length xs → slice_get (xs ++ ys) i ≡ slice_get xs i
 slice_get-left [] ys i low = absurd (omega arith)
 slice_get-left (x ∷ xs) ys zero low = refl
 slice_get-left (x ∷ xs) ys (suc i) low = slice_get-left xs ys i (omega arith)
 
+-- an index past the first list finds an item of the second
 slice_get-append_right : {X : Type 0} (xs ys : List X) (n i : ℕ) → n ≡ length xs + i → slice_get (xs ++ ys) n ≡ slice_get ys i
 slice_get-append_right [] ys n i is = ap (λ m. slice_get ys m) (let e : n ≡ i = omega arith in e)
 slice_get-append_right (x ∷ xs) ys zero i is = absurd (omega arith)
 slice_get-append_right (x ∷ xs) ys (suc n) i is = slice_get-append_right xs ys n i (omega arith)
 
+-- among the jobs of a file each stands at the index of its line
 slice_get-file_jobs : (f k i : ℕ) (entries : List Entry) (e : Entry) → slice_get entries i ≡ Some e
     → slice_get (file_jobs f k entries) i ≡ Some (line_job f (k + i) e)
 slice_get-file_jobs f k i [] e is = cc
 slice_get-file_jobs f k zero (x ∷ entries) e is = grind arith
 slice_get-file_jobs f k (suc i) (x ∷ entries) e is = grind (arith, slice_get-file_jobs f (suc k) i entries e is)
 
+-- among the jobs of the files each comes after those of the files before its own
 slice_get-jobs_from : (f g k : ℕ) (jobs : List (List Entry)) (e : Entry) → slice_get (entries_of jobs g) k ≡ Some e
     → slice_get (jobs_from f jobs) (job_count (take g jobs) + k) ≡ Some (line_job (f + g) k e)
 slice_get-jobs_from f g k [] e is = cc
@@ -310,6 +322,7 @@ lines_between jobs f within = ap job_count (take_more jobs f [] within) ∙ sum_
 
 -- ---- while the files are read
 
+-- there is an entry for each line
 pub length-entries_to : (question : Question) (bytes : List ℕ) → length (entries_to question bytes) ≡ length (lines_of bytes)
 unfolding entries_to
 length-entries_to question bytes = length-map (lines_of bytes) (entry_to question)
@@ -357,12 +370,13 @@ pub record AreRead (question : Question) (files : List NamedBytes) (count : ℕ)
   pub fewer : faults ≤ before
   pub many : length jobs ≡ count
 
-pub one_read : {question : Question} {files : List NamedBytes} {count : ℕ} {jobs : List (List Entry)} {starts : List ℕ}
+-- one file more is read
+pub one_more_read : {question : Question} {files : List NamedBytes} {count : ℕ} {jobs : List (List Entry)} {starts : List ℕ}
     {before faults many found : ℕ} {own : List Entry} (file : NamedBytes) → AreRead question files count jobs starts before faults
     → count < length files → file ≡ get_or files count file → own ≡ entries_to question file.bytes
     → many ≡ length own → count_by is_faulty_entry own ≡ found
     → AreRead question files (count + 1) (jobs ++ own ∷ []) (starts ++ before ∷ []) (before + many) (faults + found)
-one_read {question} {files} {count} {jobs} {own = own} file so_far low is own_is many_are found_are =
+one_more_read {question} {files} {count} {jobs} {own = own} file so_far low is own_is many_are found_are =
     let all = sum_by_push length jobs own in
     let next = sum_by-drop_more lines_in files count file low in
     let lines = ap length own_is ∙ length-entries_to question file.bytes in

@@ -77,6 +77,7 @@ rest_is_shorter bytes found e =
 pub number_text : (text : List ℕ) (n : ℕ) → IsNumber text n → text ≡ decimal n
 number_text text n h = grind (arith, decimal_digit, decimal_step)
 
+-- a number of a line is at most 99
 pub number_at_most_99 : (text : List ℕ) (n : ℕ) → IsNumber text n → n ≤ 99
 number_at_most_99 text n h = grind arith
 

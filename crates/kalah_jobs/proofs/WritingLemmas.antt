@@ -48,12 +48,15 @@ use Rattle.kalah_jobs.specs.Writing.Splitting.{OutputSplitsByFiles, EndsWithItsL
 
 -- ==== How long the parts of lines are at most
 
+-- a number of 64 bits has at most 20 digits
 pub number_length : (n : ℕ) → n < 2 ^ 64 → length (decimal n) ≤ 20
 number_length n low = length-decimal-le 20 n (omega arith) (omega arith) low
 
+-- one of 32 bits has at most 10
 pub margin_length : (n : ℕ) → n < 2 ^ 32 → length (decimal n) ≤ 10
 margin_length n low = length-decimal-le 10 n (omega arith) (omega arith) (omega arith)
 
+-- one of 8 bits has at most 3
 pub byte_length : (n : ℕ) → n < 2 ^ 8 → length (decimal n) ≤ 3
 byte_length n low = length-decimal-le 3 n (omega arith) (omega arith) (omega arith)
 
@@ -63,6 +66,7 @@ byte_length n low = length-decimal-le 3 n (omega arith) (omega arith) (omega ari
 pub piece_before : (text piece old : List ℕ) → text ≡ piece ++ old → IsUtf8 piece → IsUtf8 old → IsUtf8 text
 piece_before text piece old is new before = subst IsUtf8 (sym is) (IsUtf8-append piece old new before)
 
+-- digits are text
 pub number_is_text : (n : ℕ) → n < 2 ^ 64 → IsUtf8 (decimal n)
 number_is_text n low = IsUtf8-from_ascii (decimal n) (IsAscii-decimal n low)
 
@@ -70,6 +74,7 @@ blanks_are_ascii : (n : ℕ) → IsAscii (replicate n space)
 blanks_are_ascii zero = IsAscii-nil
 blanks_are_ascii (suc n) = IsAscii-cons space (replicate n space) (omega arith) (blanks_are_ascii n)
 
+-- blanks are text
 pub blanks_are_text : (n : ℕ) → IsUtf8 (replicate n space)
 blanks_are_text n = IsUtf8-from_ascii (replicate n space) (blanks_are_ascii n)
 
@@ -90,48 +95,50 @@ blanks_before bytes start n many low is room blank =
 -- ==== Prefixes of what was to be written
 
 -- nothing is a prefix of everything
-pub start_none : (old : Option (List ℕ)) (bs : List ℕ) → AppendsPrefix old old bs
-start_none old bs = (0, Appends-nil old)
+pub prefix_none : (old : Option (List ℕ)) (bs : List ℕ) → AppendsPrefix old old bs
+prefix_none old bs = (0, Appends-nil old)
 
 -- if the bytes are left as they were
-pub start_kept_all : (old new : Option (List ℕ)) (bs : List ℕ) → Keeps old new → AppendsPrefix old new bs
-start_kept_all old new bs kept = (0, Appends-kept old old new [] (Appends-nil old) kept)
+pub prefix_kept_all : (old new : Option (List ℕ)) (bs : List ℕ) → Keeps old new → AppendsPrefix old new bs
+prefix_kept_all old new bs kept = (0, Appends-kept old old new [] (Appends-nil old) kept)
 
 -- a first part of the bytes, and then a prefix of the rest
-pub start_then : (old between new : Option (List ℕ)) (bs done rest : List ℕ) → bs ≡ done ++ rest → Appends old between done →
+pub prefix_then : (old between new : Option (List ℕ)) (bs done rest : List ℕ) → bs ≡ done ++ rest → Appends old between done →
     AppendsPrefix between new rest
     → AppendsPrefix old new bs
-start_then old between new bs done rest parts first start =
+prefix_then old between new bs done rest parts first start =
     let is : take (length done + start.0) bs ≡ done ++ take start.0 rest = ap (take (length done + start.0)) parts
     ∙ take-append-add done rest start.0 in
     (length done + start.0, subst (λ l. Appends old new l) (sym is) (Appends-trans old between new done (take start.0 rest) first start.1))
 
 -- a prefix is also one of what is longer
-pub start_longer : (old new : Option (List ℕ)) (bs cs : List ℕ) → AppendsPrefix old new bs → AppendsPrefix old new (bs ++ cs)
-start_longer old new bs cs start =
+pub prefix_longer : (old new : Option (List ℕ)) (bs cs : List ℕ) → AppendsPrefix old new bs → AppendsPrefix old new (bs ++ cs)
+prefix_longer old new bs cs start =
     let all : bs ++ cs ≡ take start.0 bs ++ (drop start.0 bs ++ cs) =
     ap (λ l. l ++ cs) (sym (take-append-drop start.0 bs)) ∙ append_assoc (take start.0 bs) (drop start.0 bs) cs in
-    start_then old new new (bs ++ cs) (take start.0 bs) (drop start.0 bs ++ cs) all start.1 (start_none new (drop start.0 bs ++ cs))
+    prefix_then old new new (bs ++ cs) (take start.0 bs) (drop start.0 bs ++ cs) all start.1 (prefix_none new (drop start.0 bs ++ cs))
 
 -- what keeps the bytes keeps the prefix
-pub start_kept : (old between new : Option (List ℕ)) (bs : List ℕ) → AppendsPrefix old between bs → Keeps between new
+pub prefix_kept : (old between new : Option (List ℕ)) (bs : List ℕ) → AppendsPrefix old between bs → Keeps between new
     → AppendsPrefix old new bs
-start_kept old between new bs start kept = (start.0, Appends-kept old between new (take start.0 bs) start.1 kept)
+prefix_kept old between new bs start kept = (start.0, Appends-kept old between new (take start.0 bs) start.1 kept)
 
 -- ==== Bytes that are written in part
 
+-- the first of the bytes were written, and the rest is left
 pub record IsPartWritten (old now : Option (List ℕ)) (bytes rest : List ℕ) : Type 0 where
   pub done : List ℕ
   pub is : bytes ≡ done ++ rest
   pub written : Appends old now done
 
+-- before any call all bytes are left
 pub left_all : (old : Option (List ℕ)) (bytes : List ℕ) → IsPartWritten old old bytes bytes
 left_all old bytes = record { done = []; is = refl; written = Appends-nil old }
 
 module _ (old now next : Option (List ℕ)) (bytes rest : List ℕ) (left : IsPartWritten old now bytes rest) where
   -- a prefix of the rest was written
-  pub left_start : AppendsPrefix now next rest → AppendsPrefix old next bytes
-  left_start start = start_then old now next bytes left.done rest left.is left.written start
+  pub left_prefix : AppendsPrefix now next rest → AppendsPrefix old next bytes
+  left_prefix start = prefix_then old now next bytes left.done rest left.is left.written start
 
   -- the rest was written
   pub left_whole : Appends now next rest → Appends old next bytes
@@ -162,6 +169,7 @@ later i = ne_eqb (suc i) 0 (λ e. omega (arith, e))
 module _ (joined : List ℕ → List ℕ) (text : ℕ → List ℕ) (separator : List ℕ) (none : joined [] ≡ [])
     (one : (x : ℕ) → joined (x ∷ []) ≡ text x)
     (more : (x y : ℕ) (xs : List ℕ) → joined (x ∷ y ∷ xs) ≡ text x ++ (separator ++ joined (y ∷ xs))) where
+  -- one text more comes after the separator, unless it is the first
   one_more_joined : (xs : List ℕ) (i : ℕ) → i < length xs →
       joined (take (i + 1) xs) ≡ joined (take i xs) ++ (cond (i == 0) [] separator ++ text (get_or xs i 0))
   one_more_joined [] i within = absurd (omega (arith, within))
@@ -177,12 +185,14 @@ module _ (place : List ℕ) (text : ℕ → List ℕ) where
   abbrev pub joined_lines : List ℕ → List ℕ
   joined_lines moves = join_with_byte line_feed (map (λ t. place ++ t) (map text moves))
 
+  -- lines with a line feed between any two, and one at the end, are lines that end in one each
   pub lines_end_in_feeds : (moves : List ℕ) → 0 < length moves →
       joined_lines moves ++ line_feed ∷ [] ≡ flat_map (λ h. (place ++ text h) ++ line_feed ∷ []) moves
   lines_end_in_feeds [] some = absurd (omega (arith, some))
   lines_end_in_feeds (h ∷ []) some = sym (append-nil ((place ++ text h) ++ line_feed ∷ []))
   lines_end_in_feeds (h ∷ k ∷ moves) some = simp (append_assoc, lines_end_in_feeds (k ∷ moves) (omega arith))
 
+  -- one line more comes after a line feed, unless it is the first
   pub one_line_more : (moves : List ℕ) (i : ℕ) → i < length moves →
       joined_lines (take (i + 1) moves) ≡ joined_lines (take i moves) ++
       (cond (i == 0) [] (line_feed ∷ []) ++ (place ++ text (get_or moves i 0)))
@@ -191,8 +201,9 @@ module _ (place : List ℕ) (text : ℕ → List ℕ) where
 -- ==== Texts that are given to a sink in sequence
 
 module _ {O : Type 0} (state : O → SinkState) where
+  -- no text is given by no call
   pub given_none : (out : O) → WasGiven state out out []
-  given_none out = record { start = start_none (state out).written []; whole = λ sound. (sound, Appends-nil (state out).written); quiet = λ failed. refl }
+  given_none out = record { start = prefix_none (state out).written []; whole = λ sound. (sound, Appends-nil (state out).written); quiet = λ failed. refl }
 
   -- a text by one call, which is not made after a failure
   pub given_once : {A E : Type 0} (r : Result A E) (old new : O) (text : List ℕ) → (state old).has_failed ≡ false
@@ -207,14 +218,14 @@ module _ {O : Type 0} (state : O → SinkState) where
   pub given_flush : (old new : O) → (state old).has_failed ≡ false → Keeps (state old).written (state new).written
       → WasGiven state old new []
   given_flush old new sound keeps = record {
-    start = start_kept_all (state old).written (state new).written [] keeps;
+    start = prefix_kept_all (state old).written (state new).written [] keeps;
     whole = λ still. (sound, Appends-kept (state old).written (state old).written (state new).written [] (Appends-nil (state old).written) keeps);
     quiet = λ failed. cc;
   }
 
   -- a sink that has failed is given any text
   pub given_off : (out : O) (text : List ℕ) → (state out).has_failed ≡ true → WasGiven state out out text
-  given_off out text failed = record { start = start_none (state out).written text; whole = λ sound. absurd cc; quiet = λ _. refl }
+  given_off out text failed = record { start = prefix_none (state out).written text; whole = λ sound. absurd cc; quiet = λ _. refl }
 
   -- a text, and then another
   pub given_then : (old between new : O) (text more : List ℕ) → WasGiven state old between text
@@ -229,8 +240,8 @@ module _ {O : Type 0} (state : O → SinkState) where
   } where
     by : (b : Bool) → (state between).has_failed ≡ b → AppendsPrefix (state old).written (state new).written (text ++ more)
     by true failed = subst (λ o. AppendsPrefix (state old).written (state o).written (text ++ more)) (sym (second.quiet failed))
-        (start_longer _ _ text more first.start)
-    by false sound = start_then _ _ _ (text ++ more) text more refl (first.whole sound).1 second.start
+        (prefix_longer _ _ text more first.start)
+    by false sound = prefix_then _ _ _ (text ++ more) text more refl (first.whole sound).1 second.start
 
   -- a text, and then another, which needs to be the right one only if no call has failed
   pub given_on : (old between new : O) (text more right : List ℕ) → WasGiven state old between text
@@ -282,6 +293,7 @@ module _ (text : ℕ → List ℕ) where
   abbrev pub texts_in_line : List ℕ → List ℕ
   texts_in_line moves = in_one_line (map text moves)
 
+  -- one text more comes after `; `, unless it is the first
   pub one_text_more : (moves : List ℕ) (i : ℕ) → i < length moves →
       texts_in_line (take (i + 1) moves) ≡ texts_in_line (take i moves) ++ (cond (i == 0) [] (codes "; ") ++ text (get_or moves i 0))
   one_text_more = one_more_joined texts_in_line text (codes "; ") refl (λ h. refl) (λ h k moves. refl)
@@ -307,9 +319,11 @@ pub from_margin : (answer : Answer) (margin : ℤ) (rest old : List ℕ) {text a
 from_margin answer margin rest old fits words is last = rw (last, is, words, to_z-of_z w32 margin fits) (simp append_assoc)
 
 module _ (values : List MoveValue) (i : ℕ) (v : MoveValue) (is : slice_get values i ≡ Some v) where
+  -- the last value has nothing after it
   pub last_value : i + 1 ≡ length values → values_text (drop i values) ≡ value_text v
   last_value many = rw (items_from values i v is, drop_of_length-le values {i = i + 1} (omega arith)) refl
 
+  -- any other has a space and the values after it
   pub value_before : i + 1 < length values → values_text (drop i values) ≡ value_text v ++ space ∷ values_text (drop (i + 1) values)
   value_before within = rw (items_from values i v is, drop_more values (i + 1) v within) refl
 
@@ -321,6 +335,7 @@ side_before numbers store i old within is after next last =
     let same : i + 1 - 1 ≡ i = omega arith in
     rw (last, next, after, drop_more numbers i 0 (omega arith), drop_more numbers (i + 1) 0 within, is, same) (simp append_assoc)
 
+-- both players have as many houses
 pub length-houses_of : (player : Player) (p : Position) → IsWithinLimits p → length (houses_of player p) ≡ side_length p
 length-houses_of Mover p limits = refl
 length-houses_of Other p limits = limits.same_side
@@ -366,6 +381,7 @@ line_before name taken after words text other is place =
 abbrev IsSmallValue : MoveValue → Type 0
 IsSmallValue v = IsSmallMargin v.value × (v.house ≤ most_houses)
 
+-- the absolute value of a margin of a game is small
 small_mag : (z : ℤ) → IsSmallMargin z → mag z < 2 ^ 63
 small_mag (pos n) small = omega (arith, ints, small.high)
 small_mag (negsuc n) small = omega (arith, ints, small.low)
@@ -378,19 +394,24 @@ value_length (negsuc n) small = length_signed_le 3 (negsuc n) (omega (arith, int
 -- it is put in front of a text, from its bits, and then blanks
 module _ (v z : ℤ) (end len : ℕ) (old text : List ℕ) (small : IsSmallMargin v) (read : z ≡ to_z w16 (of_z w16 v))
     (is : text ≡ signed_decimal (to_z w32 (of_z w32 z)) ++ old) (end_is : end ≡ length old) (len_is : len ≡ length text) where
+  -- the value is read back from its bits
   same_value : to_z w32 (of_z w32 z) ≡ v
   same_value = read_back v z (omega (arith, ints, small.low, small.high)) read
 
+  -- the text is longer by the value
   length_now : length text ≡ length (signed_decimal v) + length old
   length_now = ap length is ∙ length-append (signed_decimal (to_z w32 (of_z w32 z))) old
       ∙ ap (λ x. length (signed_decimal x) + length old) same_value
 
+  -- the value fits its column
   pub value_room : len ≤ end + column_width
   value_room = omega (arith, length_now, value_length v small)
 
+  -- with the blanks before it, it fills the column
   pub value_longer : (n : ℕ) → n ≡ end + column_width - len + length text → n ≡ column_width + length old
   value_longer n e = omega (arith, e, length_now, value_length v small)
 
+  -- it stands at the right of the column
   pub value_at_right : (all : List ℕ) → all ≡ replicate (end + column_width - len) space ++ text → all ≡ value_cell v ++ old
   value_at_right all e =
       let blanks : end + column_width - len ≡ column_width - length (signed_decimal v) = omega (arith, length_now) in
@@ -399,9 +420,9 @@ module _ (v z : ℤ) (end len : ℕ) (old text : List ℕ) (small : IsSmallMargi
 -- ---- one value more
 
 -- the column of a value before those after it
-pub column_before : (filled : ℕ) (v : MoveValue) (vs : List MoveValue) (old : List ℕ) {row cell after : List ℕ} →
-    row ≡ value_columns (v.house + 1) vs ++ old
-    → cell ≡ value_cell v.value ++ row → after ≡ empty_columns (v.house - filled) ++ cell →
+pub column_before : (filled : ℕ) (v : MoveValue) (vs : List MoveValue) (old : List ℕ) {columns cell after : List ℕ} →
+    columns ≡ value_columns (v.house + 1) vs ++ old
+    → cell ≡ value_cell v.value ++ columns → after ≡ empty_columns (v.house - filled) ++ cell →
     after ≡ value_columns filled (v ∷ vs) ++ old
 column_before filled v vs old is next e = e ∙ simp (next, is, append_assoc)
 
@@ -419,6 +440,7 @@ next_value filled values i v is ascend small =
 
 -- ---- the values of a position have columns
 
+-- values that ascend from a higher house ascend from a lower one
 ascend_later : (low high : ℕ) (vs : List MoveValue) → low ≤ high → AscendFrom high vs → AscendFrom low vs
 ascend_later low high [] within ascend = tt
 ascend_later low high (v ∷ vs) within ascend = (omega (arith, within, ascend.0), ascend.1)
@@ -431,13 +453,16 @@ kept_ascend f p from (suc n) =
     cond_both (f from) _ _ (λ houses. AscendFrom from (map (move_value p) houses)) (λ kept. (omega arith, later))
     (λ left_out. ascend_later from (from + 1) _ (omega arith) later)
 
+-- the values of a position ascend from house 1
 values_ascend : (p : Position) → AscendFrom 1 (values_of p)
 values_ascend p = cond_both (is_over p) _ _ (λ houses. AscendFrom 1 (map (move_value p) houses)) (λ over. tt)
     (λ going. kept_ascend _ p 1 (side_length p))
 
+-- they have columns
 pub have_columns : (p : Position) (values : List MoveValue) → values ≡ values_of p → AscendFrom 0 values
 have_columns p values is = subst (AscendFrom 0) (sym is) (ascend_later 0 1 (values_of p) (omega arith) (values_ascend p))
 
+-- they are small
 pub are_small : (p : Position) (values : List MoveValue) → values ≡ values_of p → IsWithinLimits p → AreSmall values
 are_small p values is limits = subst AreSmall (sym is) (All-map IsSmallValue (move_value p) (legal_houses p)
     (All-from_get_or (λ h. IsSmallValue (move_value p h)) (legal_houses p) 0
@@ -506,6 +531,7 @@ files_are_their_jobs = record {
 
 -- ==== Files and parts of files in sequence
 
+-- 0 added changes nothing
 zero-add : (n : ℕ) → 0 + n ≡ n
 zero-add n = omega arith
 
@@ -527,11 +553,13 @@ output_splits_by_files = record {
 
 -- ---- lines
 
+-- a byte that goes to the first of some lines leaves those after them
 onto_first-append : (byte : ℕ) (lines more : List (List ℕ)) → 0 < length lines
     → onto_first byte (lines ++ more) ≡ onto_first byte lines ++ more
 onto_first-append byte [] more some = absurd (omega arith)
 onto_first-append byte (line ∷ lines) more some = refl
 
+-- lines that end and more have the lines of both
 lines_of_both : (front second : List ℕ) → lines_of ((front ++ line_feed ∷ []) ++ second) ≡ lines_of
     (front ++ line_feed ∷ []) ++ lines_of second
 lines_of_both [] second = unfold lines_of in lines_of-feed line_feed second refl
@@ -542,11 +570,13 @@ lines_of_both (byte ∷ front) second = elim (cases_eq byte line_feed) [
       simp (lines_of-byte, lines_of_both front second, onto_first-append)
 ]
 
+-- lines that end, or none, and more have the lines of both
 lines_split : (first second : List ℕ) → EndsWithItsLine first → lines_of (first ++ second) ≡ lines_of first ++ lines_of second
 unfolding lines_of
 lines_split first second (inl none) = rw none refl
 lines_split first second (inr ends) = rw ends.1 (lines_of_both ends.0 second)
 
+-- more lines are numbered on
 enumerate_from-append : (number : ℕ) (lines more : List (List ℕ)) →
     enumerate_from number (lines ++ more) ≡ enumerate_from number lines ++ enumerate_from (number + length lines) more
 enumerate_from-append number [] more = ap (λ k. enumerate_from k more) (let e : number ≡ number + 0 = omega arith in e)

@@ -9,7 +9,7 @@ use Rattle.kalah_jobs.specs.Files.JobList.{job_list, jobs_from, file_jobs, line_
 use Rattle.kalah_jobs.specs.Collecting.AnyOrder.{AreJobsInSomeOrder}
 use Rattle.std.proofs.KnownBytes.{Appends-kept, Appends-nil, Appends-trans}
 use Rattle.kalah_jobs.specs.Writing.Sink.{SinkState, WasGiven}
-use Rattle.kalah_jobs.proofs.WritingLemmas.{start_none, start_then, start_longer, start_kept}
+use Rattle.kalah_jobs.proofs.WritingLemmas.{prefix_none, prefix_then, prefix_longer, prefix_kept}
 use Rattle.kalah_run.specs.Batch.OrderedOutput.{IsOnlyFlushed, WasGivenSince, text_of_job, written_upto, IsUnderWay, text_of, IsNew, HasWritten}
 use Rattle.std.specs.List.{flat_map, enumerate_from}
 use Rattle.std.proofs.lemmas.Bool.{cases_eq, cases_lt, both_ways}
@@ -20,8 +20,8 @@ use Rattle.kalah_jobs.specs.Writing.Answer.{answer_line}
 use Rattle.kalah_jobs.specs.Collecting.CollectorState.{ArrivalsState, state_of, front, HasEnded, with_one_taken, new_files, after_take}
 use Rattle.kalah_jobs.specs.Collecting.CollectorEvents.{Offers, Takes, answered_line}
 use Rattle.kalah_jobs.specs.Writing.Output.{text_of_line, text_of_file, text_of_jobs}
-use Rattle.kalah_jobs.proofs.CollectingLemmas.{state_same, state_other, files_many, lines_are, start, taken_is, new_taken, fronts_full, kept_by_offer, kept_by_take}
-use Rattle.kalah_jobs.specs.Collecting.Held.{Kept}
+use Rattle.kalah_jobs.proofs.CollectingLemmas.{state_same, state_other, files_many, lines_are, new_files_are_in_step, taken_is, new_taken, fronts_full, kept_by_offer, kept_by_take}
+use Rattle.kalah_jobs.specs.Collecting.Held.{AreInStep}
 use Rattle.kalah_jobs.specs.Files.Lines.{line_feed}
 use Rattle.kalah_jobs.specs.Files.NamedBytes.{NamedBytes}
 use Rattle.kalah_run.specs.declared.batch.ordered_output.OrderedOutput.{OrderedOutput}
@@ -32,13 +32,13 @@ use Rattle.kalah_jobs.proofs.FilesLemmas.{length-job_list, lines_between, slice_
 
 -- at first a sink was given nothing
 pub since_none : (begun : SinkState) → WasGivenSince begun begun []
-since_none begun = record { start = start_none begun.written []; whole = λ sound. Appends-nil begun.written }
+since_none begun = record { start = prefix_none begun.written []; whole = λ sound. Appends-nil begun.written }
 
 -- a sink that has failed is not called again
 since_failed : {begun out : SinkState} (bs cs : List ℕ) → WasGivenSince begun out bs → out.has_failed ≡ true
     → WasGivenSince begun out (bs ++ cs)
 since_failed {begun} {out} bs cs given broken = record {
-  start = start_longer begun.written out.written bs cs given.start;
+  start = prefix_longer begun.written out.written bs cs given.start;
   whole = λ sound. absurd (both_ways _ sound broken);
 }
 
@@ -49,14 +49,14 @@ since_more {state = state} {begun} {old} {new} bs cs given more = by (state old)
   by : (b : Bool) → (state old).has_failed ≡ b → WasGivenSince begun (state new) (bs ++ cs)
   by true failed = subst (λ o. WasGivenSince begun (state o) (bs ++ cs)) (sym (more.quiet failed)) (since_failed bs cs given failed)
   by false sound = record {
-    start = start_then begun.written (state old).written (state new).written (bs ++ cs) bs cs refl (given.whole sound) more.start;
+    start = prefix_then begun.written (state old).written (state new).written (bs ++ cs) bs cs refl (given.whole sound) more.start;
     whole = λ still. Appends-trans begun.written (state old).written (state new).written bs cs (given.whole sound) (more.whole still).1;
   }
 
 -- what was given stays given if nothing more is written
 pub since_kept : {begun out more : SinkState} {bs : List ℕ} → WasGivenSince begun out bs → IsOnlyFlushed out more → WasGivenSince begun more bs
 since_kept {begun} {out} {more} {bs} given flushed = record {
-  start = start_kept begun.written out.written more.written bs given.start flushed.keeps;
+  start = prefix_kept begun.written out.written more.written bs given.start flushed.keeps;
   whole = λ sound. Appends-kept begun.written out.written more.written bs (given.whole (flushed.sound sound)) flushed.keeps;
 }
 
@@ -125,7 +125,7 @@ module _ (text : ℕ → Taken → List ℕ) (jobs : List (List Entry)) where
   unfolding written_upto
   progress_start begun =
       record {
-        kept = start jobs;
+        kept = new_files_are_in_step jobs;
         before = λ g low. absurd (omega arith);
         later = λ g high. new_taken jobs g;
         written = subst (λ (l : List ℕ). WasGivenSince begun begun l)
@@ -154,7 +154,7 @@ module _ {text : ℕ → Taken → List ℕ} {jobs : List (List Entry)} {past : 
       ∙ written_line text jobs f n w.entry at
       ∙ ap (λ m. written_upto text jobs f m) (sym taken) in
       let new : IsUnderWay text jobs past now f begun more = record {
-        kept = subst (λ (s : List ArrivalsState). Kept jobs past s) step.kept (kept_by_take progress.kept f t step);
+        kept = subst (λ (s : List ArrivalsState). AreInStep jobs past s) step.kept (kept_by_take progress.kept f t step);
         before = λ g g_low. ap (λ (s : ArrivalsState). s.taken) (other g (λ q. omega arith)) ∙ progress.before g g_low;
         later = λ g g_high. ap (λ (s : ArrivalsState). s.taken) (other g (λ q. omega arith)) ∙ progress.later g g_high;
         written = subst (λ (l : List ℕ). WasGivenSince begun more l) text_is (gives (written_upto text jobs f n) progress.written);

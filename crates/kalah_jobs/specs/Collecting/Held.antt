@@ -22,6 +22,6 @@ pub record HoldsOffered (jobs : List (List Entry)) (past : List Job) (files : Li
   pub only : (f k : ℕ) (a : Answer) → arrived_for (state_of files f) k ≡ Some a → IsOffered jobs past f k a
 
 -- What was offered has come, and no more was taken than is ready.
-pub record Kept (jobs : List (List Entry)) (past : List Job) (files : List ArrivalsState) : Type 0 where
+pub record AreInStep (jobs : List (List Entry)) (past : List Job) (files : List ArrivalsState) : Type 0 where
   pub offered : HoldsOffered jobs past files
   pub within : (f : ℕ) → (state_of files f).taken ≤ front (state_of files f)

@@ -16,7 +16,7 @@ Says line (ValuesOf p) = ⊥
 Says line (StepsOf p) = ⊥
 Says line (Bad fault) = HasFault line fault
 
--- the entry of a position of which this is asked
+-- the entry of a position, with this question
 abbrev pub entry_asked : Question → position.Position → Entry
 entry_asked BestMove p = Position p
 entry_asked Values p = ValuesOf p

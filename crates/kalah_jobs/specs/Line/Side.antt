@@ -16,7 +16,7 @@ pub record AreKept (houses kept : List ℕ) (left_out : ℕ) : Type 0 where
   pub count : length kept + left_out ≡ length houses
   pub whole : (kept ≡ houses) ⊎ HaveNoRoom houses left_out
 
--- the bytes start with a side, of which this much is kept, and go on with the rest
+-- the bytes start with a side, whose houses are kept so, and go on with the rest
 pub record StartsWithSide (bytes : List ℕ) (side : Side) (rest : List ℕ) : Type 0 where
   pub houses : List ℕ
   pub are_kept : AreKept houses side.kept side.left_out

@@ -71,7 +71,7 @@ impl Arrivals {
         self.arrived[line as usize].is_some()
     }
 
-    // Stores the answer of a line, and returns how many lines became ready.
+    // Keeps the answer of a line, and returns how many lines became ready.
     pub(crate) fn accept(&mut self, line: u32, answer: Answer) -> u32
         requires within { line < line_count self.old }
         requires first { arrived_for self.old line ≡ None }

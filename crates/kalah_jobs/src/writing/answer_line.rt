@@ -52,7 +52,7 @@ fn prepend_values(text: &mut StackText, values: &MoveValues, i: u8)
 fn prepend_joined_text(text: &mut StackText, answer: &Answer)
     requires room { length text.old + 96 ≤ ROOM }
     requires one_line { IsOfOneLine answer.now }
-    ensures words { text.new ≡ joined_text answer.now ++ text.old }
+    ensures joined { text.new ≡ joined_text answer.now ++ text.old }
     ensures short { length text.new ≤ length text.old + 96 }
 {
     match *answer {

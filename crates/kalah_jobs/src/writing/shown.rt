@@ -32,7 +32,7 @@ fn prepend_columns(text: &mut StackText, values: &MoveValues, i: u8, filled: u8)
     requires filled { filled ≤ most_houses + 1 }
     requires ascend { AscendFrom filled (drop i values.now) }
     requires small { AreSmall (drop i values.now) }
-    ensures row { text.new ≡ value_columns filled (drop i values.now) ++ text.old }
+    ensures columns { text.new ≡ value_columns filled (drop i values.now) ++ text.old }
     ensures short { length text.new ≤ length text.old + 4 * (most_houses + 1 - filled) }
 {
     if i == values.len() {

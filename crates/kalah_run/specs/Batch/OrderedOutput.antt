@@ -8,7 +8,7 @@ use Rattle.kalah_jobs.specs.declared.files.job.Job.{Job}
 use Rattle.kalah_jobs.specs.Files.JobList.{entries_of, job_list}
 use Rattle.kalah_jobs.specs.Files.Jobs.{job_count}
 use Rattle.kalah_jobs.specs.Collecting.CollectorState.{ArrivalsState, state_of, new_files, HasEnded}
-use Rattle.kalah_jobs.specs.Collecting.Held.{Kept}
+use Rattle.kalah_jobs.specs.Collecting.Held.{AreInStep}
 use Rattle.kalah_jobs.specs.Writing.Output.{text_of_line, names_of, output_of_jobs, taken_output}
 use Rattle.kalah_jobs.specs.Writing.Sink.{AppendsPrefix, SinkState}
 use Rattle.kalah_jobs.specs.Files.NamedBytes.{NamedBytes}
@@ -37,7 +37,7 @@ written_upto text jobs f n = flat_map (text_of_job text) (take (job_count (take 
 -- line that was taken, in order.
 pub record IsUnderWay (text : ℕ → Taken → List ℕ) (jobs : List (List Entry)) (past : List Job) (files : List ArrivalsState) (f : ℕ)
     (begun out : SinkState) : Type 0 where
-  pub kept : Kept jobs past files
+  pub kept : AreInStep jobs past files
   pub before : (g : ℕ) → g < f → (state_of files g).taken ≡ length (entries_of jobs g)
   pub later : (g : ℕ) → f < g → (state_of files g).taken ≡ 0
   pub written : WasGivenSince begun out (written_upto text jobs f (state_of files f).taken)

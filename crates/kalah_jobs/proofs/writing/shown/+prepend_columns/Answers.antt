@@ -22,11 +22,11 @@ pub prepend_value_cell-requires-clause-small : goal.prepend_value_cell-requires-
 prepend_value_cell-requires-clause-small t c =
     (next_value c.args.filled c.args.values.now c.args.i c.get-value.result c.get-value.ensures c.requires.ascend c.requires.small).0.0
 
-pub returns-clause-row : goal.returns-clause-row
-returns-clause-row t c =
+pub returns-clause-columns : goal.returns-clause-columns
+returns-clause-columns t c =
     let value = c.get-value.result in
     let old = c.args.text.now in
-    column_before c.args.filled value (drop (c.args.i + 1) c.args.values.now) old c.prepend_columns.ensures.row
+    column_before c.args.filled value (drop (c.args.i + 1) c.args.values.now) old c.prepend_columns.ensures.columns
     c.prepend_value_cell.ensures.cell
     (c.prepend_blanks.ensures.blanks ∙ ap (λ n. empty_columns n ++ c.prepend_value_cell.new.text) c.from.ensures)
     ∙ ap (λ values. value_columns c.args.filled values ++ old) (sym (items_from c.args.values.now c.args.i value c.get-value.ensures))

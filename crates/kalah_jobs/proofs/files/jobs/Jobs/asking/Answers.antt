@@ -3,7 +3,7 @@ use Rattle.std.proofs.lemmas.Grind.{common_steps}
 use Rattle.std.proofs.lemmas.List.{drop_all, take_all, length-map, map-append}
 use Rattle.std.proofs.lemmas.List.Sums.{sum_by-drop_more}
 use Rattle.kalah_jobs.specs.Files.Jobs.{jobs_to, lines_in, lines_in_all}
-use Rattle.kalah_jobs.proofs.FilesLemmas.{length-entries_to, one_read}
+use Rattle.kalah_jobs.proofs.FilesLemmas.{length-entries_to, one_more_read}
 use Rattle.kalah_jobs.proofs.files.jobs.Jobs.asking.Goals as goal
 
 pub overflow_add-faults : goal.overflow_add-faults
@@ -60,7 +60,7 @@ loop-file-preserved c =
         c.push_reserved.ensures.items,
         c.push_reserved-in-loop-file.ensures.items,
         map-append (λ own. own.items) c.loop-file.read.items (own ∷ []),
-      ) (one_read c.file-item.result so_far.files c.loop-file-test.true c.file-item.is
+      ) (one_more_read c.file-item.result so_far.files c.loop-file-test.true c.file-item.is
           c.in_ok-entries.ensures.read (c.len-before.ensures ∙ own.ok.0) (sym c.in_ok-entries.ensures.faults));
       room = omega (arith, c.push_reserved-in-loop-file.ensures.capacity, so_far.room);
       starts_room = omega (arith, c.push_reserved.ensures.capacity, so_far.starts_room);
