@@ -1,4 +1,4 @@
-use Rattle.std.proofs.Common.{arith, rules, refl, sym, ◌∙◌, ◌≡◌, ◌+◌, ◌-◌, ◌%◌, subst, length, max}
+use Rattle.std.proofs.Common.{arith, rules, refl, sym, ◌≡◌, ◌+◌, ◌-◌, ◌%◌, subst, length, max}
 use Rattle.std.proofs.lemmas.List.Sums.{sum_by-set}
 use Rattle.kalah_rules.specs.HousesStep.{houses_step}
 use Rattle.kalah_rules.specs.declared.step.HousesStep.TheVariants.{Turn}
@@ -168,7 +168,7 @@ try_remaining-play_by-step-requires g t c = last_is_legal c.loop-untried.invaria
 pub try_remaining-priority-priority-requires-clause-few : goal.try_remaining-priority-priority-requires-clause-few
 try_remaining-priority-priority-requires-clause-few g t c =
     let leads = leads_by _ _ c.remaining_houses-untried.ensures.limits
-    (last_is_legal c.loop-untried.invariant.may c.split_last-house.ensures.last) (sym c.in-Turn.is ∙ c.play_by-step.ensures.step) in
+    (last_is_legal c.loop-untried.invariant.may c.split_last-house.ensures.last) (rw c.in-Turn.is at c.play_by-step.ensures.step) in
     omega arith
 
 pub try_remaining-bound_step-bound-requires : goal.try_remaining-bound_step-bound-requires
@@ -187,7 +187,7 @@ try_remaining-bound_turn-bound-requires g t c κs within =
     let h = c.split_last-house.result.0 in
     let limits = c.remaining_houses-untried.ensures.limits in
     let has = last_is_legal c.loop-untried.invariant.may c.split_last-house.ensures.last in
-    let is = sym c.in-Turn.is ∙ c.play_by-step.ensures.step in (
+    let is = rw c.in-Turn.is at c.play_by-step.ensures.step in (
       omega (arith, step_falls a h (Turn c.in-Turn.gained c.in-Turn.next) limits has is),
       (within, (search rules, goes_on _ _ _ _ c.requires.variant limits has is)),
     )
@@ -231,7 +231,7 @@ try_remaining-loop-untried-preserved-then-seeds-self g t c =
     let before = c.loop-untried.invariant in
     let priority = c.priority-priority in
     let place : priority.result % 8 ≡ c.split_last-house.result.0 - 1 = omega (arith, priority.ensures.house) in
-    let turn = step_is_turn c.remaining_houses-untried.ensures.limits (last_is_legal before.may last) (sym c.in-Turn.is ∙ c.play_by-step.ensures.step)
+    let turn = step_is_turn c.remaining_houses-untried.ensures.limits (last_is_legal before.may last) (rw c.in-Turn.is at c.play_by-step.ensures.step)
     priority.ensures.house in
     rw (c.split_last-house.ensures.rest, place) (record {
       low = before.low;

@@ -1,4 +1,4 @@
-use Rattle.std.proofs.Common.{arith, rules, sym, ◌∙◌}
+use Rattle.std.proofs.Common.{arith, rules, ◌∙◌}
 use Rattle.kalah_solve.proofs.BoundsLemmas.{won_of_houses}
 use Rattle.kalah_solve.proofs.WorthLemmas.{leads_by}
 use Rattle.kalah_solve.specs.Marks.{without_mark}
@@ -62,30 +62,30 @@ pub move_wins-won-requires : goal.move_wins-won-requires
 move_wins-won-requires g t c κs within =
     let next = leads_by _ _ c.play_by.ensures.limits
     c.requires.legal
-    (sym c.in-Again.is ∙ c.play_by.ensures.step) in
+    (rw c.in-Again.is at c.play_by.ensures.step) in
     (omega arith, (within, (search rules, (next.going, (next.same ∙ c.requires.variant, omega arith)))))
 
 pub move_wins-overflow_add-result : goal.move_wins-overflow_add-result
 move_wins-overflow_add-result g t c =
     let next = leads_by _ _ c.play_by.ensures.limits
     c.requires.legal
-    (sym c.in-Again.is ∙ c.play_by.ensures.step) in
+    (rw c.in-Again.is at c.play_by.ensures.step) in
     omega (arith, (won_of_houses next.limits).few)
 
 pub move_wins-won-requires-in-Turn : goal.move_wins-won-requires-in-Turn
 move_wins-won-requires-in-Turn g t c κs within =
     let next = leads_by _ _ c.play_by.ensures.limits c.requires.legal
-    (sym c.in-Turn.is ∙ c.play_by.ensures.step) in
+    (rw c.in-Turn.is at c.play_by.ensures.step) in
     (omega arith, (within, (search rules, (next.going, (next.same ∙ c.requires.variant, omega arith)))))
 
 pub move_wins-overflow_sub-result : goal.move_wins-overflow_sub-result
 move_wins-overflow_sub-result g t c =
     let next = leads_by _ _ c.play_by.ensures.limits c.requires.legal
-    (sym c.in-Turn.is ∙ c.play_by.ensures.step) in
+    (rw c.in-Turn.is at c.play_by.ensures.step) in
     omega (arith, (won_of_houses next.limits).few)
 
 pub move_wins-overflow_add-result-in-Turn : goal.move_wins-overflow_add-result-in-Turn
 move_wins-overflow_add-result-in-Turn g t c =
     let next = leads_by _ _ c.play_by.ensures.limits c.requires.legal
-    (sym c.in-Turn.is ∙ c.play_by.ensures.step) in
+    (rw c.in-Turn.is at c.play_by.ensures.step) in
     omega arith
