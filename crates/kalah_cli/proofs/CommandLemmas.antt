@@ -1,15 +1,14 @@
 -- The command line, made of its table.
-use Rattle.std.proofs.Common.{◌≡◌, ℕ, ◌+◌, ◌<◌, ◌∙◌, List, [], ◌∷◌, ◌++◌, Bool, true, ap, get_or, length, map, sym, take}
-use Rattle.std.specs.List.{fold, list_all}
-use Rattle.std.proofs.lemmas.List.{map_more, map-append}
+use Rattle.std.proofs.Common.{◌≡◌, ℕ, ◌+◌, ◌<◌, ◌∙◌, List, [], ◌∷◌, true, ap, get_or, length, refl, sym, take}
+use Rattle.std.specs.List.{fold}
 use Rattle.std.proofs.lemmas.List.Sums.{fold_more}
-use Rattle.std.proofs.lemmas.Bool.{and_parts}
-use Rattle.clap.specs.Words.{AddsArg, AddsInTurn, AddsSubcommand, App, app_of, with_rule}
+use Rattle.clap.specs.Words.{AddsArg, AddsSubcommand, App, app_of, new_app, with_rule, with_subcommand}
 use Rattle.clap.specs.declared.builder.arg.Arg.{Arg}
 use Rattle.clap.specs.declared.builder.command.Command.{Command}
 use Rattle.clap.proofs.SimpleLemmas.{plain_fields}
-use Rattle.kalah_cli.specs.Command.{IsReadBy, argument_rule, with_all}
+use Rattle.kalah_cli.specs.Command.{IsReadBy, argument_rule, subcommand_app}
 use Rattle.kalah_cli.specs.declared.subcommands.Argument.{Argument}
+use Rattle.kalah_cli.specs.declared.subcommands.Subcommand.{Subcommand}
 
 -- one argument more
 pub argument_added : (start : App) (arguments : List Argument) (i : ℕ) (argument : Argument) {arg : Arg} {old new : Command}
@@ -21,31 +20,20 @@ argument_added start arguments i argument {old = old} within read so_far adds =
     ∙ ap (λ app. with_rule app (argument_rule (get_or arguments i argument))) so_far
     ∙ sym (fold_more (λ app a. with_rule app (argument_rule a)) start arguments i argument within)
 
+-- a command stays plain with more arguments, as none is global
+stays_plain : (app : App) (arguments : List Argument) → app.top.is_plain ≡ true
+    → (fold (λ app a. with_rule app (argument_rule a)) app arguments).top.is_plain ≡ true
+stays_plain app [] plain = plain
+stays_plain app (a ∷ rest) plain = stays_plain (with_rule app (argument_rule a)) rest plain
+
 -- one subcommand more
-pub subcommand_made : {X : Type 0} (app : X → App) (xs : List X) (i : ℕ) (x : X) (commands : List Command) (made : Command)
-    → i < length xs → app_of made ≡ app (get_or xs i x) → map app_of commands ≡ map app (take i xs)
-    → map app_of (commands ++ made ∷ []) ≡ map app (take (i + 1) xs)
-subcommand_made app xs i x commands made within is so_far =
-    map-append app_of commands (made ∷ []) ∙ ap (λ apps. apps ++ app_of made ∷ []) so_far
-    ∙ ap (λ a. map app (take i xs) ++ a ∷ []) is
-    ∙ sym (map_more app xs i x within)
-
--- no subcommand has a global argument
-abbrev pub are_plain : List App → Bool
-are_plain subs = list_all (λ sub. sub.top.is_plain) subs
-
--- commands that are added in turn
-all_added : (commands : List Command) (old new : Command) → are_plain (map app_of commands) ≡ true
-    → AddsInTurn AddsSubcommand old commands new → app_of new ≡ with_all (app_of old) (map app_of commands)
-all_added [] old new plain adds = sym (ap app_of adds)
-all_added (command ∷ commands) old new plain adds =
-    let parts = and_parts _ _ plain in
-    let one = adds.1.shape (plain_fields command parts.0).globals in
-    all_added commands adds.0 new parts.1 adds.2 ∙ ap (λ app. with_all app (map app_of commands)) one
-
--- the commands that are added are those of the table
-pub made_of : (start : App) (subs : List App) (commands : List Command) (old new : Command) → map app_of commands ≡ subs
-    → are_plain subs ≡ true → app_of old ≡ start → AddsInTurn AddsSubcommand old commands new
-    → app_of new ≡ with_all start subs
-made_of start subs commands old new made plain is adds =
-    all_added commands old new (ap are_plain made ∙ plain) adds ∙ ap (with_all (app_of old)) made ∙ ap (λ app. with_all app subs) is
+pub subcommand_added : {X : Type 0} (of : X → Subcommand) (start : App) (xs : List X) (i : ℕ) (x : X) {made old new : Command}
+    → i < length xs → app_of made ≡ subcommand_app (of (get_or xs i x))
+    → app_of old ≡ fold (λ app x. with_subcommand app (subcommand_app (of x)).top) start (take i xs) → AddsSubcommand old made new
+    → app_of new ≡ fold (λ app x. with_subcommand app (subcommand_app (of x)).top) start (take (i + 1) xs)
+subcommand_added of start xs i x {made} within is so_far adds =
+    let s = of (get_or xs i x) in
+    let plain = ap (λ a. a.top.is_plain) is ∙ stays_plain (new_app s.name.now) s.arguments.now refl in
+    adds.shape (plain_fields made plain).globals
+    ∙ (λ j. with_subcommand (so_far j) (is j).top)
+    ∙ sym (fold_more (λ app x. with_subcommand app (subcommand_app (of x)).top) start xs i x within)

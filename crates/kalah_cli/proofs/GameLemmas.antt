@@ -37,10 +37,10 @@ abbrev pub BestGame : Position → List ℕ → Position → Type 0
 BestGame p houses final = Game (follow best_house) (follow best_house) p houses final
 
 -- the solver's verdict has the worth and the best house, if the game goes on
-best_told : (p : Position) (margin : ℤ) (house : ℕ) → is_over p ≡ false → Best margin house ≡ verdict_of p
+best_of_verdict : (p : Position) (margin : ℤ) (house : ℕ) → is_over p ≡ false → Best margin house ≡ verdict_of p
     → (margin ≡ worth p) × (house ≡ best_house p)
-best_told p margin house going is =
-    let told : Best margin house ≡ Best (worth p) (best_house p) =
+best_of_verdict p margin house going is =
+    let both : Best margin house ≡ Best (worth p) (best_house p) =
     is ∙ ap (λ b. if b then Over (final_margin p) else Best (worth p) (best_house p)) going in
     (cc, cc)
 
@@ -187,17 +187,17 @@ pub no_text : (form : Form) (first : Option ℕ) (p : Position) → MayBegin fir
 no_text form None p may over = ap (game_text form p) (no_best_moves (moves_left p) p over)
 no_text form (Some h) p may over = absurd (let both : true ≡ false = sym over ∙ legal_going p h may in cc)
 
--- the verdict tells the next move, by a margin of thirty-two bits
-pub next_told : (form : Form) (first : Option ℕ) (p : Position) {margin : ℤ} {house : ℕ} → MayBegin first p → IsSmallBest margin house
+-- the verdict determines the next move, by a margin of thirty-two bits
+pub next_of_verdict : (form : Form) (first : Option ℕ) (p : Position) {margin : ℤ} {house : ℕ} → MayBegin first p → IsSmallBest margin house
     → StatesBestMove p margin house → Best margin house ≡ verdict_of p
     → IsNextMove form first p (value_shown form (to_z w32 (of_z w32 margin))) (unwrap_or first house)
-next_told form first p {margin} {house} may small told is =
-    let best = best_told p margin house told.going is in
+next_of_verdict form first p {margin} {house} may small states is =
+    let best = best_of_verdict p margin house states.going is in
     let kept = to_z-of_z w32 margin (omega (arith, ints, small.small.low, small.small.high)) in
     record { legal = legal first may; house = ap (unwrap_or first) best.1; shown = ap (value_shown form) (kept ∙ best.0) }
   where
     legal : (f : Option ℕ) → MayBegin f p → Contains (legal_houses p) (unwrap_or f house)
-    legal None may = told.best.legal
+    legal None may = states.best.legal
     legal (Some h) may = may
 
 -- ---- the law on it
@@ -250,13 +250,13 @@ module _ {O : Type 0} (state : O → SinkState) where
       → q ≡ position_after (step_of p v.house) → now ≡ game → IsShown state now new q
   shown_after {game} {now} {p} {q} {between} {new} v below given next same =
       subst (λ game. IsShown state game new q) (sym same)
-      (begins (subst (λ f. Begins state game f new q) (sym below.form) (
-        between,
-        v,
-        subst (λ r. IsOfVariations state game r between) (sym below.first) below,
-        given,
-        next ∙ ap (λ r. position_after (step_of r v.house)) (sym below.first),
-      )))
+      (begins (subst (λ f. Begins state game f new q) (sym below.form) (record {
+        between = between;
+        move = v;
+        below = subst (λ r. IsOfVariations state game r between) (sym below.first) below;
+        line = given;
+        after = next ∙ ap (λ r. position_after (step_of r v.house)) (sym below.first);
+      })))
 
   -- more of the variations was given
   pub variations_go_on : {game now : GameStart O} {p : Position} {between new : O} (text : List ℕ) → now ≡ game
@@ -275,8 +275,13 @@ module _ {O : Type 0} (state : O → SinkState) where
       → WasGiven state between new [] → Begins state game form new p
   begins_flushed game (Lines boards values) p between new (is, given) flushed =
       (is, given_flushed state _ _ _ _ given flushed)
-  begins_flushed game Houses p between new (o, v, below, given, next) flushed =
-      (o, v, below, given_flushed state _ _ _ _ given flushed, next)
+  begins_flushed game Houses p between new begun flushed = record {
+    between = begun.between;
+    move = begun.move;
+    below = begun.below;
+    line = given_flushed state _ _ _ _ begun.line flushed;
+    after = begun.after;
+  }
 
   module _ {game : GameStart O} {p : Position} {between new : O} (shown : IsShown state game between p) where
     -- one that was shown, after a flush

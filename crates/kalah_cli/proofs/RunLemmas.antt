@@ -7,7 +7,7 @@ use Rattle.kalah_jobs.specs.Line.Line.{Reads}
 use Rattle.kalah_jobs.specs.Writing.Sink.{SinkState, WasGiven}
 use Rattle.kalah_jobs.proofs.LineLemmas.{no_line_reads_twice}
 use Rattle.kalah_jobs.proofs.WritingLemmas.{given_flushed, prefix_none, prefix_then}
-use Rattle.kalah_cli.specs.Ends.{Ends, IsPrinted, IsUnread, Prints, ended_by}
+use Rattle.kalah_cli.specs.Ends.{Ends, FailsWithoutOutput, IsPrinted, IsUnread, Prints, ended_by}
 use Rattle.kalah_cli.specs.declared.failure.Failure.{Failure}
 use Rattle.kalah_cli.specs.Line.{MayPrint, command_output}
 use Rattle.kalah_cli.specs.declared.request.LineCommand.{LineCommand}
@@ -29,7 +29,7 @@ use Rattle.kalah_run.specs.declared.batch.run_fault.RunFault.TheVariants as faul
 use Rattle.kalah_cli.specs.SolveFiles.{AnswersFiles, has_line_feed}
 use Rattle.kalah_cli.specs.Sources.{MayBeLeft, Source, any_bytes, file_named}
 use Rattle.std.specs.Io.Buffered.{reader_buffer, reader_capacity, reader_inner, reader_remaining}
-use Rattle.std.specs.Io.KnownBytes.{Consumes, IsAtEnd, prepend_known}
+use Rattle.std.specs.Io.KnownBytes.{Appends, Consumes, IsAtEnd, prepend_known}
 use Rattle.std.specs.declared.io.buffered.BufReader.{BufReader}
 use Rattle.std.proofs.KnownBytes.{Keeps-refl}
 use Rattle.kalah_jobs.specs.Asking.{IsAnswered, IsBegun, IsCutOff}
@@ -42,11 +42,11 @@ use Rattle.kalah_jobs.specs.Writing.Counts.{ways_line}
 use Rattle.clap.specs.Words.{HasKind, IsAmong, Text, fault_of, kind_of}
 use Rattle.clap.specs.declared.error.Error.{Error}
 use Rattle.clap.specs.declared.error.kind.ErrorKind.{ErrorKind}
-use Rattle.clap.specs.declared.error.kind.ErrorKind.TheVariants.{OutOfMemory}
+use Rattle.clap.specs.declared.error.kind.ErrorKind.TheVariants.{DisplayHelp, DisplayVersion, OutOfMemory}
 use Rattle.kalah_cli.specs.Command.{kalah_app}
-use Rattle.kalah_cli.specs.Request.{Asked, about_line, answers, ask, conflict}
-use Rattle.kalah_cli.specs.Runs.{Does, DoesWhatIsAsked, IsOfNoInput, MovesByItsWords}
-use Rattle.kalah_cli.proofs.RequestLemmas.{moves_taken, taken_at, read_is_plain}
+use Rattle.kalah_cli.specs.Request.{Asked, AsksNot, IsAcceptedAs, about_line, answers, ask, conflict}
+use Rattle.kalah_cli.specs.Runs.{Does, DoesWhatIsAsked, IsOfNoInput, MovesByItsWords, RefusesArguments, version_line}
+use Rattle.kalah_cli.proofs.RequestLemmas.{moves_taken, taken_at, taken_once, read_is_plain}
 
 -- ---- how any run ends, and one that answers a line
 
@@ -243,7 +243,7 @@ all_unread {T} {A} remaining r inner is empty capacity =
     none_before (Some xs) = refl
 
 -- nothing was read
-pub stops_at_once : (question : Question) (old : Option (List ℕ)) → StopsBetweenLines question old old
+stops_at_once : (question : Question) (old : Option (List ℕ)) → StopsBetweenLines question old old
 stops_at_once question old = (None, None, cut_off (nothing_read question None old [] refl) tt (Keeps-refl old))
 
 module _ {O : Type 0} (state : O → SinkState) {status : ExitStatus} {question : Question}
@@ -307,7 +307,7 @@ few_ways n depth few high = le_trans few (pow-le-pow_right {n = 6} (omega arith)
 module _ {O : Type 0} (state : O → SinkState) {old new : O} {status : ExitStatus}
     (sound : (state old).has_failed ≡ false) where
   -- how a run ends that does what is asked, unless lines of the standard input are to be answered
-  pub run_ends : (may_give : Source → List ℕ → Type 0) (a : Asked) → IsOfNoInput a
+  run_ends : (may_give : Source → List ℕ → Type 0) (a : Asked) → IsOfNoInput a
       → Does state old new status may_give a → Ends state old new status
   run_ends may_give (about_line command line) _ does = does.0.ends
   run_ends may_give (answers question workers table progress names) _ does = does.ends
@@ -315,13 +315,13 @@ module _ {O : Type 0} (state : O → SinkState) {old new : O} {status : ExitStat
   run_ends may_give conflict _ does = subst (λ o. Ends state old o status) (sym does.1) (ends_unchanged state sound)
 
   -- if a write failed, it failed
-  pub run_fails : (may_give : Source → List ℕ → Type 0) (a : Asked) → Does state old new status may_give a
+  run_fails : (may_give : Source → List ℕ → Type 0) (a : Asked) → Does state old new status may_give a
       → (state new).has_failed ≡ true → status ≡ Failed
   run_fails may_give (ask question table) does = does.1.1.failed
   run_fails may_give a does = (run_ends may_give a tt does).failed
 
   -- unless it failed, all is flushed
-  pub run_flushes : (may_give : Source → List ℕ → Type 0) (a : Asked) → Does state old new status may_give a
+  run_flushes : (may_give : Source → List ℕ → Type 0) (a : Asked) → Does state old new status may_give a
       → status ≢ Failed → (state old).is_flushed ≡ true
       → (state new).is_flushed ≡ true
   run_flushes may_give (ask question table) does = λ went.
@@ -346,10 +346,72 @@ by_words state words old new status may_give accepted = record {
 }
 
 -- an error of arguments that ask for no help, or for no version, is no such request
-pub no_request : (k : ErrorKind) (words : List Text) (e : Error) → OutOfMemory ≢ k → HasKind (fault_of kalah_app words) e
-    → (IsAmong k (fault_of kalah_app words) → ⊥) → kind_of e ≢ k
+no_request : (k : ErrorKind) (words : List Text) (e : Error) → OutOfMemory ≢ k → HasKind (fault_of kalah_app words) e → AsksNot k words
+    → kind_of e ≢ k
 no_request k words e other has unasked = λ asked.
     elim has [
       | inl memory ↦ other (sym memory ∙ asked)
       | inr among ↦ unasked (subst (λ x. IsAmong x (fault_of kalah_app words)) asked among)
     ]
+
+-- ---- what a run promises of its arguments
+
+module _ {O : Type 0} (state : O → SinkState) (words : List Text) (may_give : Source → List ℕ → Type 0) (old new : O)
+    (status : ExitStatus) where
+  -- what is promised of every run, but for what follows from these
+  pub record KeepsPromises : Type 0 where
+    pub accepted : DoesWhatIsAsked state old new status may_give words
+    pub refused : RefusesArguments state words old new status
+    pub failed : (state new).has_failed ≡ true → status ≡ Failed
+    pub unchanged : ((a : Asked) → IsAcceptedAs words a → IsOfNoInput a) → status ≡ Failed → (state new).has_failed ≡ false → new ≡ old
+    pub stopped : (question : Question) (table : ℕ) → IsAcceptedAs words (ask question table) → status ≡ Failed
+        → (state new).has_failed ≡ false → StopsBetweenLines question (state old).written (state new).written
+    pub all_flushed : status ≢ Failed → (state old).is_flushed ≡ true → (state new).is_flushed ≡ true
+
+  -- the arguments are accepted, and what they ask for is done
+  pub accepted_run : {b : Asked} → (state old).has_failed ≡ false → IsAcceptedAs words b → Does state old new status may_give b
+      → KeepsPromises
+  accepted_run {b} sound taken done =
+      let does : (a : Asked) → IsAcceptedAs words a → Does state old new status may_give a =
+      λ a other. subst (Does state old new status may_give) (taken_once words b a taken other) done in
+      record {
+        accepted = λ a other. inl (does a other);
+        refused = record {
+          usage = λ faulty. absurd (faulty taken.0);
+          version = λ faulty. absurd (faulty taken.0);
+          no_line = λ faulty. absurd (faulty taken.0);
+        };
+        failed = run_fails state sound may_give b done;
+        unchanged = λ none. (run_ends state sound may_give b (none b taken) done).unchanged;
+        stopped = λ question table asked failed still.
+            let input = (does (ask question table) asked).1.1 in (_, input.left, input.stopped failed still);
+        all_flushed = run_flushes state sound may_give b done;
+      }
+
+  -- the arguments are refused with this error, which asks for help or the version, or is a mistake in them
+  pub refused_run : (error : Error) → HasKind (fault_of kalah_app words) error
+      → (kind_of error ≢ DisplayHelp → kind_of error ≢ DisplayVersion → FailsWithoutOutput old new status)
+      → ((state new).has_failed ≡ true → status ≡ Failed) → (status ≡ Failed → (state new).has_failed ≡ false → new ≡ old)
+      → status ≢ LineFaults
+      → (kind_of error ≢ DisplayHelp → status ≡ Clean → Appends (state old).written (state new).written version_line)
+      → (status ≢ Failed → (state new).is_flushed ≡ true) → KeepsPromises
+  refused_run error has mistake failed unchanged no_line version all_flushed =
+      let without_output : AsksNot DisplayHelp words → AsksNot DisplayVersion words → FailsWithoutOutput old new status =
+      λ no_help no_version. mistake (no_request DisplayHelp words error (λ e. cc) has no_help)
+      (no_request DisplayVersion words error (λ e. cc) has no_version) in
+      let fails : (a : Asked) → IsAcceptedAs words a → FailsWithoutOutput old new status =
+      λ a taken. without_output (subst (IsAmong DisplayHelp) taken.0) (subst (IsAmong DisplayVersion) taken.0) in
+      record {
+        accepted = λ a taken. inr (fails a taken);
+        refused = record {
+          usage = λ _. without_output;
+          version = λ _ no_help. version (no_request DisplayHelp words error (λ e. cc) has no_help);
+          no_line = λ _. no_line;
+        };
+        failed = failed;
+        unchanged = λ _. unchanged;
+        stopped = λ question table taken _ _.
+            subst (λ o. StopsBetweenLines question (state old).written (state o).written) (sym (fails (ask question table) taken).1)
+            (stops_at_once question (state old).written);
+        all_flushed = λ went _. all_flushed went;
+      }

@@ -16,7 +16,7 @@ failure_of fault.Write = Write
 
 -- the file of this name can't be read, or there is no memory for it
 abbrev pub FailsToRead : Bor (List ℕ) → Failure → Type 0
-FailsToRead name (Unreadable told fault) = told ≡ name
+FailsToRead name (Unreadable unread fault) = unread ≡ name
 FailsToRead name OutOfMemory = ⊤
 FailsToRead name _ = ⊥
 

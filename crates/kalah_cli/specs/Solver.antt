@@ -37,12 +37,19 @@ module _ {O : Type 0} (state : O → SinkState) (game : GameStart O) where
     pub more : List ℕ
     pub shown : WasGiven state game.sink new (shown_of p ++ more)
 
-  -- The game begins at this position. Of one in lines it is the first position, and the sink was given that, if boards are drawn. Of a
-  -- variation it is the first position after a move, and the sink was given how the line of that move begins, below all that comes before
+  -- The game of a variation begins at the position after a move: the sink was given how the line of that move begins, below all that comes
+  -- before
+  pub record BeginsVariation (new : O) (p : Position) : Type 0 where
+    pub between : O
+    pub move : MoveValue
+    pub below : IsOfVariations game.first between
+    pub line : WasGiven state between new (variation_start move)
+    pub after : p ≡ position_after (step_of game.first move.house)
+
+  -- The game begins at this position. Of one in lines it is the first position, and the sink was given that, if boards are drawn.
   abbrev pub Begins : Form → O → Position → Type 0
   Begins (Lines boards values) new p = (p ≡ game.first) × WasGiven state game.sink new (board_lines boards game.first)
-  Begins Houses new p = (between : O) × (v : MoveValue) × IsOfVariations game.first between
-      × WasGiven state between new (variation_start v) × (p ≡ position_after (step_of game.first v.house))
+  Begins Houses new p = BeginsVariation new p
 
   -- a position of the game is shown: the game began, and then the sink was given each move that leads to this position, and nothing else
   pub data IsShown : O → Position → Type 0 where

@@ -56,10 +56,10 @@ pub(crate) fn run_ask<I: Read + Drop, O: Sink, E: Write>(
     requires sink { (O.state out.old).has_failed ≡ false }
     ensures { AnswersInput O.state out.old out.new (ended_by result) question (I.remaining input) }
 {
-    let Ok(mut solver) = new_solver(alloc, table) else {
+    let Ok(mut input) = reading_ahead(alloc, input) else {
         return Err(Failure::OutOfMemory);
     };
-    let Ok(mut input) = reading_ahead(alloc, input) else {
+    let Ok(mut solver) = new_solver(alloc, table) else {
         return Err(Failure::OutOfMemory);
     };
     if is_typed {

@@ -1,12 +1,10 @@
 //! The command line of the program.
-ghost use Rattle.std.specs.Prelude.{◌≡◌, IfOk, map};
+ghost use Rattle.std.specs.Prelude.{◌≡◌, IfOk};
 ghost use Rattle.clap.specs.Words.{app_of};
 ghost use Rattle.kalah_cli.specs.Command.{IsReadBy, argument_rule, kalah_app, subcommand_app};
 
 use crate::help;
-use crate::subcommands::{
-    ASK, Argument, COUNT, Kind, MOVES, PLAY, SHOW, SOLVE, STEPS, Subcommand, VALUES,
-};
+use crate::subcommands::{Argument, Kind, SUBCOMMANDS, Subcommand};
 use clap::builder::ValueParser;
 use clap::{Arg, ArgAction, Command};
 use std::alloc::{AllocError, Global};
@@ -54,20 +52,6 @@ fn command_of<'a>(alloc: Global, subcommand: &Subcommand) -> Result<Command<'a>,
     Ok(command)
 }
 
-// Returns these subcommands, each with its arguments.
-fn commands_of<'a>(
-    alloc: Global,
-    subcommands: &[&Subcommand],
-) -> Result<Vec<Command<'a>>, AllocError>
-    ensures { IfOk result (λ made. map app_of made.items ≡ map (λ s. subcommand_app s.now) subcommands.now) }
-{
-    let mut commands = Vec::new(alloc);
-    for subcommand in subcommands {
-        commands.push(command_of(alloc, subcommand)?)?;
-    }
-    Ok(commands)
-}
-
 /// Returns the command line of the program. It is complete: nothing is added to it before a parse.
 ///
 /// It asks for one of eight subcommands, or for help or the version:
@@ -84,17 +68,18 @@ fn commands_of<'a>(
 pub fn command<'a>(alloc: Global) -> Result<Command<'a>, AllocError>
     ensures { IfOk result (λ c. app_of c ≡ kalah_app) }
 {
-    let subcommands = [SOLVE, VALUES, SHOW, PLAY, MOVES, ASK, STEPS, COUNT];
-    let commands = commands_of(alloc, &subcommands)?;
     let about = "Solve small positions of Kalah: the best house and the margin of best play";
     // If the version is asked for, `refuse` writes it.
-    Command::new(alloc, "kalah")
+    let mut command = Command::new(alloc, "kalah")
         .about(about)
         .long_about(help::ABOUT)
         .version(help::VERSION_LINE)
         .after_help(help::SHORT)
         .after_long_help(help::LONG)
         .subcommand_required(true)
-        .disable_help_subcommand(true)
-        .subcommands(commands)
+        .disable_help_subcommand(true);
+    for subcommand in SUBCOMMANDS {
+        command = command.subcommand(command_of(alloc, subcommand)?)?;
+    }
+    Ok(command)
 }

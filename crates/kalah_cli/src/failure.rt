@@ -38,7 +38,7 @@ pub(crate) enum Failure<'a> {
 impl Failure<'_> {
     /// Writes the message of the failure. What can't be written is dropped.
     pub(crate) fn report<E: Write>(self, on_terminal: bool, err: &mut E) {
-        let words: &[u8] = match self {
+        let message: &[u8] = match self {
             Failure::Unreadable(name, _) => {
                 let _ = err.write_all(b"kalah: cannot read ");
                 write_escaped(name, on_terminal, err);
@@ -58,7 +58,7 @@ impl Failure<'_> {
             Failure::NotText => b"kalah: a word is not UTF-8\n",
             Failure::Conflict => help::CONFLICT,
         };
-        let _ = err.write_all(words);
+        let _ = err.write_all(message);
     }
 }
 

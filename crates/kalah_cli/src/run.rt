@@ -39,14 +39,14 @@ fn print_text<O: Sink>(text: &str, out: &mut O)
 }
 
 // Reports a parse that made no request: help or the version on `out`, a mistake in the arguments on `err`.
-fn refuse<O: Sink, E: Write>(
+fn refuse<'a, O: Sink, E: Write>(
     alloc: Global,
-    words: &[String],
+    words: &'a [String],
     error: &Error,
     on_terminal: bool,
     out: &mut O,
     err: &mut E,
-) -> Result<ExitStatus, Failure<'static>>
+) -> Result<ExitStatus, Failure<'a>>
     requires { (O.state out.old).has_failed ≡ false }
     ensures mistake { kind_of error.now ≢ DisplayHelp → kind_of error.now ≢ DisplayVersion
         → FailsWithoutOutput out.old out.new (ended_by result) }
@@ -142,16 +142,12 @@ pub fn run_words<R: Sources + Clock + Terminal + Threads + Wait + Sync, O: Sink,
     ensures all_flushed { result ≢ ExitStatus.Failed → (O.state out.old).is_flushed ≡ true → (O.state out.new).is_flushed ≡ true }
 {
     let on_terminal = rt.shows_errors(); // Tips go only to a terminal.
-    match parse(alloc, words.as_slice()) {
-        Ok(request) => {
-            let ended = run_request(rt, alloc, &request, on_terminal, out, err);
-            report_end(ended, on_terminal, err)
-        }
-        Err(error) => {
-            let ended = refuse(alloc, words.as_slice(), &error, on_terminal, out, err);
-            report_end(ended, on_terminal, err)
-        }
-    }
+    let arguments = words.as_slice();
+    let ended = match parse(alloc, arguments) {
+        Ok(request) => run_request(rt, alloc, &request, on_terminal, out, err),
+        Err(error) => refuse(alloc, arguments, &error, on_terminal, out, err),
+    };
+    report_end(ended, on_terminal, err)
 }
 
 #[cfg(test)]

@@ -34,8 +34,8 @@ pub(crate) fn new_solver(alloc: Global, capacity: u32) -> Result<Solver, AllocEr
 }
 
 impl<O: Sink> GameSolver<O> {
-    /// Returns a solver, as `new_solver` does, of a game that begins with this board and is written in this form, and of which nothing is
-    /// written yet.
+    /// Returns a solver, as `new_solver` does, of a game that begins with this board and is written in this form. Nothing of it is written
+    /// yet.
     pub(crate) fn new(
         alloc: Global,
         capacity: u32,

@@ -102,21 +102,26 @@ const LINE: Argument = Argument {
     },
 };
 
-pub(crate) const SOLVE: &Subcommand = &Subcommand {
+/// The subcommands, in the order of the program's help.
+pub(crate) const SUBCOMMANDS: &[&Subcommand] = &[
+    SOLVE, VALUES, SHOW, PLAY, MOVES, ASK, STEPS, COUNT,
+];
+
+const SOLVE: &Subcommand = &Subcommand {
     name: "solve",
     about: "Print the best house and the margin of best play of each position",
     long_help: help::LONG_OF_SOLVE,
     arguments: &[WORKERS, TABLE, PROGRESS, FILES],
 };
 
-pub(crate) const VALUES: &Subcommand = &Subcommand {
+const VALUES: &Subcommand = &Subcommand {
     name: "values",
     about: "Print what each move of each position is worth",
     long_help: help::LONG_OF_VALUES,
     arguments: &[WORKERS, TABLE, PROGRESS, FILES],
 };
 
-pub(crate) const SHOW: &Subcommand = &Subcommand {
+const SHOW: &Subcommand = &Subcommand {
     name: "show",
     about: "Draw a position, and below each house what its move is worth",
     long_help: help::LONG_OF_SHOW,
@@ -136,7 +141,7 @@ pub(crate) const SHOW: &Subcommand = &Subcommand {
     ],
 };
 
-pub(crate) const PLAY: &Subcommand = &Subcommand {
+const PLAY: &Subcommand = &Subcommand {
     name: "play",
     about: "Print the game that best play leads to from a position, move by move",
     long_help: help::LONG_OF_PLAY,
@@ -161,14 +166,14 @@ pub(crate) const PLAY: &Subcommand = &Subcommand {
     ],
 };
 
-pub(crate) const MOVES: &Subcommand = &Subcommand {
+const MOVES: &Subcommand = &Subcommand {
     name: "moves",
     about: "Print each legal move of a position, and the position after it",
     long_help: help::LONG_OF_MOVES,
     arguments: &[BOARDS, LINE],
 };
 
-pub(crate) const ASK: &Subcommand = &Subcommand {
+const ASK: &Subcommand = &Subcommand {
     name: "ask",
     about: "Answer each line of standard input before reading the next",
     long_help: help::LONG_OF_ASK,
@@ -195,14 +200,14 @@ pub(crate) const ASK: &Subcommand = &Subcommand {
     ],
 };
 
-pub(crate) const STEPS: &Subcommand = &Subcommand {
+const STEPS: &Subcommand = &Subcommand {
     name: "steps",
     about: "Print each legal move of each position, and what it leads to",
     long_help: help::LONG_OF_STEPS,
     arguments: &[WORKERS, PROGRESS, FILES],
 };
 
-pub(crate) const COUNT: &Subcommand = &Subcommand {
+const COUNT: &Subcommand = &Subcommand {
     name: "count",
     about: "Count the ways to play on from a position, for each first move",
     long_help: help::LONG_OF_COUNT,

@@ -20,7 +20,7 @@ use Rattle.kalah_jobs.specs.declared.collecting.refusal.Refusal.{Refusal}
 use Rattle.kalah_jobs.specs.Collecting.CollectorEvents.{Offers}
 use Rattle.kalah_jobs.specs.Writing.Output.{text_of_jobs, taken_output, output_to, output_of_jobs, names_of, tally_of, is_faulty_job}
 use Rattle.kalah_jobs.specs.declared.writing.tally.Tally.{Tally}
-use Rattle.kalah_jobs.proofs.CollectingLemmas.{start}
+use Rattle.kalah_jobs.proofs.CollectingLemmas.{new_files_are_in_step}
 use Rattle.kalah_jobs.specs.Files.NamedBytes.{NamedBytes}
 use Rattle.kalah_run.specs.declared.batch.ordered_output.OrderedOutput.{OrderedOutput}
 use Rattle.std.proofs.lemmas.List.Elements.{All-push}

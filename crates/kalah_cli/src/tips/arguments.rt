@@ -59,15 +59,15 @@ fn tip_for_name(name: &str) -> Option<&'static str> {
 }
 
 // Returns the tip for an argument of this subcommand that is one too many.
-fn tip_for_excess(subcommand: &str, word: &str) -> Option<&'static str> {
+fn tip_for_excess(subcommand: &str, argument: &str) -> Option<&'static str> {
     match subcommand {
-        "ask" if is_side(word) || read_line(word.as_bytes()).is_ok() => Some(
+        "ask" if is_side(argument) || read_line(argument.as_bytes()).is_ok() => Some(
             "`kalah ask` reads standard input; for one position, use `kalah show '1,1/0 1,1/0'`",
         ),
-        "ask" if !word.starts_with('-') => Some(
+        "ask" if !argument.starts_with('-') => Some(
             "`kalah ask` reads standard input: use `kalah ask < {}`",
         ),
-        "play" if matches!(word.as_bytes(), [b'1'..=b'6']) => Some(
+        "play" if matches!(argument.as_bytes(), [b'1'..=b'6']) => Some(
             "for the first move, use `--first {}`",
         ),
         _ => None,
@@ -80,21 +80,24 @@ fn tip_for<'a>(words: &'a [String], text: &str) -> Option<(&'static str, &'a str
         return None;
     };
     let name = name.as_str();
+    let mut argument = name;
+    let mut tip = None;
     if text.contains("unrecognized subcommand") {
-        if let Some(tip) = tip_for_name(name) {
-            return Some((tip, name));
-        }
+        tip = tip_for_name(name);
         if let ("help", Some(next)) = (name, rest.first()) {
-            return Some(("use `kalah {} --help`", next.as_str()));
+            argument = next.as_str();
+            tip = Some("use `kalah {} --help`");
         }
     } else if WITH_LINE.contains(&name) && has_parts(rest) {
-        return Some((QUOTES, name));
+        tip = Some(QUOTES);
     } else if text.contains("unexpected argument") {
-        if let Some(word) = rest.last() {
-            if let Some(tip) = tip_for_excess(name, word.as_str()) {
-                return Some((tip, word.as_str()));
-            }
+        if let Some(last) = rest.last() {
+            argument = last.as_str();
+            tip = tip_for_excess(name, argument);
         }
+    }
+    if let Some(tip) = tip {
+        return Some((tip, argument));
     }
     for (one, other, tip) in TIPS {
         if text.contains(*one) && text.contains(*other) {
@@ -131,15 +134,14 @@ pub(crate) fn report_refused<E: Write>(
     if !on_terminal {
         return;
     }
-    let Some((tip, word)) = tip_for(words, text) else {
+    let Some((tip, argument)) = tip_for(words, text) else {
         return;
     };
-    let _ = match tip.split_once("{}") {
-        Some((before, after)) => {
-            let _ = write!(err, "\n  tip: {before}");
-            write_escaped(word, true, err);
-            writeln!(err, "{after}")
-        }
-        None => writeln!(err, "\n  tip: {tip}"),
+    let (before, argument, after) = match tip.split_once("{}") {
+        Some((before, after)) => (before, argument, after),
+        None => (tip, "", ""),
     };
+    let _ = write!(err, "\n  tip: {before}");
+    write_escaped(argument, true, err);
+    let _ = writeln!(err, "{after}");
 }

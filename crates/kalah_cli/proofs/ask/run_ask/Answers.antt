@@ -5,11 +5,11 @@ use Rattle.kalah_cli.proofs.ask.run_ask.Goals as goal
 pub returns-in_default : goal.returns-in_default
 returns-in_default g c = input_refused _ refl c.requires.sink
 
-pub returns-in_default-reading_ahead : goal.returns-in_default-reading_ahead
-returns-in_default-reading_ahead g c = input_refused _ refl c.requires.sink
+pub returns-in_default-new_solver : goal.returns-in_default-new_solver
+returns-in_default-new_solver g c = input_refused _ refl c.requires.sink
 
 pub returns : goal.returns
 returns g c =
     let is = c.answer_lines.ensures in
-    rw c.in-Ok-reading_ahead.ensures (input_answered _ c.answer_lines.result is.answered is.cut_off is.begins is.failed is.all_flushed
+    rw c.in-Ok.ensures (input_answered _ c.answer_lines.result is.answered is.cut_off is.begins is.failed is.all_flushed
     c.ended.ensures.clean c.ended.ensures.failed)

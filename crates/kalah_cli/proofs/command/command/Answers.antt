@@ -1,17 +1,23 @@
 use Rattle.std.proofs.lemmas.Grind.{common_steps}
-use Rattle.std.proofs.Common.{◌≡◌, refl, arith}
-use Rattle.std.proofs.lemmas.Result.{IfOk-weaker}
-use Rattle.clap.specs.Words.{app_of}
-use Rattle.kalah_cli.specs.Command.{kalah_app, program_app}
-use Rattle.kalah_cli.proofs.CommandLemmas.{made_of}
+use Rattle.std.proofs.Common.{◌∙◌, ap, arith, fold}
+use Rattle.std.proofs.lemmas.List.{take_all}
+use Rattle.clap.specs.Words.{with_subcommand}
+use Rattle.kalah_cli.specs.Command.{program_app, subcommand_app}
+use Rattle.kalah_cli.proofs.CommandLemmas.{subcommand_added}
 use Rattle.kalah_cli.proofs.command.command.Goals as goal
 
+pub loop-subcommand-init : goal.loop-subcommand-init
+loop-subcommand-init c = grind (arith, common_steps)
+
+pub loop-subcommand-preserved : goal.loop-subcommand-preserved
+loop-subcommand-preserved c =
+    subcommand_added (λ s. s.now) program_app _ c.loop-subcommand.subcommand-index _ c.loop-subcommand-test.true
+    c.in_ok-command_of.ensures c.loop-subcommand.invariant c.in_ok-command.ensures
+
 pub returns : goal.returns
-returns c =
-    let start : app_of c.disable_help_subcommand.result ≡ program_app = grind (arith, common_steps) in
-    IfOk-weaker c.subcommands.result _ (λ r. app_of r ≡ kalah_app)
-    (λ r adds. made_of program_app _ c.in_ok-commands.commands.items _ r c.in_ok-commands.ensures refl start adds)
-    c.subcommands.ensures
+returns c = c.loop-subcommand.invariant
+    ∙ ap (fold (λ app s. with_subcommand app (subcommand_app s.now).top) program_app)
+    (take_all c.loop-subcommand.subcommand-index _ (omega (arith, c.loop-subcommand-test.false)))
 
 pub after_long_help-requires : goal.after_long_help-requires
 after_long_help-requires c = grind (arith, common_steps)
