@@ -64,7 +64,8 @@ fn same_lines(rt: &impl Abort, alloc: Global, count: u32) -> [FileText; 1] {
     [file_of(alloc, "n", text.as_str()).expect(rt, "no memory")]
 }
 
-/// Counts the jobs that have begun, and those whose outcome is sent.
+/// Counts the jobs that have begun, and those whose outcome is sent. No job begins before the outcome of the first is sent, so that one
+/// is got first.
 #[derive(Drop)]
 struct Counting {
     begun: AtomicU32,
@@ -81,7 +82,8 @@ impl Counting {
 }
 
 impl Gate for Counting {
-    fn before(&self, _job: u32) {
+    fn before(&self, job: u32) {
+        let _ = job == 0 || comes_to(&self.sent, 1);
         self.begun.fetch_add(1, SeqCst);
     }
 

@@ -141,7 +141,7 @@ impl Gate for WrittenFirst<'_> {
     fn after(&self, _job: u32) {}
 }
 
-/// Announces when it has taken a whole line.
+/// Announces each call from that on which ends its first line.
 #[derive(Drop)]
 struct Telling<'a> {
     bytes: Vec<u8>,

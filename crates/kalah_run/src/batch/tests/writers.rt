@@ -151,8 +151,8 @@ fn all_jobs_are_done_though_the_writer_takes_one_line(rt: HostRuntime) {
 }
 
 // The most jobs that two workers begin if only one outcome is got before they are to stop: its own, those in the queue, and for each
-// worker the one under way and one more.
-const MOST_BEGUN: u32 = 1 + QUEUE_CAPACITY + 2 * 2;
+// worker the one under way.
+const MOST_BEGUN: u32 = 1 + QUEUE_CAPACITY + 2;
 
 #[test]
 fn no_job_begins_once_the_rest_is_left(rt: HostRuntime) {
