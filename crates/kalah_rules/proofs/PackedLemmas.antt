@@ -414,24 +414,24 @@ store_small {a} {h} {r} w has shows =
 module _ {a : HousesState} {h rows seeds variant : ℕ} {r : RowNumbers} (packed : IsPacked rows seeds variant) (view : unpacked rows variant ≡ a)
     (has : Contains (legal_houses (storeless a)) h) (shows : IsPackedPosition r (after (storeless a) h)) where
   -- the meaning of the fields
-  is : IsPackOf a rows seeds variant
-  is = pack_of packed view
+  packed_houses : IsPackOf a rows seeds variant
+  packed_houses = pack_of packed view
 
   -- the position after the move
   abbrev moved : Position
   moved = after (storeless a) h
 
   -- the move loses no seed
-  keeps : KeepsSeeds (storeless a) moved
-  keeps = after_keeps _ _ is.limits (legal_holds _ _ has)
+  move_keeps : KeepsSeeds (storeless a) moved
+  move_keeps = after_keeps _ _ packed_houses.limits (legal_holds _ _ has)
 
   -- the position after the move keeps the limits
-  within : IsWithinHouses (houses_in moved)
-  within = after_within _ _ is.limits (legal_holds _ _ has)
+  moved_within : IsWithinHouses (houses_in moved)
+  moved_within = after_within _ _ packed_houses.limits (legal_holds _ _ has)
 
   -- what came is among the seeds
   pub store_within : r.store ≤ seeds
-  store_within = omega (arith, keeps.play, is.seeds_are)
+  store_within = omega (arith, move_keeps.play, packed_houses.seeds_are)
 
   -- without own seeds the game is over
   pub over_own : r.rows % 2 ^ 30 ≡ 0 → Over r.store (seeds - r.store) ≡ houses_step a h
@@ -439,41 +439,43 @@ module _ {a : HousesState} {h rows seeds variant : ℕ} {r : RowNumbers} (packed
       let empty = sum-zero moved.own (sym shows.own ∙ none) in
       let mine : r.store ≡ moved.own_store + sum moved.own = omega (arith, shows.store) in
       let theirs : seeds - r.store ≡ moved.other_store + sum moved.other =
-      omega (arith, shows.store, keeps.play, keeps.other_store, is.seeds_are) in
+      omega (arith, shows.store, move_keeps.play, move_keeps.other_store, packed_houses.seeds_are) in
       cc (mine, theirs, step_over moved (is_again (storeless a) h) (rw empty refl))
 
   -- without seeds of the other player it is over
   pub over_other : r.rows / 2 ^ 30 ≡ 0 → Over seeds 0 ≡ houses_step a h
   over_other none =
       let empty = sum-zero moved.other (sym shows.other ∙ none) in
-      let mine : seeds ≡ moved.own_store + sum moved.own = omega (arith, keeps.play, is.seeds_are) in
-      let theirs : 0 ≡ moved.other_store + sum moved.other = omega (arith, keeps.other_store) in
+      let mine : seeds ≡ moved.own_store + sum moved.own = omega (arith, move_keeps.play, packed_houses.seeds_are) in
+      let theirs : 0 ≡ moved.other_store + sum moved.other = omega (arith, move_keeps.other_store) in
       cc (mine, theirs, step_over moved (is_again (storeless a) h) (grind (arith, nat_tests)))
 
   module _ (own_some : r.rows % 2 ^ 30 ≢ 0) (other_some : r.rows / 2 ^ 30 ≢ 0) where
     -- with seeds on both sides it goes on
-    going : is_over moved ≡ false
-    going = grind (arith, number_of-zero)
+    moved_going : is_over moved ≡ false
+    moved_going = grind (arith, number_of-zero)
 
     -- if the mover moves again, the rows stay in place
     pub again_packed : is_again (storeless a) h ≡ true → IsStepTo a h r.rows (seeds - r.store) variant (Again r.store)
     again_packed more =
-        let rule = ap rule_bit keeps.rule in
-        let there = packed_as _ _ _ variant within
-        (omega (arith, shows.own, shows.other)) (omega (arith, keeps.play, is.seeds_are)) (omega (arith, is.variant_is, keeps.side)) in
-        record { packed = there.0; is = rw (shows.store, there.1) (sym (step_again _ _ going more)) }
+        let rule = ap rule_bit move_keeps.rule in
+        let there = packed_as _ _ _ variant moved_within
+        (omega (arith, shows.own, shows.other))
+        (omega (arith, move_keeps.play, packed_houses.seeds_are))
+        (omega (arith, packed_houses.variant_is, move_keeps.side)) in
+        record { packed = there.0; is = rw (shows.store, there.1) (sym (step_again _ _ moved_going more)) }
 
     -- if the turn passes, they change places
     pub turn_packed : is_again (storeless a) h ≡ false →
         IsStepTo a h (r.rows / 2 ^ 30 + 2 ^ 30 * (r.rows % 2 ^ 30)) (seeds - r.store) variant (Turn r.store)
     turn_packed passed =
-        let rule = ap rule_bit keeps.rule in
+        let rule = ap rule_bit move_keeps.rule in
         let there = packed_as (houses_in (swapped moved)) _ (seeds - _) variant
-        (swapped_within moved within)
+        (swapped_within moved moved_within)
         (omega (arith, shows.own, shows.other))
-        (omega (arith, keeps.play, is.seeds_are))
-        (omega (arith, is.variant_is, keeps.other_side, is.limits.same_side)) in
-        record { packed = there.0; is = rw (shows.store, there.1) (sym (step_turn moved _ going passed)) }
+        (omega (arith, move_keeps.play, packed_houses.seeds_are))
+        (omega (arith, packed_houses.variant_is, move_keeps.other_side, packed_houses.limits.same_side)) in
+        record { packed = there.0; is = rw (shows.store, there.1) (sym (step_turn moved _ moved_going passed)) }
 
 -- ---- a step on houses, applied to a position
 -- the step of a position whose houses make this one
@@ -557,35 +559,35 @@ board_step {b} {own_store} {other_store} {h} l view has to is =
 module _ {a : HousesState} {h rows seeds variant : ℕ} {r : RowNumbers} (packed : IsPacked rows seeds variant) (view : unpacked rows variant ≡ a)
     (has : Contains (legal_houses (storeless a)) h)
     (ends : position.seeds a.own h + h ≡ length a.own + 1) (shows : IsPackedPosition r (sown (storeless a) h)) where
-  w : IsWithinHouses a
-  w = (pack_of packed view).limits
+  limits : IsWithinHouses a
+  limits = (pack_of packed view).limits
 
-  holds : HoldsSeeds (storeless a) h
-  holds = legal_holds _ _ has
+  house_holds : HoldsSeeds (storeless a) h
+  house_holds = legal_holds _ _ has
 
   -- the last seed falls as far as the house has seeds
-  distance : last_distance (storeless a) h ≡ position.seeds a.own h
-  distance = short_distance _ h holds (omega arith)
+  distance_is_seeds : last_distance (storeless a) h ≡ position.seeds a.own h
+  distance_is_seeds = short_distance _ h house_holds (omega arith)
 
   -- the mover moves again
-  again : is_again (storeless a) h ≡ true
-  again = omega (arith, eq-eqb, distance)
+  moves_again : is_again (storeless a) h ≡ true
+  moves_again = omega (arith, eq-eqb, distance_is_seeds)
 
   -- its place is that of the store
-  place : last_place (length a.own) h (position.seeds a.own h) ≡ length a.own + 1
-  place = eqb-true _ _ (sym (again_at _ h holds) ∙ again)
+  ends_at_store : last_place (length a.own) h (position.seeds a.own h) ≡ length a.own + 1
+  ends_at_store = eqb-true _ _ (sym (again_at _ h house_holds) ∙ moves_again)
 
   -- nothing is captured
   pub store_shows : IsPackedPosition r (after (storeless a) h)
-  store_shows = after_past _ h holds r (omega (arith, place)) shows
+  store_shows = after_past _ h house_holds r (omega (arith, ends_at_store)) shows
 
   -- the other player has seeds as before
   other_some : r.rows / 2 ^ 30 ≢ 0
-  other_some none = grind (arith, legal_going, sum-zero, other_is, w, holds)
+  other_some none = grind (arith, legal_going, sum-zero, other_is, limits, house_holds)
 
   -- the game goes on with the mover, if the mover has seeds left
   pub store_packed : 0 < r.rows % 2 ^ 30 → IsStepTo a h r.rows (seeds - r.store) variant (Again r.store)
-  store_packed some = again_packed packed view has store_shows (omega arith) other_some again
+  store_packed some = again_packed packed view has store_shows (omega arith) other_some moves_again
 
 -- what comes of a move, by the rows after it, if its last seed falls into the store without a lap
 pub record MovesIntoStore (a : HousesState) (h seeds variant now : ℕ) : Type 0 where
