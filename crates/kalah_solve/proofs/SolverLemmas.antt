@@ -287,9 +287,9 @@ best_moves_attain p h even going = (λ is. (is.legal, attains_if_best _ _ is), �
 -- ==== The verdict states best play, and no other does
 
 -- the verdict of a position that is not over, by its parts
-pub verdict_by : (p : Position) (margin : ℤ) (house : ℕ) → is_over p ≡ false → margin ≡ worth p → house ≡ best_house p →
+pub verdict_of_going : (p : Position) (margin : ℤ) (house : ℕ) → is_over p ≡ false → margin ≡ worth p → house ≡ best_house p →
     Best margin house ≡ verdict_of p
-verdict_by p margin house going margin_at house_at = cc
+verdict_of_going p margin house going margin_at house_at = cc
 
 -- the verdict of a position that is over
 pub verdict_of_over : (p : Position) (margin : ℤ) → is_over p ≡ true → margin ≡ final_margin p → Over margin ≡ verdict_of p

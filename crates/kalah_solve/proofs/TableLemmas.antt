@@ -437,11 +437,11 @@ unfolding StoresWon
 states_nothing i a within few is kept = omega arith
 
 -- after one more ending is stored
-pub states_more : (word : ℕ) (a : HousesState) → StoresWon (word_of a) word → IsWithinHouses a → IsEnding a →
+pub states_one_more : (word : ℕ) (a : HousesState) → StoresWon (word_of a) word → IsWithinHouses a → IsEnding a →
     stored_at word (rank_of_houses a % 16) ≡ 0 → won a ≤ 9 →
     StoresWon (word_of a) (word + suc (won a) * 2 ^ (4 * (rank_of_houses a % 16)))
 unfolding StoresWon
-states_more word a before ha few none small b hb few_b one stored =
+states_one_more word a before ha few none small b hb few_b one stored =
     grind (arith, rank_of_houses, won, cases_eq, same_ending, put_digit_is_there, same_digits_elsewhere, stored)
 
 -- a stored ending is right
@@ -456,53 +456,47 @@ stored_is_won word a states within few some = states a within few refl some
 pub zeros_are_true : (n : ℕ) → AreTrueWords (replicate n 0)
 zeros_are_true n i = grind (arith, cases_lt, get_or-replicate, states_nothing, get_or_past, length-replicate)
 
+-- words stay true if one states what is true
+words_stay_true : (words : List ℕ) (i word : ℕ) → StoresWon i word → AreTrueWords words → AreTrueWords (slice_set words i word)
+words_stay_true words i word states holds j =
+    grind (arith, cases_lt, cases_eq, get_or-set_same, get_or-set_other, get_or_past, length-set, states_nothing)
+
 -- a new seat may write into each word what is true
-pub writes : (slots i word : ℕ) → StoresWon i word →
+pub word_may_be_written : (slots i word : ℕ) → StoresWon i word →
     Arrives (λ (s : State (Unit {0}) (Unit {0})). AreTrueWords s.words) slots i (λ n. word) (λ n me. Unit {0})
-writes slots i word states s holds homes small =
-    (tt, keeps, tt, written, tt)
-  where
-    written : AreTrueWords (slice_set s.words i word)
-    written j = elim (cases_eq j i) [
-      | inl same ↦ rw same (elim (cases_lt i (length s.words)) [
-        | inl inside ↦ rw (get_or-set_same s.words i word 0 inside) states
-        | inr past ↦
-            rw (get_or_past {X = ℕ} (slice_set s.words i word) i 0 (omega (arith, past, length-set s.words i word))) (states_nothing i)
-      ])
-      | inr other ↦ rw (get_or-set_other s.words i j word 0 other) (holds j)
-    ]
+word_may_be_written slots i word states s holds homes small = (tt, keeps, tt, words_stay_true s.words i word states holds, tt)
 
 -- ==== The most that a move wins
 
 -- best play wins at least `most`, and no legal move of an unmarked house wins more
-pub record IsMost (a : HousesState) (marks most : ℕ) : Type 0 where
+pub record IsMostOfUnmarked (a : HousesState) (marks most : ℕ) : Type 0 where
   pub reached : most ≤ won a
   pub all : (i : ℕ) → Contains (legal_houses (storeless a)) i → cell marks (i - 1) ≡ 0 → won_by_step (houses_step a i) ≤ most
 
 -- 0, while all houses with seeds are marked
-pub most_at_start : {a : HousesState} {marks : ℕ} → ((i : ℕ) → (0 < cell marks i) ↔ (0 < get_or a.own i 0)) → IsMost a marks 0
+pub most_at_start : {a : HousesState} {marks : ℕ} → ((i : ℕ) → (0 < cell marks i) ↔ (0 < get_or a.own i 0)) → IsMostOfUnmarked a marks 0
 most_at_start {a} marked = record {
   reached = omega arith;
   all = λ i has gone. absurd (let some = (marked _).1 (legal_holds (storeless a) i has).some in omega arith);
 }
 
 -- the last marked house was tried
-pub most_more : {a : HousesState} {marks most h : ℕ} (v new : ℕ) → IsWithinHouses a → IsMost a marks most → IsLastMark marks h →
+pub most_with_last : {a : HousesState} {marks most h : ℕ} (v new : ℕ) → IsWithinHouses a → IsMostOfUnmarked a marks most → IsLastMark marks h →
     Contains (legal_houses (storeless a)) h →
-    v ≡ won_by_step (houses_step a h) → new ≡ max most v → IsMost a (without_mark marks h) new
-most_more {a} {marks} {most} {h} v new w is last has v_is new_is = record {
+    v ≡ won_by_step (houses_step a h) → new ≡ max most v → IsMostOfUnmarked a (without_mark marks h) new
+most_with_last {a} {marks} {most} {h} v new w is last has v_is new_is = record {
   reached = omega (arith, won_at_most a w h has);
   all = each_unmarked_without_last a (λ i. won_by_step (houses_step a i) ≤ new) last (omega arith)
       (λ i may place gone. omega (arith, is.all i may gone));
 }
 
 -- if all seeds are won, best play wins as many
-pub most_all : (a : HousesState) (marks most : ℕ) → IsWithinHouses a → IsMost a marks most → seeds_in_houses (storeless a) ≤ most
+pub most_is_all : (a : HousesState) (marks most : ℕ) → IsWithinHouses a → IsMostOfUnmarked a marks most → seeds_in_houses (storeless a) ≤ most
     → most ≡ won a
-most_all a marks most w is full = omega (arith, (won_of_houses w).few)
+most_is_all a marks most w is full = omega (arith, (won_of_houses w).few)
 
 -- once no house is marked, best play wins the most of those tried
-pub won_is_most : (a : HousesState) (marks most : ℕ) → IsWithinHouses a → is_over (storeless a) ≡ false → IsMost a marks most
+pub won_is_most : (a : HousesState) (marks most : ℕ) → IsWithinHouses a → is_over (storeless a) ≡ false → IsMostOfUnmarked a marks most
     → marks ≡ 0
     → most ≡ won a
 won_is_most a marks most w going is none = grind (arith, won_reached, cell_of_zero)
@@ -510,11 +504,11 @@ won_is_most a marks most w going is none = grind (arith, won_reached, cell_of_ze
 -- ==== What a table keeps, over the list of its entries
 
 -- what a look-up finds encloses the worth of the houses
-pub found_holds : (es : List (ℕ × Interval)) (a : HousesState) (k : ℕ) → AreTrue es → IsWithinHouses a → k ≡ key_of a →
+pub found_encloses_worth : (es : List (ℕ × Interval)) (a : HousesState) (k : ℕ) → AreTrue es → IsWithinHouses a → k ≡ key_of a →
     (o : Option Interval) → lookup (nat_eq k) es ≡ o
     → IfSome o (λ i. Encloses i (houses_worth a))
-found_holds es a k entries within key None h = tt
-found_holds es a k entries within key (Some i) h =
+found_encloses_worth es a k entries within key None h = tt
+found_encloses_worth es a k entries within key (Some i) h =
     let at = Contains-lookup _ es i h in
     let entry = entries _ at.1 in
     let same = same_key _ a entry.1 within (entry.2 ∙ sym (eqb-true _ _ at.2) ∙ key) in
@@ -527,8 +521,8 @@ module _ (c : LruCache ℕ Interval) (a : HousesState) (k : ℕ) (i : Interval) 
   put_entry e value at = grind arith
 
   -- all entries after a put are true
-  pub true_put : AreTrue (put_entries nat_eq c k i)
-  true_put = λ e h. elim (Contains-put_entries nat_eq c k i e h) [
+  pub put_keeps_true : AreTrue (put_entries nat_eq c k i)
+  put_keeps_true = λ e h. elim (Contains-put_entries nat_eq c k i e h) [
     | inl was ↦ entries e was
     | inr put ↦ elim put.1 [
       | inl at ↦ put_entry e put.0 at
@@ -537,11 +531,11 @@ module _ (c : LruCache ℕ Interval) (a : HousesState) (k : ℕ) (i : Interval) 
   ]
 
   -- both outcomes of a put
-  pub true_after : {X E : Type 0} (r : Result X E) (new : LruCache ℕ Interval)
+  pub true_after_put : {X E : Type 0} (r : Result X E) (new : LruCache ℕ Interval)
       → OnOk r (new ≡ lru_cache (put_entries nat_eq c k i) c.cap) →
       OnErr r (new ≡ c) → AreTrue new.entries
-  true_after (Ok x) new ok err = grind (arith, true_put)
-  true_after (Err x) new ok err = grind arith
+  true_after_put (Ok x) new ok err = grind (arith, put_keeps_true)
+  true_after_put (Err x) new ok err = grind arith
 
 -- a put leaves the room for entries
 pub put_leaves : {X E : Type 0} (r : Result X E) (c new : LruCache ℕ Interval) (es : List (ℕ × Interval)) →
@@ -561,12 +555,12 @@ put_or_same (Ok x) c new k i ok err = inl (rw ok (lookup-put_entries nat_eq c k 
 put_or_same (Err x) c new k i ok err = inr (ap state_of err)
 
 -- if there was one, the put succeeds
-pub put_again : {X E : Type 0} (r : Result X E) (c new : LruCache ℕ Interval) (k : ℕ) (i : Interval) →
+pub put_replaces : {X E : Type 0} (r : Result X E) (c new : LruCache ℕ Interval) (k : ℕ) (i : Interval) →
     OnOk r (new ≡ lru_cache (put_entries nat_eq c k i) c.cap) → (IsSome (lookup (nat_eq k) c.entries) → IsOk r) →
     IsSome (lookup (nat_eq k) c.entries) →
     lookup (nat_eq k) new.entries ≡ Some i
-put_again (Ok x) c new k i ok succeeds some = rw ok (lookup-put_entries nat_eq c k i nat_eq_equiv)
-put_again (Err x) c new k i ok succeeds some = cc (succeeds some)
+put_replaces (Ok x) c new k i ok succeeds some = rw ok (lookup-put_entries nat_eq c k i nat_eq_equiv)
+put_replaces (Err x) c new k i ok succeeds some = cc (succeeds some)
 
 -- ==== What the slots of houses state stays true: a key's slot, and what the slot leaves open of it, determine the key
 

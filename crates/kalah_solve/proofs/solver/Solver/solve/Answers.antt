@@ -4,7 +4,7 @@ use Rattle.kalah_rules.specs.Position.{HousesState, storeless}
 use Rattle.kalah_rules.proofs.PackedLemmas.{houses_within}
 use Rattle.kalah_solve.specs.Solver.Worth.{best_house, houses_worth}
 use Rattle.kalah_solve.specs.declared.solver.Verdict.TheVariants.{Over}
-use Rattle.kalah_solve.proofs.SolverLemmas.{verdict_by, verdict_of_over, small_best, verdict_states}
+use Rattle.kalah_solve.proofs.SolverLemmas.{verdict_of_going, verdict_of_over, small_best, verdict_states}
 use Rattle.kalah_solve.proofs.WorthLemmas.{best_of_houses, best_found, board_equal_sides}
 use Rattle.kalah_solve.proofs.BoundsLemmas.{worth_low, worth_high, half_is_won}
 use Rattle.kalah_solve.proofs.solver.Solver.solve.Given as given
@@ -46,7 +46,7 @@ pub returns-clause-verdict : goal.returns-clause-verdict
 returns-clause-verdict g c =
     let fits : SFits w32 c.with_stores-margin.result = search rules in
     simp to_z-of_z
-    (verdict_by c.args.board.now c.with_stores-margin.result c.best_house-house.result (sym c.if-is_over.ensures.over)
+    (verdict_of_going c.args.board.now c.with_stores-margin.result c.best_house-house.result (sym c.if-is_over.ensures.over)
     c.with_stores-margin.ensures.worth (house_is g c))
 
 pub returns-clause-best_play : goal.returns-clause-best_play

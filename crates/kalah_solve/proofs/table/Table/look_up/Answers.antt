@@ -1,6 +1,6 @@
 use Rattle.std.proofs.Common.{◌∙◌, rules, sym}
 use Rattle.lru.proofs.CallerLemmas.{Contains-promoted}
-use Rattle.kalah_solve.proofs.TableLemmas.{found_holds}
+use Rattle.kalah_solve.proofs.TableLemmas.{found_encloses_worth}
 use Rattle.kalah_solve.proofs.table.Table.look_up.Goals as goal
 
 pub invariant_of-self : goal.invariant_of-self
@@ -11,6 +11,6 @@ invariant_of-self g c = (
 
 pub returns-clause-holds : goal.returns-clause-holds
 returns-clause-holds g c =
-    found_holds c.self.inside.entries.entries c.args.houses.now c.key-key.result c.self.invariant.0 c.key-key.ensures.limits
+    found_encloses_worth c.self.inside.entries.entries c.args.houses.now c.key-key.result c.self.invariant.0 c.key-key.ensures.limits
     c.key-key.ensures.key
     c.copied.result (sym c.get.ensures.value ∙ sym c.copied.ensures)

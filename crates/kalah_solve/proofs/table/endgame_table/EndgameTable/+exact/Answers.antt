@@ -3,7 +3,7 @@ use Rattle.kalah_solve.proofs.BoundsLemmas.{won_of_houses}
 use Rattle.kalah_solve.proofs.WorthLemmas.{leads_by}
 use Rattle.kalah_solve.specs.Marks.{without_mark}
 use Rattle.kalah_solve.proofs.MarksLemmas.{without_last_less, seeded_is_legal, movable_before_last, last_is_legal}
-use Rattle.kalah_solve.proofs.TableLemmas.{most_at_start, most_more, most_all, won_is_most}
+use Rattle.kalah_solve.proofs.TableLemmas.{most_at_start, most_with_last, most_is_all, won_is_most}
 use Rattle.kalah_solve.proofs.table.endgame_table.EndgameTable.+exact.Goals as goal
 
 pub most_won-loop-untried-init : goal.most_won-loop-untried-init
@@ -28,8 +28,8 @@ most_won-returns-then-most-seeds g t c =
     let before = c.loop-untried.invariant in
     let limits = c.seeds-seeds.ensures.limits in
     let has = last_is_legal before.may last in
-    most_all c.args.houses.now (without_mark marks h) c.max-most.result limits
-    (most_more _ _ limits before.is last has c.move_wins.ensures
+    most_is_all c.args.houses.now (without_mark marks h) c.max-most.result limits
+    (most_with_last _ _ limits before.is last has c.move_wins.ensures
     (search (rules, c.max-most.ensures)))
     (omega arith)
 
@@ -42,7 +42,7 @@ most_won-loop-untried-preserved g t c =
     let has = last_is_legal before.may last in
     rw c.split_last-house.ensures.rest (record {
       may = movable_before_last before.may last;
-      is = most_more _ _ c.seeds-seeds.ensures.limits
+      is = most_with_last _ _ c.seeds-seeds.ensures.limits
           before.is last has
           c.move_wins.ensures
           (search (rules, c.max-most.ensures));

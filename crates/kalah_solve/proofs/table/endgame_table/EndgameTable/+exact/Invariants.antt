@@ -1,7 +1,7 @@
 use Rattle.std.proofs.Common.{◌+◌, ◌*◌}
 use Rattle.kalah_rules.specs.Position.{storeless}
 use Rattle.kalah_rules.specs.Measure.{moves_left}
-use Rattle.kalah_solve.proofs.TableLemmas.{IsMost}
+use Rattle.kalah_solve.proofs.TableLemmas.{IsMostOfUnmarked}
 use Rattle.kalah_solve.proofs.MarksLemmas.{AreMovable}
 use Rattle.kalah_solve.proofs.table.endgame_table.EndgameTable.+exact.Given as goal
 
@@ -20,7 +20,7 @@ decreases-move_wins g l = 4 * moves_left (storeless l.houses.now)
 abbrev pub invariant-most_won-loop-untried : goal.invariant-most_won-loop-untried
 invariant-most_won-loop-untried g l = record {
   may : AreMovable l.houses l.untried;
-  is : IsMost l.houses l.untried l.most;
+  is : IsMostOfUnmarked l.houses l.untried l.most;
 }
 
 abbrev pub decreases-most_won-loop-untried : goal.decreases-most_won-loop-untried

@@ -2,7 +2,7 @@ use Rattle.std.proofs.Common.{arith, rules, ◌≡◌, ◌≤◌, ◌+◌, ◌%�
 use Rattle.kalah_solve.specs.Table.RowRank.{rank_of_houses}
 use Rattle.kalah_solve.specs.Table.EndgameTable.{StoresWon, stored_at}
 use Rattle.kalah_solve.specs.Bounds.Won.{won}
-use Rattle.kalah_solve.proofs.TableLemmas.{states_more, writes}
+use Rattle.kalah_solve.proofs.TableLemmas.{states_one_more, word_may_be_written}
 use Rattle.kalah_solve.proofs.BoundsLemmas.{won_of_houses}
 use Rattle.kalah_solve.proofs.table.endgame_table.EndgameTable.keep.Goals as goal
 
@@ -21,5 +21,5 @@ swap_new_seat-requires g c =
     let few : won a ≤ 9 = omega (arith, (won_of_houses at.limits).few) in
     let one_more : c.args.known + 1 ≡ suc (won a) = omega arith in
     let after : StoresWon c.word_of-at.result c.with_stored-word.result =
-    rw (at.word, c.with_stored-word.ensures, one_more, c.requires.rank) (states_more _ _ before at.limits c.requires.few none few) in
-    (search rules, writes _ _ _ after)
+    rw (at.word, c.with_stored-word.ensures, one_more, c.requires.rank) (states_one_more _ _ before at.limits c.requires.few none few) in
+    (search rules, word_may_be_written _ _ _ after)
