@@ -118,15 +118,11 @@ kept_reply question line = ap (λ entry. joined_text (answer_of entry) ++ line_f
 pub kept_faulty : (line : List ℕ) → is_faulty (take kept_bytes line) ≡ is_faulty line
 kept_faulty line = ap (λ entry. is_fault (answer_of entry)) (kept_bytes_have_the_entry BestMove line)
 
--- one byte more of those that are kept
-pub kept_more : (line : List ℕ) (byte : ℕ) → take kept_bytes (take kept_bytes line ++ byte ∷ []) ≡ take kept_bytes
-    (line ++ byte ∷ [])
-kept_more line byte = go kept_bytes line
-  where
-    go : (n : ℕ) (line : List ℕ) → take n (take n line ++ byte ∷ []) ≡ take n (line ++ byte ∷ [])
-    go zero line = refl
-    go (suc n) [] = refl
-    go (suc n) (first ∷ line) = ap (λ l. first ∷ l) (go n line)
+-- of the first n bytes and one more the first n are those of all and one more
+take_more_kept : (n : ℕ) (line : List ℕ) (byte : ℕ) → take n (take n line ++ byte ∷ []) ≡ take n (line ++ byte ∷ [])
+take_more_kept zero line byte = refl
+take_more_kept (suc n) [] byte = refl
+take_more_kept (suc n) (first ∷ line) byte = ap (λ l. first ∷ l) (take_more_kept n line byte)
 
 -- what stands after the last line feed is answered as its lines are
 pub last_reply_is : (question : Question) (piece : List ℕ) → HasNoLineFeed piece
@@ -249,7 +245,7 @@ module _ {question : Question} {before now old new : Option (List ℕ)} {line : 
     part = u.part ++ byte ∷ [];
     ended = u.ended;
     unended = All-push IsNoFeed u.part byte u.unended other;
-    kept = ap (λ l. take kept_bytes (l ++ byte ∷ [])) u.kept ∙ kept_more u.part byte;
+    kept = ap (λ l. take kept_bytes (l ++ byte ∷ [])) u.kept ∙ take_more_kept kept_bytes u.part byte;
     taken = more_taken next (byte ∷ []) taken;
     written = answers_kept kept keeps;
     status = u.status;
@@ -354,8 +350,9 @@ write_failed has_failed begins = record {
 }
 
 -- what holds of the bytes that a prompt reader has left holds of those that its reader has left
-pub of_reader : {question : Question} {first last before after : Option (List ℕ)} {old new : SinkState} {result : Result Bool AskFault} →
-    first ≡ before → last ≡ after → AnswersLines question first last old new result → AnswersLines question before after old new result
+pub of_reader : {question : Question} {first last before after : Option (List ℕ)} {old new : SinkState} {result : Result Bool AskFault}
+    → first ≡ before → last ≡ after → AnswersLines question first last old new result
+    → AnswersLines question before after old new result
 of_reader is same holds = rw (sym is, sym same) holds
 
 -- while lines are underway, all whole lines are answered

@@ -77,7 +77,7 @@ pub front_least : (xs : List (Option Answer)) (m : ℕ) → ((k : ℕ) → k < m
 front_least xs m all = grind (arith, front_more xs (front_of xs), all (front_of xs))
 
 -- the lemmas for taking an answer
-pub ruleset fronts = (front_within, front_came, front_more)
+pub ruleset fronts = (front_within, front_came, front_more, front_set)
 
 -- ==== A test by which one offer is found in a list: it holds only of that offer
 

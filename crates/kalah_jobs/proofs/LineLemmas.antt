@@ -575,17 +575,14 @@ is_side_text text houses store side =
     side.parts ∙ ap₂ (λ (a b : List ℕ). a ++ slash ∷ b) (houses_text side.houses_text houses side.houses_written)
     (number_text side.store_text store side.store_written)
 
--- a text that writes a position is its line
-pub is_line_text : (text : List ℕ) (p : Position) → IsLineOf text p → text ≡ line_text_of p
-unfolding line_text_of
-is_line_text text p line =
-    let own = is_side_text line.own_text p.own p.own_store line.own_side in
-    let other = is_side_text line.other_text p.other p.other_store line.other_side in
-    line.parts ∙ ap₂ (λ (a b : List ℕ). a ++ space ∷ b ++ suffix_of p.rule) own other
-
 -- a line that is read is the text of its position, but for a CR at its end
 pub every_line_is_its_text : EveryLineIsItsText
-every_line_is_its_text line p reads = is_line_text (without_cr line) p reads.form
+unfolding line_text_of
+every_line_is_its_text line p reads =
+    let form = reads.form in
+    form.parts
+    ∙ ap₂ (λ (own other : List ℕ). own ++ space ∷ other ++ suffix_of p.rule)
+    (is_side_text form.own_text p.own p.own_store form.own_side) (is_side_text form.other_text p.other p.other_store form.other_side)
 
 -- what holds of the result of a reading
 pub record IsResult (line : List ℕ) (r : Result Position LineFault) : Type 0 where
@@ -633,18 +630,6 @@ text_is_side houses store some short low = record {
   store_written = decimal_is_number store low;
 }
 
--- the line of a position writes it
-text_is_line : (p : Position) → IsWithinLimits p → p.own_store ≤ 99 → p.other_store ≤ 99 → IsLineOf (line_text_of p) p
-unfolding line_text_of
-text_is_line p limits own_low other_low = record {
-  own_text = side_text p.own p.own_store;
-  other_text = side_text p.other p.other_store;
-  parts = refl;
-  own_side = text_is_side p.own p.own_store limits.some_house (omega (arith, limits.few_seeds)) own_low;
-  other_side = text_is_side p.other p.other_store (omega (arith, limits.some_house, limits.same_side))
-      (omega (arith, limits.few_seeds)) other_low;
-}
-
 -- ---- how long a text is
 
 -- a number of a line has at most two digits
@@ -669,10 +654,6 @@ side_text_length houses store few short low =
     let last = small_number_length store low in
     omega (arith, few, own, last, length-append (join_with_byte comma (map decimal houses)) (slash ∷ decimal store))
 
--- a suffix takes at most two bytes
-suffix_length : (rule : Rule) → length (suffix_of rule) ≤ 2
-suffix_length rule = grind arith
-
 -- ---- the text of a position is read back
 
 -- the line of a position isn't too long
@@ -682,12 +663,13 @@ unfolding line_text_of
 text_has_few_bytes p limits own_low other_low =
     let own = side_text p.own p.own_store in
     let other = side_text p.other p.other_store in
+    let short_suffix : length (suffix_of p.rule) ≤ 2 = grind arith in
     omega (
       arith,
       side_text_length p.own p.own_store limits.at_most_six (omega (arith, limits.few_seeds)) own_low,
       side_text_length p.other p.other_store (omega (arith, limits.at_most_six, limits.same_side))
           (omega (arith, limits.few_seeds)) other_low,
-      suffix_length p.rule,
+      short_suffix,
       length-append (own ++ space ∷ other) (suffix_of p.rule),
       length-append own (space ∷ other),
     )
@@ -713,7 +695,14 @@ every_text_is_read_back p limits own_low other_low =
     text_without_cr (side_text p.own p.own_store) p.other p.other_store p.rule other_low in
     record {
       few_bytes = rw same (text_has_few_bytes p limits own_low other_low);
-      form = rw same (text_is_line p limits own_low other_low);
+      form = rw same (record {
+        own_text = side_text p.own p.own_store;
+        other_text = side_text p.other p.other_store;
+        parts = refl;
+        own_side = text_is_side p.own p.own_store limits.some_house (omega (arith, limits.few_seeds)) own_low;
+        other_side = text_is_side p.other p.other_store (omega (arith, limits.some_house, limits.same_side))
+            (omega (arith, limits.few_seeds)) other_low;
+      });
       sides = record { same_side = limits.same_side; at_most_six = limits.at_most_six };
       few_seeds = limits.few_seeds;
     }

@@ -8,11 +8,3 @@ use Rattle.kalah_jobs.proofs.asking.reply.write_reply.Goals as goal
 pub returns-then-failed-clause-given : goal.returns-then-failed-clause-given
 returns-then-failed-clause-given g c =
     given_cut_off _ _ _ [] _ c.flush_unless_failed.ensures.given (sym c.failed.ensures ∙ c.if-failed.true)
-
-pub returns-then-failed-clause-read : goal.returns-then-failed-clause-read
-returns-then-failed-clause-read g c = ap not (c.is_faulty-is_read.ensures ∙ ap is_faulty_entry c.of_line-entry.ensures
-    ∙ asked_fault c.args.question _ ∙ ap is_faulty c.bytes.ensures)
-
-pub returns-clause-read : goal.returns-clause-read
-returns-clause-read g c = ap not (c.is_faulty-is_read.ensures ∙ ap is_faulty_entry c.of_line-entry.ensures
-    ∙ asked_fault c.args.question _ ∙ ap is_faulty c.bytes.ensures)

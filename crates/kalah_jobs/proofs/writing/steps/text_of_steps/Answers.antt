@@ -17,9 +17,9 @@ loop-i-preserved c =
     let low : c.loop-i.i < length moves = omega (arith, c.loop-i-test.true, c.len-i-end.ensures) in
     let step = c.text_of_step-step.ensures.text ∙ append-nil _
     ∙ ap₂ step_text_of c.get-h.ensures (c.apply.ensures.step ∙ ap (step_of c.args.board.now) c.get-h.ensures) in
-    pushed_three _ _ c.args.name.now c.args.place.now _ (c.in_ok-push_str.ensures.bytes ∙ ap₂ (λ (a b : List ℕ). a ++ b) c.loop-i.invariant c.before_line.ensures)
-    c.in_ok-push_str-2.ensures.bytes c.in_ok-push_str-3.ensures.bytes
-    (c.as_str.ensures ∙ c.prepend.ensures.piece ∙ ap (λ l. c.args.place.now ++ l) step)
+    let before = c.in_ok-push_str.ensures.bytes ∙ ap₂ (λ (a b : List ℕ). a ++ b) c.loop-i.invariant c.before_line.ensures in
+    let line = c.as_str.ensures ∙ c.prepend.ensures.piece ∙ ap (λ l. c.args.place.now ++ l) step in
+    pushed_three _ _ c.args.name.now c.args.place.now _ before c.in_ok-push_str-2.ensures.bytes c.in_ok-push_str-3.ensures.bytes line
     ∙ sym (one_line_more (c.args.name.now ++ c.args.place.now) text moves c.loop-i.i low)
 
 pub returns : goal.returns
