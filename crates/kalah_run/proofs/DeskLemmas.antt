@@ -218,7 +218,8 @@ module _ {S : Type 0} {plan : DeskPlan} {s : State S DeskView} (seat : ℕ) {tot
 
   -- it finds a number below the total: the rule stays with that at the end of the pass's row, where it is above all others
   draws_some : word_of kept < total
-      → IsLawful plan (after_step s ((word_of kept + 1) ∷ []) seat (drawn_view total number numbers (word_of kept))) × All (λ x. x < word_of kept) numbers
+      → IsLawful plan (after_step s ((word_of kept + 1) ∷ []) seat (drawn_view total number numbers (word_of kept)))
+      × All (λ x. x < word_of kept) numbers
   draws_some low =
       let before : DeskView = unspent_view total number numbers in
       let n : ℕ = kept.drawn in
@@ -230,7 +231,8 @@ module _ {S : Type 0} {plan : DeskPlan} {s : State S DeskView} (seat : ℕ) {tot
       let is : word_of kept ≡ n = omega arith in
       let drawn : drawn_in rows ≡ drawn_in (all_rows s.views) + 1 =
       omega (arith, rows_set (λ r. length r.numbers) s.views seat before after at, length-append numbers (n ∷ [])) in
-      let spent : spent_in rows ≡ spent_in (all_rows s.views) = omega (arith, rows_set (λ r. cond r.spent 1 0) s.views seat before after at) in
+      let spent : spent_in rows ≡ spent_in (all_rows s.views) =
+      omega (arith, rows_set (λ r. cond r.spent 1 0) s.views seat before after at) in
       let rises : Ascends (drawn_row (numbers ++ n ∷ []) false) = all_pairs_push (λ x y. x < y) numbers n ascends stands_below in
       rw is (
         kept_after (drawn_row (numbers ++ n ∷ []) false) (record {
@@ -277,7 +279,8 @@ draws_at {S} plan slots seat total number numbers s kept homes at fits =
     let next : (slice_index s.words 0 + 1) % 2 ^ 64 ≡ n + 1 = mod-eq_of_lt (omega arith) ∙ ap (λ m. m + 1) is in
     let words : set s.words 0 ((slice_index s.words 0 + 1) % 2 ^ 64) ≡ (n + 1) ∷ [] =
     ap (λ ws. set ws 0 ((slice_index s.words 0 + 1) % 2 ^ 64)) kept.word ∙ ap (λ m. m ∷ []) next in
-    let done : (w : DeskView) × IsLawful {S = S} plan (after_step s ((n + 1) ∷ []) seat w) × DrawsFrom (unspent_view total number numbers) n w =
+    let done : (w : DeskView) × IsLawful {S = S} plan (after_step s ((n + 1) ∷ []) seat w)
+    × DrawsFrom (unspent_view total number numbers) n w =
     ⊎_elim
     (λ (low : n < total).
     let some = draws_some seat kept at low in (drawn_view total number numbers n, some.0, rw (lt-ltb n total low) (refl, some.1)))
@@ -364,7 +367,8 @@ kept_alike after kept words same passes fits =
       word = words ∙ kept.word ∙ ap (λ m. m ∷ []) (omega (arith, spent));
       passes = passes ∙ kept.passes;
       deals = deals_alike kept.deals (same (λ r. length r.numbers) refl) (λ x. same (times_in_row x) refl)
-          (all_from Ascends after.views (λ seat v at. (fits seat v at).1)) (λ some_spent. kept.deals.spent (omega (arith, spent, some_spent)));
+          (all_from Ascends after.views (λ seat v at. (fits seat v at).1))
+          (λ some_spent. kept.deals.spent (omega (arith, spent, some_spent)));
       totals = λ seat v at. (fits seat v at).0;
     }
 

@@ -54,7 +54,8 @@ since_more {state = state} {begun} {old} {new} bs cs given more = by (state old)
   }
 
 -- what was given stays given if nothing more is written
-pub since_kept : {begun out more : SinkState} {bs : List ℕ} → WasGivenSince begun out bs → IsOnlyFlushed out more → WasGivenSince begun more bs
+pub since_kept : {begun out more : SinkState} {bs : List ℕ} → WasGivenSince begun out bs → IsOnlyFlushed out more
+    → WasGivenSince begun more bs
 since_kept {begun} {out} {more} {bs} given flushed = record {
   start = prefix_kept begun.written out.written more.written bs given.start flushed.keeps;
   whole = λ sound. Appends-kept begun.written out.written more.written bs (given.whole (flushed.sound sound)) flushed.keeps;

@@ -139,10 +139,16 @@ new_queue_is_lawful = record {
 }
 
 -- the oldest outcome is that of the first pair inside
-oldest : (x : Job) (items : List Job) (inside : List (ℕ × Job)) → outcomes_in inside ≡ x ∷ items
-    → (worker : ℕ) × (rest : List (ℕ × Job)) × (inside ≡ (worker, x) ∷ rest) × (outcomes_in rest ≡ items)
+record IsOldest (x : Job) (items : List Job) (inside : List (ℕ × Job)) : Type 0 where
+  worker : ℕ
+  rest : List (ℕ × Job)
+  first : inside ≡ (worker, x) ∷ rest
+  held : outcomes_in rest ≡ items
+
+oldest : (x : Job) (items : List Job) (inside : List (ℕ × Job)) → outcomes_in inside ≡ x ∷ items → IsOldest x items inside
 oldest x items [] held = absurd (cc)
-oldest x items (p ∷ ps) held = let is : p.1 ≡ x = cc in (p.0, ps, ap (λ (o : Job). (p.0, o) ∷ ps) is, cc)
+oldest x items (p ∷ ps) held =
+    let is : p.1 ≡ x = cc in record { worker = p.0; rest = ps; first = ap (λ (o : Job). (p.0, o) ∷ ps) is; held = cc }
 
 module _ {items : List Job} {views : List QueueView} (kept : IsLawful items views) where
   -- the pairs that were taken out, followed by those inside
@@ -252,21 +258,21 @@ module _ {items : List Job} {views : List QueueView} (kept : IsLawful items view
 lawful_with_get : {x : Job} {items : List Job} {views : List QueueView} (kept : IsLawful (x ∷ items) views)
     → (worker : ℕ) × (worker < kept.made) × IsLawful items (set views 0 (Getting kept.made (kept.taken ++ (worker, x) ∷ []) kept.known))
 lawful_with_get {x} {items} {views} kept =
-    let first = oldest x items kept.inside kept.held in
-    let pair : ℕ × Job = (first.0, x) in
+    let oldest = oldest x items kept.inside kept.held in
+    let pair : ℕ × Job = (oldest.worker, x) in
     let w : QueueView = Getting kept.made (kept.taken ++ pair ∷ []) kept.known in
-    let same : (kept.taken ++ pair ∷ []) ++ first.1 ≡ pairs kept =
-    append_assoc kept.taken (pair ∷ []) first.1 ∙ ap (λ l. kept.taken ++ l) (sym first.2) in (
-      first.0,
-      next_below kept.made kept.taken pair first.1 (rw first.2 at kept.accounts.below),
+    let same : (kept.taken ++ pair ∷ []) ++ oldest.rest ≡ pairs kept =
+    append_assoc kept.taken (pair ∷ []) oldest.rest ∙ ap (λ l. kept.taken ++ l) (sym oldest.first) in (
+      oldest.worker,
+      next_below kept.made kept.taken pair oldest.rest (rw oldest.first at kept.accounts.below),
       record {
         made = kept.made;
         taken = kept.taken ++ pair ∷ [];
         known = kept.known;
-        inside = first.1;
+        inside = oldest.rest;
         getter = set_here views 0 w (in_views views 0 kept.getter);
         count = length-set views 0 w ∙ kept.count;
-        held = first.3;
+        held = oldest.held;
         accounts = rw same kept.accounts;
         fits = rw same (each_set (Fits (pairs kept) (length kept.known)) views 0 w refl (λ j u other at. kept.fits j u at));
       },
