@@ -12,12 +12,15 @@ fn take_number(bytes: &[u8]) -> Option<(u8, &[u8])>
     ensures read { IfSome result (λ found. number_at bytes.now ≡ Some (found.0, found.1.now)) }
     ensures none { IfNone result (number_at bytes.now ≡ None) }
 {
-    let [first @ b'0'..=b'9', rest @ ..] = bytes else {
+    let (first, rest) = bytes.split_first()?;
+    if !first.is_ascii_digit() {
         return None;
-    };
+    }
     let high = *first - b'0';
-    match rest {
-        [ones @ b'0'..=b'9', more @ ..] if high > 0 => Some((10 * high + (*ones - b'0'), more)),
+    match rest.split_first() {
+        Some((ones, more)) if high > 0 && ones.is_ascii_digit() => {
+            Some((10 * high + (*ones - b'0'), more))
+        }
         _ => Some((high, rest)),
     }
 }
