@@ -18,6 +18,3 @@ pub returns : goal.returns
 returns c = c.loop-subcommand.invariant
     ∙ ap (fold (λ app s. with_subcommand app (subcommand_app s.now).top) program_app)
     (take_all c.loop-subcommand.subcommand-index _ (omega (arith, c.loop-subcommand-test.false)))
-
-pub after_long_help-requires : goal.after_long_help-requires
-after_long_help-requires c = grind (arith, common_steps)

@@ -1,4 +1,3 @@
-use Rattle.std.proofs.lemmas.Grind.{common_steps}
 use Rattle.std.proofs.Common.{◌≡◌, ◌<◌, ◌≤◌, ◌+◌, ◌-◌, ◌∙◌, ℕ, List, ap, arith, get_or, length, subst, suc, sym, take}
 use Rattle.std.specs.Prelude.{Contains, sum_by}
 use Rattle.std.proofs.lemmas.List.{take_all}
@@ -74,6 +73,3 @@ returns-clause-given g c =
     subst (λ depth. WasGiven g.O.Sink.state c.args.out.now c.loop-i.out (ways_lines depth c.args.board.now)) (sym some)
     (given_all _ (house_line (c.args.depth - 1) c.args.board.now) c.loop-i.invariant.same c.loop-i.i _ _ c.loop-i.invariant.given
     (omega (arith, c.loop-i-test.false, c.len-i-end.ensures)))
-
-pub loop-i-init : goal.loop-i-init
-loop-i-init g c = grind (arith, common_steps)

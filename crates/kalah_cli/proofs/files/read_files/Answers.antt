@@ -29,6 +29,3 @@ loop-name-preserved g c = grind (arith, common_steps)
 
 pub returns-clause-named : goal.returns-clause-named
 returns-clause-named g c = grind (arith, common_steps)
-
-pub returns-clause-within : goal.returns-clause-within
-returns-clause-within g c = grind (arith, common_steps)

@@ -1,5 +1,4 @@
-use Rattle.std.proofs.lemmas.Grind.{common_steps}
-use Rattle.std.proofs.Common.{◌∙◌, ap, arith, map, refl, sym}
+use Rattle.std.proofs.Common.{◌∙◌, ap, map, refl, sym}
 use Rattle.std.specs.Prelude.{option_and_then}
 use Rattle.std.proofs.lemmas.Result.{IfOk-weaker}
 use Rattle.clap.proofs.CallerLemmas.{some_of_text}
@@ -44,6 +43,3 @@ returns-in_err-matches-clause-kinds g c =
     let words = map g.S.AsStr.text c.args.words.now in
     failed_up _ _ _ _ c.from_residual-in_err-matches.ensures.1
     (faulty _ words c.in_err-matches.field-0.0 c.in_ok-command.ensures c.in_err-matches.ensures.kinds)
-
-pub returns-clause-range : goal.returns-clause-range
-returns-clause-range g c = grind (arith, common_steps)

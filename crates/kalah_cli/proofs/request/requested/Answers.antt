@@ -73,6 +73,3 @@ returns-in-steps-clause-asked c = grind (arith, common_steps)
 
 pub returns-in-solve-clause-asked : goal.returns-in-solve-clause-asked
 returns-in-solve-clause-asked c = grind (arith, common_steps)
-
-pub unreachable-requires : goal.unreachable-requires
-unreachable-requires c = grind (arith, common_steps)

@@ -18,9 +18,3 @@ returns-clause-version g c = λ help clean. elim c.match-kind.branch [
 
 pub returns-in_default-kind : goal.returns-in_default-kind
 returns-in_default-kind g c = grind (arith, common_steps)
-
-pub returns-clause-mistake : goal.returns-clause-mistake
-returns-clause-mistake g c = grind (arith, common_steps)
-
-pub returns-clause-unchanged : goal.returns-clause-unchanged
-returns-clause-unchanged g c = grind (arith, common_steps)

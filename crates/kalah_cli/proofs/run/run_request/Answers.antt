@@ -1,5 +1,3 @@
-use Rattle.std.proofs.Common.{arith}
-use Rattle.std.proofs.lemmas.Grind.{common_steps}
 use Rattle.kalah_cli.proofs.run.run_request.Goals as goal
 
 -- Answers are written for what a seeded mistake breaks: a wrong answer fails at once, and a search only at its limits.
@@ -12,6 +10,3 @@ returns-in-Files g c = rw c.in-Files.is c.run_files.ensures
 
 pub returns-in-Ask : goal.returns-in-Ask
 returns-in-Ask g c = rw c.in-Ask.is (_, (c.standard_input.ensures, c.run_ask.ensures))
-
-pub run_line-requires-clause-range : goal.run_line-requires-clause-range
-run_line-requires-clause-range g c = grind (arith, common_steps)
