@@ -22,7 +22,7 @@ use Rattle.kalah_solve.proofs.WorthLemmas.{final_swapped, value_moving_again, va
 use Rattle.kalah_jobs.specs.Writing.Sink.{SinkState, WasGiven}
 use Rattle.kalah_jobs.specs.Writing.Shown.{shown_of}
 use Rattle.kalah_jobs.specs.Writing.Variation.{variation_start}
-use Rattle.kalah_jobs.proofs.WritingLemmas.{given_flushed, given_then}
+use Rattle.kalah_jobs.proofs.WritingLemmas.{given_then_flush, given_then}
 use Rattle.kalah_solve.specs.declared.solver.move_values.MoveValue.{MoveValue}
 use Rattle.kalah_cli.specs.Game.{IsNextMove, PlaysBestGames, VariationsEndWithTheirValue, best_game, best_moves, game_played, game_text, move_text, value_shown}
 use Rattle.kalah_cli.specs.Play.{MayBegin}
@@ -52,8 +52,8 @@ after_step s p (inr (inl turn)) = sym (ap position_after turn)
 after_step s p (inr (inr over)) = sym (ap position_after over)
 
 -- the position after any move has as many houses on each side
-even_after : (p : Position) (h : ℕ) → HasEqualSides (position_after (step_of p h))
-even_after p h = go (is_over (after p h)) (is_again p h)
+equal_after : (p : Position) (h : ℕ) → HasEqualSides (position_after (step_of p h))
+equal_after p h = go (is_over (after p h)) (is_again p h)
   where
     go : (over again : Bool) → HasEqualSides (position_after (if over then step.Over (swept (after p h)) else
         (if again then step.Again (after p h) else step.Turn (swapped (after p h)))))
@@ -74,9 +74,9 @@ some_left p going = grind (arith, over_at_end)
 -- after a move fewer are left
 pub fewer_left : {p : Position} {h : ℕ} (s : Step) → HasEqualSides p → Contains (legal_houses p) h → s ≡ step_of p h
     → moves_left (position_after s) < moves_left p
-fewer_left {p} {h} (step.Again q) even legal is = again_fewer p h q even legal is
-fewer_left {p} {h} (step.Turn q) even legal is = turn_fewer p h q even legal is
-fewer_left {p} {h} (step.Over q) even legal is = omega (arith, none_after p h q is, some_left p (legal_going p h legal))
+fewer_left {p} {h} (step.Again q) equal legal is = again_fewer p h q equal legal is
+fewer_left {p} {h} (step.Turn q) equal legal is = turn_fewer p h q equal legal is
+fewer_left {p} {h} (step.Over q) equal legal is = omega (arith, none_after p h q is, some_left p (legal_going p h legal))
 
 -- A move in front of a game from the position after it, by a policy that both players share. If that game ends with the worth of its
 -- position, the longer one ends with the value of the move
@@ -131,41 +131,41 @@ best_move_first n p going = ap (λ b. if b then [] else best_house p ∷ best_mo
 
 -- fewer are left after its best move
 fewer_next : (p : Position) → HasEqualSides p → is_over p ≡ false → moves_left (position_after (step_of p (best_house p))) < moves_left p
-fewer_next p even going = fewer_left _ even (best_is_strategy.moves p even going) refl
+fewer_next p equal going = fewer_left _ equal (best_is_strategy.moves p equal going) refl
 
 -- more moves than are left make no difference
 same_moves : (n m : ℕ) (p : Position) → HasEqualSides p → moves_left p ≤ n → moves_left p ≤ m
     → best_moves n p ≡ best_moves m p
-same_moves zero m p even low high =
+same_moves zero m p equal low high =
     let over = over_at_end p (omega (arith, low)) in
     no_best_moves zero p over ∙ sym (no_best_moves m p over)
-same_moves (suc n) zero p even low high =
+same_moves (suc n) zero p equal low high =
     let over = over_at_end p (omega (arith, high)) in
     no_best_moves (suc n) p over ∙ sym (no_best_moves zero p over)
-same_moves (suc n) (suc m) p even low high = elim (cases_Bool (is_over p)) [
+same_moves (suc n) (suc m) p equal low high = elim (cases_Bool (is_over p)) [
   | inl over ↦ no_best_moves (suc n) p over ∙ sym (no_best_moves (suc m) p over)
   | inr going ↦
-      let fewer = fewer_next p even going in
-      let next = same_moves n m _ (even_after p (best_house p)) (omega (arith, low, fewer)) (omega (arith, high, fewer)) in
+      let fewer = fewer_next p equal going in
+      let next = same_moves n m _ (equal_after p (best_house p)) (omega (arith, low, fewer)) (omega (arith, high, fewer)) in
       best_move_first n p going ∙ ap (λ moves. best_house p ∷ moves) next ∙ sym (best_move_first m p going)
 ]
 
 -- the moves of a game are its first one, and those from the position after it
 game_goes_on : (p : Position) → HasEqualSides p → is_over p ≡ false
     → best_game p ≡ best_house p ∷ best_game (position_after (step_of p (best_house p)))
-game_goes_on p even going =
+game_goes_on p equal going =
     let n = moves_left p - 1 in
     let more : moves_left p ≡ suc n = omega (arith, some_left p going) in
-    let next = same_moves n _ _ (even_after p (best_house p)) (omega (arith, fewer_next p even going)) (omega arith) in
+    let next = same_moves n _ _ (equal_after p (best_house p)) (omega (arith, fewer_next p equal going)) (omega arith) in
     ap (λ k. best_moves k p) more ∙ best_move_first n p going ∙ ap (λ moves. best_house p ∷ moves) next
 
 -- the moves of a game that may begin with a house that is asked for are its first one, and those of best play after it
 played_next : (first : Option ℕ) (p : Position) (h : ℕ) → HasEqualSides p → is_over p ≡ false → h ≡ unwrap_or first (best_house p)
     → game_played first p ≡ h ∷ best_game (position_after (step_of p h))
-played_next first p h even going is = first_of first ∙ ap (λ k. k ∷ best_game (position_after (step_of p k))) (sym is)
+played_next first p h equal going is = first_of first ∙ ap (λ k. k ∷ best_game (position_after (step_of p k))) (sym is)
   where
     first_of : (f : Option ℕ) → game_played f p ≡ unwrap_or f (best_house p) ∷ best_game (position_after (step_of p (unwrap_or f (best_house p))))
-    first_of None = game_goes_on p even going
+    first_of None = game_goes_on p equal going
     first_of (Some f) = refl
 
 module _ {form : Form} {first : Option ℕ} {p : Position} {value : Option ℤ} {h : ℕ} {s : Step} (next : IsNextMove form first p value h)
@@ -177,7 +177,7 @@ module _ {form : Form} {first : Option ℕ} {p : Position} {value : Option ℤ} 
   -- the text of a game is that of its next move, and the text from the position after it
   pub text_goes_on : HasEqualSides p → game_text form p (game_played first p)
       ≡ move_text form value h s ++ game_text form (position_after s) (best_game (position_after s))
-  text_goes_on even = ap (game_text form p) (played_next first p h even (legal_going p h next.legal) next.house)
+  text_goes_on equal = ap (game_text form p) (played_next first p h equal (legal_going p h next.legal) next.house)
       ∙ ap (λ s. move_text form (value_shown form (worth p)) h s ++ game_text form (position_after s) (best_game (position_after s))) (sym is)
       ∙ ap (λ v. move_text form v h s ++ game_text form (position_after s) (best_game (position_after s))) (sym next.shown)
 
@@ -208,30 +208,30 @@ none_played n p over = (p, subst (λ houses. BestGame p houses p) (sym (no_best_
 
 -- they are the moves of a game
 is_game : (n : ℕ) (p : Position) → HasEqualSides p → moves_left p ≤ n → (final : Position) × BestGame p (best_moves n p) final
-is_game zero p even low = none_played zero p (over_at_end p (omega (arith, low)))
-is_game (suc n) p even low = elim (cases_Bool (is_over p)) [
+is_game zero p equal low = none_played zero p (over_at_end p (omega (arith, low)))
+is_game (suc n) p equal low = elim (cases_Bool (is_over p)) [
   | inl over ↦ none_played (suc n) p over
   | inr going ↦
-      let next = is_game n _ (even_after p (best_house p)) (omega (arith, low, fewer_next p even going)) in
+      let next = is_game n _ (equal_after p (best_house p)) (omega (arith, low, fewer_next p equal going)) in
       let game = game_before {policy = follow best_house} _ going (Contains-push [] (best_house p)) refl next.1 in
       (game.0, subst (λ houses. BestGame p houses game.0) (sym (best_move_first n p going)) game.1)
 ]
 
 -- of one that ends with the margin of best play
 pub plays_best : PlaysBestGames
-plays_best p even =
-    let game = is_game (moves_left p) p even (omega arith) in
+plays_best p equal =
+    let game = is_game (moves_left p) p equal (omega arith) in
     let keeps = strategy_within best_is_strategy in
-    let bounded = game_is_bounded keeps keeps even game.1 in
+    let bounded = game_is_bounded keeps keeps equal game.1 in
     (game.0, record { game = game.1; margin = omega (ints, arith, bounded.low best_plays, bounded.high best_plays) })
 
 -- ---- the law on variations
 
 -- the game after a move, which is one by the rules, ends with the value of that move
 pub variations_end : VariationsEndWithTheirValue
-variations_end p h even legal =
-    let best = plays_best (position_after (step_of p h)) (even_after p h) in
-    let by_rules = widened (strategy_within best_is_strategy) (strategy_within best_is_strategy) (even_after p h) best.1.game in
+variations_end p h equal legal =
+    let best = plays_best (position_after (step_of p h)) (equal_after p h) in
+    let by_rules = widened (strategy_within best_is_strategy) (strategy_within best_is_strategy) (equal_after p h) best.1.game in
     let game = game_before (step_of p h) (legal_going p h legal) legal refl by_rules in
     (game.0, record { game = game.1; margin = game.2 best.1.margin })
 
@@ -274,12 +274,12 @@ module _ {O : Type 0} (state : O → SinkState) where
   begins_flushed : (game : GameStart O) (form : Form) (p : Position) (between new : O) → Begins state game form between p
       → WasGiven state between new [] → Begins state game form new p
   begins_flushed game (Lines boards values) p between new (is, given) flushed =
-      (is, given_flushed state _ _ _ _ given flushed)
+      (is, given_then_flush state _ _ _ _ given flushed)
   begins_flushed game Houses p between new begun flushed = record {
     between = begun.between;
     move = begun.move;
     below = begun.below;
-    line = given_flushed state _ _ _ _ begun.line flushed;
+    line = given_then_flush state _ _ _ _ begun.line flushed;
     after = begun.after;
   }
 
@@ -289,7 +289,7 @@ module _ {O : Type 0} (state : O → SinkState) where
     shown_flushed flushed = by shown flushed where
       by : {q : Position} {o : O} → IsShown state game o q → WasGiven state o new [] → IsShown state game new q
       by (begins begun) flushed = begins (begins_flushed game game.form _ _ _ begun flushed)
-      by (moves o q h shown given) flushed = moves o q h shown (given_flushed state _ _ _ _ given flushed)
+      by (moves o q h shown given) flushed = moves o q h shown (given_then_flush state _ _ _ _ given flushed)
 
     -- the next one, once its move was given
     pub shown_next : {now : GameStart O} {form : Form} {s : Step} {q : Position} (h : ℕ) → game.form ≡ form → s ≡ step_of p h

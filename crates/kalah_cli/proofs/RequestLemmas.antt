@@ -34,7 +34,8 @@ use Rattle.kalah_jobs.proofs.LineLemmas.{empty_is_no_line, line_is_written}
 abbrev subs : List Shape
 subs = (built kalah_app).subs
 
--- each of them is found by its name, and each of its arguments by its id
+-- each of them is found by its name, and each of its arguments by its id: this is found by computation, with the texts of the command line
+-- opened (`clap_on_literals`)
 pub usable : AllOf (IsUsableIn subs) subs
 unfolding clap_on_literals
 usable = assumption
@@ -144,22 +145,22 @@ flag_read E f id r absent value = elim (cases_Option (one_of id (rows_of f))) [
 -- ---- how the command line reads arguments, as laws over the definitions
 
 -- equal arguments ask for the same
-pub taken_at : {words given : List Text} {a : Asked} → words ≡ given → IsAcceptedAs given a → IsAcceptedAs words a
-taken_at {a = a} same taken = subst (λ ws. IsAcceptedAs ws a) (sym same) taken
+pub accepted_at : {words given : List Text} {a : Asked} → words ≡ given → IsAcceptedAs given a → IsAcceptedAs words a
+accepted_at {a = a} same taken = subst (λ ws. IsAcceptedAs ws a) (sym same) taken
 
 -- arguments are accepted as one request
-pub taken_once : (words : List Text) (a b : Asked) → IsAcceptedAs words a → IsAcceptedAs words b → a ≡ b
-taken_once words a b p q =
+pub accepted_once : (words : List Text) (a b : Asked) → IsAcceptedAs words a → IsAcceptedAs words b → a ≡ b
+accepted_once words a b p q =
     let x = p.1 in
     let y = q.1 in
     cc
 
 -- `moves` and a plain argument are accepted as the moves of that line, with no boards
-pub moves_taken : (name line : Text) → IsPlainWord line
+pub moves_accepted : (name line : Text) → IsPlainWord line
     → IsAcceptedAs (name ∷ codes "moves" ∷ line ∷ []) (about_line (Moves false) line)
 unfolding clap_on_literals
-moves_taken name [] plain = absurd plain
-moves_taken name (x ∷ xs) plain =
+moves_accepted name [] plain = absurd plain
+moves_accepted name (x ∷ xs) plain =
     let no_flag = ne_eqb _ _ plain in
     (simp no_flag (refl {a = []}), simp no_flag (refl {a = Some (about_line (Moves false) (x ∷ xs))}))
 

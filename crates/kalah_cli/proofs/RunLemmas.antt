@@ -6,7 +6,7 @@ use Rattle.kalah_rules.specs.Position.{Position}
 use Rattle.kalah_jobs.specs.Line.Line.{Reads}
 use Rattle.kalah_jobs.specs.Writing.Sink.{SinkState, WasGiven}
 use Rattle.kalah_jobs.proofs.LineLemmas.{no_line_reads_twice}
-use Rattle.kalah_jobs.proofs.WritingLemmas.{given_flushed, prefix_none, prefix_then}
+use Rattle.kalah_jobs.proofs.WritingLemmas.{given_then_flush, prefix_none, prefix_then}
 use Rattle.kalah_cli.specs.Ends.{Ends, FailsWithoutOutput, IsPrinted, IsUnread, Prints, ended_by}
 use Rattle.kalah_cli.specs.declared.failure.Failure.{Failure}
 use Rattle.kalah_cli.specs.Line.{MayPrint, command_output}
@@ -46,7 +46,7 @@ use Rattle.clap.specs.declared.error.kind.ErrorKind.TheVariants.{DisplayHelp, Di
 use Rattle.kalah_cli.specs.Command.{kalah_app}
 use Rattle.kalah_cli.specs.Request.{Asked, AsksNot, IsAcceptedAs, about_line, answers, ask, conflict}
 use Rattle.kalah_cli.specs.Runs.{Does, DoesWhatIsAsked, IsOfNoInput, MovesByItsWords, RefusesArguments, version_line}
-use Rattle.kalah_cli.proofs.RequestLemmas.{moves_taken, taken_at, taken_once, read_is_plain}
+use Rattle.kalah_cli.proofs.RequestLemmas.{moves_accepted, accepted_at, accepted_once, read_is_plain}
 
 -- ---- how any run ends, and one that answers a line
 
@@ -70,7 +70,7 @@ pub printed_flushed : {O : Type 0} (state : O → SinkState) (old between new : 
     (text : List ℕ) → WasGiven state old between text → WasGiven state between new []
     → ((state new).has_failed ≡ false → (state new).is_flushed ≡ true) → IsPrinted state old new text
 printed_flushed state old between new text given flushed all_flushed =
-    record { given = given_flushed state old between new text given flushed; all_flushed = all_flushed }
+    record { given = given_then_flush state old between new text given flushed; all_flushed = all_flushed }
 
 module _ {O : Type 0} (state : O → SinkState) {status : ExitStatus} where
   -- nothing was written
@@ -335,11 +335,11 @@ pub by_words : {O : Type 0} (state : O → SinkState) (words : List Text) (old n
     → MovesByItsWords state words old new status
 by_words state words old new status may_give accepted = record {
   moves = λ name line is p reads.
-      elim (accepted (about_line (Moves false) line) (taken_at is (moves_taken name line (read_is_plain line p reads)))) [
+      elim (accepted (about_line (Moves false) line) (accepted_at is (moves_accepted name line (read_is_plain line p reads)))) [
         | inl does ↦ let printed = does.0.read p reads in (printed.0, λ clean. printed.1.whole (λ failed. cc))
         | inr fails ↦ ((λ fault. cc), (λ clean. absurd cc))
       ];
-  unread = λ name line is plain none. elim (accepted (about_line (Moves false) line) (taken_at is (moves_taken name line plain))) [
+  unread = λ name line is plain none. elim (accepted (about_line (Moves false) line) (accepted_at is (moves_accepted name line plain))) [
     | inl does ↦ let unread = does.0.unread none in ((λ clean. cc), unread.1)
     | inr fails ↦ ((λ clean. cc), fails.1)
   ];
@@ -373,7 +373,7 @@ module _ {O : Type 0} (state : O → SinkState) (words : List Text) (may_give : 
       → KeepsPromises
   accepted_run {b} sound taken done =
       let does : (a : Asked) → IsAcceptedAs words a → Does state old new status may_give a =
-      λ a other. subst (Does state old new status may_give) (taken_once words b a taken other) done in
+      λ a other. subst (Does state old new status may_give) (accepted_once words b a taken other) done in
       record {
         accepted = λ a other. inl (does a other);
         refused = record {

@@ -199,7 +199,7 @@ fn requested<'a>(alloc: Global, name: &str, found: &ArgMatches<'a>) -> Result<Re
 /// Parses the arguments, whose first is the program's name. Fails with the command line's own
 /// error and its text: help or the version was asked for, an argument is wrong, or memory was refused.
 pub(crate) fn parse<'a, S: AsStr>(alloc: Global, words: &'a [S]) -> Result<Request<'a>, Error>
-    ensures taken { IfOk result
+    ensures accepted { IfOk result
         (λ r. IsAcceptedAs (map S.text words.entry.now) (request_asks r)) }
     ensures range { IfOk result IsInRange }
     ensures kinds { FailsBy (fault_of kalah_app (map S.text words.entry.now)) result }

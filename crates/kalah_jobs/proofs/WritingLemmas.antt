@@ -215,17 +215,17 @@ module _ {O : Type 0} (state : O → SinkState) where
       record { start = start; whole = λ still. absurd (cc (fails.0 refl)); quiet = λ failed. cc }
 
   -- no text by a flush
-  pub given_flush : (old new : O) → (state old).has_failed ≡ false → Keeps (state old).written (state new).written
+  pub flush_gives_nothing : (old new : O) → (state old).has_failed ≡ false → Keeps (state old).written (state new).written
       → WasGiven state old new []
-  given_flush old new sound keeps = record {
+  flush_gives_nothing old new sound keeps = record {
     start = prefix_kept_all (state old).written (state new).written [] keeps;
     whole = λ still. (sound, Appends-kept (state old).written (state old).written (state new).written [] (Appends-nil (state old).written) keeps);
     quiet = λ failed. cc;
   }
 
   -- a sink that has failed is given any text
-  pub given_off : (out : O) (text : List ℕ) → (state out).has_failed ≡ true → WasGiven state out out text
-  given_off out text failed = record { start = prefix_none (state out).written text; whole = λ sound. absurd cc; quiet = λ _. refl }
+  pub given_after_failure : (out : O) (text : List ℕ) → (state out).has_failed ≡ true → WasGiven state out out text
+  given_after_failure out text failed = record { start = prefix_none (state out).written text; whole = λ sound. absurd cc; quiet = λ _. refl }
 
   -- a text, and then another
   pub given_then : (old between new : O) (text more : List ℕ) → WasGiven state old between text
@@ -244,25 +244,25 @@ module _ {O : Type 0} (state : O → SinkState) where
     by false sound = prefix_then _ _ _ (text ++ more) text more refl (first.whole sound).1 second.start
 
   -- a text, and then another, which needs to be the right one only if no call has failed
-  pub given_on : (old between new : O) (text more right : List ℕ) → WasGiven state old between text
+  pub given_then_if_sound : (old between new : O) (text more right : List ℕ) → WasGiven state old between text
       → ((state between).has_failed ≡ false → more ≡ right)
       → WasGiven state between new more → WasGiven state old new (text ++ right)
-  given_on old between new text more right first same second = by (state between).has_failed refl where
+  given_then_if_sound old between new text more right first same second = by (state between).has_failed refl where
     by : (b : Bool) → (state between).has_failed ≡ b → WasGiven state old new (text ++ right)
     by true failed = given_then old between new text right first
-        (subst (λ o. WasGiven state between o right) (sym (second.quiet failed)) (given_off between right failed))
+        (subst (λ o. WasGiven state between o right) (sym (second.quiet failed)) (given_after_failure between right failed))
     by false sound = given_then old between new text right first (subst (WasGiven state between new) (same sound) second)
 
   -- a text, and then a flush
-  pub given_flushed : (old between new : O) (text : List ℕ) → WasGiven state old between text
+  pub given_then_flush : (old between new : O) (text : List ℕ) → WasGiven state old between text
       → WasGiven state between new [] → WasGiven state old new text
-  given_flushed old between new text first second =
+  given_then_flush old between new text first second =
       subst (WasGiven state old new) (append-nil text) (given_then old between new text [] first second)
 
   -- a text that goes on after a failure
-  pub given_cut_off : (old between : O) (text more : List ℕ) → WasGiven state old between text → (state between).has_failed ≡ true
+  pub given_more_after_failure : (old between : O) (text more : List ℕ) → WasGiven state old between text → (state between).has_failed ≡ true
       → WasGiven state old between (text ++ more)
-  given_cut_off old between text more first failed = given_then old between between text more first (given_off between more failed)
+  given_more_after_failure old between text more first failed = given_then old between between text more first (given_after_failure between more failed)
 
   -- the texts of the first elements were given
   module _ (one : ℕ → List ℕ) {elements all : List ℕ} (same : elements ≡ all) (i : ℕ) (old between : O)
@@ -276,11 +276,11 @@ module _ {O : Type 0} (state : O → SinkState) where
         (given_then old between new (flat_map one (take i elements)) (one element) so_far more)
 
     -- a call had failed, so the sink was given all
-    pub given_cut : (state between).has_failed ≡ true → WasGiven state old between (flat_map one all)
-    given_cut failed = subst (WasGiven state old between)
+    pub given_all_after_failure : (state between).has_failed ≡ true → WasGiven state old between (flat_map one all)
+    given_all_after_failure failed = subst (WasGiven state old between)
         (sym (flat_map-append one (take i elements) (drop i elements)) ∙ ap (flat_map one) (take-append-drop i elements ∙ same))
         (given_then old between between (flat_map one (take i elements)) (flat_map one (drop i elements)) so_far
-        (given_off between (flat_map one (drop i elements)) failed))
+        (given_after_failure between (flat_map one (drop i elements)) failed))
 
     -- there are no more elements
     pub given_all : length elements ≤ i → WasGiven state old between (flat_map one all)

@@ -117,7 +117,7 @@ pub lifted_row : (xs : List ℕ) (h : ℕ) → 1 ≤ h → h ≤ length xs →
     row_of (length xs) (λ i. if i == h then 0 else seeds xs i) ≡ slice_set xs (h - 1) 0
 lifted_row xs h low high = grind (arith, same_as_row, length-set, seeds-set_same, seeds-set_other)
 
--- the cells of the last lap, which begins past house h and has r seeds
+-- the cells of the last lap, which begins past house h and has r seeds: it reaches a house after h at once, and one up to h on its way back
 pub own_lap : (m h r i : ℕ) → 1 ≤ h → h ≤ m → r < lap_length m → 1 ≤ i → i ≤ m →
     up_to r (own_distance m h i) + up_to h i ≡ up_to (h + r) i + up_to (h + r - lap_length m) i
 own_lap m h r i low high few i_low i_high = search rules

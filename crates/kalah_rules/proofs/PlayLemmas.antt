@@ -497,7 +497,7 @@ sown_nearer p h holds same = grind (arith, houses_fall, sow_keeps, distance_fall
 -- a move brings the game nearer to its end
 pub after_nearer : (p : Position) (h : ℕ) → HoldsSeeds p h → HasEqualSides p → IsNearerEnd (after p h) p
 unfolding after
-after_nearer p h holds even = grind (arith, sown_nearer, captured_leaves_no_more)
+after_nearer p h holds equal = grind (arith, sown_nearer, captured_leaves_no_more)
 
 capture_side : (q : Position) (o : Option ℕ) → (side_length (captured q o) ≡ side_length q)
     × (length (captured q o).other ≡ length q.other)
@@ -519,19 +519,19 @@ row_distance_le houses = distance_range_le houses 1 _ _ (omega arith)
 
 -- no seed is farther from its store than a row is long
 distance_below : (p : Position) → HasEqualSides p → distance_to_stores p ≤ side_length p * seeds_in_houses p
-distance_below p even = grind (arith, row_distance_le)
+distance_below p equal = grind (arith, row_distance_le)
 
 -- what is nearer to the end has fewer moves left
 pub moves_left_falls : (p q : Position) → HasEqualSides q → side_length q ≡ side_length p → IsNearerEnd q p
     → moves_left q < moves_left p
-moves_left_falls p q even side (inl fewer) = rw side (lower_by_seeds _ _ _ _ _ fewer
-    rw side at (distance_below _ even))
-moves_left_falls p q even side (inr near) = grind arith
+moves_left_falls p q equal side (inl fewer) = rw side (lower_by_seeds _ _ _ _ _ fewer
+    rw side at (distance_below _ equal))
+moves_left_falls p q equal side (inr near) = grind arith
 
 -- the position after a move has fewer moves left
 pub after_fewer : (p : Position) (h : ℕ) → HoldsSeeds p h → HasEqualSides p → moves_left (after p h) < moves_left p
-after_fewer p h holds even = moves_left_falls p _ (after_equal_sides p h) (after_side p h) (after_nearer p h holds even)
+after_fewer p h holds equal = moves_left_falls p _ (after_equal_sides p h) (after_side p h) (after_nearer p h holds equal)
 
 -- as many moves are left to the other player
 pub moves_left-swapped : (p : Position) → HasEqualSides p → moves_left (swapped p) ≡ moves_left p
-moves_left-swapped p even = grind arith
+moves_left-swapped p equal = grind arith

@@ -9,7 +9,7 @@ use Rattle.kalah_rules.specs.Key.{number_of}
 use Rattle.kalah_rules.specs.Packed.{BeginsHouse, ones}
 use Rattle.kalah_rules.specs.Sowing.{row_of}
 use Rattle.kalah_rules.proofs.KeyLemmas.{pow_five, ones_le}
-use Rattle.kalah_solve.specs.Marks.{cell, AreMarks, IsLastMark, MarksFilled, MarksEnding, all_end_in_store, without_mark}
+use Rattle.kalah_solve.specs.Marks.{cell, AreMarks, IsLastMark, AreFilledMarks, AreMarksIntoStore, all_end_in_store, without_mark}
 use Rattle.std.proofs.lemmas.List.FromFn.{get_or-map-range_with_len}
 use Rattle.std.proofs.lemmas.List.{get_or_past}
 use Rattle.kalah_rules.specs.Position.{HousesState, IsWithinHouses, is_over, storeless}
@@ -220,7 +220,7 @@ cell_of_filled (suc k) row (suc i) inside =
     ap (λ n. cell n i) rest ∙ cell_of_filled k _ i (omega arith)
 
 -- the first six are marked
-pub marks_filled : (row : ℕ) → MarksFilled row (filled_cells 6 row)
+pub marks_filled : (row : ℕ) → AreFilledMarks row (filled_cells 6 row)
 marks_filled row =
     let small = and_le_r (bit_or (bit_and row (each 6 15) + each 6 15) row / 16) (each 6 1) in
     record { cells = cell_of_filled 6 row; are = six_marks (omega arith) (λ i inside. omega (arith, cell_of_filled 6 row i inside)) }
@@ -232,7 +232,7 @@ apart_or_equal : (x y : ℕ) → (0 < bit_xor (min 1 (bit_xor x y)) 1) ↔ (x �
 apart_or_equal x y = grind (arith, cases_eq, bit_xor, xor_self, min, xor_add_and, and_le_l, and_le_r)
 
 -- the marks of a row of m cells, if those that don't hold their distance are given
-module _ (row : ℕ) {m others marks : ℕ} (few : m ≤ 6) (others_are : MarksFilled (bit_xor row (all_end_in_store m)) others)
+module _ (row : ℕ) {m others marks : ℕ} (few : m ≤ 6) (others_are : AreFilledMarks (bit_xor row (all_end_in_store m)) others)
     (marks_are : marks ≡ bit_xor others (ones m)) where
   -- a cell is marked unless it is among the others
   ending_cell : (i : ℕ) → i < 6 → cell marks i ≡ bit_xor (min 1 (bit_xor (cell row i) (cell (all_end_in_store m) i))) (cell (ones m) i)
@@ -243,7 +243,7 @@ module _ (row : ℕ) {m others marks : ℕ} (few : m ≤ 6) (others_are : MarksF
   ending_inside i inside = grind (arith, ending_cell, cell_inside, apart_or_equal)
 
   -- the marks of the row
-  pub marks_ending : MarksEnding row m marks
+  pub marks_ending : AreMarksIntoStore row m marks
   marks_ending =
       let all_small : ones m ≤ 34636833 = ones_le m 6 few in
       record {
@@ -281,7 +281,7 @@ module _ {a : HousesState} {row : ℕ} (w : IsWithinHouses a) (row_is : row ≡ 
   ends_at i = grind arith
 
   -- what is marked has seeds
-  pub filled_marked : {filled : ℕ} → MarksFilled row filled → (i : ℕ) → (0 < cell filled i) ↔ (0 < slice_index a.own i)
+  pub filled_marked : {filled : ℕ} → AreFilledMarks row filled → (i : ℕ) → (0 < cell filled i) ↔ (0 < slice_index a.own i)
   filled_marked {filled} marks i = elim (cases_lt i 6) [
     | inl inside ↦ (λ some. omega (arith, own_cell i, marks.cells i inside), λ some. omega (arith, own_cell i, marks.cells i inside))
     | inr past ↦
@@ -290,7 +290,7 @@ module _ {a : HousesState} {row : ℕ} (w : IsWithinHouses a) (row_is : row ≡ 
         (omega arith)
   ]
 
-  module _ {m ending : ℕ} (side : m ≡ length a.own) (marks : MarksEnding row m ending) where
+  module _ {m ending : ℕ} (side : m ≡ length a.own) (marks : AreMarksIntoStore row m ending) where
     -- what is marked ends in the store
     pub into_store_marked : (i : ℕ) → (0 < cell ending i) ↔ ((i < length a.own) × EndsInStore a (i + 1))
     into_store_marked i = elim (cases_lt i m) [
@@ -307,7 +307,7 @@ module _ {a : HousesState} {row : ℕ} (w : IsWithinHouses a) (row_is : row ≡ 
           (λ some. absurd (omega arith), λ both. absurd (let low = both.0 in omega arith))
     ]
 
-    module _ {filled : ℕ} (with_seeds : MarksFilled row filled) where
+    module _ {filled : ℕ} (with_seeds : AreFilledMarks row filled) where
       -- what is marked among the filled houses and not among those that end in the store has seeds and doesn't end there
       pub remaining_marked : (i : ℕ) → (0 < cell (bit_xor filled ending) i) ↔ ((0 < slice_index a.own i) × ¬ EndsInStore a (i + 1))
       remaining_marked i =

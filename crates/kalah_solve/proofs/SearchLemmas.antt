@@ -1,10 +1,10 @@
 -- The moves that the search has tried, and those that wait for it.
 --
 -- The life of a legal move, and what the loop that it is in keeps of it and all others (`most` is the most that a tried one wins):
--- marked, it ends in the store, and `bound_into_store` is still to try it: of such moves the unmarked were tried (`UnmarkedWinAtMost`);
+-- marked, it ends in the store, and `bound_into_store` is still to try it: of such moves the unmarked were tried (`UnmarkedIntoStoreWinAtMost`);
 -- marked, it does not, and `try_remaining` is still to play it: of such moves each unmarked one waits or was tried (`ArePlayed`);
 -- waiting: its turn must be searched, is written down, and has a priority (`AreTurns`, `WaitsWith`; `AreWaiting` once all were played);
--- tried: it wins at most `most`. `explore` tries those that wait, and all without a priority were tried (`AreUntried`).
+-- tried: it wins at most `most`. `bound_by_moves` tries those that wait, and all without a priority were tried (`AreUntried`).
 use Rattle.std.proofs.Common.{◌≡◌, ℕ, ◌+◌, ◌%◌, ◌-◌, ◌<◌, ◌≤◌, inl, inr, List, get_or, arith, sym, ap, ◌∙◌, length, subst, ◌↔◌, Bool, false, IsTrue, Contains, max, slice_set, length-set}
 use Rattle.std.proofs.lemmas.Bool.{cases_lt, cases_eq}
 use Rattle.kalah_solve.specs.Marks.{cell, IsLastMark, without_mark}
@@ -102,7 +102,7 @@ pub record AreTurns (a : HousesState) (priorities : List ℕ) (turns : List Hous
 turns_with_one_more : {a b : HousesState} {h v : ℕ} {priorities : List ℕ} {turns : List HousesState} → AreTurns a priorities turns →
     length turns ≡ 6 → 1 ≤ h → h ≤ 6 → IsTurnOf a h v b →
     AreTurns a (slice_set priorities (h - 1) v) (slice_set turns (h - 1) b)
-turns_with_one_more are slots low last is =
+turns_with_one_more are six_turns low last is =
     grind (arith, length-set, cases_eq, get_or-set_same, get_or-set_other)
 
 -- one that waits no more
@@ -136,7 +136,7 @@ waits_there {a} {priority = priority} {b = b} waits is = subst (IsTurnOf a (prio
 -- still marked
 pub record ArePlayed (a : HousesState) (most marks : ℕ) (priorities : List ℕ) (turns : List HousesState) : Type 0 where
   pub waiting : AreTurns a priorities turns
-  pub slots : length turns ≡ 6
+  pub six_turns : length turns ≡ 6
   pub others : (i : ℕ) → Contains (legal_houses (storeless a)) i → cell marks (i - 1) ≡ 0 → get_or priorities (i - 1) 0 ≡ 0 →
       ¬ EndsInStore a i → WinsAtMost a most i
 
@@ -147,8 +147,8 @@ module _ {a : HousesState} {most marks h : ℕ} {priorities : List ℕ} {turns :
   pub played_and_waits : (v : ℕ) (b : HousesState) → 0 < v → IsTurnOf a h v b →
       ArePlayed a most (without_mark marks h) (slice_set priorities (h - 1) v) (slice_set turns (h - 1) b)
   played_and_waits v b some turn = let inside : h - 1 < length priorities = omega arith in record {
-    waiting = turns_with_one_more is.waiting is.slots last.first last.last turn;
-    slots = length-set turns _ b ∙ is.slots;
+    waiting = turns_with_one_more is.waiting is.six_turns last.first last.last turn;
+    six_turns = length-set turns _ b ∙ is.six_turns;
     others = each_unmarked_without_last a
         (λ i. get_or (slice_set priorities (h - 1) v) (i - 1) 0 ≡ 0 → ¬ EndsInStore a i → WinsAtMost a most i) last
         (λ none apart. absurd (omega (arith, get_or-set_same priorities (h - 1) v 0 inside, none)))
@@ -160,7 +160,7 @@ module _ {a : HousesState} {most marks h : ℕ} {priorities : List ℕ} {turns :
       → ArePlayed a new (without_mark marks h) priorities turns
   played_and_bounded bound new takes new_is = record {
     waiting = is.waiting;
-    slots = is.slots;
+    six_turns = is.six_turns;
     others = each_unmarked_without_last a (λ i. get_or priorities (i - 1) 0 ≡ 0 → ¬ EndsInStore a i → WinsAtMost a new i) last
         (λ none apart. omega arith) (λ i may place gone none apart. omega (arith, is.others i may gone none apart));
   }
@@ -170,9 +170,9 @@ pub played_at_start : {a : HousesState} {most marks : ℕ} {priorities : List �
     → length turns ≡ 6 →
     ((k : ℕ) → get_or priorities k 0 ≡ 0) →
     ((i : ℕ) → (0 < cell marks i) ↔ ((0 < get_or a.own i 0) × ¬ EndsInStore a (i + 1))) → ArePlayed a most marks priorities turns
-played_at_start {a} cells slots empty marked = record {
+played_at_start {a} cells six_turns empty marked = record {
   waiting = record { cells = cells; each = λ k some. absurd (omega arith) };
-  slots = slots;
+  six_turns = six_turns;
   others = λ i may gone none apart. absurd (
       let holds = legal_holds (storeless a) i may in
       let at : i - 1 + 1 ≡ i = omega arith in
@@ -183,14 +183,14 @@ played_at_start {a} cells slots empty marked = record {
 -- ==== The moves that end in the store, tried one by one
 
 -- each house that ends in the store is still marked, or wins at most `most` seeds
-abbrev pub UnmarkedWinAtMost : HousesState → ℕ → ℕ → Type 0
-UnmarkedWinAtMost a most marks = (h : ℕ) → Contains (legal_houses (storeless a)) h → EndsInStore a h → cell marks (h - 1) ≡ 0
+abbrev pub UnmarkedIntoStoreWinAtMost : HousesState → ℕ → ℕ → Type 0
+UnmarkedIntoStoreWinAtMost a most marks = (h : ℕ) → Contains (legal_houses (storeless a)) h → EndsInStore a h → cell marks (h - 1) ≡ 0
     → WinsAtMost a most h
 
 -- as long as all of them are marked
 pub unmarked_at_start : (a : HousesState) (most marks : ℕ)
     → ((i : ℕ) → (0 < cell marks i) ↔ ((i < length a.own) × EndsInStore a (i + 1))) →
-    UnmarkedWinAtMost a most marks
+    UnmarkedIntoStoreWinAtMost a most marks
 unmarked_at_start a most marks marked h may ends gone = absurd (
     let holds = legal_holds (storeless a) h may in
     let at : h ≡ h - 1 + 1 = omega arith in
@@ -198,9 +198,9 @@ unmarked_at_start a most marks marked h may ends gone = absurd (
     omega arith)
 
 -- the last of them was tried
-pub unmarked_without_last : (a : HousesState) (most : ℕ) {marks h : ℕ} (bound : ℕ) {new : ℕ} → UnmarkedWinAtMost a most marks → IsLastMark marks h
-    → WinsAtMost a bound h → new ≡ max most bound →
-    UnmarkedWinAtMost a new (without_mark marks h)
+pub unmarked_without_last : (a : HousesState) (most : ℕ) {marks h : ℕ} (bound : ℕ) {new : ℕ}
+    → UnmarkedIntoStoreWinAtMost a most marks → IsLastMark marks h → WinsAtMost a bound h → new ≡ max most bound →
+    UnmarkedIntoStoreWinAtMost a new (without_mark marks h)
 unmarked_without_last a most {marks} {h} bound {new} are last takes new_is i may ends gone =
     each_unmarked_without_last a (λ i. EndsInStore a i → WinsAtMost a new i) last
     (λ e. omega arith) (λ j may_j place gone_j e. omega (arith, are j may_j e gone_j)) i may gone ends

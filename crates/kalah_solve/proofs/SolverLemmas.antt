@@ -46,11 +46,11 @@ strategy_within {s} ok = grind arith
 pub ends_within : (n : ℕ) (mine theirs : Strategy) → IsStrategy mine → IsStrategy theirs → (p : Position) → HasEqualSides p
     → moves_left p ≤ n →
     (houses : List ℕ) × (final : Position) × Game (follow mine) (follow theirs) p houses final
-ends_within zero mine theirs m t p even few = ([], p, is_at_end (over_at_end p (omega arith)))
-ends_within (suc n) mine theirs m t p even few = elim (cases_Bool _) [
+ends_within zero mine theirs m t p equal few = ([], p, is_at_end (over_at_end p (omega arith)))
+ends_within (suc n) mine theirs m t p equal few = elim (cases_Bool _) [
   | inl over ↦ ([], p, is_at_end over)
   | inr going ↦
-      let fewer = after_fewer p (mine p) (legal_holds p (mine p) (m.moves p even going)) even in
+      let fewer = after_fewer p (mine p) (legal_holds p (mine p) (m.moves p equal going)) equal in
       let next_even = after_equal_sides p _ in
       elim (cases_Bool _) [
         | inl again ↦
@@ -64,25 +64,25 @@ ends_within (suc n) mine theirs m t p even few = elim (cases_Bool _) [
       ]
 ]
 
-pub games_are_played : StrategiesPlayAGame
-games_are_played mine theirs m t p even = ends_within (moves_left p) mine theirs m t p even (omega arith)
+pub strategies_play_a_game : StrategiesPlayAGame
+strategies_play_a_game mine theirs m t p equal = ends_within (moves_left p) mine theirs m t p equal (omega arith)
 
 -- each move leaves fewer, and the last position is over
 pub ends_in_time : {mine theirs : Policy} {p : Position} {houses : List ℕ} {final : Position} → IsWithin mine legal_houses
     → IsWithin theirs legal_houses → HasEqualSides p → Game mine theirs p houses final → EndsInTime p houses final
-ends_in_time m t even (is_at_end over) = grind arith
-ends_in_time {mine} {theirs} {p} m t even (moves_on {h = h} going has again rest) =
-    let fewer = after_fewer p h (legal_holds p h (m.widens p h even going has)) even in
+ends_in_time m t equal (is_at_end over) = grind arith
+ends_in_time {mine} {theirs} {p} m t equal (moves_on {h = h} going has again rest) =
+    let fewer = after_fewer p h (legal_holds p h (m.widens p h equal going has)) equal in
     let inner = ends_in_time m t (after_equal_sides p h) rest in
     record { over = inner.over; short = omega arith }
-ends_in_time {mine} {theirs} {p} m t even (passes_turn {h = h} {final = final} going has turn rest) =
-    let fewer = after_fewer p h (legal_holds p h (m.widens p h even going has)) even in
+ends_in_time {mine} {theirs} {p} m t equal (passes_turn {h = h} {final = final} going has turn rest) =
+    let fewer = after_fewer p h (legal_holds p h (m.widens p h equal going has)) equal in
     let turned = moves_left-swapped _ (after_equal_sides p h) in
     let inner = ends_in_time t m (swapped_equal_sides _ (after_equal_sides p h)) rest in
     record { over = is_over-swapped final ∙ inner.over; short = omega arith }
 
 pub games_end : GamesEnd
-games_end p houses final even game = ends_in_time (same_policy _) (same_policy _) even game
+games_end p houses final equal game = ends_in_time (same_policy _) (same_policy _) equal game
 
 -- a policy that has one house at most
 pub record HasNoChoice (policy : Policy) : Type 0 where
@@ -118,18 +118,18 @@ game_is_one {mine} {theirs} {p} m t (passes_turn {h = h} going has turn rest)
     let same = game_is_one t m rest (subst (λ x. Game theirs mine (swapped (after p x)) houses final) e rest') in
     (cc same.0, ap swapped same.1)
 
-pub the_game_is_one : StrategiesPlayOneGame
-the_game_is_one mine theirs p houses others final other one two = game_is_one (follow_one mine) (follow_one theirs) one two
+pub strategies_play_one_game : StrategiesPlayOneGame
+strategies_play_one_game mine theirs p houses others final other one two = game_is_one (follow_one mine) (follow_one theirs) one two
 
 -- a game is one of wider policies, too
 pub widened : {mine theirs mine' theirs' : Policy} {p : Position} {houses : List ℕ} {final : Position} → IsWithin mine mine' →
     IsWithin theirs theirs' → HasEqualSides p →
     Game mine theirs p houses final → Game mine' theirs' p houses final
-widened m t even (is_at_end over) = is_at_end over
-widened {mine} {theirs} {mine'} {theirs'} {p} m t even (moves_on {h = h} going has again rest) =
-    moves_on going (m.widens p h even going has) again (widened m t (after_equal_sides p h) rest)
-widened {mine} {theirs} {mine'} {theirs'} {p} m t even (passes_turn {h = h} going has turn rest) =
-    passes_turn going (m.widens p h even going has) turn (widened t m (swapped_equal_sides _ (after_equal_sides p h)) rest)
+widened m t equal (is_at_end over) = is_at_end over
+widened {mine} {theirs} {mine'} {theirs'} {p} m t equal (moves_on {h = h} going has again rest) =
+    moves_on going (m.widens p h equal going has) again (widened m t (after_equal_sides p h) rest)
+widened {mine} {theirs} {mine'} {theirs'} {p} m t equal (passes_turn {h = h} going has turn rest) =
+    passes_turn going (m.widens p h equal going has) turn (widened t m (swapped_equal_sides _ (after_equal_sides p h)) rest)
 
 -- ==== What players who play best secure
 
@@ -146,27 +146,27 @@ pub record IsBounded (mine theirs : Policy) (p : Position) (z : ℤ) : Type 0 wh
 -- a game by the rules ends on the right side of the worth for a player who plays best: by induction on its moves, for both players
 pub game_is_bounded : {mine theirs : Policy} {p : Position} {houses : List ℕ} {final : Position} → IsWithin mine legal_houses
     → IsWithin theirs legal_houses → HasEqualSides p → Game mine theirs p houses final → IsBounded mine theirs p (final_margin final)
-game_is_bounded {p = p} m t even (is_at_end over) = grind (arith, worth_of_over)
-game_is_bounded {p = p} {final = final} m t even (moves_on {h = h} going has again rest) =
+game_is_bounded {p = p} m t equal (is_at_end over) = grind (arith, worth_of_over)
+game_is_bounded {p = p} {final = final} m t equal (moves_on {h = h} going has again rest) =
     let inner = game_is_bounded m t (after_equal_sides p h) rest in
     let value = value_moving_again p h again in
-    let most = value_most p h even going (m.widens p h even going has) in
+    let most = value_most p h equal going (m.widens p h equal going has) in
     record {
-      low = λ best. omega (arith, ints, best.attains p h even going has);
+      low = λ best. omega (arith, ints, best.attains p h equal going has);
       high = λ best. omega (arith, ints);
     }
-game_is_bounded {p = p} m t even (passes_turn {h = h} {final = final} going has turn rest) =
+game_is_bounded {p = p} m t equal (passes_turn {h = h} {final = final} going has turn rest) =
     let inner = game_is_bounded t m (swapped_equal_sides _ (after_equal_sides p h)) rest in
     let value = value_passing p h turn in
-    let most = value_most p h even going (m.widens p h even going has) in
+    let most = value_most p h equal going (m.widens p h equal going has) in
     rw (← final_swapped _) (record {
-      low = λ best. omega (arith, ints, best.attains p h even going has);
+      low = λ best. omega (arith, ints, best.attains p h equal going has);
       high = λ best. omega (arith, ints);
     })
 
 -- always moving the lowest-numbered best house is a strategy
 pub best_is_strategy : IsStrategy best_house
-best_is_strategy = record { moves = λ p even going. (best_found _ even going).0 }
+best_is_strategy = record { moves = λ p equal going. (best_found _ equal going).0 }
 
 -- the best house has the greatest value
 pub best_plays : PlaysBest (follow best_house)
@@ -174,69 +174,69 @@ best_plays = grind (arith, best_attains)
 
 -- it gets the mover at least the worth
 pub best_secures : (p : Position) → HasEqualSides p → Secures best_house p (worth p)
-best_secures p even = λ houses final game. (game_is_bounded (strategy_within best_is_strategy) (same_policy _) even game).low best_plays
+best_secures p equal = λ houses final game. (game_is_bounded (strategy_within best_is_strategy) (same_policy _) equal game).low best_plays
 
 -- the best house holds the mover to the worth when the other player moves it
 pub best_holds : (p : Position) → HasEqualSides p → HoldsTo best_house p (worth p)
-best_holds p even = λ houses final game. (game_is_bounded (same_policy _) (strategy_within best_is_strategy) even game).high best_plays
+best_holds p equal = λ houses final game. (game_is_bounded (same_policy _) (strategy_within best_is_strategy) equal game).high best_plays
 
 pub best_house_is_best_play : BestHouseIsBestPlay
 best_house_is_best_play = grind (arith, best_is_strategy, best_secures, best_holds)
 
-pub worth_is_best : WorthIsBestPlay
-worth_is_best p even = grind (arith, best_is_strategy, best_secures, best_holds)
+pub worth_is_best_play : WorthIsBestPlay
+worth_is_best_play p equal = grind (arith, best_is_strategy, best_secures, best_holds)
 
 -- a game of two strategies is one of either against any play
-module _ (mine theirs : Strategy) (m : IsStrategy mine) (t : IsStrategy theirs) (p : Position) (even : HasEqualSides p) (v : ℤ) where
+module _ (mine theirs : Strategy) (m : IsStrategy mine) (t : IsStrategy theirs) (p : Position) (equal : HasEqualSides p) (v : ℤ) where
   -- what a strategy secures, the game brings
   pub ends_at_least : Secures mine p v → EndsWithAtLeast mine theirs p v
   ends_at_least secures =
-      let game = games_are_played mine _ m t p even in
-      (game.0, game.1, game.2, secures _ game.1 (widened (same_policy _) (strategy_within t) even game.2))
+      let game = strategies_play_a_game mine _ m t p equal in
+      (game.0, game.1, game.2, secures _ game.1 (widened (same_policy _) (strategy_within t) equal game.2))
 
   -- what a strategy of the opponent allows is the most that the game brings
   pub ends_at_most : HoldsTo theirs p v → EndsWithAtMost mine theirs p v
   ends_at_most holds =
-      let game = games_are_played mine _ m t p even in
-      (game.0, game.1, game.2, holds _ game.1 (widened (strategy_within m) (same_policy _) even game.2))
+      let game = strategies_play_a_game mine _ m t p equal in
+      (game.0, game.1, game.2, holds _ game.1 (widened (strategy_within m) (same_policy _) equal game.2))
 
 pub best_against_strategies : BestPlayAgainstStrategies
 best_against_strategies = record {
-  secured = λ p even. (
+  secured = λ p equal. (
     best_house,
     best_is_strategy,
-    λ theirs t. ends_at_least _ theirs best_is_strategy t p even _
-        (best_secures _ even),
+    λ theirs t. ends_at_least _ theirs best_is_strategy t p equal _
+        (best_secures _ equal),
   );
-  held = λ p even. (
+  held = λ p equal. (
     best_house,
     best_is_strategy,
-    λ mine m. ends_at_most mine _ m best_is_strategy p even _
-        (best_holds _ even),
+    λ mine m. ends_at_most mine _ m best_is_strategy p equal _
+        (best_holds _ equal),
   );
 }
 
 -- of two margins of best play neither is above the other
 pub secured_at_most : (p : Position) (v w : ℤ) → HasEqualSides p → IsBestPlay p v → IsBestPlay p w → v ≤ℤ w
-secured_at_most p v w even a b =
-    let low = ends_at_least _ b.held.0 a.secured.1 b.held.1 p even v a.secured.2 in
-    let high = ends_at_most _ b.held.0 a.secured.1 b.held.1 p even w b.held.2 in
-    let same = ap final_margin (the_game_is_one _ b.held.0 p low.0 _ low.1 _ low.2 high.2).1 in
+secured_at_most p v w equal a b =
+    let low = ends_at_least _ b.held.0 a.secured.1 b.held.1 p equal v a.secured.2 in
+    let high = ends_at_most _ b.held.0 a.secured.1 b.held.1 p equal w b.held.2 in
+    let same = ap final_margin (strategies_play_one_game _ b.held.0 p low.0 _ low.1 _ low.2 high.2).1 in
     omega (arith, ints, low.3)
 
 pub best_play_is_one : BestPlayIsOne
-best_play_is_one p v w even a b = omega (arith, ints, secured_at_most p v w even a b, secured_at_most p w v even b a)
+best_play_is_one p v w equal a b = omega (arith, ints, secured_at_most p v w equal a b, secured_at_most p w v equal b a)
 
 -- ==== Which moves are best
 
 -- the value of a move is the margin of best play after it
 pub move_worth : (p : Position) (h : ℕ) → IsWorthOfMove p h (value_of_move p h)
 move_worth p h = record {
-  again = λ more. subst (IsBestPlay _) (sym (value_moving_again _ _ more)) (worth_is_best _ (after_equal_sides p h));
+  again = λ more. subst (IsBestPlay _) (sym (value_moving_again _ _ more)) (worth_is_best_play _ (after_equal_sides p h));
   turn = λ passed.
       let other = swapped _ in
       let same : worth other ≡ neg_ℤ _ = omega (arith, ints, value_passing p h passed) in
-      subst (IsBestPlay other) same (worth_is_best other (swapped_equal_sides _ (after_equal_sides p h)));
+      subst (IsBestPlay other) same (worth_is_best_play other (swapped_equal_sides _ (after_equal_sides p h)));
 }
 
 -- no other number is the margin of best play after a move
@@ -252,7 +252,7 @@ move_worth_is_one {p} {h} {v} {w} a b = elim (cases_Bool _) [
 -- a legal house that attains the worth is a best move
 attaining_is_best : (p : Position) (h : ℕ) → HasEqualSides p → Contains (legal_houses p) h → value_of_move p h ≡ worth p →
     IsBestMove p h (worth p)
-attaining_is_best p h even has attains = grind (arith, worth_is_best, worth, move_worth)
+attaining_is_best p h equal has attains = grind (arith, worth_is_best_play, worth, move_worth)
 
 -- each best move attains the worth
 attains_if_best : (p : Position) (h : ℕ) → IsBestMove p h (worth p) → value_of_move p h ≡ worth p
@@ -260,7 +260,7 @@ attains_if_best p h is = move_worth_is_one (move_worth p h) is.worth
 
 -- the best house is a best move
 pub best_move : (p : Position) → HasEqualSides p → is_over p ≡ false → IsBestMove p (best_house p) (worth p)
-best_move p even going = attaining_is_best _ _ even (best_found _ even going).0 (best_attains even going)
+best_move p equal going = attaining_is_best _ _ equal (best_found _ equal going).0 (best_attains equal going)
 
 -- the best house is the lowest legal house that attains the worth
 pub best_lowest : (p : Position) (h : ℕ) → is_over p ≡ false → Contains (legal_houses p) h → value_of_move p h ≡ worth p
@@ -271,9 +271,9 @@ best_lowest p h going is_legal attains =
     rw going lowest
 
 pub best_is_lowest : BestHouseIsLowest
-best_is_lowest p even going = record {
-  is_legal = (best_found _ even going).0;
-  attains = best_attains even going;
+best_is_lowest p equal going = record {
+  is_legal = (best_found _ equal going).0;
+  attains = best_attains equal going;
   lowest = λ h is_legal attains. best_lowest _ _ going is_legal attains;
 }
 
@@ -282,7 +282,7 @@ pub best_house_lowest : (p : Position) (h : ℕ) → is_over p ≡ false → IsB
 best_house_lowest p h going is = best_lowest _ _ going is.legal (attains_if_best _ _ is)
 
 pub best_moves_attain : BestMovesAttain
-best_moves_attain p h even going = (λ is. (is.legal, attains_if_best _ _ is), λ is. attaining_is_best _ _ even is.0 is.1)
+best_moves_attain p h equal going = (λ is. (is.legal, attains_if_best _ _ is), λ is. attaining_is_best _ _ equal is.0 is.1)
 
 -- ==== The verdict states best play, and no other does
 
@@ -305,32 +305,32 @@ small_best p margin house limits is_legal is_small =
 
 -- the verdict states how best play ends
 pub verdict_states : (p : Position) (v : Verdict) → HasEqualSides p → v ≡ verdict_of p → StatesBestPlay p v
-verdict_states p v even is =
+verdict_states p v equal is =
     let states = cond_both (is_over p) _ _ (StatesBestPlay p)
-    (λ over. record { over = over; final = refl; best_play = rw (worth_of_over p over) at (worth_is_best p even) })
-    (λ going. record { going = going; best = best_move p even going; lowest = λ h is. best_house_lowest p h going is }) in
+    (λ over. record { over = over; final = refl; best_play = rw (worth_of_over p over) at (worth_is_best_play p equal) })
+    (λ going. record { going = going; best = best_move p equal going; lowest = λ h is. best_house_lowest p h going is }) in
     subst (λ u. StatesBestPlay p u) (sym is) states
 
 -- each verdict that states how best play ends is the verdict
 stated_is_verdict : (p : Position) (v : Verdict) → HasEqualSides p → StatesBestPlay p v → v ≡ verdict_of p
-stated_is_verdict p (Best margin house) even states =
-    let margin_is = best_play_is_one p margin _ even states.best.best_play (worth_is_best p even) in
+stated_is_verdict p (Best margin house) equal states =
+    let margin_is = best_play_is_one p margin _ equal states.best.best_play (worth_is_best_play p equal) in
     let low = best_house_lowest p house states.going (rw margin_is at states.best) in
-    let high = states.lowest (best_house p) (rw margin_is (best_move p even states.going)) in
+    let high = states.lowest (best_house p) (rw margin_is (best_move p equal states.going)) in
     let house_is : house ≡ best_house p = omega arith in
     cc (margin_is, house_is)
-stated_is_verdict p (Over margin) even states = cc
+stated_is_verdict p (Over margin) equal states = cc
 
-pub verdict_is_one : BestVerdictIsOne
-verdict_is_one p v w even one other = grind (arith, stated_is_verdict)
+pub best_verdict_is_one : BestVerdictIsOne
+best_verdict_is_one p v w equal one other = grind (arith, stated_is_verdict)
 
 -- ==== What a move secures, and that the values of the moves determine the verdict
 
 pub value_is_worth : ValueIsWorthOfMove
-value_is_worth p h even going is_legal = move_worth p h
+value_is_worth p h equal going is_legal = move_worth p h
 
 pub worth_of_move_is_one : WorthOfMoveIsOne
-worth_of_move_is_one p h v w even going a b = move_worth_is_one a b
+worth_of_move_is_one p h v w equal going a b = move_worth_is_one a b
 
 -- ---- the values of all moves
 
@@ -344,13 +344,13 @@ no_values_state p = grind arith
 
 -- the values of the moves are what these secure; if the game is over there are none
 pub values_state : {p : Position} → HasEqualSides p → StateValues p (values_of p)
-values_state {p} even = record {
+values_state {p} equal = record {
   houses = houses_of p _;
   worth = elim (cases_Bool (is_over p)) [
     | inl over ↦ rw over (no_values_state p)
     | inr going ↦ All-map (λ (v : MoveValue). IsWorthOfMove p v.house v.value) (move_value p) _
         (All-from_get_or (λ h. IsWorthOfMove p h (value_of_move p h)) _ 0
-        (λ i within. value_is_worth p _ even going (Contains-get_or _ i 0 within)))
+        (λ i within. value_is_worth p _ equal going (Contains-get_or _ i 0 within)))
   ];
 }
 
@@ -365,7 +365,7 @@ first_with p m (x ∷ xs) = elim (cases_Bool (int_eq (value_of_move p x) m)) [
 ]
 
 pub values_tell_verdict : ValuesTellVerdict
-values_tell_verdict p even going =
+values_tell_verdict p equal going =
     grind (arith, map-map, worth_of_going, first_with)
 
 -- ==== The first house that attains the margin of best play, and the margin with the stores

@@ -11,7 +11,7 @@ use Rattle.kalah_rules.specs.Position.{HousesState, IsWithinHouses, storeless, i
 use Rattle.kalah_rules.specs.Key.{number_of, variant_of, key_of}
 use Rattle.kalah_rules.proofs.KeyLemmas.{same_key, number_of-append, pow_five, rule_bit-small, key_fits}
 use Rattle.kalah_solve.specs.Table.RowRank.{choose, row_rank, sums_number, rank_of_houses}
-use Rattle.kalah_solve.specs.Table.EndgameTable.{choice_at, AreChoices, pair_at, ArePairs, IsEnding, StoresWon, AreTrueWords, word_of, stored_at}
+use Rattle.kalah_solve.specs.Table.EndgameTable.{choice_at, AreChoices, pair_at, ArePairs, IsEnding, HoldsWon, AreTrueWords, word_of, stored_at}
 use Rattle.atomic_table.specs.Table.{State, Arrives, keeps}
 use Rattle.kalah_solve.specs.declared.table.endgame_table.TheConstants.{INVERSE_OF_31}
 use Rattle.kalah_solve.specs.declared.table.endgame_table.words.TheConstants.{FIRST_WORDS}
@@ -31,7 +31,7 @@ use Rattle.kalah_solve.specs.Solver.Worth.{houses_worth}
 use Rattle.kalah_solve.specs.Bounds.Intervals.{Encloses}
 use Rattle.kalah_solve.specs.Table.Entries.{TableState, IsTrueEntry, AreTrue}
 use Rattle.kalah_rules.specs.Limits.{most_seeds}
-use Rattle.kalah_solve.specs.Table.DirectTable.{mixed, slot_of, tag_of, stored_tag, stored_least, stored_most, IsWithinSlot, StoreBounds}
+use Rattle.kalah_solve.specs.Table.DirectTable.{mixed, slot_of, tag_of, stored_tag, stored_least, stored_most, IsWithinSlot, HoldBounds}
 use Rattle.kalah_solve.specs.declared.table.direct_table.Slot.{Slot}
 
 -- ==== The digits of a number, of four bits each
@@ -63,8 +63,8 @@ put_digit_is_there k n d none small = omega (arith, add-mul-div_right, pow_pos)
 pub same_digits_before : (j k n d : ℕ) → j < k → (n + d * 2 ^ (4 * k)) / 2 ^ (4 * j) % 16 ≡ n / 2 ^ (4 * j) % 16
 same_digits_before j k n d before =
     let past = k - suc j in
-    let slots : 4 * k ≡ 4 * suc past + 4 * j = omega arith in
-    let worth : 2 ^ (4 * k) ≡ 16 * 2 ^ (4 * past) * 2 ^ (4 * j) = rw (slots, pow-add 2 (4 * suc past) (4 * j), power_of_next_place past) refl in
+    let exponent : 4 * k ≡ 4 * suc past + 4 * j = omega arith in
+    let worth : 2 ^ (4 * k) ≡ 16 * 2 ^ (4 * past) * 2 ^ (4 * j) = rw (exponent, pow-add 2 (4 * suc past) (4 * j), power_of_next_place past) refl in
     let all : d * 2 ^ (4 * k) ≡ d * (16 * 2 ^ (4 * past)) * 2 ^ (4 * j) =
     rw worth (omega arith) in
     rw (all, add-mul-div_right n (d * (16 * 2 ^ (4 * past))) (pow_pos (4 * j))) (omega arith)
@@ -166,9 +166,9 @@ rank_same (x ∷ xs) (y ∷ ys) long same =
     let cons = sum_by-cons (λ (z : ℕ). z) x xs in
     let cons' = sum_by-cons (λ (z : ℕ). z) y ys in
     let cells : length xs ≡ length ys = omega arith in
-    let slots : x + sum xs + length xs ≡ y + sum ys + length ys = omega arith in
+    let total : x + sum xs + length xs ≡ y + sum ys + length ys = omega arith in
     let first : choose (x + sum xs + length xs) (suc (length xs)) ≡ choose (y + sum ys + length ys) (suc (length ys)) =
-    rw (slots, cells) refl in
+    rw (total, cells) refl in
     let rest = rank_same xs ys cells (omega arith) in
     let here : x ≡ y = omega (arith, ap sum rest) in
     rw (here, rest) refl
@@ -209,7 +209,7 @@ sums_are (x ∷ xs) number seeds some is all below =
       sums = omega (arith, sum_by-cons);
     }
 
--- both rows of houses in one number
+-- both rows of houses in one number, the other one moved up by 5 * m bits: it ends below bit 60, so nothing wraps
 pub both_rows : {a : HousesState} (own other m : ℕ) → IsWithinHouses a → own ≡ number_of a.own → other ≡ number_of a.other
     → own < 2 ^ 30 →
     other < 2 ^ 30 → m ≡ length a.own →
@@ -342,7 +342,8 @@ pairs_more pairs i v inside before is k below few = grind (arith, cases_eq, get_
 
 -- ---- the words of different variants are different
 
--- the binomial coefficients of the next number, by those of this one
+-- `choose` adds up the same again and again, so these are rows of Pascal's triangle: the binomial coefficients of the next number, by those
+-- of this one
 abbrev next_binomials : ℕ → List ℕ → List ℕ
 next_binomials before [] = []
 next_binomials before (w ∷ ws) = (before + w) ∷ next_binomials w ws
@@ -423,7 +424,7 @@ word_is_of_variant a within few =
 pub word_inside : {a : HousesState} → IsWithinHouses a → IsEnding a → word_of a < 52054
 word_inside {a} within few = grind (arith, word_is_of_variant)
 
--- endings of one word and one place in it are the same
+-- endings of one word and one place in it are the same: the word is of one variant, and with the place it has one rank there
 same_ending : (a b : HousesState) → IsWithinHouses a → IsWithinHouses b → IsEnding a → IsEnding b → word_of a ≡ word_of b →
     rank_of_houses a % 16 ≡ rank_of_houses b % 16 → a ≡ b
 same_ending a b ha hb few few_b word place =
@@ -432,22 +433,22 @@ same_ending a b ha hb few few_b word place =
 -- ---- what the words state
 
 -- an empty word states nothing
-pub states_nothing : (i : ℕ) → StoresWon i 0
-unfolding StoresWon
+pub states_nothing : (i : ℕ) → HoldsWon i 0
+unfolding HoldsWon
 states_nothing i a within few is kept = omega arith
 
 -- after one more ending is stored
-pub states_one_more : (word : ℕ) (a : HousesState) → StoresWon (word_of a) word → IsWithinHouses a → IsEnding a →
+pub states_one_more : (word : ℕ) (a : HousesState) → HoldsWon (word_of a) word → IsWithinHouses a → IsEnding a →
     stored_at word (rank_of_houses a % 16) ≡ 0 → won a ≤ 9 →
-    StoresWon (word_of a) (word + suc (won a) * 2 ^ (4 * (rank_of_houses a % 16)))
-unfolding StoresWon
+    HoldsWon (word_of a) (word + suc (won a) * 2 ^ (4 * (rank_of_houses a % 16)))
+unfolding HoldsWon
 states_one_more word a before ha few none small b hb few_b one stored =
     grind (arith, rank_of_houses, won, cases_eq, same_ending, put_digit_is_there, same_digits_elsewhere, stored)
 
 -- a stored ending is right
-pub stored_is_won : (word : ℕ) (a : HousesState) → StoresWon (word_of a) word → IsWithinHouses a → IsEnding a →
+pub stored_is_won : (word : ℕ) (a : HousesState) → HoldsWon (word_of a) word → IsWithinHouses a → IsEnding a →
     stored_at word (rank_of_houses a % 16) ≢ 0 → stored_at word (rank_of_houses a % 16) ≡ suc (won a)
-unfolding StoresWon
+unfolding HoldsWon
 stored_is_won word a states within few some = states a within few refl some
 
 -- ---- the steps on them
@@ -457,12 +458,13 @@ pub zeros_are_true : (n : ℕ) → AreTrueWords (replicate n 0)
 zeros_are_true n i = grind (arith, cases_lt, get_or-replicate, states_nothing, get_or_past, length-replicate)
 
 -- words stay true if one states what is true
-words_stay_true : (words : List ℕ) (i word : ℕ) → StoresWon i word → AreTrueWords words → AreTrueWords (slice_set words i word)
+words_stay_true : (words : List ℕ) (i word : ℕ) → HoldsWon i word → AreTrueWords words → AreTrueWords (slice_set words i word)
 words_stay_true words i word states holds j =
     grind (arith, cases_lt, cases_eq, get_or-set_same, get_or-set_other, get_or_past, length-set, states_nothing)
 
--- a new seat may write into each word what is true
-pub word_may_be_written : (slots i word : ℕ) → StoresWon i word →
+-- a new seat may write into each word what is true: the seat's view, an act that keeps all homes, that it may, the rule after the step, and
+-- nothing more to know
+pub word_may_be_written : (slots i word : ℕ) → HoldsWon i word →
     Arrives (λ (s : State (Unit {0}) (Unit {0})). AreTrueWords s.words) slots i (λ n. word) (λ n me. Unit {0})
 word_may_be_written slots i word states s holds homes small = (tt, keeps, tt, words_stay_true s.words i word states holds, tt)
 
@@ -610,15 +612,15 @@ ten_bits bits n some next = elim (cases_lt bits 10) [
 ]
 
 -- slots stay true once one more is stored
-pub bounds_more : (s : ℕ) (slots : List Slot) {a : HousesState} {number at : ℕ} {p : Slot} → s ≤ 54 → StoreBounds s slots
+pub bounds_more : (s : ℕ) (slots : List Slot) {a : HousesState} {number at : ℕ} {p : Slot} → s ≤ 54 → HoldBounds s slots
     → IsWithinHouses a →
     number ≡ mixed (key_of a) → at ≡ slot_of s number → at < length slots
     → stored_tag p ≡ tag_of number →
-    IsWithinSlot p (won a) → StoreBounds s (slice_set slots at p)
+    IsWithinSlot p (won a) → HoldBounds s (slice_set slots at p)
 bounds_more s slots enough before within is place inside rest known b number_b d within_b is_b inside_b rest_b =
     grind (arith, length-set, cases_eq, get_or-set_same, same_slotted, get_or-set_other)
 
 -- slots that all hold what is known of all houses
-pub bounds_unknown : (s count : ℕ) (p : Slot) → stored_least p ≡ 0 → stored_most p ≡ most_seeds → StoreBounds s (replicate count p)
+pub bounds_unknown : (s count : ℕ) (p : Slot) → stored_least p ≡ 0 → stored_most p ≡ most_seeds → HoldBounds s (replicate count p)
 bounds_unknown s count p none all a number d within is inside rest =
     grind (arith, won_of_houses, get_or-replicate, length-replicate)

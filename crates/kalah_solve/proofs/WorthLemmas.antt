@@ -108,7 +108,7 @@ board_equal_sides p limits = omega arith
 
 -- seen from the other side, too, both sides have as many houses
 pub swapped_equal_sides : (p : Position) → HasEqualSides p → HasEqualSides (swapped p)
-swapped_equal_sides p even = omega arith
+swapped_equal_sides p equal = omega arith
 
 -- the same list if two functions agree on each element
 map_same : (f g : ℕ → ℤ) (xs : List ℕ) → ((h : ℕ) → Contains xs h → f h ≡ g h) → map f xs ≡ map g xs
@@ -138,13 +138,13 @@ worth_within-over (suc n) p over = cc
 -- two counts that are high enough give the same worth
 pub worth_same : (n k : ℕ) (p : Position) → HasEqualSides p → moves_left p ≤ n → moves_left p ≤ k
     → worth_within n p ≡ worth_within k p
-worth_same zero k p even n_high k_high = grind (arith, over_at_end, worth_within-over)
-worth_same (suc n) zero p even n_high k_high = grind (arith, over_at_end, worth_within-over)
-worth_same (suc n) (suc k) p even n_high k_high = elim (cases_Bool _) [
+worth_same zero k p equal n_high k_high = grind (arith, over_at_end, worth_within-over)
+worth_same (suc n) zero p equal n_high k_high = grind (arith, over_at_end, worth_within-over)
+worth_same (suc n) (suc k) p equal n_high k_high = elim (cases_Bool _) [
   | inl over ↦ worth_within-over _ p over ∙ sym (worth_within-over _ p over)
   | inr going ↦ worth_within-going n p going ∙ ap greatest (map_same _ (value_by (worth_within k) p)
       _ (λ h is_legal.
-      let fewer = after_fewer p h (legal_holds p h is_legal) even in
+      let fewer = after_fewer p h (legal_holds p h is_legal) equal in
       let next_even = after_equal_sides p h in
       let turned = moves_left-swapped _ next_even in
       value_same (worth_within n) (worth_within k) p h
@@ -155,7 +155,7 @@ worth_same (suc n) (suc k) p even n_high k_high = elim (cases_Bool _) [
 
 pub worth_count : CountPlaysNoPart
 unfolding worth
-worth_count p n even high = worth_same _ _ _ even high (omega arith)
+worth_count p n equal high = worth_same _ _ _ equal high (omega arith)
 
 -- the margin of a position that is over
 pub worth_of_over : (p : Position) → is_over p ≡ true → worth p ≡ final_margin p
@@ -166,11 +166,11 @@ worth_of_over p over = worth_within-over _ _ over
 pub worth_of_going : (p : Position) → HasEqualSides p → is_over p ≡ false
     → worth p ≡ greatest (map (value_of_move p) (legal_houses p))
 unfolding worth
-worth_of_going p even going =
-    worth_same (moves_left p) (suc (moves_left p)) p even (omega arith) (omega arith)
+worth_of_going p equal going =
+    worth_same (moves_left p) (suc (moves_left p)) p equal (omega arith) (omega arith)
     ∙ worth_within-going _ _ going
     ∙ ap greatest (map_same (value_by (worth_within (moves_left p)) p) (value_of_move p) (legal_houses p) (λ h is_legal.
-    let fewer = after_fewer p h (legal_holds p h is_legal) even in
+    let fewer = after_fewer p h (legal_holds p h is_legal) equal in
     let next_even = after_equal_sides p h in
     let turned = moves_left-swapped (after p h) next_even in
     value_same (worth_within (moves_left p)) worth p h
@@ -218,17 +218,17 @@ value_of_turn p h e is = grind arith
 pub again_fewer : (p : Position) (h : ℕ) (e : Position) → HasEqualSides p → Contains (legal_houses p) h
     → board.Again e ≡ step_of p h →
     moves_left e < moves_left p
-again_fewer p h e even is_legal is =
+again_fewer p h e equal is_legal is =
     let to = step_states (is_over (after p h)) (is_again p h) (after p h) (board.Again e) is in
-    rw to.2 (after_fewer p h (legal_holds p h is_legal) even)
+    rw to.2 (after_fewer p h (legal_holds p h is_legal) equal)
 
 -- if the turn passes
 pub turn_fewer : (p : Position) (h : ℕ) (e : Position) → HasEqualSides p → Contains (legal_houses p) h
     → board.Turn e ≡ step_of p h →
     moves_left e < moves_left p
-turn_fewer p h e even is_legal is =
+turn_fewer p h e equal is_legal is =
     let to = step_states (is_over (after p h)) (is_again p h) (after p h) (board.Turn e) is in
-    let fewer = after_fewer p h (legal_holds p h is_legal) even in
+    let fewer = after_fewer p h (legal_holds p h is_legal) equal in
     rw to.2 (omega (arith, moves_left-swapped (after p h) (after_equal_sides p h)))
 
 -- without a legal house the own row of a game that goes on would be empty
@@ -264,27 +264,27 @@ value_passing p h turn = grind (arith, cases_Bool, worth_of_over, is_over-swappe
 -- the best house is legal, and attains the worth
 pub best_found : (p : Position) → HasEqualSides p → is_over p ≡ false →
     Contains (legal_houses p) (best_house p) × (int_eq (value_of_move p (best_house p)) (worth p) ≡ true)
-best_found p even going =
+best_found p equal going =
     let best = greatest_reached _ (legal_houses p) (legal_some p going) in
-    let attains = best.2 ∙ sym (worth_of_going p even going) in
+    let attains = best.2 ∙ sym (worth_of_going p equal going) in
     find_passes _ (legal_houses p) _ best.1
     (int_eq-same _ (worth p) attains)
 
 -- the value of the best house is the worth
 pub best_attains : {p : Position} → HasEqualSides p → is_over p ≡ false → value_of_move p (best_house p) ≡ worth p
-best_attains {p} even going = grind (arith, best_found)
+best_attains {p} equal going = grind (arith, best_found)
 
 -- no legal house gets more than the worth
 pub value_most : (p : Position) (h : ℕ) → HasEqualSides p → is_over p ≡ false → Contains (legal_houses p) h
     → value_of_move p h ≤ℤ worth p
-value_most p h even going has =
+value_most p h equal going has =
     let at = get_or_default _ has.0 0 h has.1 ∙ has.2 in
-    rw (worth_of_going p even going) (rw at at (greatest_is_most (value_of_move p) _ has.0 has.1))
+    rw (worth_of_going p equal going) (rw at at (greatest_is_most (value_of_move p) _ has.0 has.1))
 
 pub worth_is_most : WorthIsMostOfMoves
-worth_is_most p even going = record {
-  reached = (best_house p, (best_found _ even going).0, best_attains even going);
-  most = λ h has. value_most _ _ even going has;
+worth_is_most p equal going = record {
+  reached = (best_house p, (best_found _ equal going).0, best_attains equal going);
+  most = λ h has. value_most _ _ equal going has;
 }
 
 -- ==== Stores do not influence play

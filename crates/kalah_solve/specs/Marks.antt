@@ -25,7 +25,7 @@ abbrev pub without_mark : ℕ → ℕ → ℕ
 without_mark marks h = marks - 32 ^ (h - 1)
 
 -- the cells of a row that hold something are marked
-pub record MarksFilled (row marks : ℕ) : Type 0 where
+pub record AreFilledMarks (row marks : ℕ) : Type 0 where
   pub cells : (i : ℕ) → i < 6 → cell marks i ≡ min 1 (cell row i)
   pub are : AreMarks marks
 
@@ -34,7 +34,7 @@ abbrev pub all_end_in_store : ℕ → ℕ
 all_end_in_store m = number_of (row_of m (store_distance m))
 
 -- the houses of a row of m that end in the store are marked, and no cell past them that is empty
-pub record MarksEnding (row m marks : ℕ) : Type 0 where
+pub record AreMarksIntoStore (row m marks : ℕ) : Type 0 where
   pub inside : (i : ℕ) → i < m → (0 < cell marks i) ↔ (cell row i + i ≡ m)
   pub past : (i : ℕ) → i < 6 → m ≤ i → cell row i ≡ 0 → cell marks i ≡ 0
   pub are : AreMarks marks

@@ -3,7 +3,7 @@ ghost use Rattle.std.specs.Prelude.{◌≡◌, ◌↔◌, ◌+◌, ◌-◌, ◌�
 ghost use Rattle.kalah_rules.specs.Position.{IsWithinHouses};
 ghost use Rattle.kalah_solve.specs.Search.{EndsInStore};
 ghost use Rattle.kalah_rules.specs.Packed.{ones};
-ghost use Rattle.kalah_solve.specs.Marks.{cell, AreMarks, IsLastMark, without_mark, MarksFilled, MarksEnding, all_end_in_store};
+ghost use Rattle.kalah_solve.specs.Marks.{cell, AreMarks, IsLastMark, without_mark, AreFilledMarks, AreMarksIntoStore, all_end_in_store};
 
 use kalah_rules::{House, Houses};
 
@@ -38,7 +38,7 @@ fn all_end_in_store(m: u8) -> u64
 // Returns the houses of a row that have seeds, marked.
 #[tactic(auto, using(crate::proofs::MarksLemmas::marks_filled))]
 fn filled(row: u64) -> u64
-    ensures { MarksFilled row result }
+    ensures { AreFilledMarks row result }
 {
     ((((row & FIFTEEN_EACH) + FIFTEEN_EACH) | row) >> 4) & ONE_EACH
 }
@@ -46,7 +46,7 @@ fn filled(row: u64) -> u64
 // Returns the houses of a row of `m` whose last seed would fall into the store without a lap, marked.
 fn ending_in_store(row: u64, m: u8) -> u64
     requires { m ≤ 6 }
-    ensures { MarksEnding row m result }
+    ensures { AreMarksIntoStore row m result }
 {
     filled(row ^ all_end_in_store(m)) ^ all_marked(m)
 }

@@ -106,15 +106,15 @@ impl<A: Allocator + Clone> Search<A> {
 
     /// Returns the worth of the houses, raised to the window's lower end and lowered to its upper one. That of an ending is looked up,
     /// and what is learned of others is kept as an entry of the table if it took enough nodes.
-    pub fn search(&mut self, houses: &Houses, window: Window) -> i32
+    pub fn clamped_worth(&mut self, houses: &Houses, window: Window) -> i32
         requires going { is_over (storeless houses.now) ≡ false }
         ensures { result ≡ clamped window.lo window.hi (houses_worth houses.now) }
     {
-        in_its_variant!(self.search_in_variant(houses, window))
+        in_its_variant!(self.clamped_worth_in_variant(houses, window))
     }
 
     // Returns the worth of houses of this variant, raised to the window's lower end and lowered to its upper one.
-    fn search_in_variant<const VARIANT: u8>(&mut self, houses: &Houses, window: Window) -> i32
+    fn clamped_worth_in_variant<const VARIANT: u8>(&mut self, houses: &Houses, window: Window) -> i32
         requires going { is_over (storeless houses.now) ≡ false }
         requires variant { variant_of houses.now ≡ VARIANT }
         ensures { result ≡ clamped window.lo window.hi (houses_worth houses.now) }
@@ -128,13 +128,13 @@ impl<A: Allocator + Clone> Search<A> {
             let won = self.table.won::<VARIANT>(*houses);
             return window.clamp(margin_of(won, seeds));
         }
-        self.search_by_tests::<VARIANT>(houses, window)
+        self.clamped_worth_by_tests::<VARIANT>(houses, window)
     }
 
     // Does the same for houses that are no ending that is looked up.
     // Out of line, so that an ending takes few instructions.
     #[inline(never)]
-    fn search_by_tests<const VARIANT: u8>(&mut self, houses: &Houses, window: Window) -> i32
+    fn clamped_worth_by_tests<const VARIANT: u8>(&mut self, houses: &Houses, window: Window) -> i32
         requires going { is_over (storeless houses.now) ≡ false }
         requires variant { variant_of houses.now ≡ VARIANT }
         ensures { result ≡ clamped window.lo window.hi (houses_worth houses.now) }
@@ -170,7 +170,7 @@ impl<A: Allocator + Clone> Search<A> {
         let mut beta = houses.seeds() / 2 + 1;
         while low < high {
             let asked_beta = beta.clamp(low + 1, high);
-            let bound = self.explore::<VARIANT>(&houses, asked_beta);
+            let bound = self.bound_by_moves::<VARIANT>(&houses, asked_beta);
             if asked_beta <= bound {
                 low = bound.min(high);
                 beta = low + 1;
@@ -208,7 +208,7 @@ impl<A: Allocator + Clone> Search<A> {
 
     // Returns a fail-soft bound of how many seeds the mover wins. From `beta` on it is a lower bound, and below `beta` an upper one.
     #[inline(always)]
-    #[cycle(search)]
+    #[cycle(bound)]
     fn bound<const VARIANT: u8>(&mut self, houses: Houses, beta: u8) -> u8
         requires going { is_over (storeless houses) ≡ false }
         requires variant { variant_of houses ≡ VARIANT }
@@ -221,7 +221,7 @@ impl<A: Allocator + Clone> Search<A> {
     }
 
     // Returns a fail-soft bound of how many seeds the mover wins. The houses are no ending that is looked up.
-    #[cycle(search)]
+    #[cycle(bound)]
     #[inline(never)]
     fn bound_by_search<const VARIANT: u8>(&mut self, houses: &Houses, beta: u8) -> u8
         requires going { is_over (storeless houses.now) ≡ false }
@@ -237,7 +237,7 @@ impl<A: Allocator + Clone> Search<A> {
             return known.most;
         }
         let before = self.count_node();
-        let bound = self.explore::<VARIANT>(&houses, beta);
+        let bound = self.bound_by_moves::<VARIANT>(&houses, beta);
         let nodes = self.counts.nodes().saturating_sub(before);
         let learned = if beta <= bound {
             SeedBounds {
@@ -256,8 +256,8 @@ impl<A: Allocator + Clone> Search<A> {
 
     // Returns a fail-soft bound of how many seeds the mover wins, found by trying the moves.
     #[inline(always)]
-    #[cycle(search)]
-    fn explore<const VARIANT: u8>(&mut self, houses: &Houses, beta: u8) -> u8
+    #[cycle(bound)]
+    fn bound_by_moves<const VARIANT: u8>(&mut self, houses: &Houses, beta: u8) -> u8
         requires going { is_over (storeless houses.now) ≡ false }
         requires variant { variant_of houses.now ≡ VARIANT }
         ensures { IsSoftBound beta (won houses.now) result }
@@ -294,7 +294,7 @@ impl<A: Allocator + Clone> Search<A> {
     // Tries the moves that end in the store, the nearest to it first, until one wins enough. Returns a lower bound of what that one wins,
     // or else, below `beta`, an upper bound for all.
     #[inline(always)]
-    #[cycle(search)]
+    #[cycle(bound)]
     fn bound_into_store<const VARIANT: u8>(&mut self, houses: &Houses, beta: u8) -> u8
         requires going { is_over (storeless houses.now) ≡ false }
         requires variant { variant_of houses.now ≡ VARIANT }
@@ -320,7 +320,7 @@ impl<A: Allocator + Clone> Search<A> {
     // upper bound for all that don't wait. The turns that must be searched wait: they are written down, each with its priority, which is
     // 0 for all else.
     #[inline(always)]
-    #[cycle(search)]
+    #[cycle(bound)]
     fn try_remaining<const VARIANT: u8>(
         &mut self,
         houses: &Houses,
@@ -362,7 +362,7 @@ impl<A: Allocator + Clone> Search<A> {
 
     // Returns a fail-soft bound of what a step wins.
     #[inline(always)]
-    #[cycle(search)]
+    #[cycle(bound)]
     fn bound_step<const VARIANT: u8>(&mut self, step: HousesStep, beta: u8) -> u8
         requires on { GoesOn VARIANT step }
         ensures { IsSoftBound beta (won_by_step step) result }
@@ -382,7 +382,7 @@ impl<A: Allocator + Clone> Search<A> {
 
     // Returns a fail-soft bound of what a turn wins: the `gained` seeds that it brought to the store, and what the other player leaves.
     #[inline(always)]
-    #[cycle(search)]
+    #[cycle(bound)]
     fn bound_turn<const VARIANT: u8>(&mut self, gained: u8, next: Houses, beta: u8) -> u8
         requires on { GoesOnAt VARIANT gained next }
         ensures { IsSoftBound beta (gained + (seeds_in_houses (storeless next) - won next)) result }

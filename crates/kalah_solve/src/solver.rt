@@ -97,7 +97,7 @@ impl<A: Allocator + Clone> Solver<A> {
         requires going { is_over (storeless houses.now) ≡ false }
         ensures { result ≡ houses_worth houses.now }
     {
-        self.search.search(houses, Window::whole())
+        self.search.clamped_worth(houses, Window::whole())
     }
 
     // Returns the lowest-numbered house that wins as many seeds as best play. If all but the last fall short, it is the last.

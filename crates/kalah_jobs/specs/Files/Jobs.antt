@@ -33,7 +33,7 @@ job_count jobs = sum_by length jobs
 -- the jobs are within the limits, and these are the numbers of all and of those that are answered by a fault
 pub record AreCounted (jobs : List (List Entry)) (total faults : ℕ) : Type 0 where
   pub few_files : length jobs ≤ most_files
-  pub few_lines : job_count jobs ≤ most_lines
+  pub lines_within_limit : job_count jobs ≤ most_lines
   pub all : total ≡ job_count jobs
   pub faulty : faults ≡ sum_by (count_by is_faulty_entry) jobs
 

@@ -86,7 +86,7 @@ impl Jobs {
         if files.len() > MOST_FILES {
             return Err(JobsFault::TooManyFiles);
         }
-        let Some(total) = few_lines(files) else {
+        let Some(total) = lines_within_limit(files) else {
             return Err(JobsFault::TooManyLines);
         };
         let mut read = Vec::with_capacity(alloc, files.len())?;
@@ -190,7 +190,7 @@ impl Jobs {
 }
 
 // Returns the number of lines that the files have together, or `None` if that is more than a batch may have.
-fn few_lines(files: &[FileText]) -> Option<usize>
+fn lines_within_limit(files: &[FileText]) -> Option<usize>
     ensures some { IfSome result (λ lines. (lines ≡ lines_in_all files.now) × (lines ≤ most_lines)) }
     ensures none { IfNone result (most_lines < lines_in_all files.now) }
 {

@@ -42,10 +42,10 @@ abbrev pub stored_at : ℕ → ℕ → ℕ
 stored_at word at = word / 2 ^ (4 * at) % 16
 
 -- what word i states is what the mover wins
-unfoldable pub StoresWon : ℕ → ℕ → Type 0
-StoresWon i word = (a : HousesState) → IsWithinHouses a → IsEnding a → word_of a ≡ i → stored_at word (rank_of_houses a % 16) ≢ 0 →
+unfoldable pub HoldsWon : ℕ → ℕ → Type 0
+HoldsWon i word = (a : HousesState) → IsWithinHouses a → IsEnding a → word_of a ≡ i → stored_at word (rank_of_houses a % 16) ≢ 0 →
     stored_at word (rank_of_houses a % 16) ≡ suc (won a)
 
 -- each word states what is true
 abbrev pub AreTrueWords : List ℕ → Type 0
-AreTrueWords words = (i : ℕ) → StoresWon i (slice_index words i)
+AreTrueWords words = (i : ℕ) → HoldsWon i (slice_index words i)

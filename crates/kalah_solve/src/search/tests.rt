@@ -49,7 +49,7 @@ fn search_all(
         let houses = Houses::new(*m, *own, *other, Rule::Classic).expect(rt, "beyond the limits");
         assert!(rt; !houses.is_over());
         assert!(rt;
-            search.search(&houses, Window::whole()) == *worth,
+            search.clamped_worth(&houses, Window::whole()) == *worth,
             "{houses:?}"
         );
     }
@@ -87,7 +87,7 @@ fn answers_after_few_nodes_get_no_entry(rt: HostRuntime) {
     let houses = Houses::new(1, own, other, Rule::Classic).expect(&rt, "beyond the limits");
     assert!(rt; !houses.is_over());
     for _ in 0..2u8 {
-        assert!(rt; search.search(&houses, Window::whole()) == 7);
+        assert!(rt; search.clamped_worth(&houses, Window::whole()) == 7);
         assert!(rt; search.table.look_up(&houses) == None);
     }
 }

@@ -27,7 +27,14 @@ pub fn stores_only_shift()
 
 /// Two players that follow strategies play a game to its end, and only one. No game by the rules has more moves than
 /// `moves_left`, and each ends in a position that is over.
-#[tactic(auto, using(crate::proofs::SolverLemmas::games_are_played, crate::proofs::SolverLemmas::the_game_is_one, crate::proofs::SolverLemmas::games_end))]
+#[tactic(
+    auto,
+    using(
+        crate::proofs::SolverLemmas::strategies_play_a_game,
+        crate::proofs::SolverLemmas::strategies_play_one_game,
+        crate::proofs::SolverLemmas::games_end
+    )
+)]
 pub fn players_play_one_game()
     ensures game { StrategiesPlayAGame }
     ensures one { StrategiesPlayOneGame }
@@ -50,7 +57,7 @@ pub fn best_moves_attain_worth()
 {}
 
 /// There is only one verdict of best play: any verdict that states it is the solver's.
-#[tactic(auto, using(crate::proofs::SolverLemmas::verdict_is_one))]
+#[tactic(auto, using(crate::proofs::SolverLemmas::best_verdict_is_one))]
 pub fn best_verdict_is_one()
     ensures { BestVerdictIsOne }
 {}

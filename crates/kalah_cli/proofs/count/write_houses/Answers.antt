@@ -12,7 +12,7 @@ use Rattle.kalah_jobs.specs.Writing.Counts.{ways_line}
 use Rattle.kalah_jobs.specs.Writing.Sink.{WasGiven}
 use Rattle.kalah_cli.specs.Count.{ways_lines}
 use Rattle.kalah_cli.proofs.RunLemmas.{few_ways, house_line}
-use Rattle.kalah_jobs.proofs.WritingLemmas.{given_all, given_cut, given_flushed, given_more}
+use Rattle.kalah_jobs.proofs.WritingLemmas.{given_all, given_all_after_failure, given_then_flush, given_more}
 use Rattle.kalah_cli.proofs.count.write_houses.Goals as goal
 
 -- the sum of the ways that begin with a legal move is the number of all
@@ -30,7 +30,7 @@ loop-i-preserved g c =
     let house = c.get-house.result in
     let within : i < length moves = omega (arith, c.loop-i-test.true, c.len-i-end.ensures) in
     let line = subst (λ n. WasGiven g.O.Sink.state c.loop-i.out c.flush_unless_failed.new.out (ways_line house n))
-    c.ways_by-ways.ensures.ways (given_flushed _ _ _ _ _ c.write_ways.ensures c.flush_unless_failed.ensures.given) in
+    c.ways_by-ways.ensures.ways (given_then_flush _ _ _ _ _ c.write_ways.ensures c.flush_unless_failed.ensures.given) in
     let few = few_ways c.ways_by-ways.result c.args.depth c.ways_by-ways.ensures.small c.requires in
     record {
       same = c.loop-i.invariant.same;
@@ -59,7 +59,7 @@ pub returns-then-failed-clause-given : goal.returns-then-failed-clause-given
 returns-then-failed-clause-given g c =
     let some : c.args.depth ≡ suc (c.args.depth - 1) = omega arith in
     subst (λ depth. WasGiven g.O.Sink.state c.args.out.now c.loop-i.out (ways_lines depth c.args.board.now)) (sym some)
-    (given_cut _ (house_line (c.args.depth - 1) c.args.board.now) c.loop-i.invariant.same c.loop-i.i _ _ c.loop-i.invariant.given
+    (given_all_after_failure _ (house_line (c.args.depth - 1) c.args.board.now) c.loop-i.invariant.same c.loop-i.i _ _ c.loop-i.invariant.given
     (sym c.failed.ensures ∙ c.if-failed.true))
 
 pub returns-clause-total : goal.returns-clause-total

@@ -14,10 +14,10 @@ pub write_game-requires : goal.write_game-requires
 write_game-requires g t c κs within =
     let next = c.in-Some.ensures.some in
     let step = c.apply-step.ensures.step in
-    let even = board_equal_sides c.args.board.now c.apply-step.ensures.limits in
+    let equal = board_equal_sides c.args.board.now c.apply-step.ensures.limits in
     let fewer : moves_left c.board_after.result.now < moves_left c.args.board.now =
     subst (λ q. moves_left q < moves_left c.args.board.now) (sym c.board_after.ensures)
-    (fewer_left c.apply-step.result even next.legal step) in
+    (fewer_left c.apply-step.result equal next.legal step) in
     let given = subst (WasGiven g.O.Sink.state c.next_move.new.out c.write_in_form.new.out) (next_text next step)
     c.write_in_form.ensures in (
       omega (arith, fewer),
@@ -39,10 +39,10 @@ returns-clause-begun g t c = c.write_game.ensures.begun ∙ c.next_move.ensures.
 
 pub returns-clause-printed : goal.returns-clause-printed
 returns-clause-printed g t c =
-    let even = board_equal_sides c.args.board.now c.apply-step.ensures.limits in
+    let equal = board_equal_sides c.args.board.now c.apply-step.ensures.limits in
     record {
       given = subst (WasGiven g.O.Sink.state c.args.out.now c.write_game.new.out)
-          (sym (text_goes_on c.in-Some.ensures.some c.apply-step.ensures.step even))
+          (sym (text_goes_on c.in-Some.ensures.some c.apply-step.ensures.step equal))
           (given_then _ _ _ _ [] _ c.next_move.ensures.flushed
           (given_then _ _ _ _ (move_text c.args.form c.in-Some.value c.in-Some.house c.apply-step.result) _
           c.write_in_form.ensures (rw (← c.board_after.ensures) c.write_game.ensures.printed.given)));

@@ -1,6 +1,6 @@
 use Rattle.std.proofs.Common.{◌∙◌, [], sym, subst}
 use Rattle.kalah_jobs.specs.Writing.Sink.{WasGiven}
-use Rattle.kalah_jobs.proofs.WritingLemmas.{given_cut_off}
+use Rattle.kalah_jobs.proofs.WritingLemmas.{given_more_after_failure}
 use Rattle.kalah_cli.proofs.GameLemmas.{next_of_verdict, no_text, shown_flushed}
 use Rattle.kalah_cli.proofs.game.next_move.Goals as goal
 
@@ -9,7 +9,7 @@ solve-requires-clause-shown g c = shown_flushed _ c.requires.shown c.flush_unles
 
 pub returns-then-failed-clause-none : goal.returns-then-failed-clause-none
 returns-then-failed-clause-none g c = record {
-  given = given_cut_off _ _ _ [] _ c.flush_unless_failed.ensures.given (sym c.failed.ensures ∙ c.if-failed.true);
+  given = given_more_after_failure _ _ _ [] _ c.flush_unless_failed.ensures.given (sym c.failed.ensures ∙ c.if-failed.true);
   all_flushed = c.flush_unless_failed.ensures.all_flushed;
 }
 

@@ -22,8 +22,8 @@ requested-requires g c =
     let same = pair_got _ _ _ _ _ _ c.unwrap.result c.subcommand.ensures.name c.subcommand.ensures.rows c.unwrap.ensures in
     (words, read.none, sym read.same ∙ same)
 
-pub returns-clause-taken : goal.returns-clause-taken
-returns-clause-taken g c =
+pub returns-clause-accepted : goal.returns-clause-accepted
+returns-clause-accepted g c =
     let words = map g.S.AsStr.text c.args.words.now in
     let read = parsed _ words _ c.in_ok-command.ensures c.in_ok-matches.ensures.kinds
     (λ simple. (c.in_ok-matches.ensures.matches simple).1) in

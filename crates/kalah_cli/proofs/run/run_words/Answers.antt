@@ -1,7 +1,7 @@
 use Rattle.std.proofs.Common.{ap, sym}
 use Rattle.kalah_cli.specs.Request.{texts_of}
 use Rattle.kalah_cli.proofs.RunLemmas.{KeepsPromises, accepted_run, by_words, refused_run}
-use Rattle.kalah_cli.proofs.RequestLemmas.{taken_at}
+use Rattle.kalah_cli.proofs.RequestLemmas.{accepted_at}
 use Rattle.kalah_cli.proofs.GameLemmas.{plays_best, variations_end}
 use Rattle.kalah_cli.proofs.run.run_words.Goals.{After-drop-words, in-Err+in-None-1, in-Err+in-Some-1, in-Ok+in-Files-1, in-Ok+in-Line-1}
 use Rattle.kalah_cli.proofs.run.run_words.Given.{Over}
@@ -14,9 +14,9 @@ ran g c =
     let words = ap texts_of (sym c.as_slice-arguments.ensures.value) in
     elim c.match-parse.branch [
       | in-Ok+in-Line-1 w ↦ rw (c.report_end.ensures, w.ended-is, w.out-is)
-          (accepted_run g.O.Sink.state _ _ _ _ _ c.requires.sink (taken_at words w.in-Ok.ensures.taken) w.run_request-ended.ensures)
+          (accepted_run g.O.Sink.state _ _ _ _ _ c.requires.sink (accepted_at words w.in-Ok.ensures.accepted) w.run_request-ended.ensures)
       | in-Ok+in-Files-1 w ↦ rw (c.report_end.ensures, w.ended-is, w.out-is)
-          (accepted_run g.O.Sink.state _ _ _ _ _ c.requires.sink (taken_at words w.in-Ok.ensures.taken) w.run_request-ended.ensures)
+          (accepted_run g.O.Sink.state _ _ _ _ _ c.requires.sink (accepted_at words w.in-Ok.ensures.accepted) w.run_request-ended.ensures)
       | in-Err+in-None-1 w ↦
           let refused = w.refuse-ended.ensures in
           rw (c.report_end.ensures, w.ended-is, w.out-is) (refused_run g.O.Sink.state _ _ _ _ _ w.in-Err.error

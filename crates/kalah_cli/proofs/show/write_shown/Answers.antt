@@ -5,7 +5,7 @@ use Rattle.kalah_jobs.specs.Files.Lines.{line_feed}
 use Rattle.kalah_jobs.specs.Writing.Sink.{WasGiven}
 use Rattle.kalah_jobs.specs.Writing.Picture.{picture_of}
 use Rattle.kalah_jobs.specs.Writing.Shown.{shown_of, values_line}
-use Rattle.kalah_jobs.proofs.WritingLemmas.{given_cut_off, given_then}
+use Rattle.kalah_jobs.proofs.WritingLemmas.{given_more_after_failure, given_then}
 use Rattle.kalah_cli.specs.Ends.{IsPrinted}
 use Rattle.kalah_cli.specs.Show.{lines_asked, show_output}
 use Rattle.kalah_cli.proofs.RunLemmas.{printed_flushed}
@@ -27,7 +27,7 @@ output_parts lines p =
 pub returns-then-failed : goal.returns-then-failed
 returns-then-failed g c = record {
   given = subst (WasGiven g.O.Sink.state c.args.out.now c.write_plain.new.out) (sym (output_parts c.args.lines c.args.board.now))
-      (given_cut_off _ _ _ _ _ c.write_plain.ensures.given (sym c.failed.ensures ∙ c.if-failed.true));
+      (given_more_after_failure _ _ _ _ _ c.write_plain.ensures.given (sym c.failed.ensures ∙ c.if-failed.true));
   all_flushed = c.write_plain.ensures.all_flushed;
 }
 

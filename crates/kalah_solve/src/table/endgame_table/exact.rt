@@ -15,7 +15,7 @@ use std::alloc::Allocator;
 
 impl<A: Allocator + Clone> EndgameTable<A> {
     /// Returns how many of the seeds in the houses the mover wins in best play.
-    #[cycle(exact)]
+    #[cycle(won)]
     #[inline(always)]
     pub(crate) fn won<const VARIANT: u8>(&self, houses: Houses) -> u8
         requires going { is_over (storeless houses) ≡ false }
@@ -28,13 +28,13 @@ impl<A: Allocator + Clone> EndgameTable<A> {
         if let Some(won) = self.get(&houses, rank) {
             return won;
         }
-        self.learn::<VARIANT>(houses, rank)
+        self.won_by_moves::<VARIANT>(houses, rank)
     }
 
     // Returns how many the mover wins, found by trying the moves, and keeps it.
-    #[cycle(exact)]
+    #[cycle(won)]
     #[inline(never)]
-    fn learn<const VARIANT: u8>(&self, houses: Houses, rank: u32) -> u8
+    fn won_by_moves<const VARIANT: u8>(&self, houses: Houses, rank: u32) -> u8
         requires going { is_over (storeless houses) ≡ false }
         requires variant { variant_of houses ≡ VARIANT }
         requires few { IsEnding houses }
@@ -48,7 +48,7 @@ impl<A: Allocator + Clone> EndgameTable<A> {
     }
 
     // Returns how many the mover wins. Tries the moves from the one nearest the store on, until one wins all.
-    #[cycle(exact)]
+    #[cycle(won)]
     fn most_won<const VARIANT: u8>(&self, houses: &Houses) -> u8
         requires going { is_over (storeless houses.now) ≡ false }
         requires variant { variant_of houses.now ≡ VARIANT }
@@ -70,7 +70,7 @@ impl<A: Allocator + Clone> EndgameTable<A> {
     }
 
     // Returns how many seeds the move of this house wins.
-    #[cycle(exact)]
+    #[cycle(won)]
     fn move_wins<const VARIANT: u8>(&self, houses: &Houses, house: House) -> u8
         requires legal { Contains (legal_houses (storeless houses.now)) house }
         requires variant { variant_of houses.now ≡ VARIANT }

@@ -38,9 +38,9 @@ impl TableRule<(), (), ()> for TrueWords {
 pub(super) struct Reads;
 
 impl Play<(), ()> for Reads {
-    ghost use Rattle.kalah_solve.specs.Table.EndgameTable.{StoresWon};
+    ghost use Rattle.kalah_solve.specs.Table.EndgameTable.{HoldsWon};
 
-    ghost then = { λ step _ found _. StoresWon step.word found };
+    ghost then = { λ step _ found _. HoldsWon step.word found };
 }
 
 /// A word is written.

@@ -5,6 +5,6 @@ use Rattle.kalah_solve.proofs.solver.Solver.houses_worth.Goals as goal
 
 pub returns : goal.returns
 returns g c =
-    let fits : SFits w32 c.search.result = search rules in
+    let fits : SFits w32 c.clamped_worth.result = search rules in
     to_z-of_z w32 _ fits ∙ whole_window _ _ _ c.requires.limits
-    c.whole.ensures.lo c.whole.ensures.hi c.search.ensures
+    c.whole.ensures.lo c.whole.ensures.hi c.clamped_worth.ensures

@@ -27,7 +27,7 @@ invariant_of-result c =
     let none = ap lines_in_all (drop_all c.loop-file.file-index c.args.files.now (omega (arith, c.loop-file-test.false))) in (
       record {
         few_files = omega (arith, so_far.many, c.loop-file.auto.file-index-end, c.if-files-gt-MOST_FILES.false);
-        few_lines = omega (arith, none, so_far.before_is, so_far.lines, c.in-Some.ensures.some);
+        lines_within_limit = omega (arith, none, so_far.before_is, so_far.lines, c.in-Some.ensures.some);
         all = omega (arith, none, so_far.before_is, so_far.lines, c.in-Some.ensures.some);
         faulty = so_far.faults_are;
       },

@@ -1,6 +1,6 @@
 use Rattle.std.proofs.Common.{arith, ◌∙◌, ◌≡◌, ◌%◌, subst}
 use Rattle.kalah_solve.specs.Table.RowRank.{rank_of_houses}
-use Rattle.kalah_solve.specs.Table.EndgameTable.{StoresWon, stored_at}
+use Rattle.kalah_solve.specs.Table.EndgameTable.{HoldsWon, stored_at}
 use Rattle.kalah_solve.proofs.TableLemmas.{stored_is_won}
 use Rattle.kalah_solve.proofs.table.endgame_table.EndgameTable.get.Goals as goal
 
@@ -9,6 +9,6 @@ returns g c =
     let a = c.args.houses.now in
     let word = c.load_new_seat-word.result.0 in
     let at : c.stored_at-stored.result ≡ stored_at word (rank_of_houses a % 16) = rw (← c.requires.rank) c.stored_at-stored.ensures in
-    let states = subst (λ i. StoresWon i word) c.word_of.ensures.word c.load_new_seat-word.ensures.2 in
+    let states = subst (λ i. HoldsWon i word) c.word_of.ensures.word c.load_new_seat-word.ensures.2 in
     let right = stored_is_won _ _ states c.word_of.ensures.limits c.requires.few (λ none. c.if-stored-eq0.false (at ∙ none)) in
     omega arith

@@ -9,8 +9,8 @@ use Rattle.kalah_solve.proofs.MarksLemmas.{cell_of_zero, without_last_less, into
 use Rattle.kalah_solve.proofs.SearchLemmas.{enough_is_won, turn_enough, reply_left, step_is_turn, next_waits, waits_there, reply_fits, bound_le_max, bound_of_rest, short_stays, played_at_start, played_and_waits, played_and_bounded, unmarked_at_start, unmarked_without_last, untried_at_start, untried_fewer, none_untried}
 use Rattle.kalah_solve.proofs.WorthLemmas.{goes_on, leads_by, step_falls}
 use Rattle.kalah_solve.proofs.BoundsLemmas.{won_of_houses}
-use Rattle.kalah_solve.proofs.search.Search.+search.Goals as goal
-use Rattle.kalah_solve.proofs.search.Search.+search.Goals.{try_remaining-in-Turn+else-gained-beta, try_remaining-in_default}
+use Rattle.kalah_solve.proofs.search.Search.+bound.Goals as goal
+use Rattle.kalah_solve.proofs.search.Search.+bound.Goals.{try_remaining-in-Turn+else-gained-beta, try_remaining-in_default}
 
 pub bound_step-overflow_add-result : goal.bound_step-overflow_add-result
 bound_step-overflow_add-result g t c =
@@ -27,16 +27,16 @@ bound_turn-returns-else-all-beta g t c =
     let few = (won_of_houses c.requires.on.limits).few in
     bound_of_rest (c.args.gained + c.seeds.result) _ c.args.gained (omega arith) few c.bound.ensures
 
-pub explore-bounds-priorities-at : goal.explore-bounds-priorities-at
-explore-bounds-priorities-at g t c = omega (arith, (c.loop-priority.invariant.next c.loop-priority-test.true).place)
+pub bound_by_moves-bounds-priorities-at : goal.bound_by_moves-bounds-priorities-at
+bound_by_moves-bounds-priorities-at g t c = omega (arith, (c.loop-priority.invariant.next c.loop-priority-test.true).place)
 
-pub explore-bounds-waiting-at : goal.explore-bounds-waiting-at
-explore-bounds-waiting-at g t c =
+pub bound_by_moves-bounds-waiting-at : goal.bound_by_moves-bounds-waiting-at
+bound_by_moves-bounds-waiting-at g t c =
     let long : length c.try_remaining-remaining.new.turns ≡ 6 = search rules in
     omega (arith, (c.loop-priority.invariant.next c.loop-priority-test.true).place)
 
-pub explore-bound_by_search-requires : goal.explore-bound_by_search-requires
-explore-bound_by_search-requires g t c κs within =
+pub bound_by_moves-bound_by_search-requires : goal.bound_by_moves-bound_by_search-requires
+bound_by_moves-bound_by_search-requires g t c κs within =
     let limits = c.seeds-seeds.ensures.limits in
     let turn = waits_there (c.loop-priority.invariant.next c.loop-priority-test.true) c.index-waiting-at.is in
     let on = goes_on _ _ _ _ c.requires.variant limits turn.legal (sym turn.step) in (
@@ -44,14 +44,14 @@ explore-bound_by_search-requires g t c κs within =
       (within, (search rules, (on.going, on.same))),
     )
 
-pub explore-overflow_sub-bound : goal.explore-overflow_sub-bound
-explore-overflow_sub-bound g t c =
+pub bound_by_moves-overflow_sub-bound : goal.bound_by_moves-overflow_sub-bound
+bound_by_moves-overflow_sub-bound g t c =
     let turn = waits_there (c.loop-priority.invariant.next c.loop-priority-test.true) c.index-waiting-at.is in
     reply_fits c.args.beta c.seeds-seeds.ensures.limits turn c.seeds-seeds.ensures.seeds c.saturating_sub-reply_beta.ensures
     c.bound_by_search.ensures
 
-pub explore-returns-then-beta-bound : goal.explore-returns-then-beta-bound
-explore-returns-then-beta-bound g t c =
+pub bound_by_moves-returns-then-beta-bound : goal.bound_by_moves-returns-then-beta-bound
+bound_by_moves-returns-then-beta-bound g t c =
     let turn = waits_there (c.loop-priority.invariant.next c.loop-priority-test.true) c.index-waiting-at.is in
     record {
       lower = turn_enough c.args.beta c.seeds-seeds.ensures.limits turn c.seeds-seeds.ensures.seeds c.saturating_sub-reply_beta.ensures
@@ -59,8 +59,8 @@ explore-returns-then-beta-bound g t c =
       upper = λ short. absurd (omega arith);
     }
 
-pub explore-loop-priority-preserved : goal.explore-loop-priority-preserved
-explore-loop-priority-preserved g t c =
+pub bound_by_moves-loop-priority-preserved : goal.bound_by_moves-loop-priority-preserved
+bound_by_moves-loop-priority-preserved g t c =
     let before = c.loop-priority.invariant in
     let here = before.next c.loop-priority-test.true in
     let turn = waits_there here c.index-waiting-at.is in
@@ -69,21 +69,21 @@ explore-loop-priority-preserved g t c =
     let untried = untried_fewer (c.loop-priority.priority % 8) _ before.untried here.place (left.upper c.if-beta-bound.false)
     c.max-most-in-loop-priority.ensures in
     record {
-      low = omega arith;
+      short = omega arith;
       highest = c.highest-priority-in-loop-priority.ensures.highest;
       untried = untried;
       next = next_waits c.seeds-seeds.ensures.limits untried c.highest-priority-in-loop-priority.ensures.found;
     }
 
-pub explore-loop-priority-smaller : goal.explore-loop-priority-smaller
-explore-loop-priority-smaller g t c =
+pub bound_by_moves-loop-priority-smaller : goal.bound_by_moves-loop-priority-smaller
+bound_by_moves-loop-priority-smaller g t c =
     let here = c.loop-priority.invariant.next c.loop-priority-test.true in
     let cells = c.loop-priority.invariant.untried.waiting.cells in
     let fewer = sum_by-set (λ x. x) c.loop-priority.priorities (c.loop-priority.priority % 8) 0 0 (omega arith) in
     omega arith
 
-pub explore-returns : goal.explore-returns
-explore-returns g t c =
+pub bound_by_moves-returns : goal.bound_by_moves-returns
+bound_by_moves-returns g t c =
     let is = c.loop-priority.invariant in
     record {
       lower = λ enough. absurd (omega arith);
@@ -96,7 +96,7 @@ pub bound_into_store-loop-untried-init : goal.bound_into_store-loop-untried-init
 bound_into_store-loop-untried-init g t c =
     let marks = c.houses_into_store-untried.ensures in
     record {
-      low = λ enough. refl;
+      short_or_zero = λ enough. refl;
       may = record {
         are = marks.marks;
         legal = λ i some. let both = (marks.marked i).0 some in into_store_legal _ marks.limits c.requires.going both.0 both.1;
@@ -137,7 +137,7 @@ bound_into_store-loop-untried-preserved g t c =
     let takes : WinsAtMost a c.bound_step-bound.result c.split_last-house.result.0 = rw c.play_into_store.ensures at
     (c.bound_step-bound.ensures.upper c.if-beta-bound.false) in
     rw c.split_last-house.ensures.rest (record {
-      low = short_stays _ _ _ _ before.low c.if-beta-bound.false new_is;
+      short_or_zero = short_stays _ _ _ _ before.short_or_zero c.if-beta-bound.false new_is;
       may = movable_before_last before.may last;
       ends = each_before_last (EndsInStore a) last before.ends;
       tried = unmarked_without_last _ _ c.bound_step-bound.result before.tried last takes new_is;
@@ -157,7 +157,7 @@ pub try_remaining-loop-untried-init : goal.try_remaining-loop-untried-init
 try_remaining-loop-untried-init g t c =
     let marks = c.remaining_houses-untried.ensures in
     record {
-      low = λ enough. refl;
+      short_or_zero = λ enough. refl;
       may = record { are = marks.marks; legal = λ i some. seeded_is_legal _ marks.limits c.requires.going ((marks.marked i).0 some).0 };
       played = played_at_start (search rules) (search rules) c.requires.none marks.marked;
     }
@@ -220,7 +220,7 @@ try_remaining-loop-untried-preserved g t c =
     let takes : WinsAtMost c.args.houses.now c.match-step.bound c.split_last-house.result.0 =
     is.upper c.if-beta-bound.false in
     rw c.split_last-house.ensures.rest (record {
-      low = short_stays _ _ _ _ before.low c.if-beta-bound.false new_is;
+      short_or_zero = short_stays _ _ _ _ before.short_or_zero c.if-beta-bound.false new_is;
       may = movable_before_last before.may last;
       played = played_and_bounded before.played last _ _ takes new_is;
     })
@@ -234,7 +234,7 @@ try_remaining-loop-untried-preserved-then-seeds-self g t c =
     let turn = step_is_turn c.remaining_houses-untried.ensures.limits (last_is_legal before.may last) (rw c.in-Turn.is at c.play_by-step.ensures.step)
     priority.ensures.house in
     rw (c.split_last-house.ensures.rest, place) (record {
-      low = before.low;
+      short_or_zero = before.short_or_zero;
       may = movable_before_last before.may last;
       played = played_and_waits before.played last priority.result c.in-Turn.next priority.ensures.some turn;
     })
@@ -248,20 +248,20 @@ pub try_remaining-returns : goal.try_remaining-returns
 try_remaining-returns g t c =
     let none : c.loop-untried.untried ≡ 0 = omega arith in
     record {
-      lower = λ enough. omega (arith, c.loop-untried.invariant.low enough);
+      lower = λ enough. omega (arith, c.loop-untried.invariant.short_or_zero enough);
       waiting = c.loop-untried.invariant.played.waiting.each;
       others = λ short h has. c.loop-untried.invariant.played.others h has (rw none (cell_of_zero (h - 1)));
     }
 
-pub explore-loop-priority-init : goal.explore-loop-priority-init
-explore-loop-priority-init g t c =
+pub bound_by_moves-loop-priority-init : goal.bound_by_moves-loop-priority-init
+bound_by_moves-loop-priority-init g t c =
     let others = c.try_remaining-remaining.ensures in
     let most_is : c.max-most.result ≡ max c.bound_into_store-into_store.result c.try_remaining-remaining.result =
     search (rules, c.max-most.ensures) in
     let untried = untried_at_start _ (search rules) others
     (c.bound_into_store-into_store.ensures.upper c.if-beta-into_store.false) c.if-beta-remaining.false most_is in
     record {
-      low = omega arith;
+      short = omega arith;
       highest = c.highest-priority.ensures.highest;
       untried = untried;
       next = next_waits c.seeds-seeds.ensures.limits untried c.highest-priority.ensures.found;

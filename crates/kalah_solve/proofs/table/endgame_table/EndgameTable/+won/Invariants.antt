@@ -3,13 +3,13 @@ use Rattle.kalah_rules.specs.Position.{storeless}
 use Rattle.kalah_rules.specs.Measure.{moves_left}
 use Rattle.kalah_solve.proofs.TableLemmas.{IsMostOfUnmarked}
 use Rattle.kalah_solve.proofs.MarksLemmas.{AreMovable}
-use Rattle.kalah_solve.proofs.table.endgame_table.EndgameTable.+exact.Given as goal
+use Rattle.kalah_solve.proofs.table.endgame_table.EndgameTable.+won.Given as goal
 
 abbrev pub decreases-won : goal.decreases-won
 decreases-won g l = 4 * moves_left (storeless l.houses) + 3
 
-abbrev pub decreases-learn : goal.decreases-learn
-decreases-learn g l = 4 * moves_left (storeless l.houses) + 2
+abbrev pub decreases-won_by_moves : goal.decreases-won_by_moves
+decreases-won_by_moves g l = 4 * moves_left (storeless l.houses) + 2
 
 abbrev pub decreases-most_won : goal.decreases-most_won
 decreases-most_won g l = 4 * moves_left (storeless l.houses.now) + 1

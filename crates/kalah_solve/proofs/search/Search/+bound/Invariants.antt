@@ -5,8 +5,8 @@ use Rattle.kalah_solve.proofs.WorthLemmas.{moves_after}
 use Rattle.kalah_solve.specs.Marks.{cell}
 use Rattle.kalah_solve.specs.Search.{EndsInStore}
 use Rattle.kalah_solve.proofs.MarksLemmas.{AreMovable}
-use Rattle.kalah_solve.proofs.SearchLemmas.{UnmarkedWinAtMost, ArePlayed, AreUntried, WaitsWith}
-use Rattle.kalah_solve.proofs.search.Search.+search.Given as goal
+use Rattle.kalah_solve.proofs.SearchLemmas.{UnmarkedIntoStoreWinAtMost, ArePlayed, AreUntried, WaitsWith}
+use Rattle.kalah_solve.proofs.search.Search.+bound.Given as goal
 
 -- Each function calls those below it on the same houses, and so on down to the houses after a move, which have fewer moves left. With 9 for a
 -- move, 8 is that of a step whose houses are known, and 3 that of the functions which play it.
@@ -16,8 +16,8 @@ decreases-bound g l = 9 * moves_left (storeless l.houses) + 6
 abbrev pub decreases-bound_by_search : goal.decreases-bound_by_search
 decreases-bound_by_search g l = 9 * moves_left (storeless l.houses.now) + 5
 
-abbrev pub decreases-explore : goal.decreases-explore
-decreases-explore g l = 9 * moves_left (storeless l.houses.now) + 4
+abbrev pub decreases-bound_by_moves : goal.decreases-bound_by_moves
+decreases-bound_by_moves g l = 9 * moves_left (storeless l.houses.now) + 4
 
 abbrev pub decreases-bound_into_store : goal.decreases-bound_into_store
 decreases-bound_into_store g l = 9 * moves_left (storeless l.houses.now) + 3
@@ -33,10 +33,10 @@ decreases-bound_turn g l = 9 * moves_left (storeless l.next) + 7
 
 abbrev pub invariant-bound_into_store-loop-untried : goal.invariant-bound_into_store-loop-untried
 invariant-bound_into_store-loop-untried g l = record {
-  low : l.beta ≤ l.most → l.most ≡ 0;
+  short_or_zero : l.beta ≤ l.most → l.most ≡ 0;
   may : AreMovable l.houses l.untried;
   ends : (i : ℕ) → 0 < cell l.untried i → EndsInStore l.houses (i + 1);
-  tried : UnmarkedWinAtMost l.houses l.most l.untried;
+  tried : UnmarkedIntoStoreWinAtMost l.houses l.most l.untried;
 }
 
 abbrev pub decreases-bound_into_store-loop-untried : goal.decreases-bound_into_store-loop-untried
@@ -44,7 +44,7 @@ decreases-bound_into_store-loop-untried g l = l.untried
 
 abbrev pub invariant-try_remaining-loop-untried : goal.invariant-try_remaining-loop-untried
 invariant-try_remaining-loop-untried g l = record {
-  low : l.beta ≤ l.most → l.most ≡ 0;
+  short_or_zero : l.beta ≤ l.most → l.most ≡ 0;
   may : AreMovable l.houses l.untried;
   played : ArePlayed l.houses l.most l.untried l.priorities l.turns;
 }
@@ -52,13 +52,13 @@ invariant-try_remaining-loop-untried g l = record {
 abbrev pub decreases-try_remaining-loop-untried : goal.decreases-try_remaining-loop-untried
 decreases-try_remaining-loop-untried g l = l.untried
 
-abbrev pub invariant-explore-loop-priority : goal.invariant-explore-loop-priority
-invariant-explore-loop-priority g l = record {
-  low : l.most < l.beta;
+abbrev pub invariant-bound_by_moves-loop-priority : goal.invariant-bound_by_moves-loop-priority
+invariant-bound_by_moves-loop-priority g l = record {
+  short : l.most < l.beta;
   highest : (k : ℕ) → get_or l.priorities k 0 ≤ l.priority;
   untried : AreUntried l.houses l.most l.priorities l.waiting;
   next : 0 < l.priority → WaitsWith l.houses l.priorities l.waiting l.priority;
 }
 
-abbrev pub decreases-explore-loop-priority : goal.decreases-explore-loop-priority
-decreases-explore-loop-priority g l = sum l.priorities
+abbrev pub decreases-bound_by_moves-loop-priority : goal.decreases-bound_by_moves-loop-priority
+decreases-bound_by_moves-loop-priority g l = sum l.priorities
