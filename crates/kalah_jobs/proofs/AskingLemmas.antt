@@ -180,7 +180,7 @@ answers_are_those_of_a_file = record {
 -- ==== How far the lines of a stream are answered
 
 -- Lines were read, and a part of the next one, whose first bytes are kept. The lines were answered.
-pub record IsUnderway (question : Question) (before now old new : Option (List ℕ)) (line : List ℕ) (all_read : Bool) : Type 0 where
+pub record IsAnsweredSoFar (question : Question) (before now old new : Option (List ℕ)) (line : List ℕ) (all_read : Bool) : Type 0 where
   pub lines : List ℕ
   pub part : List ℕ
   pub ended : EndsWithItsLine lines
@@ -192,7 +192,7 @@ pub record IsUnderway (question : Question) (before now old new : Option (List �
 
 -- before anything is read, nothing is answered
 pub nothing_read : (question : Question) (before old : Option (List ℕ)) (line : List ℕ) → line ≡ [] →
-    IsUnderway question before before old old line true
+    IsAnsweredSoFar question before before old old line true
 unfolding lines_of
 nothing_read question before old line empty = record {
   lines = [];
@@ -207,7 +207,7 @@ nothing_read question before old line empty = record {
 
 -- what is underway goes on, or ends
 module _ {question : Question} {before now old new : Option (List ℕ)} {line : List ℕ} {all_read : Bool}
-    (u : IsUnderway question before now old new line all_read) where
+    (u : IsAnsweredSoFar question before now old new line all_read) where
   -- what was written is kept
   answers_kept : (kept : Option (List ℕ)) → Keeps new kept → Appends old kept (answers_to question u.lines)
   answers_kept kept keeps = Appends-kept old new kept (answers_to question u.lines) u.written keeps
@@ -239,7 +239,7 @@ module _ {question : Question} {before now old new : Option (List ℕ)} {line : 
 
   -- a byte more was read, which ends no line
   pub byte_read : {next kept : Option (List ℕ)} (byte : ℕ) → byte ≢ line_feed → Consumes now next (byte ∷ []) → Keeps new kept
-      → IsUnderway question before next old kept (take kept_bytes (line ++ byte ∷ [])) all_read
+      → IsAnsweredSoFar question before next old kept (take kept_bytes (line ++ byte ∷ [])) all_read
   byte_read {next} {kept} byte other taken keeps = record {
     lines = u.lines;
     part = u.part ++ byte ∷ [];
@@ -254,7 +254,7 @@ module _ {question : Question} {before now old new : Option (List ℕ)} {line : 
   -- a line feed was read, and the line that it ends was answered
   pub line_read : {next more : Option (List ℕ)} {is_read : Bool} (kept : Option (List ℕ)) → Consumes now next (line_feed ∷ [])
       → Keeps new kept → Appends kept more (reply question line) → is_read ≡ not (is_faulty line)
-      → IsUnderway question before next old more [] (all_read && is_read)
+      → IsAnsweredSoFar question before next old more [] (all_read && is_read)
   line_read {next} {more} {is_read} kept end keeps tells read =
       let whole : List ℕ = u.part ++ line_feed ∷ [] in
       let one = feed_ends_one_line u.part u.unended in
@@ -357,6 +357,6 @@ of_reader is same holds = rw (sym is, sym same) holds
 
 -- while lines are underway, all whole lines are answered
 pub answered_so_far : {asking : Asking} {question : Question} {before now old new : Option (List ℕ)} {line : List ℕ} {all_read : Bool}
-    → asking ≡ record { question = question; before = before; old = old } → IsUnderway question before now old new line all_read
+    → asking ≡ record { question = question; before = before; old = old } → IsAnsweredSoFar question before now old new line all_read
     → AreAnswered asking now new
 answered_so_far {now = now} {new = new} is u = rw is (cut_off u (Keeps-refl now) (Keeps-refl new))

@@ -179,14 +179,14 @@ rows_count n rows q once =
     let passes : ℕ → ℕ = λ x. cond (q x) 1 0 in
     let many : length (map passes (range_with_len 0 n)) ≡ n = length-map-range_with_len passes 0 n in
     let below : All (λ z. z < length (map passes (range_with_len 0 n))) flat = λ k d within.
-        let z = get_or flat k d in
-        let some = rw (eq-eqb z z refl) at (get_or-le-sum_by (λ y. cond (y == z) 1 0) flat k d within) in
-        let low : z < n = grind (arith, times_in_flat z, some, nat_tests) in
-        omega (arith, many) in
+    let z = get_or flat k d in
+    let some = rw (eq-eqb z z refl) at (get_or-le-sum_by (λ y. cond (y == z) 1 0) flat k d within) in
+    let low : z < n = grind (arith, times_in_flat z, some, nat_tests) in
+    omega (arith, many) in
     let own : (x : ℕ) → x < length (map passes (range_with_len 0 n)) →
-        in_class (λ y. y) q x flat ≡ get_or (map passes (range_with_len 0 n)) x 0 = λ x low.
-        class_of_number q x flat ∙ ap (λ c. if q x then c else 0) (times_in_flat x ∙ rw (lt-ltb x n (omega (arith, low, many))) refl)
-        ∙ sym (get_or-map-range_with_len passes 0 n x x 0 (omega (arith, low, many)) (omega arith)) in
+    in_class (λ y. y) q x flat ≡ get_or (map passes (range_with_len 0 n)) x 0 = λ x low.
+    class_of_number q x flat ∙ ap (λ c. if q x then c else 0) (times_in_flat x ∙ rw (lt-ltb x n (omega (arith, low, many))) refl)
+    ∙ sym (get_or-map-range_with_len passes 0 n x x 0 (omega (arith, low, many)) (omega arith)) in
     sym (count_flat q rows) ∙ by_class (λ y. y) q flat (map passes (range_with_len 0 n)) below own ∙ sum-map passes (range_with_len 0 n)
 
 -- for each test, the number of received results that pass it equals that of the results of all numbers

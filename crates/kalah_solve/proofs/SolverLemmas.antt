@@ -64,8 +64,8 @@ ends_within (suc n) mine theirs m t p equal few = elim (cases_Bool _) [
       ]
 ]
 
-pub strategies_play_a_game : StrategiesPlayAGame
-strategies_play_a_game mine theirs m t p equal = ends_within (moves_left p) mine theirs m t p equal (omega arith)
+pub a_game_is_played : StrategiesPlayAGame
+a_game_is_played mine theirs m t p equal = ends_within (moves_left p) mine theirs m t p equal (omega arith)
 
 -- each move leaves fewer, and the last position is over
 pub ends_in_time : {mine theirs : Policy} {p : Position} {houses : List ℕ} {final : Position} → IsWithin mine legal_houses
@@ -118,8 +118,8 @@ game_is_one {mine} {theirs} {p} m t (passes_turn {h = h} going has turn rest)
     let same = game_is_one t m rest (subst (λ x. Game theirs mine (swapped (after p x)) houses final) e rest') in
     (cc same.0, ap swapped same.1)
 
-pub strategies_play_one_game : StrategiesPlayOneGame
-strategies_play_one_game mine theirs p houses others final other one two = game_is_one (follow_one mine) (follow_one theirs) one two
+pub one_game_is_played : StrategiesPlayOneGame
+one_game_is_played mine theirs p houses others final other one two = game_is_one (follow_one mine) (follow_one theirs) one two
 
 -- a game is one of wider policies, too
 pub widened : {mine theirs mine' theirs' : Policy} {p : Position} {houses : List ℕ} {final : Position} → IsWithin mine mine' →
@@ -191,13 +191,13 @@ module _ (mine theirs : Strategy) (m : IsStrategy mine) (t : IsStrategy theirs) 
   -- what a strategy secures, the game brings
   pub ends_at_least : Secures mine p v → EndsWithAtLeast mine theirs p v
   ends_at_least secures =
-      let game = strategies_play_a_game mine _ m t p equal in
+      let game = a_game_is_played mine _ m t p equal in
       (game.0, game.1, game.2, secures _ game.1 (widened (same_policy _) (strategy_within t) equal game.2))
 
   -- what a strategy of the opponent allows is the most that the game brings
   pub ends_at_most : HoldsTo theirs p v → EndsWithAtMost mine theirs p v
   ends_at_most holds =
-      let game = strategies_play_a_game mine _ m t p equal in
+      let game = a_game_is_played mine _ m t p equal in
       (game.0, game.1, game.2, holds _ game.1 (widened (strategy_within m) (same_policy _) equal game.2))
 
 pub best_against_strategies : BestPlayAgainstStrategies
@@ -221,7 +221,7 @@ pub secured_at_most : (p : Position) (v w : ℤ) → HasEqualSides p → IsBestP
 secured_at_most p v w equal a b =
     let low = ends_at_least _ b.held.0 a.secured.1 b.held.1 p equal v a.secured.2 in
     let high = ends_at_most _ b.held.0 a.secured.1 b.held.1 p equal w b.held.2 in
-    let same = ap final_margin (strategies_play_one_game _ b.held.0 p low.0 _ low.1 _ low.2 high.2).1 in
+    let same = ap final_margin (one_game_is_played _ b.held.0 p low.0 _ low.1 _ low.2 high.2).1 in
     omega (arith, ints, low.3)
 
 pub best_play_is_one : BestPlayIsOne

@@ -114,7 +114,11 @@ impl<A: Allocator + Clone> Search<A> {
     }
 
     // Returns the worth of houses of this variant, raised to the window's lower end and lowered to its upper one.
-    fn clamped_worth_in_variant<const VARIANT: u8>(&mut self, houses: &Houses, window: Window) -> i32
+    fn clamped_worth_in_variant<const VARIANT: u8>(
+        &mut self,
+        houses: &Houses,
+        window: Window,
+    ) -> i32
         requires going { is_over (storeless houses.now) ≡ false }
         requires variant { variant_of houses.now ≡ VARIANT }
         ensures { result ≡ clamped window.lo window.hi (houses_worth houses.now) }

@@ -27,14 +27,7 @@ pub fn stores_only_shift()
 
 /// Two players that follow strategies play a game to its end, and only one. No game by the rules has more moves than
 /// `moves_left`, and each ends in a position that is over.
-#[tactic(
-    auto,
-    using(
-        crate::proofs::SolverLemmas::strategies_play_a_game,
-        crate::proofs::SolverLemmas::strategies_play_one_game,
-        crate::proofs::SolverLemmas::games_end
-    )
-)]
+#[tactic(auto, using(crate::proofs::SolverLemmas::a_game_is_played, crate::proofs::SolverLemmas::one_game_is_played, crate::proofs::SolverLemmas::games_end))]
 pub fn players_play_one_game()
     ensures game { StrategiesPlayAGame }
     ensures one { StrategiesPlayOneGame }

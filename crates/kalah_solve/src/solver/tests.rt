@@ -144,7 +144,10 @@ fn windows_leave_intervals(rt: HostRuntime) {
         (Window { lo: 7, hi: 9 }, 7, 2, 7),
         (Window::whole(), 6, 6, 6),
     ] {
-        assert!(rt; search.clamped_worth(&houses, window) == answer, "{lo} {hi}");
+        assert!(rt;
+            search.clamped_worth(&houses, window) == answer,
+            "{lo} {hi}"
+        );
         assert!(rt;
             search.table.look_up(&houses) == Some(Interval { lo, hi }),
             "{lo} {hi}"

@@ -1,6 +1,6 @@
 use Rattle.std.proofs.Common.{◌≡◌, false}
 use Rattle.kalah_jobs.specs.Asking.{asking_of, unread}
-use Rattle.kalah_jobs.proofs.AskingLemmas.{IsUnderway}
+use Rattle.kalah_jobs.proofs.AskingLemmas.{IsAnsweredSoFar}
 use Rattle.kalah_jobs.proofs.asking.answer_lines.answer_each.Given as goal
 
 -- the lines that were read are answered
@@ -8,7 +8,7 @@ abbrev pub invariant-loop-byte : goal.invariant-loop-byte
 invariant-loop-byte g l =
     let remaining = g.I.Read.remaining in
     let state = g.O.Sink.state in
-    IsUnderway l.question (unread remaining l.fn.input) (unread remaining l.input)
+    IsAnsweredSoFar l.question (unread remaining l.fn.input) (unread remaining l.input)
     (state l.fn.out).written (state l.out).written l.line l.all_read
     × ((state l.out).has_failed ≡ false)
     × (asking_of remaining state l.input ≡ asking_of remaining state l.fn.input)
