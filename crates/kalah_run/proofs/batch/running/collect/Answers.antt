@@ -12,14 +12,14 @@ use Rattle.kalah_run.proofs.batch.running.collect.Goals.{in-Some, in-None+in-Som
 pub loop-init : goal.loop-init
 loop-init g c = record {
   collected = collected_at_start c.requires.first c.requires.own c.requires.new c.write.ensures.writes;
-  all = ap (λ (l : List (ℕ × Job)). length l) c.requires.first;
+  counted = ap (λ (l : List (ℕ × Job)). length l) c.requires.first;
   few_tries = omega arith;
 }
 
 -- an outcome was got, soon or later
-next : (g : given.Over) (c : goal.After-accepts g) → MayHaveGot c.args.shared.now.desk (g.E.Rule.invariant 1) c.loop.receiver.passes
+outcome_got : (g : given.Over) (c : goal.After-accepts g) → MayHaveGot c.args.shared.now.desk (g.E.Rule.invariant 1) c.loop.receiver.passes
     c.match-get_soon.receiver.passes (g.W.Sink.state c.loop.out) (g.W.Sink.state c.match-get_soon.out) (Some c.match-get_soon.outcome)
-next g c =
+outcome_got g c =
     let draws = rw c.failed.ensures at c.leave_after.ensures.draws in
     elim c.match-get_soon.branch [
       | in-Some w ↦ rw (w.out-is, w.receiver-is, w.outcome-is) (record {
@@ -36,11 +36,11 @@ next g c =
 
 pub loop-preserved : goal.loop-preserved
 loop-preserved g c =
-    let next = next g c in
+    let next = outcome_got g c in
     record {
       collected = one_collected c.loop.invariant.collected _ next refl refl refl c.offer.ensures.offers c.write-in-loop.ensures.sound
           c.write-in-loop.ensures.writes;
-      all = one_longer _ _ next.got ∙ ap (λ n. n + 1) c.loop.invariant.all;
+      counted = one_longer _ _ next.got ∙ ap (λ n. n + 1) c.loop.invariant.counted;
       few_tries = search rules;
     }
 
@@ -52,7 +52,7 @@ returns-clause-collected g c =
     let so_far = c.loop.invariant in
     elim c.loop-test.branch [
       | else-loop-test w ↦ has_collected so_far.collected (c.into_passes.ensures ∙ ap (λ r. r.passes) w.receiver-is)
-          (inl (omega (arith, so_far.all, w.loop-test.false, c.total-total.ensures.lines)))
+          (inl (omega (arith, so_far.counted, w.loop-test.false, c.total-total.ensures.lines)))
           (rw w.out-is at flushed)
       | then-loop-test+in-None+in-None-flush_and_get w ↦
           let last = rest_left so_far.collected (got_after (w.in-None.ensures.got ∙ w.leave_after.ensures.get_pass)

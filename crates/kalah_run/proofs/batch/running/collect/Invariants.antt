@@ -7,6 +7,6 @@ abbrev pub invariant-loop : goal.invariant-loop
 invariant-loop g l = record {
   collected : AreCollected l.fn.shared.desk l.fn.output (g.W.Sink.state l.fn.out) (g.W.Sink.state l.out) l.fn.receiver.passes
       l.receiver.passes l.output;
-  all : length l.receiver.passes.get_pass.got ≡ l.counter;
+  counted : length l.receiver.passes.get_pass.got ≡ l.counter;
   few_tries : l.tries ≤ MOST_TRIES;
 }
