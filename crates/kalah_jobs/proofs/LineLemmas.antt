@@ -7,7 +7,7 @@ use Rattle.std.proofs.lemmas.Bool.Decides.{nat_tests, eqb_tells}
 use Rattle.std.proofs.lemmas.Option.{cond_some}
 use Rattle.std.proofs.lemmas.Fmt.{decimal_digit, decimal_step, length-decimal-le}
 use Rattle.kalah_jobs.specs.Line.Line.{IsNumber, comma, slash, AreHouses, IsSide, space, suffix_of, IsLineOf, without_cr, HasSidesInLimits, Reads, Holds, HasFault, side_text, line_text_of, carriage_return}
-use Rattle.kalah_jobs.specs.Line.Reading.{number_from, number_at, ◌>>=◌, SideRead, store_at, house_followed, side_from, side_at, rule_of, position_of, position_from, written_of, admitted, admitted_if_written, reading_of}
+use Rattle.kalah_jobs.specs.Line.Reading.{number_from, number_at, ◌>>=◌, SideRead, store_at, house_followed, side_from, side_at, rule_of, position_of_sides, position_from, written_of, admitted, admitted_if_written, reading_of}
 use Rattle.kalah_jobs.specs.Line.Side.{AreKept}
 use Rattle.kalah_jobs.specs.declared.line.side.Side.{Side}
 use Rattle.kalah_rules.specs.Position.{Position, side_length, seeds_in_houses, IsWithinLimits}
@@ -332,7 +332,7 @@ suffix_is_written bytes rule e = grind (arith, nat_tests)
 
 -- a side, a space, a side and a suffix write a line
 line_of_sides : {text rest : List ℕ} {own other : SideRead} {rule : Rule} → side_at text ≡ Some own → own.rest ≡ space ∷ rest →
-    side_at rest ≡ Some other → rule_of other.rest ≡ Some rule → IsLineOf text (position_of own other rule)
+    side_at rest ≡ Some other → rule_of other.rest ≡ Some rule → IsLineOf text (position_of_sides own other rule)
 line_of_sides {text} {rest} {own} {other} {rule} own_read mark other_read rule_read =
     let first = side_is_written text own own_read in
     let second = side_is_written rest other other_read in
@@ -350,7 +350,7 @@ line_of_sides {text} {rest} {own} {other} {rule} own_read mark other_read rule_r
 -- two sides with a space between them, and a suffix, are read as their position
 pub sides_are_read : (text : List ℕ) {rest : List ℕ} {own other : SideRead} {rule : Rule} → side_at text ≡ Some own →
     own.rest ≡ space ∷ rest → side_at rest ≡ Some other → rule_of other.rest ≡ Some rule →
-    written_of text ≡ Some (position_of own other rule)
+    written_of text ≡ Some (position_of_sides own other rule)
 unfolding written_of
 sides_are_read text own_read is other_read rule_read = rw (own_read, is, other_read, rule_read) refl
 
@@ -359,11 +359,11 @@ rest_is_written : (text : List ℕ) (own : SideRead) (rest : List ℕ) (p : Posi
     position_from own rest ≡ Some p → IsLineOf text p
 rest_is_written text own [] p own_read is e = absurd cc
 rest_is_written text own (mark ∷ rest) p own_read is e =
-    let with_rule = λ (other : SideRead). rule_of other.rest >>= λ rule. Some (position_of own other rule) in
+    let with_rule = λ (other : SideRead). rule_of other.rest >>= λ rule. Some (position_of_sides own other rule) in
     let read = passes_and_succeeds (mark == space) (side_at rest >>= with_rule) p e in
     let other = both_succeed (side_at rest) with_rule p read.1 in
-    let rule = both_succeed (rule_of other.value.rest) (λ rule. Some (position_of own other.value rule)) p other.second in
-    let same : position_of own other.value rule.value ≡ p = cc rule.second in
+    let rule = both_succeed (rule_of other.value.rest) (λ rule. Some (position_of_sides own other.value rule)) p other.second in
+    let same : position_of_sides own other.value rule.value ≡ p = cc rule.second in
     subst (IsLineOf text) same
     (line_of_sides own_read (is ∙ ap (λ (b : ℕ). b ∷ rest) (eqb-true mark space read.0)) other.first rule.first)
 

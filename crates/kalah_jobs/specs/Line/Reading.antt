@@ -63,8 +63,8 @@ rule_of (mark ∷ byte ∷ []) = if mark == space && byte == 101 then Some Empty
 rule_of (_ ∷ _ ∷ _ ∷ _) = None
 
 -- the position with these sides and this rule
-abbrev pub position_of : SideRead → SideRead → Rule → Position
-position_of own other rule =
+abbrev pub position_of_sides : SideRead → SideRead → Rule → Position
+position_of_sides own other rule =
     record { own = own.houses; own_store = own.store; other = other.houses; other_store = other.store; rule = rule }
 
 -- the position whose first side was read, from the bytes after that side
@@ -73,7 +73,7 @@ position_from own [] = None
 position_from own (mark ∷ rest) = if mark == space then (do
   other ← side_at rest
   rule ← rule_of other.rest
-  Some (position_of own other rule)) else None
+  Some (position_of_sides own other rule)) else None
 
 -- the position that the text writes, of any number of houses and seeds
 unfoldable pub written_of : List ℕ → Option Position
