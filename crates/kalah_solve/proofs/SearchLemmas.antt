@@ -1,5 +1,4 @@
 -- The moves that the search has tried, and those that wait for it.
---
 -- The life of a legal move, and what the loop that it is in keeps of it and all others (`most` is the most that a tried one wins):
 -- marked, it ends in the store, and `bound_into_store` is still to try it: of such moves the unmarked were tried (`UnmarkedIntoStoreWinAtMost`);
 -- marked, it does not, and `try_remaining` is still to play it: of such moves each unmarked one waits or was tried (`ArePlayed`);

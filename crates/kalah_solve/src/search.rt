@@ -110,15 +110,11 @@ impl<A: Allocator + Clone> Search<A> {
         requires going { is_over (storeless houses.now) ≡ false }
         ensures { result ≡ clamped window.lo window.hi (houses_worth houses.now) }
     {
-        in_its_variant!(self.clamped_worth_in_variant(houses, window))
+        in_its_variant!(self.clamped_in_variant(houses, window))
     }
 
     // Returns the worth of houses of this variant, raised to the window's lower end and lowered to its upper one.
-    fn clamped_worth_in_variant<const VARIANT: u8>(
-        &mut self,
-        houses: &Houses,
-        window: Window,
-    ) -> i32
+    fn clamped_in_variant<const VARIANT: u8>(&mut self, houses: &Houses, window: Window) -> i32
         requires going { is_over (storeless houses.now) ≡ false }
         requires variant { variant_of houses.now ≡ VARIANT }
         ensures { result ≡ clamped window.lo window.hi (houses_worth houses.now) }
@@ -132,13 +128,12 @@ impl<A: Allocator + Clone> Search<A> {
             let won = self.table.won::<VARIANT>(*houses);
             return window.clamp(margin_of(won, seeds));
         }
-        self.clamped_worth_by_tests::<VARIANT>(houses, window)
+        self.clamped_by_tests::<VARIANT>(houses, window)
     }
 
-    // Does the same for houses that are no ending that is looked up.
-    // Out of line, so that an ending takes few instructions.
+    // Does the same for houses that are no ending that is looked up. Out of line, so that an ending takes few instructions.
     #[inline(never)]
-    fn clamped_worth_by_tests<const VARIANT: u8>(&mut self, houses: &Houses, window: Window) -> i32
+    fn clamped_by_tests<const VARIANT: u8>(&mut self, houses: &Houses, window: Window) -> i32
         requires going { is_over (storeless houses.now) ≡ false }
         requires variant { variant_of houses.now ≡ VARIANT }
         ensures { result ≡ clamped window.lo window.hi (houses_worth houses.now) }

@@ -135,11 +135,8 @@ impl Outcome {
     {
         let (file, line, entry) = jobs.find(n);
         let found = Found::of(entry, solver);
-        let job = Job {
-            file,
-            line,
-            entry: *entry,
-        };
+        let entry = *entry;
+        let job = Job { file, line, entry };
         Outcome { job, found }
     }
 

@@ -2,8 +2,8 @@ use Rattle.std.proofs.Common.{refl, rules, ◌≡◌, ◌∙◌, w8, w32, to_z, 
 use Rattle.kalah_solve.specs.Bounds.Intervals.{clamped}
 use Rattle.kalah_solve.specs.Solver.Worth.{houses_worth}
 use Rattle.kalah_solve.proofs.BoundsLemmas.{worth_low, worth_high, clamped_within, worth_by_bounds}
-use Rattle.kalah_solve.proofs.search.Search.clamped_worth_by_tests.Given.{Over}
-use Rattle.kalah_solve.proofs.search.Search.clamped_worth_by_tests.Goals as goal
+use Rattle.kalah_solve.proofs.search.Search.clamped_by_tests.Given.{Over}
+use Rattle.kalah_solve.proofs.search.Search.clamped_by_tests.Goals as goal
 
 pub interval_of-requires-clause-least : goal.interval_of-requires-clause-least
 interval_of-requires-clause-least g c =

@@ -1,7 +1,7 @@
 use Rattle.std.proofs.Common.{ap, rules, ◌∙◌, w32, SFits, to_z-of_z}
 use Rattle.kalah_solve.specs.Bounds.Intervals.{clamped}
 use Rattle.kalah_solve.proofs.BoundsLemmas.{margin_of_won_is_worth}
-use Rattle.kalah_solve.proofs.search.Search.clamped_worth_in_variant.Goals as goal
+use Rattle.kalah_solve.proofs.search.Search.clamped_in_variant.Goals as goal
 
 pub returns-then-seeds-self : goal.returns-then-seeds-self
 returns-then-seeds-self g c =
