@@ -7,7 +7,7 @@ use Rattle.kalah_jobs.specs.Line.Line.{Reads}
 use Rattle.kalah_jobs.specs.Writing.Sink.{SinkState, WasGiven}
 use Rattle.kalah_jobs.proofs.LineLemmas.{no_line_reads_twice}
 use Rattle.kalah_jobs.proofs.WritingLemmas.{given_then_flush, prefix_none, prefix_then}
-use Rattle.kalah_cli.specs.Ends.{Ends, FailsWithoutOutput, IsPrinted, IsUnread, Prints, ended_by}
+use Rattle.kalah_cli.specs.Ends.{Ends, FailsWithoutOutput, IsPrinted, IsUnread, PrintsByStatus, ended_by}
 use Rattle.kalah_cli.specs.declared.failure.Failure.{Failure}
 use Rattle.kalah_cli.specs.Line.{MayPrint, command_output}
 use Rattle.kalah_cli.specs.declared.request.LineCommand.{LineCommand}
@@ -81,7 +81,7 @@ module _ {O : Type 0} (state : O → SinkState) {status : ExitStatus} where
     all_flushed = λ _ was. was;
   }
 
-  pub prints_nothing : {out : O} {text : List ℕ} → status ≡ Failed → Prints state out out status text
+  pub prints_nothing : {out : O} {text : List ℕ} → status ≡ Failed → PrintsByStatus state out out status text
   prints_nothing {out} {text} failed = record { start = prefix_none (state out).written text; whole = λ went. absurd (went failed) }
 
   module _ (command : LineCommand) {line : List ℕ} where
@@ -93,13 +93,13 @@ module _ {O : Type 0} (state : O → SinkState) {status : ExitStatus} where
       line_answered {old} {new} printed may fails no_fault =
           let sound : status ≢ Failed → (state new).has_failed ≡ false =
           λ went. false_from_ne_true (state new).has_failed (λ failed. went (fails.0 failed)) in
-          let prints : Prints state old new status (command_output command p) =
+          let prints : PrintsByStatus state old new status (command_output command p) =
           record { start = printed.given.start; whole = λ went. (printed.given.whole (sound went)).1 } in
           let is : (q : Position) → Reads line q → p ≡ q = λ q other. no_line_reads_twice line p q reads other in (
             record {
               read = λ q other. (
                 no_fault,
-                subst (λ r. Prints state old new status (command_output command r)) (is q other) prints,
+                subst (λ r. PrintsByStatus state old new status (command_output command r)) (is q other) prints,
               );
               unread = λ none. absurd (none p reads);
               ends = record {

@@ -36,12 +36,12 @@ module _ {O : Type 0} (state : O → SinkState) (old new : O) (status : ExitStat
     pub all_flushed : status ≢ Failed → (state old).is_flushed ≡ true → (state new).is_flushed ≡ true
 
   -- the text was written, if the program did not fail; in any case a prefix of it was, and nothing else
-  pub record Prints (text : List ℕ) : Type 0 where
+  pub record PrintsByStatus (text : List ℕ) : Type 0 where
     pub start : AppendsPrefix (state old).written (state new).written text
     pub whole : status ≢ Failed → Appends (state old).written (state new).written text
 
   -- what a request about a line does: it prints the text of the position that the line writes, and nothing if the line writes none
   pub record AnswersLine (line : List ℕ) (text : Position → List ℕ) : Type 0 where
-    pub read : (p : Position) → Reads line p → (status ≢ LineFaults) × Prints (text p)
+    pub read : (p : Position) → Reads line p → (status ≢ LineFaults) × PrintsByStatus (text p)
     pub unread : IsUnread line → (status ≡ LineFaults) × (new ≡ old)
     pub ends : Ends

@@ -8,7 +8,7 @@ use Rattle.kalah_jobs.specs.declared.files.question.Question.{Question}
 use Rattle.kalah_jobs.specs.Writing.Sink.{SinkState}
 use Rattle.kalah_cli.specs.declared.status.ExitStatus.{ExitStatus}
 use Rattle.kalah_cli.specs.declared.status.ExitStatus.TheVariants.{Clean, Failed}
-use Rattle.kalah_cli.specs.Ends.{Ends, FailsWithoutOutput, Prints}
+use Rattle.kalah_cli.specs.Ends.{Ends, FailsWithoutOutput, PrintsByStatus}
 use Rattle.kalah_cli.specs.Sources.{Source, file_named}
 
 -- the name has a line feed in it
@@ -24,7 +24,7 @@ module _ {O : Type 0} (state : O → SinkState) (old new : O) (status : ExitStat
     pub files : List NamedBytes
     pub named : map (λ file. file.name) files ≡ names
     pub given : FailsWithoutOutput old new status ⊎ All (λ file. may_give (file_named file.name) file.bytes) files
-    pub printed : Prints state old new status (output_to question files)
+    pub printed : PrintsByStatus state old new status (output_to question files)
     pub one_line : status ≢ Failed → list_any has_line_feed names ≡ false
     pub clean : status ≢ Failed → status ≡ Clean ↔ (tally_of files).faults ≡ 0
     pub ends : Ends state old new status

@@ -7,8 +7,8 @@ ghost use Rattle.std.specs.Io.KnownBytes.{Keeps, WriteAppends};
 use std::io;
 use std::io::{ErrorKind, Write};
 
-/// A writer that passes its calls on until one fails. From then on each call returns an error, and the inner writer is
-/// not called again. So what a buffer in front of it still holds when a write fails is not written later, when the buffer is
+/// A writer that passes its calls on until one fails, or a write takes no byte. From then on each call returns an error, and the inner
+/// writer is not called again. So what a buffer in front of it still holds when a write fails is not written later, when the buffer is
 /// dropped. An interrupted call has not failed.
 #[derive(Drop)]
 pub(crate) struct Fused<W> {

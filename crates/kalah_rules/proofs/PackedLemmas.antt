@@ -1,4 +1,4 @@
--- Moves on the numbers of two rows.
+-- Moves on the numbers of two rows, the step of a board by that of its houses, and the cells of the table of sowings.
 use Rattle.kalah_rules.specs.declared.step.Step.TheVariants as step
 use Rattle.kalah_rules.specs.Position as position
 use Rattle.std.proofs.Common.{◌≡◌, ◌≢◌, ℕ, zero, suc, ◌+◌, ◌-◌, ◌*◌, ◌/◌, ◌%◌, ◌^◌, ◌<◌, ◌≤◌, inl, inr, length, arith, ap, sym, ◌∙◌, refl, subst, eq-eqb, List, Bool, true, false, sum, ◌==◌, ◌&&◌, Option, Some, None, MatchBool, Contains, slice_set, bit_and, length-set}
@@ -10,7 +10,7 @@ use Rattle.std.proofs.lemmas.Bool.Decides.{nat_tests}
 use Rattle.kalah_rules.specs.Position.{Position, HousesState, IsWithinHouses, side_length, seeds, opposite, seeds_in_houses, storeless, IsWithinLimits, is_over, swapped, houses_in, with_stores, without_seeds}
 use Rattle.kalah_rules.specs.Lap.{HoldsSeeds, lifted}
 use Rattle.kalah_rules.specs.Sowing.{lap_length, own_distance, other_distance, store_distance, sow, sown, last_distance, is_again, captures, can_capture, captured, after}
-use Rattle.kalah_rules.proofs.PlayLemmas.{sum-set_zero, sow_side, sow_keeps, own_distance_past, own_distance_back, last_house_own, last_house_store, last_house_other, after_at, legal_holds, after_nearer, sum-zeros, with_more, after_of_houses, legal_going}
+use Rattle.kalah_rules.proofs.PlayLemmas.{sum-set_zero, sow_side, sow_keeps, own_distance_past, own_distance_back, last_house_own, last_house_store, last_house_other, after_at, legal_holds, after_nearer, sum-zeros, with_store_seeds, after_of_houses, legal_going}
 use Rattle.kalah_rules.specs.Key.{number_of, rule_bit}
 use Rattle.kalah_rules.specs.Packed.{IsPackedPosition, ones, unpacked, IsPacked}
 use Rattle.kalah_rules.specs.declared.houses.play.RowNumbers.{RowNumbers}
@@ -99,11 +99,11 @@ gains_into_store m h c low high ends =
 
 module _ (a : HousesState) (h : ℕ) (w : IsWithinHouses a) (holds : HoldsSeeds (storeless a) h) where
   -- the position after the sowing
-  abbrev sowed : Position
-  sowed = sown (storeless a) h
+  abbrev after_sowing : Position
+  after_sowing = sown (storeless a) h
 
   -- a sowing loses no seed
-  pub sown_keeps : KeepsSeeds (storeless a) sowed
+  pub sown_keeps : KeepsSeeds (storeless a) after_sowing
   unfolding sow
   sown_keeps =
       let side = sow_side (storeless a) h (seeds a.own h) in
@@ -117,17 +117,17 @@ module _ (a : HousesState) (h : ℕ) (w : IsWithinHouses a) (holds : HoldsSeeds 
       }
 
   -- the own row after the sowing
-  pub own_is : number_of sowed.own + 32 ^ (h - 1) * seeds a.own h ≡ number_of a.own + own_gains (length a.own) h (seeds a.own h)
+  pub own_is : number_of after_sowing.own + 32 ^ (h - 1) * seeds a.own h ≡ number_of a.own + own_gains (length a.own) h (seeds a.own h)
   unfolding sow
   own_is = own_sown _ _ _ holds.first holds.last
 
   -- the other row
-  pub other_is : number_of sowed.other ≡ number_of a.other + other_gains (length a.own) h (seeds a.own h)
+  pub other_is : number_of after_sowing.other ≡ number_of a.other + other_gains (length a.own) h (seeds a.own h)
   unfolding sow
   other_is = rw w.same_side at (other_sown a.other h (seeds a.own h))
 
   -- what comes to the store
-  pub store_is : sowed.own_store ≡ store_gains (length a.own) h (seeds a.own h)
+  pub store_is : after_sowing.own_store ≡ store_gains (length a.own) h (seeds a.own h)
   unfolding sow
   store_is = omega arith
 
@@ -136,83 +136,83 @@ module _ (a : HousesState) (h : ℕ) (w : IsWithinHouses a) (holds : HoldsSeeds 
   lifted_is = omega (arith, number_of-set)
 
   -- the sowing leaves few seeds
-  few : sum sowed.own + sum sowed.other ≤ 31
+  few : sum after_sowing.own + sum after_sowing.other ≤ 31
   few = omega (arith, sown_keeps.play)
 
   -- the own row has a small number
-  own_small : number_of sowed.own < 2 ^ 30
-  own_small = number_of-small 6 sowed.own (omega (arith, sown_keeps.side)) (omega (arith, few))
+  own_small : number_of after_sowing.own < 2 ^ 30
+  own_small = number_of-small 6 after_sowing.own (omega (arith, sown_keeps.side)) (omega (arith, few))
 
   -- the other row has a small number
-  other_small : number_of sowed.other < 2 ^ 30
-  other_small = number_of-small 6 sowed.other (omega (arith, sown_keeps.other_side, w.same_side)) (omega (arith, few))
+  other_small : number_of after_sowing.other < 2 ^ 30
+  other_small = number_of-small 6 after_sowing.other (omega (arith, sown_keeps.other_side, w.same_side)) (omega (arith, few))
 
   -- both rows without the house's seeds, and with what they gain
   pub sown_rows : (rows house gains : ℕ) → rows ≡ number_of a.own + 2 ^ 30 * number_of a.other
       → house ≡ 32 ^ (h - 1) * seeds a.own h →
       gains ≡ own_gains (length a.own) h (seeds a.own h) + 2 ^ 30 * other_gains (length a.own) h (seeds a.own h) →
-      rows - house + gains ≡ number_of sowed.own + 2 ^ 30 * number_of sowed.other
+      rows - house + gains ≡ number_of after_sowing.own + 2 ^ 30 * number_of after_sowing.other
   sown_rows rows house gains rows_are house_is gains_are = omega (arith, own_is, other_is, lifted_is)
 
   -- after a sowing the rows are both rows, less what they lose
   pub sown_less : (rows loses : ℕ) → rows ≡ number_of a.own + 2 ^ 30 * number_of a.other → loses < 2 ^ 64 →
       (loses + (own_gains (length a.own) h (seeds a.own h) + 2 ^ 30 * other_gains (length a.own) h (seeds a.own h))) % 2 ^ 64
       ≡ 32 ^ (h - 1) * seeds a.own h →
-      (rows + (2 ^ 64 - loses)) % 2 ^ 64 ≡ number_of sowed.own + 2 ^ 30 * number_of sowed.other
+      (rows + (2 ^ 64 - loses)) % 2 ^ 64 ≡ number_of after_sowing.own + 2 ^ 30 * number_of after_sowing.other
   sown_less rows loses rows_are loses_small loses_is = omega (arith, own_is, other_is, own_small, other_small)
 
   -- rows and a store with what a sowing adds show the position after it
-  pub rows_show : (rows store : ℕ) → rows ≡ number_of sowed.own + 2 ^ 30 * number_of sowed.other →
-      store ≡ store_gains (length a.own) h (seeds a.own h) → IsPackedPosition (record { rows = rows; store = store }) sowed
+  pub rows_show : (rows store : ℕ) → rows ≡ number_of after_sowing.own + 2 ^ 30 * number_of after_sowing.other →
+      store ≡ store_gains (length a.own) h (seeds a.own h) → IsPackedPosition (record { rows = rows; store = store }) after_sowing
   rows_show rows store rows_are store_is' = omega (arith, own_small, store_is)
 
   -- a house whose last seed falls into the store without a lap
   pub into_store : (rows house own_more : ℕ) → seeds a.own h + h ≡ length a.own + 1
       → rows ≡ number_of a.own + 2 ^ 30 * number_of a.other →
       house ≡ 32 ^ (h - 1) * seeds a.own h → own_more + ones h ≡ ones (length a.own)
-      → IsPackedPosition (record { rows = rows - house + own_more; store = 1 }) sowed
+      → IsPackedPosition (record { rows = rows - house + own_more; store = 1 }) after_sowing
   into_store rows house own_more ends rows_are house_is own_more_is =
       let gains = gains_into_store _ _ _ holds.first holds.last ends in
       rows_show _ 1 (sown_rows _ house _ rows_are house_is (omega arith)) (omega arith)
 
   -- a house read off the numbers
-  pub read_own : (r : RowNumbers) (i bit : ℕ) → IsPackedPosition r sowed → 1 ≤ i → i ≤ length a.own → bit ≡ 5 * (i - 1) →
-      r.rows / 2 ^ bit % 32 ≡ seeds sowed.own i
+  pub read_own : (r : RowNumbers) (i bit : ℕ) → IsPackedPosition r after_sowing → 1 ≤ i → i ≤ length a.own → bit ≡ 5 * (i - 1) →
+      r.rows / 2 ^ bit % 32 ≡ seeds after_sowing.own i
   read_own r i bit shows low high at =
       let near : i - 1 ≤ 5 = omega arith in
       rw (at, pow_five) (own_house_of_rows _ _ near ∙ ap (λ n. n / 32 ^ (i - 1) % 32) shows.own
       ∙ read_seeds _ _ (omega (arith, sown_keeps.side)) (omega (arith, few)))
 
   -- the house across
-  pub read_across : (r : RowNumbers) (i bit : ℕ) → IsPackedPosition r sowed → 1 ≤ i → i ≤ length a.own
-      → bit ≡ 30 + 5 * (opposite sowed i - 1) →
-      r.rows / 2 ^ bit % 32 ≡ seeds sowed.other (opposite sowed i)
+  pub read_across : (r : RowNumbers) (i bit : ℕ) → IsPackedPosition r after_sowing → 1 ≤ i → i ≤ length a.own
+      → bit ≡ 30 + 5 * (opposite after_sowing i - 1) →
+      r.rows / 2 ^ bit % 32 ≡ seeds after_sowing.other (opposite after_sowing i)
   read_across r i bit shows low high at =
       let side = sown_keeps.side in
       let other_side = sown_keeps.other_side in
       rw (at, pow_other) (ap (λ n. n % 32) (sym (div-div-eq-div-mul _ (2 ^ 30) _))
-      ∙ ap (λ n. n / 32 ^ (opposite sowed i - 1) % 32) shows.other
+      ∙ ap (λ n. n / 32 ^ (opposite after_sowing i - 1) % 32) shows.other
       ∙ read_seeds _ _ (omega arith) (omega (arith, few)))
 
   -- all that a capture does to the rows, read and written by bits
-  capture_shows : {r : RowNumbers} {i house seed across captured_seeds count : ℕ} → IsPackedPosition r sowed → 1 ≤ i
+  capture_shows : {r : RowNumbers} {i house seed across captured_seeds count : ℕ} → IsPackedPosition r after_sowing → 1 ≤ i
       → i ≤ length a.own →
       IsLastHouse (length a.own) i house seed across → HasCaptured a.rule r house seed across captured_seeds count →
-      LeavesRows r captured_seeds count (captured sowed (Some i))
+      LeavesRows r captured_seeds count (captured after_sowing (Some i))
   capture_shows {r} {i} {house} {seed} {across} {captured_seeds} {count} shows low high at taken =
-      let j = opposite sowed i in
+      let j = opposite after_sowing i in
       let side = sown_keeps.side in
       let other_side = sown_keeps.other_side in
       let far : j - 1 ≤ 5 = omega (arith, w.at_most_six) in
       let opposite_is : across ≡ 30 + 5 * (j - 1) = omega arith in
       let there = read_across r i across shows low high opposite_is in
-      let alone : (bit_and r.rows house == seed) ≡ (seeds sowed.own i == 1) =
+      let alone : (bit_and r.rows house == seed) ≡ (seeds after_sowing.own i == 1) =
       rw (at.house, at.seed, ← read_own r i (5 * (i - 1)) shows low high refl, pow_five (i - 1)) (one_seed_at r.rows (i - 1)) in
-      let has_captured : MatchBool (can_capture sowed i)
-      ((captured_seeds ≡ seed + seeds sowed.other j * 2 ^ across % 2 ^ 64) × (count ≡ 1 + seeds sowed.other j))
+      let has_captured : MatchBool (can_capture after_sowing i)
+      ((captured_seeds ≡ seed + seeds after_sowing.other j * 2 ^ across % 2 ^ 64) × (count ≡ 1 + seeds after_sowing.other j))
       ((captured_seeds ≡ 0) × (count ≡ 0)) =
       rw sown_keeps.rule (rw (alone, there) at taken) in
-      elim (cases_Bool (can_capture sowed i)) [
+      elim (cases_Bool (can_capture after_sowing i)) [
         | inr kept ↦
             let none : (captured_seeds ≡ 0) × (count ≡ 0) = rw kept at has_captured in
             record {
@@ -220,17 +220,17 @@ module _ (a : HousesState) (h : ℕ) (w : IsWithinHouses a) (holds : HoldsSeeds 
               shows = rw (kept, none.0, none.1) (omega arith);
             }
         | inl some ↦
-            let both : (captured_seeds ≡ seed + seeds sowed.other j * 2 ^ across % 2 ^ 64) × (count ≡ 1 + seeds sowed.other j) =
+            let both : (captured_seeds ≡ seed + seeds after_sowing.other j * 2 ^ across % 2 ^ 64) × (count ≡ 1 + seeds after_sowing.other j) =
             rw some at has_captured in
-            let one : seeds sowed.own i ≡ 1 = eqb-true (seeds sowed.own i) 1 (and_parts _ _ some).0 in
-            let own_set = number_of-set sowed.own (i - 1) 0 (omega arith) in
-            let other_set = number_of-set sowed.other (j - 1) 0 (omega (arith, w.same_side)) in
-            let one_at : 32 ^ (i - 1) * seeds sowed.own i ≡ 32 ^ (i - 1) * 1 = ap (λ n. 32 ^ (i - 1) * n) one in
-            let stands : seeds sowed.other j * 2 ^ across % 2 ^ 64 ≡ 2 ^ 30 * (32 ^ (j - 1) * seeds sowed.other j) =
+            let one : seeds after_sowing.own i ≡ 1 = eqb-true (seeds after_sowing.own i) 1 (and_parts _ _ some).0 in
+            let own_set = number_of-set after_sowing.own (i - 1) 0 (omega arith) in
+            let other_set = number_of-set after_sowing.other (j - 1) 0 (omega (arith, w.same_side)) in
+            let one_at : 32 ^ (i - 1) * seeds after_sowing.own i ≡ 32 ^ (i - 1) * 1 = ap (λ n. 32 ^ (i - 1) * n) one in
+            let stands : seeds after_sowing.other j * 2 ^ across % 2 ^ 64 ≡ 2 ^ 30 * (32 ^ (j - 1) * seeds after_sowing.other j) =
             rw (opposite_is, pow_other (j - 1)) (moved_across_fits _ _ far (omega arith)) in
-            let is : captured_seeds ≡ 32 ^ (i - 1) + 2 ^ 30 * (32 ^ (j - 1) * seeds sowed.other j) = both.0 ∙ omega (arith, stands, at.seed) in
-            let left : AreLeft r.rows (32 ^ (i - 1) + 2 ^ 30 * (32 ^ (j - 1) * seeds sowed.other j))
-            (number_of (slice_set sowed.own (i - 1) 0)) (number_of (slice_set sowed.other (j - 1) 0)) =
+            let is : captured_seeds ≡ 32 ^ (i - 1) + 2 ^ 30 * (32 ^ (j - 1) * seeds after_sowing.other j) = both.0 ∙ omega (arith, stands, at.seed) in
+            let left : AreLeft r.rows (32 ^ (i - 1) + 2 ^ 30 * (32 ^ (j - 1) * seeds after_sowing.other j))
+            (number_of (slice_set after_sowing.own (i - 1) 0)) (number_of (slice_set after_sowing.other (j - 1) 0)) =
             left_of_rows r.rows _ _ shows.own shows.other (omega arith) (omega arith) in
             record {
               within = rw is left.within;
@@ -493,7 +493,7 @@ IsStepWithin p (Turn gained b) = IsWithinLimits (with_stores b p.other_store (p.
 -- the step with the stores is that of the position with the stores
 step_with_to : (p q : Position) (over again : Bool) → side_length q ≡ side_length p → q.rule ≡ p.rule → q.other_store ≡ 0
     → is_over q ≡ over →
-    step_with p (houses_step_to q again) ≡ step_to (with_more p.own_store p.other_store q) again
+    step_with p (houses_step_to q again) ≡ step_to (with_store_seeds p.own_store p.other_store q) again
 step_with_to p q true again side rule none is = grind arith
 step_with_to p q false true side rule none is = grind arith
 step_with_to p q false false side rule none is = grind arith

@@ -397,28 +397,28 @@ length-filter_range f a n = omega (arith, length-filter, count_by-le-length, len
 -- ==== Stores do not influence a move
 
 -- a and b more in the stores
-abbrev pub with_more : ℕ → ℕ → Position → Position
-with_more a b p = record p {
+abbrev pub with_store_seeds : ℕ → ℕ → Position → Position
+with_store_seeds a b p = record p {
   own_store = p.own_store + a;
   other_store = p.other_store + b;
 }
 
 -- sowing keeps what was added
-sow_with_more : (a b : ℕ) (p : Position) (h c : ℕ) → sow (with_more a b p) h c ≡ with_more a b (sow p h c)
+sow_with_more : (a b : ℕ) (p : Position) (h c : ℕ) → sow (with_store_seeds a b p) h c ≡ with_store_seeds a b (sow p h c)
 unfolding sow
 sow_with_more a b p h c = grind arith
 
 -- a move keeps what was added
-pub after_with_more : (a b : ℕ) (p : Position) (h : ℕ) → after (with_more a b p) h ≡ with_more a b (after p h)
+pub after_with_more : (a b : ℕ) (p : Position) (h : ℕ) → after (with_store_seeds a b p) h ≡ with_store_seeds a b (after p h)
 unfolding after
 after_with_more a b p h = grind (arith, sow_with_more)
 
 -- a position is its houses, with what the stores hold added
-pub is_with_more : (p : Position) → p ≡ with_more p.own_store p.other_store (storeless (houses_in p))
+pub is_with_more : (p : Position) → p ≡ with_store_seeds p.own_store p.other_store (storeless (houses_in p))
 is_with_more p = grind arith
 
 -- a move of a position is that of its houses
-pub after_of_houses : (p : Position) (h : ℕ) → after p h ≡ with_more p.own_store p.other_store (after (storeless (houses_in p)) h)
+pub after_of_houses : (p : Position) (h : ℕ) → after p h ≡ with_store_seeds p.own_store p.other_store (after (storeless (houses_in p)) h)
 after_of_houses p h = ap (λ q. after q h) (is_with_more p) ∙ after_with_more _ _ _ h
 
 -- ==== Every move brings the game nearer to its end
@@ -504,7 +504,7 @@ capture_side : (q : Position) (o : Option ℕ) → (side_length (captured q o) �
 capture_side q None = omega arith
 capture_side q (Some i) = grind (arith, length-set)
 
--- a move keeps the number of houses of both sides
+-- a move keeps the number of own houses
 pub after_side : (p : Position) (h : ℕ) → side_length (after p h) ≡ side_length p
 unfolding after
 after_side p h = omega (arith, capture_side, sow_side)

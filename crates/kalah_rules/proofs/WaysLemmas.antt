@@ -13,7 +13,7 @@ use Rattle.kalah_rules.specs.HousesStep.{houses_step, houses_step_to}
 use Rattle.kalah_rules.specs.declared.step.HousesStep.{HousesStep}
 use Rattle.kalah_rules.specs.declared.step.HousesStep.TheVariants.{Over, Again, Turn}
 use Rattle.kalah_rules.specs.Ways.{ways, ways_by}
-use Rattle.kalah_rules.proofs.PlayLemmas.{sum-zeros, same_position, filter_range_more, length-filter_range, with_more, after_with_more, is_with_more}
+use Rattle.kalah_rules.proofs.PlayLemmas.{sum-zeros, same_position, filter_range_more, length-filter_range, with_store_seeds, after_with_more, is_with_more}
 
 -- ---- by their definition
 pub ways_none : (p : Position) → ways 0 p ≡ 1
@@ -38,14 +38,14 @@ sum_same f g xs same = grind arith
 -- ---- stores
 -- what was added stays after a step
 step_with_more : (n a b : ℕ) (q : Position) (over again : Bool) → is_over q ≡ over →
-    ((c d : ℕ) (p : Position) → ways n (with_more c d p) ≡ ways n p) →
-    ways n (position_after (step_to (with_more a b q) again)) ≡ ways n (position_after (step_to q again))
+    ((c d : ℕ) (p : Position) → ways n (with_store_seeds c d p) ≡ ways n p) →
+    ways n (position_after (step_to (with_store_seeds a b q) again)) ≡ ways n (position_after (step_to q again))
 step_with_more n a b q true again is same = rw is (ap (ways n) (same_position refl (omega arith) refl (omega arith) refl) ∙ same a b _)
 step_with_more n a b q false true is same = rw is (same a b q)
 step_with_more n a b q false false is same = rw is (same b a _)
 
 -- stores do not influence the ways
-ways_with_more : (n a b : ℕ) (p : Position) → ways n (with_more a b p) ≡ ways n p
+ways_with_more : (n a b : ℕ) (p : Position) → ways n (with_store_seeds a b p) ≡ ways n p
 ways_with_more zero a b p = simp (ways_none)
 ways_with_more (suc n) a b p = ways_suc n _
     ∙ sum_same _ _ (legal_houses p)

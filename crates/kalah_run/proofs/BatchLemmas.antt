@@ -13,7 +13,7 @@ use Rattle.std.proofs.KnownBytes.{Keeps-refl}
 use Rattle.kalah_jobs.specs.Writing.Sink.{AppendsPrefix, SinkState}
 use Rattle.kalah_jobs.proofs.WritingLemmas.{files_are_their_jobs}
 use Rattle.kalah_run.specs.Batch.OrderedOutput.{IsOnlyFlushed, WasGivenSince, text_of_job, text_of, IsNew, HasWritten, whole_output, Waits, WritesReady}
-use Rattle.kalah_run.specs.Batch.Leaving.{rest_of, pass_in, HasDrawnNothing, IsLeft, DrawsOnlyTheRest}
+use Rattle.kalah_run.specs.Batch.Leaving.{rest_by_pass, pass_list, HasDrawnNothing, IsAbandoned, DrawsOnlyTheRest}
 use Rattle.std.specs.List.{flat_map}
 use Rattle.std.proofs.lemmas.Bool.{both_ways, true_from_ne_false}
 use Rattle.kalah_jobs.specs.declared.collecting.refusal.Refusal.{Refusal}
@@ -44,7 +44,7 @@ use Rattle.kalah_run.proofs.WorkerLemmas.{puts_after, run_passes}
 -- ==== The calling thread's pass, by which it draws what is left after a failed write
 
 -- what holds unless the rest is left holds if it is to be solved, and if the output has not failed
-pub unless_left : {rest : Rest} {failed : Bool} {A : Type 0} → A ⊎ IsLeft rest failed → (rest ≡ Solve) ⊎ (failed ≡ false) → A
+pub unless_left : {rest : Rest} {failed : Bool} {A : Type 0} → A ⊎ IsAbandoned rest failed → (rest ≡ Solve) ⊎ (failed ≡ false) → A
 unless_left (inl a) sound = a
 unless_left (inr left) (inl solve) = absurd (let both : Leave ≡ Solve = sym left.0 ∙ solve in cc)
 unless_left (inr left) (inr still) = absurd (both_ways _ still left.1)
@@ -53,18 +53,18 @@ pub failed_still : {was : Bool} (now : Bool) → (now ≡ false → was ≡ fals
 failed_still now sound failed = true_from_ne_false now (λ still. both_ways _ (sound still) failed)
 
 -- the calling thread's pass, before and after a call of the output
-pub draws_still : {desk : DeskState} {was : Bool} {before after : Option PassState} (now : Bool) → (now ≡ false → was ≡ false)
+pub draws_weaken : {desk : DeskState} {was : Bool} {before after : Option PassState} (now : Bool) → (now ≡ false → was ≡ false)
     → DrawsOnlyTheRest desk was before after → DrawsOnlyTheRest desk now before after
-draws_still {was = was} {before} now sound draws = record {
+draws_weaken {was = was} {before} now sound draws = record {
   own = draws.own;
   rest = draws.rest;
-  same = ⊎_elim inl (λ (left : IsLeft (rest_of before) was). inr (left.0, failed_still now sound left.1)) draws.same;
+  same = ⊎_elim inl (λ (left : IsAbandoned (rest_by_pass before) was). inr (left.0, failed_still now sound left.1)) draws.same;
 }
 
 -- the calling thread's pass after two steps
-pub draws_on : {desk : DeskState} {failed : Bool} {first second third : Option PassState} → DrawsOnlyTheRest desk failed first second
+pub draws_trans : {desk : DeskState} {failed : Bool} {first second third : Option PassState} → DrawsOnlyTheRest desk failed first second
     → DrawsOnlyTheRest desk failed second third → DrawsOnlyTheRest desk failed first third
-draws_on {failed = failed} {first} {second} {third} one two = record {
+draws_trans {failed = failed} {first} {second} {third} one two = record {
   own = two.own;
   rest = two.rest ∙ one.rest;
   same = elim (two.same) [
@@ -80,21 +80,21 @@ pub got_after : {desk : DeskState} {Ended : Type 0} {before between after : Call
     → MayHaveGot desk Ended between after old new result → MayHaveGot desk Ended before after old new result
 got_after same draws same_rest got = record {
   got = rw (← same) got.got;
-  draws = draws_on (draws_still _ got.flushed.sound draws) (rw same_rest at got.draws);
+  draws = draws_trans (draws_weaken _ got.flushed.sound draws) (rw same_rest at got.draws);
   left = rw (← draws.rest, ← same_rest) got.left;
   ended = got.ended;
   flushed = got.flushed;
 }
 
 -- if it is new, it is a pass of the desk, and has drawn nothing
-pub new_left : (desk : DeskState) (number : ℕ) (left : Option PassState) → IfSome left (λ p. p ≡ new_pass desk number)
+pub new_pass_draws_nothing : (desk : DeskState) (number : ℕ) (left : Option PassState) → IfSome left (λ p. p ≡ new_pass desk number)
     → IfSome left (IsPassAt desk) × HasDrawnNothing left
-new_left desk number None new = (tt, tt)
-new_left desk number (Some p) new = rw new ((refl, refl), refl)
+new_pass_draws_nothing desk number None new = (tt, tt)
+new_pass_draws_nothing desk number (Some p) new = rw new ((refl, refl), refl)
 
 -- the calling thread has a pass if it had one
-as_many_left : (before after : Option PassState) → rest_of after ≡ rest_of before
-    → length (pass_in after) ≡ length (pass_in before)
+as_many_left : (before after : Option PassState) → rest_by_pass after ≡ rest_by_pass before
+    → length (pass_list after) ≡ length (pass_list before)
 as_many_left None None same = refl
 as_many_left (Some p) (Some q) same = refl
 as_many_left None (Some q) same = absurd (let both : Leave ≡ Solve = same in cc)
@@ -103,20 +103,20 @@ as_many_left (Some p) None same = absurd (let both : Solve ≡ Leave = same in c
 -- after the run, when the passes of the workers and that of the calling thread come back
 module _ {G : Type 0} {knows : G → ℕ → Bool} {shared : SharedWork G} {before after : List Worker} (run : HaveRun knows shared before after) where
   -- a list that had room for all passes has room for them again
-  pub passes_fit : {len capacity : ℕ} (left left' : Option PassState) → rest_of left' ≡ rest_of left → len ≡ length after
-      → length before + length (pass_in left) ≤ capacity → len + length (pass_in left') ≤ capacity
+  pub passes_fit : {len capacity : ℕ} (left left' : Option PassState) → rest_by_pass left' ≡ rest_by_pass left → len ≡ length after
+      → length before + length (pass_list left) ≤ capacity → len + length (pass_list left') ≤ capacity
   passes_fit left left' same is room = omega (arith, is, run.as_many, room, as_many_left left left' same)
 
   -- all passes of the desk are back
-  pub passes_are_back : {passes : ℕ} {back : List PassState} (left left' : Option PassState) → rest_of left' ≡ rest_of left
-      → back ≡ passes_of after ++ pass_in left' → length before + length (pass_in left) ≡ passes → length back ≡ passes
+  pub passes_are_back : {passes : ℕ} {back : List PassState} (left left' : Option PassState) → rest_by_pass left' ≡ rest_by_pass left
+      → back ≡ passes_of after ++ pass_list left' → length before + length (pass_list left) ≡ passes → length back ≡ passes
   passes_are_back left left' same is all =
-      let many = ap length is ∙ length-append (passes_of after) (pass_in left') in
+      let many = ap length is ∙ length-append (passes_of after) (pass_list left') in
       omega (arith, many, length-map after (λ (w : Worker). w.pass), run.as_many, all, as_many_left left left' same)
 
   -- each of them is of the desk
   pub own_back : {back : List PassState} (left' : Option PassState) → IfSome left' (IsPassAt shared.desk)
-      → back ≡ passes_of after ++ pass_in left' → All (IsPassAt shared.desk) back
+      → back ≡ passes_of after ++ pass_list left' → All (IsPassAt shared.desk) back
   own_back None own is = rw (is, append-nil (passes_of after)) (run_passes shared before after run)
   own_back (Some p) own is = rw is (All-push (IsPassAt shared.desk) (passes_of after) p (run_passes shared before after run) own)
 
@@ -130,7 +130,7 @@ module _ {G : Type 0} {knows : G → ℕ → Bool} {shared : SharedWork G} {befo
 
 -- the calling thread has drawn nothing if it had not, unless the rest is left
 pub nothing_drawn : {desk : DeskState} {failed : Bool} {before after : Option PassState} → HasDrawnNothing before
-    → DrawsOnlyTheRest desk failed before after → HasDrawnNothing after ⊎ IsLeft (rest_of before) failed
+    → DrawsOnlyTheRest desk failed before after → HasDrawnNothing after ⊎ IsAbandoned (rest_by_pass before) failed
 nothing_drawn nothing draws = ⊎_elim (λ is. inl (subst HasDrawnNothing (sym is) nothing)) inr draws.same
 
 -- ==== What stands written when a batch has ended
@@ -177,7 +177,7 @@ module _ {desk : DeskState} {Ended : Type 0} {output r : OrderedOutput} {begun o
       record {
         queue = ap (λ (p : GetPassState). p.queue) is ∙ so_far.queue;
         workers = ap (λ (p : GetPassState). p.workers) is ∙ so_far.workers;
-        draws = draws_still _ sound (draws_on (draws_still _ got.flushed.sound so_far.draws) got.draws);
+        draws = draws_weaken _ sound (draws_trans (draws_weaken _ got.flushed.sound so_far.draws) got.draws);
         progress = rw more_got (writes _ _ _ _ (record {
           of_files = files ∙ was.of_files;
           of_jobs = jobs ∙ was.of_jobs;
@@ -187,12 +187,12 @@ module _ {desk : DeskState} {Ended : Type 0} {output r : OrderedOutput} {begun o
 
   -- none was got, as the rest is left
   pub rest_left : MayHaveGot desk Ended now next out later None
-      → AreCollected desk output begun later before next r × IsLeft (rest_of before.rest_pass) later.has_failed
+      → AreCollected desk output begun later before next r × IsAbandoned (rest_by_pass before.rest_pass) later.has_failed
   rest_left got = (
     record {
       queue = ap (λ (p : GetPassState). p.queue) got.got ∙ so_far.queue;
       workers = ap (λ (p : GetPassState). p.workers) got.got ∙ so_far.workers;
-      draws = draws_on (draws_still _ got.flushed.sound so_far.draws) got.draws;
+      draws = draws_trans (draws_weaken _ got.flushed.sound so_far.draws) got.draws;
       progress = (rw got.got (written_kept got.flushed so_far.progress.0), so_far.progress.1);
     },
     (sym so_far.draws.rest ∙ got.left.0.0, got.left.0.1),
@@ -201,7 +201,7 @@ module _ {desk : DeskState} {Ended : Type 0} {output r : OrderedOutput} {begun o
 -- the collection has ended, and what was written is kept
 pub has_collected : {desk : DeskState} {output r : OrderedOutput} {begun out later : SinkState} {before now after : CallerPasses}
     → AreCollected desk output begun out before now r → after ≡ now
-    → (length now.get_pass.got ≡ job_count output.jobs.now) ⊎ IsLeft (rest_of before.rest_pass) later.has_failed
+    → (length now.get_pass.got ≡ job_count output.jobs.now) ⊎ IsAbandoned (rest_by_pass before.rest_pass) later.has_failed
     → IsOnlyFlushed out later → HasCollected desk output begun later before after
 unfolding text_of
 has_collected {output = output} {r} {begun} {later = later} {before} {now} so_far is all_got flushed =
@@ -215,9 +215,9 @@ has_collected {output = output} {r} {begun} {later = later} {before} {now} so_fa
       given = λ known. subst (WasGivenSince begun later) whole (⊎_elim
           (λ (each : AreJobsInSomeOrder output.jobs.now (outcomes_in now.get_pass.got)). progress_end written.progress
           (subst (λ l. AreJobsInSomeOrder l (outcomes_in now.get_pass.got)) (sym written.of_jobs) each) so_far.progress.1)
-          (λ (left : IsLeft (rest_of before.rest_pass) later.has_failed). progress_failed written.progress left.1)
+          (λ (left : IsAbandoned (rest_by_pass before.rest_pass) later.has_failed). progress_failed written.progress left.1)
           known);
-      draws = draws_still _ flushed.sound so_far.draws;
+      draws = draws_weaken _ flushed.sound so_far.draws;
     })
 
 -- the output of the jobs of the files is that of the files

@@ -23,7 +23,7 @@ use Rattle.kalah_jobs.specs.Limits.{most_lines}
 use Rattle.kalah_run.specs.Limits.{most_passes}
 use Rattle.kalah_run.specs.Desk.States.{as_pass_view, row_in, total_in, number_in, PassState, DeskState, new_pass, AreNewPasses, drawn_rows}
 use Rattle.std.proofs.lemmas.List.{get_or_push, get_or_append_left, length-map, map-append, nil_from_length, set-set, take_at, drop_at}
-use Rattle.kalah_run.specs.Batch.Leaving.{HasDrawnNothing, pass_in}
+use Rattle.kalah_run.specs.Batch.Leaving.{HasDrawnNothing, pass_list}
 use Rattle.std.specs.List.{range_with_len}
 
 -- ==== Sums over the rows of all seats, and facts of each row: after a change of one seat's view, and after a new seat
@@ -440,7 +440,7 @@ deals_but_last total drawn rows r empty deals = deals_alike deals
 
 -- if the calling thread has drawn nothing, the workers have all numbers
 pub deals_to_others : {total drawn : ℕ} (passes : List PassState) (left : Option PassState) → HasDrawnNothing left
-    → DealsEachOnce total drawn (drawn_rows (passes ++ pass_in left)) → DealsEachOnce total drawn (drawn_rows passes)
+    → DealsEachOnce total drawn (drawn_rows (passes ++ pass_list left)) → DealsEachOnce total drawn (drawn_rows passes)
 deals_to_others {total} {drawn} passes None nothing deals =
     subst (λ (l : List PassState). DealsEachOnce total drawn (drawn_rows l)) (append-nil passes) deals
 deals_to_others {total} {drawn} passes (Some p) nothing deals =

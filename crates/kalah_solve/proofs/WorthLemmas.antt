@@ -11,7 +11,7 @@ use Rattle.kalah_solve.specs.Solver.Worth.{greatest, worth, best_house, value_by
 use Rattle.std.proofs.lemmas.Bool.Decides.{Decides-int_eq}
 use Rattle.kalah_rules.specs.Position.{Position, IsWithinLimits, is_over, final_margin, HasEqualSides, seeds_in_houses, swapped, swept, houses_in, storeless, HousesState, IsWithinHouses}
 use Rattle.kalah_rules.specs.Play.{legal_houses, step_of}
-use Rattle.kalah_rules.proofs.PlayLemmas.{all_range, legal_holds, holds_legal, sum-zeros, after_equal_sides, after_fewer, moves_left-swapped, with_more, after_with_more, is_with_more}
+use Rattle.kalah_rules.proofs.PlayLemmas.{all_range, legal_holds, holds_legal, sum-zeros, after_equal_sides, after_fewer, moves_left-swapped, with_store_seeds, after_with_more, is_with_more}
 use Rattle.std.proofs.lemmas.List.Sums.{sum_by-le}
 use Rattle.kalah_rules.specs.Sowing.{after, is_again}
 use Rattle.kalah_rules.specs.Measure.{moves_left}
@@ -290,7 +290,7 @@ worth_is_most p equal going = record {
 -- ==== Stores do not influence play
 
 -- the final margin is shifted by what was added
-final_with_more : (a b : ℕ) (p : Position) → final_margin (with_more a b p) ≡ final_margin p +ℤ (pos a -ℤ pos b)
+final_with_more : (a b : ℕ) (p : Position) → final_margin (with_store_seeds a b p) ≡ final_margin p +ℤ (pos a -ℤ pos b)
 final_with_more a b p = omega (arith, ints)
 
 -- the greater of two shifted numbers
@@ -326,9 +326,9 @@ shift_turned a b u' is = omega (arith, ints)
 
 -- a value by a worth that stores shift is shifted
 value_with_more : (v w : Position → ℤ) (a b : ℕ) (p : Position) (h : ℕ) →
-    v (with_more a b (after p h)) ≡ w (after p h) +ℤ (pos a -ℤ pos b) →
-    v (with_more b a (swapped (after p h))) ≡ w (swapped (after p h)) +ℤ (pos b -ℤ pos a) →
-    value_by v (with_more a b p) h ≡ value_by w p h +ℤ (pos a -ℤ pos b)
+    v (with_store_seeds a b (after p h)) ≡ w (after p h) +ℤ (pos a -ℤ pos b) →
+    v (with_store_seeds b a (swapped (after p h))) ≡ w (swapped (after p h)) +ℤ (pos b -ℤ pos a) →
+    value_by v (with_store_seeds a b p) h ≡ value_by w p h +ℤ (pos a -ℤ pos b)
 value_with_more v w a b p h again turn = grind (arith, after_with_more, shift_either, shift_turned, final_with_more)
 
 -- with no move left the worth is the final margin
@@ -337,7 +337,7 @@ unfolding worth_within
 worth_zero p = refl
 
 -- the worth is shifted by what was added, for any count of moves
-worth_with_more : (n a b : ℕ) (p : Position) → worth_within n (with_more a b p) ≡ worth_within n p +ℤ (pos a -ℤ pos b)
+worth_with_more : (n a b : ℕ) (p : Position) → worth_within n (with_store_seeds a b p) ≡ worth_within n p +ℤ (pos a -ℤ pos b)
 worth_with_more zero a b p = simp (worth_zero, final_with_more)
 worth_with_more (suc n) a b p = elim (cases_Bool _) [
   | inl over ↦ worth_within-over (suc n) _ over ∙ final_with_more a b p
@@ -352,7 +352,7 @@ worth_with_more (suc n) a b p = elim (cases_Bool _) [
 ]
 
 -- the worth is shifted by what was added
-worth_shift : (a b : ℕ) (p : Position) → worth (with_more a b p) ≡ worth p +ℤ (pos a -ℤ pos b)
+worth_shift : (a b : ℕ) (p : Position) → worth (with_store_seeds a b p) ≡ worth p +ℤ (pos a -ℤ pos b)
 unfolding worth
 worth_shift a b p = worth_with_more _ a b p
 
@@ -372,7 +372,7 @@ int_eq_shift : (x y d : ℤ) → int_eq (x +ℤ d) (y +ℤ d) ≡ int_eq x y
 int_eq_shift x y d = grind (arith, ints)
 
 -- the best house is the same, for any stores added
-best_with_more : (a b : ℕ) (p : Position) → best_house (with_more a b p) ≡ best_house p
+best_with_more : (a b : ℕ) (p : Position) → best_house (with_store_seeds a b p) ≡ best_house p
 best_with_more a b p = ap (λ o. unwrap_or o 0) (find_same _ _ (legal_houses p) (λ h.
     let value = value_with_more worth worth a b p h (worth_shift a b _) (worth_shift b a _) in
     rw (value, worth_shift a b p) (int_eq_shift _ (worth p) _)))

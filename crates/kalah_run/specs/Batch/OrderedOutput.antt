@@ -48,7 +48,7 @@ pub record IsUnderWay (text : ℕ → Taken → List ℕ) (jobs : List (List Ent
 unfoldable pub text_of : List NamedBytes → ℕ → Taken → List ℕ
 text_of files = taken_output (names_of files)
 
--- nothing has come, and nothing is written
+-- nothing has come, and the first file is the current one
 abbrev pub IsNew : OrderedOutput → Type 0
 IsNew r = (r.collector ≡ new_files r.jobs.now) × (r.current ≡ 0)
 

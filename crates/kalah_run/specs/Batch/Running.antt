@@ -19,7 +19,7 @@ use Rattle.kalah_run.specs.declared.batch.worker.Worker.{Worker}
 use Rattle.kalah_run.specs.declared.batch.open_batch.OpenBatch.{OpenBatch}
 use Rattle.kalah_run.specs.declared.batch.receiver.CallerPasses.{CallerPasses}
 use Rattle.kalah_jobs.specs.Collecting.AnyOrder.{AreJobsInSomeOrder}
-use Rattle.kalah_run.specs.Batch.Leaving.{rest_of, pass_in, HasDrawnNothing, IsLeft, NothingIsLeft, DrawsOnlyTheRest}
+use Rattle.kalah_run.specs.Batch.Leaving.{rest_by_pass, pass_list, HasDrawnNothing, IsAbandoned, NothingRemains, DrawsOnlyTheRest}
 use Rattle.kalah_run.specs.declared.batch.ordered_output.OrderedOutput.{OrderedOutput}
 use Rattle.kalah_run.specs.declared.batch.shared_work.SharedWork.{SharedWork}
 
@@ -34,7 +34,7 @@ module _ {G : Type 0} where
   -- the two lists for the passes' return are empty, and have room for them
   pub record HasRoom (b : OpenBatch G) : Type 0 where
     pub empty : (b.passes.items ≡ []) × (b.puts.items ≡ [])
-    pub passes : length b.workers.items + length (pass_in b.caller.rest_pass) ≤ vec_capacity b.passes
+    pub passes : length b.workers.items + length (pass_list b.caller.rest_pass) ≤ vec_capacity b.passes
     pub puts : length b.workers.items ≤ vec_capacity b.puts
 
   -- for this request, with these jobs and this gate: there are the workers asked for, but at most one for each job, and one for no job;
@@ -44,14 +44,14 @@ module _ {G : Type 0} where
     pub tables : HaveOwnTables request.table b.workers.items
     pub of_files : b.output.files.now ≡ request.files.now
     pub of_jobs : b.shared.jobs.now ≡ jobs
-    pub of_rest : rest_of b.caller.rest_pass ≡ request.rest
+    pub of_rest : rest_by_pass b.caller.rest_pass ≡ request.rest
     pub of_gate : b.shared.gate.now ≡ gate
     pub queue : b.shared.queue.capacity ≡ QUEUE_CAPACITY
 
   -- there is a worker; each is at work and has its place, nothing was got, and nothing is written
   pub record IsReadyToRun (knows : G → ℕ → Bool) (b : OpenBatch G) : Type 0 where
     pub some : 0 < length b.workers.items
-    pub passes : length b.workers.items + length (pass_in b.caller.rest_pass) ≡ b.shared.desk.passes
+    pub passes : length b.workers.items + length (pass_list b.caller.rest_pass) ≡ b.shared.desk.passes
     pub own : IfSome b.caller.rest_pass (IsPassAt b.shared.desk)
     pub drawn : HasDrawnNothing b.caller.rest_pass
     pub at_work : AreAtWork knows b.shared b.workers.items
@@ -67,7 +67,7 @@ pub record MayHaveGot (desk : DeskState) (Ended : Type 0) (before after : Caller
   where
     pub got : MayGet before.get_pass result after.get_pass
     pub draws : DrawsOnlyTheRest desk new.has_failed before.rest_pass after.rest_pass
-    pub left : IfNone result (IsLeft (rest_of before.rest_pass) new.has_failed × NothingIsLeft after.rest_pass)
+    pub left : IfNone result (IsAbandoned (rest_by_pass before.rest_pass) new.has_failed × NothingRemains after.rest_pass)
     pub ended : IfNone result Ended
     pub flushed : IsOnlyFlushed old new
 
@@ -76,8 +76,8 @@ pub record MayHaveGot (desk : DeskState) (Ended : Type 0) (before after : Caller
 pub record HasCollected (desk : DeskState) (output : OrderedOutput) (begun out : SinkState) (before after : CallerPasses) : Type 0 where
   pub queue : after.get_pass.queue ≡ before.get_pass.queue
   pub workers : after.get_pass.workers ≡ before.get_pass.workers
-  pub all_got : (length after.get_pass.got ≡ job_count output.jobs.now) ⊎ IsLeft (rest_of before.rest_pass) out.has_failed
-  pub given : AreJobsInSomeOrder output.jobs.now (outcomes_in after.get_pass.got) ⊎ IsLeft (rest_of before.rest_pass) out.has_failed
+  pub all_got : (length after.get_pass.got ≡ job_count output.jobs.now) ⊎ IsAbandoned (rest_by_pass before.rest_pass) out.has_failed
+  pub given : AreJobsInSomeOrder output.jobs.now (outcomes_in after.get_pass.got) ⊎ IsAbandoned (rest_by_pass before.rest_pass) out.has_failed
       → WasGivenSince begun out (whole_output output)
   pub draws : DrawsOnlyTheRest desk out.has_failed before.rest_pass after.rest_pass
 
@@ -88,4 +88,4 @@ pub record CanRun {G : Type 0} (knows : G → ℕ → Bool) (shared : SharedWork
   pub queue : passes.get_pass.queue ≡ shared.queue.id
   pub nothing_got : passes.get_pass.got ≡ []
   pub own : IfSome passes.rest_pass (IsPassAt shared.desk)
-  pub nothing_written : IsNew output
+  pub new : IsNew output

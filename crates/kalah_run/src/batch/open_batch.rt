@@ -5,7 +5,7 @@ ghost use Rattle.kalah_jobs.specs.Files.Jobs.{job_count};
 ghost use Rattle.kalah_run.specs.Limits.{AreWorkers, IsTableSize};
 ghost use Rattle.kalah_run.specs.Desk.States.{AreNewPasses, new_pass};
 ghost use Rattle.kalah_run.specs.Batch.AtWork.{passes_of, puts_of, OnceRun};
-ghost use Rattle.kalah_run.specs.Batch.Leaving.{rest_of, pass_in};
+ghost use Rattle.kalah_run.specs.Batch.Leaving.{rest_by_pass, pass_list};
 ghost use Rattle.kalah_run.specs.Batch.Running.{IsAsAsked, IsReadyToRun, HaveOwnTables};
 ghost use Rattle.kalah_run.specs.Batch.OrderedOutput.{whole_output, WasGivenSince};
 ghost use Rattle.kalah_run.specs.declared.batch.request.Rest.TheVariants.{Solve};
@@ -46,9 +46,9 @@ fn open_desk(alloc: Global, total: u32, workers: u32, rest: Rest) -> Result<Open
     ensures total { IfOk result (λ made. made.desk.total ≡ total) }
     ensures passes { IfOk result (λ made. AreNewPasses made.desk workers made.passes.items) }
     ensures rest_pass { IfOk result (λ made. IfSome made.rest_pass (λ pass. pass ≡ new_pass made.desk workers)) }
-    ensures rest { IfOk result (λ made. rest_of made.rest_pass ≡ rest) }
-    ensures all { IfOk result (λ made. workers + length (pass_in made.rest_pass) ≡ made.desk.passes) }
-    ensures room { IfOk result (λ made. workers + length (pass_in made.rest_pass) ≤ vec_capacity made.passes) }
+    ensures rest { IfOk result (λ made. rest_by_pass made.rest_pass ≡ rest) }
+    ensures all { IfOk result (λ made. workers + length (pass_list made.rest_pass) ≡ made.desk.passes) }
+    ensures room { IfOk result (λ made. workers + length (pass_list made.rest_pass) ≤ vec_capacity made.passes) }
 {
     let leaves = rest == Rest::Leave;
     let (desk, mut passes) = Desk::open(alloc, total, workers + u32::from(leaves))?;
@@ -95,9 +95,9 @@ fn take_apart(
     puts: &mut Vec<PutPass>,
 )
     requires empty { (passes.old.items ≡ []) × (puts.old.items ≡ []) }
-    requires passes_room { vec_len workers + length (pass_in rest_pass) ≤ vec_capacity passes.old }
+    requires passes_room { vec_len workers + length (pass_list rest_pass) ≤ vec_capacity passes.old }
     requires puts_room { vec_len workers ≤ vec_capacity puts.old }
-    ensures passes { passes.new.items ≡ passes_of workers.items ++ pass_in rest_pass }
+    ensures passes { passes.new.items ≡ passes_of workers.items ++ pass_list rest_pass }
     ensures puts { puts.new.items ≡ puts_of workers.items }
 {
     for worker in workers {
@@ -177,7 +177,7 @@ impl<'a, G: Gate> OpenBatch<'a, G> {
         ensures given { OnOk result (WasGivenSince (W.state out.old) (W.state out.new) (whole_output self.entry.output)) }
         ensures fault { IfErr result (λ e. e ≡ RunFault.NoWorker) }
         ensures untouched { OnErr result (out.new ≡ out.old) }
-        ensures gate_hears_all { (rest_of self.entry.caller.rest_pass ≡ Solve) ⊎ ((W.state out.new).has_failed ≡ false)
+        ensures gate_hears_all { (rest_by_pass self.entry.caller.rest_pass ≡ Solve) ⊎ ((W.state out.new).has_failed ≡ false)
             → OnOk result ((job : ℕ) → job < job_count self.entry.shared.jobs.now → G.knows self.entry.shared.gate.now job ≡ true) }
     {
         let OpenBatch {

@@ -2,7 +2,7 @@
 //! each wait for an outcome.
 ghost use Rattle.std.specs.Prelude.{◌≡◌, ◌≤◌, ◌↔◌, true, IfNone, IfSome};
 ghost use Rattle.kalah_jobs.specs.Writing.Sink.{IsReady};
-ghost use Rattle.kalah_run.specs.Batch.Leaving.{rest_of, IsLeft, NothingIsLeft, DrawsOnlyTheRest};
+ghost use Rattle.kalah_run.specs.Batch.Leaving.{rest_by_pass, IsAbandoned, NothingRemains, DrawsOnlyTheRest};
 ghost use Rattle.kalah_run.specs.Desk.States.{IsPassAt};
 ghost use Rattle.kalah_run.specs.Queue.States.{HasGot, MayGet};
 
@@ -45,8 +45,8 @@ impl<'a, E: Rule> Receiver<'a, E> {
     #[inline(always)]
     pub(crate) fn leave_after(&mut self, has_failed: bool, desk: &Desk) -> bool
         requires { IfSome self.old.passes.rest_pass (IsPassAt desk.now) }
-        ensures left { (result ≡ true) ↔ IsLeft (rest_of self.old.passes.rest_pass) has_failed }
-        ensures spent { result ≡ true → NothingIsLeft self.new.passes.rest_pass }
+        ensures left { (result ≡ true) ↔ IsAbandoned (rest_by_pass self.old.passes.rest_pass) has_failed }
+        ensures spent { result ≡ true → NothingRemains self.new.passes.rest_pass }
         ensures draws { DrawsOnlyTheRest desk.now has_failed self.old.passes.rest_pass self.new.passes.rest_pass }
         ensures get_pass { self.new.passes.get_pass ≡ self.old.passes.get_pass }
     {
@@ -81,7 +81,7 @@ impl<'a, E: Rule> Receiver<'a, E> {
     ) -> Outcome
         requires queue { self.old.passes.get_pass.queue ≡ shared.now.queue.id }
         // The workers go on, so an outcome comes.
-        requires goes_on { IsLeft (rest_of self.old.passes.rest_pass) (W.state _out.now).has_failed → ⊥ }
+        requires goes_on { IsAbandoned (rest_by_pass self.old.passes.rest_pass) (W.state _out.now).has_failed → ⊥ }
         requires known { V.is_waiting _watch.now ≡ true }
         // The sink has flushed all that was written, unless it may keep bytes in its buffer while its caller waits.
         requires ready { IsReady (W.state _out.now) }
@@ -101,7 +101,7 @@ impl<'a, E: Rule> Receiver<'a, E> {
     ) -> Option<Outcome>
         requires queue { self.old.passes.get_pass.queue ≡ queue.now.id }
         // No worker can begin a further job.
-        requires spent { NothingIsLeft self.old.passes.rest_pass }
+        requires spent { NothingRemains self.old.passes.rest_pass }
         requires ready { IsReady (W.state _out.now) }
         ensures got { MayGet self.old.passes.get_pass result self.new.passes.get_pass }
         ensures ended { IfNone result (E.invariant 1) }

@@ -6,7 +6,7 @@ ghost use Rattle.kalah_jobs.specs.Writing.Sink.{IsReady};
 ghost use Rattle.kalah_run.specs.Batch.AtWork.{AreAtWork, HaveRun, OnceRun};
 ghost use Rattle.kalah_run.specs.Batch.OrderedOutput.{IsNew, IsOnlyFlushed};
 ghost use Rattle.kalah_run.specs.Batch.Running.{CanRun, HasCollected, MayHaveGot};
-ghost use Rattle.kalah_run.specs.Batch.Leaving.{NothingIsLeft};
+ghost use Rattle.kalah_run.specs.Batch.Leaving.{NothingRemains};
 ghost use Rattle.kalah_run.specs.Desk.States.{IsPassAt};
 
 use crate::batch::crew::Crew;
@@ -90,7 +90,7 @@ fn collect<R: Wait, G: Gate, V: Watch, W: Sink, E: Rule>(
     requires new { IsNew output }
     ensures collected { HasCollected shared.now.desk output.entry (W.state out.old) (W.state out.new) receiver.entry.passes result }
     // It ends early only once no job is left, and the workers have ended.
-    ensures ended { (length result.get_pass.got ≡ job_count output.entry.jobs.now) ⊎ (NothingIsLeft result.rest_pass × E.invariant 1) }
+    ensures ended { (length result.get_pass.got ≡ job_count output.entry.jobs.now) ⊎ (NothingRemains result.rest_pass × E.invariant 1) }
     // The thread may wait for the workers to end.
     ensures ready { IsReady (W.state out.new) }
 {

@@ -1,7 +1,7 @@
 use Rattle.std.proofs.Common.{◌≡◌, [], ap, arith, length, refl, sym, ◌∙◌}
 use Rattle.kalah_run.specs.Queue.States.{GetPassState}
 use Rattle.kalah_run.proofs.WorkerLemmas.{as_many_workers, new_at_work}
-use Rattle.kalah_run.proofs.BatchLemmas.{new_left}
+use Rattle.kalah_run.proofs.BatchLemmas.{new_pass_draws_nothing}
 use Rattle.kalah_run.proofs.batch.open_batch.OpenBatch.open.Goals as goal
 
 pub returns-clause-asked : goal.returns-clause-asked
@@ -27,7 +27,7 @@ returns-clause-ready g c =
     let queue = c.in_ok-queue.ensures in
     let workers = c.in_ok-workers.ensures in
     let many : length c.in_ok-workers.workers.items ≡ c.max-count.result = as_many_workers _ _ _ workers.passes desk.passes.0 in
-    let left = new_left c.in_ok-desk.field-0.desk _ _ desk.rest_pass in
+    let left = new_pass_draws_nothing c.in_ok-desk.field-0.desk _ _ desk.rest_pass in
     record {
       some = omega (arith, many, c.max-count.ensures);
       passes = omega (arith, many, desk.all);

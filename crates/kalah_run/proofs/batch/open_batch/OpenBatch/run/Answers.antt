@@ -5,7 +5,7 @@ use Rattle.kalah_run.specs.Desk.Rows.{DealsEachOnce}
 use Rattle.kalah_run.specs.Desk.States.{drawn_rows}
 use Rattle.kalah_run.specs.Queue.States.{GetPassState, outcomes_in}
 use Rattle.kalah_run.specs.Batch.AtWork.{passes_of}
-use Rattle.kalah_run.specs.Batch.Leaving.{rest_of, HasDrawnNothing}
+use Rattle.kalah_run.specs.Batch.Leaving.{rest_by_pass, HasDrawnNothing}
 use Rattle.kalah_run.proofs.WorkerLemmas.{each_job_known, each_job_got}
 use Rattle.kalah_run.proofs.BatchLemmas.{passes_are_back, nothing_drawn, own_back, passes_fit, puts_back, unless_left}
 use Rattle.kalah_run.proofs.DeskLemmas.{deals_to_others}
@@ -21,7 +21,7 @@ run_and_write-requires-after_bounds g c κs within =
         queue = ap (λ (p : GetPassState). p.queue) get;
         nothing_got = ap (λ (p : GetPassState). p.got) get;
         own = rw c.new-receiver.ensures ready.own;
-        nothing_written = ready.output;
+        new = ready.output;
       },
       c.requires.ends,
     )
@@ -30,7 +30,7 @@ run_and_write-requires-after_bounds g c κs within =
 
 pub take_apart-requires-clause-passes_room : goal.take_apart-requires-clause-passes_room
 take_apart-requires-clause-passes_room g c = passes_fit c.in_ok-workers.ensures.ran _ _
-    (c.in_ok-workers.ensures.collected.draws.rest ∙ ap (λ p. rest_of p.rest_pass) c.new-receiver.ensures) c.in_ok-workers.workers.ok.0
+    (c.in_ok-workers.ensures.collected.draws.rest ∙ ap (λ p. rest_by_pass p.rest_pass) c.new-receiver.ensures) c.in_ok-workers.workers.ok.0
     c.requires.ready.room.passes
 
 pub take_apart-requires-clause-puts_room : goal.take_apart-requires-clause-puts_room
@@ -39,7 +39,7 @@ take_apart-requires-clause-puts_room g c =
 
 pub close-requires-clause-all : goal.close-requires-clause-all
 close-requires-clause-all g c = passes_are_back c.in_ok-workers.ensures.ran _ _
-    (c.in_ok-workers.ensures.collected.draws.rest ∙ ap (λ p. rest_of p.rest_pass) c.new-receiver.ensures) c.take_apart.ensures.passes
+    (c.in_ok-workers.ensures.collected.draws.rest ∙ ap (λ p. rest_by_pass p.rest_pass) c.new-receiver.ensures) c.take_apart.ensures.passes
     c.requires.ready.passes
 
 pub close-requires-clause-own : goal.close-requires-clause-own
