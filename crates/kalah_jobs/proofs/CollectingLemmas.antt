@@ -76,7 +76,7 @@ pub front_least : (xs : List (Option Answer)) (m : ℕ) → ((k : ℕ) → k < m
     → m ≤ front_of xs
 front_least xs m all = grind (arith, front_more xs (front_of xs), all (front_of xs))
 
--- the lemmas for taking an answer
+-- the lemmas for accepting and for taking an answer
 pub ruleset fronts = (front_within, front_came, front_more, front_set)
 
 -- ==== A test by which one offer is found in a list: it holds only of that offer
@@ -120,6 +120,7 @@ same_job_means a b h =
     λ i. record { file = file i; line = line i; entry = entry i }
 
 -- ==== What is got of jobs that were shared out: each job's result, once
+-- Both are counted by classes (`by_class`): results by workers, each of which sent those of its row, and the numbers of rows one by one.
 
 -- a test counts one element more if it passes
 count_by-cons : {X : Type 0} (p : X → Bool) (x : X) (xs : List X) → count_by p (x ∷ xs) ≡ cond (p x) 1 0 + count_by p xs
@@ -523,7 +524,7 @@ keeps_its_law jobs events files run =
       taken_within = all.0.within;
     }
 
--- the lemmas for counts of lines of new files
+-- the lemmas for making the arrivals of all files
 pub ruleset new_counts = (new_lines, take_all)
 
 -- ==== Offers of each job once, in any order

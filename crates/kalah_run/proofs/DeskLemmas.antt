@@ -286,7 +286,7 @@ draws_at {S} plan slots seat total number numbers s kept homes at fits =
     let some = draws_some seat kept at low in (drawn_view total number numbers n, some.0, rw (lt-ltb n total low) (refl, some.1)))
     (λ (high : total ≤ n). (spent_view total number numbers, draws_none seat kept at high, rw (le-ltb n total high) refl))
     (cases_lt n total)
-    in (done.0, keeps, tt, rw words done.1, (refl, rw is done.2))
+    in (done.0, keeps, tt, rw words done.1, (refl, rw is done.2))  -- view, act, that it may, the rule after it, and what is known then
 
 -- the seat's view, if it is a pass that is not spent
 unspent_me : {S : Type 0} (me : Me S DeskView) → me ≡ (as_pass_view me.0, []) → (row_in me.0).spent ≡ false

@@ -11,7 +11,7 @@ use Rattle.kalah_jobs.specs.Collecting.CollectorEvents.{Event, offers, Offers}
 use Rattle.kalah_jobs.specs.Collecting.CollectorLaw.{Runs}
 use Rattle.kalah_jobs.specs.Collecting.Shares.{AreShared}
 
--- job number n; the second part is the value past the last job
+-- job number n, and some job past the last one
 abbrev pub job : List (List Entry) → ℕ → Job
 job jobs n = slice_index_or (job_list jobs) n (line_job 0 0 (Bad Empty))
 

@@ -1,4 +1,4 @@
-//! A table of slots for what is known of houses. Each slot keeps the houses stored last; nothing is searched for.
+//! A table of slots for what is known of houses. Each slot keeps what was stored last; nothing is searched for.
 ghost use Rattle.std.specs.Prelude.{◌≡◌, ◌≤◌, ◌<◌, ◌-◌, ◌*◌, ◌/◌, ◌^◌, ◌↔◌, IfOk, IfSome, IsSome, length};
 ghost use Rattle.kalah_rules.specs.Limits.{most_seeds};
 ghost use Rattle.kalah_rules.specs.Position.{IsWithinHouses};

@@ -1,4 +1,4 @@
-//! The exact number of seeds that the mover wins of houses with few seeds, kept once it is known.
+//! The exact number of seeds that the mover wins of houses with few seeds, mostly kept once it is known.
 ghost use Rattle.std.specs.Prelude.{◌≡◌, ◌<◌, ◌+◌, ◌*◌, ◌/◌, ◌%◌, ◌^◌, ◌++◌, IfSome};
 ghost use Rattle.kalah_rules.specs.Position.{IsWithinHouses};
 ghost use Rattle.kalah_rules.specs.Key.{number_of};

@@ -18,7 +18,7 @@ pub(super) static PLACE_PRIORITIES: [[u16; 31]; 2] = [
 ];
 
 /// What a house counts after a turn, by the number of its seeds modulo 16, as hardly any holds more. First come the houses of the player
-/// who is to move, then those of the mover. Each row begins with the house farthest from its store.
+/// who is to move then, and after them those of the one who has moved. Each row begins with the house farthest from its store.
 pub(super) static HOUSES: [[u8; 16]; 12] = [
     [
         28, 1, 0, 6, 20, 52, 51, 123, 116, 116, 116, 116, 116, 116, 116, 116,

@@ -8,8 +8,8 @@ use Rattle.kalah_solve.proofs.MarksLemmas.{AreMovable}
 use Rattle.kalah_solve.proofs.SearchLemmas.{UnmarkedIntoStoreWinAtMost, ArePlayed, AreUntried, WaitsWith}
 use Rattle.kalah_solve.proofs.search.Search.+bound.Given as goal
 
--- Each function calls those below it on the same houses, and so on down to the houses after a move, which have fewer moves left. With 9 for a
--- move, 8 is that of a step whose houses are known, and 3 that of the functions which play it.
+-- Each function calls only those of a lower number: on the same houses a step (8) calls a turn (7), that calls `bound` (6), and so on down to
+-- the functions that play the moves (3). These call the step of houses with fewer moves left, and 9 for each is more than 8.
 abbrev pub decreases-bound : goal.decreases-bound
 decreases-bound g l = 9 * moves_left (storeless l.houses) + 6
 
