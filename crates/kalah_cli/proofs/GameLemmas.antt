@@ -1,7 +1,7 @@
 -- The game of best play, move by move.
 use Rattle.std.proofs.Common.{◌⊎◌, ◌<◌, ◌≤◌, ◌-◌, ◌≡◌, ℕ, zero, suc, List, [], ◌∷◌, ◌++◌, Bool, true, false, inl, inr, of_z, refl, sym, subst, to_z, w32, ap, append_assoc, ◌∙◌, arith}
 use Rattle.std.specs.Prelude.{Contains, ℤ, None, Option, Some, if◌then◌else◌, unwrap_or}
-use Rattle.std.proofs.lemmas.Bool.{cases_Bool}
+use Rattle.std.proofs.lemmas.Bool.{both_ways, cases_Bool}
 use Rattle.std.proofs.lemmas.Int.{ints, to_z-of_z}
 use Rattle.kalah_rules.specs.Position.{Position, HasEqualSides, final_margin, is_over, swapped, swept}
 use Rattle.kalah_rules.specs.Sowing.{after, is_again}
@@ -185,7 +185,7 @@ module _ {form : Form} {first : Option ℕ} {p : Position} {value : Option ℤ} 
 pub no_text : (form : Form) (first : Option ℕ) (p : Position) → MayBegin first p → is_over p ≡ true
     → game_text form p (game_played first p) ≡ []
 no_text form None p may over = ap (game_text form p) (no_best_moves (moves_left p) p over)
-no_text form (Some h) p may over = absurd (let both : true ≡ false = sym over ∙ legal_going p h may in cc)
+no_text form (Some h) p may over = absurd (both_ways _ (legal_going p h may) over)
 
 -- the verdict determines the next move, by a margin of thirty-two bits
 pub next_of_verdict : (form : Form) (first : Option ℕ) (p : Position) {margin : ℤ} {house : ℕ} → MayBegin first p → IsSmallBest margin house

@@ -1,7 +1,7 @@
 -- What the program has done for a request.
 use Rattle.std.proofs.Common.{◌≡◌, ◌≢◌, ◌∙◌, ◌++◌, ℕ, List, Bool, true, false, Option, refl, sym, subst, [], ◌∷◌, ap, map, inl, ◌≤◌, ◌-◌, ◌^◌, arith, inr, append-nil}
 use Rattle.std.specs.Prelude.{◌↔◌, All, IfOk, IsErr, IsErrOf, Result, Ok, Err, None, Some, ◌==◌, if◌then◌else◌}
-use Rattle.std.proofs.lemmas.Bool.{false_from_ne_true}
+use Rattle.std.proofs.lemmas.Bool.{both_ways, false_from_ne_true}
 use Rattle.kalah_rules.specs.Position.{Position}
 use Rattle.kalah_jobs.specs.Line.Line.{Reads}
 use Rattle.kalah_jobs.specs.Writing.Sink.{SinkState, WasGiven}
@@ -76,7 +76,7 @@ module _ {O : Type 0} (state : O → SinkState) {status : ExitStatus} where
   -- nothing was written
   pub ends_unchanged : {out : O} → (state out).has_failed ≡ false → Ends state out out status
   ends_unchanged sound = record {
-    failed = λ failed. absurd (let both : true ≡ false = sym failed ∙ sound in cc);
+    failed = λ failed. absurd (both_ways _ sound failed);
     unchanged = λ _ _. refl;
     all_flushed = λ _ was. was;
   }
@@ -104,7 +104,7 @@ module _ {O : Type 0} (state : O → SinkState) {status : ExitStatus} where
               unread = λ none. absurd (none p reads);
               ends = record {
                 failed = fails.0;
-                unchanged = λ failed still. absurd (let both : true ≡ false = sym (fails.1 failed) ∙ still in cc);
+                unchanged = λ failed still. absurd (both_ways _ still (fails.1 failed));
                 all_flushed = λ went _. printed.all_flushed (sound went);
               };
             },
@@ -192,7 +192,7 @@ module _ {O : Type 0} (state : O → SinkState) {status : ExitStatus} {may_give 
       one_line = λ _. one_line;
       clean = λ _. subst (λ (tally : Tally). (status ≡ Clean) ↔ (tally.faults ≡ 0)) does.counted clean;
       ends = record {
-        failed = λ has. absurd (let both : true ≡ false = sym has ∙ does.sound in cc);
+        failed = λ has. absurd (both_ways _ does.sound has);
         unchanged = λ failed. absurd (went failed);
         all_flushed = λ _ _. does.flushed;
       };
@@ -221,7 +221,7 @@ module _ {O : Type 0} (state : O → SinkState) {status : ExitStatus} {may_give 
           clean = λ went. absurd (went failed);
           ends = record {
             failed = λ _. failed;
-            unchanged = λ _ sound. absurd (let both : true ≡ false = sym does.2 ∙ sound in cc);
+            unchanged = λ _ sound. absurd (both_ways _ sound does.2);
             all_flushed = λ went. absurd (went failed);
           };
         }
@@ -257,7 +257,7 @@ module _ {O : Type 0} (state : O → SinkState) {status : ExitStatus} {question 
         all_read = true;
         asked = λ went. absurd (went failed);
         begins = begun_so_far none (Keeps-refl unread) (Keeps-refl (state out).written);
-        failed = λ has. absurd (let both : true ≡ false = sym has ∙ sound in cc);
+        failed = λ has. absurd (both_ways _ sound has);
         stopped = λ _ _. cut_off none (Keeps-refl unread) (Keeps-refl (state out).written);
         all_flushed = λ _ was. was;
       }
@@ -285,7 +285,7 @@ module _ {O : Type 0} (state : O → SinkState) {status : ExitStatus} {question 
     begins = begins;
     failed = λ _. failed.0 refl;
     stopped = λ _ sound. by fault (λ e. cut (ap (λ f. Err f) e))
-        (λ e. let both : true ≡ false = sym (wrote.1 (ap (λ f. Err f) e)) ∙ sound in cc);
+        (λ e. both_ways _ sound (wrote.1 (ap (λ f. Err f) e)));
     all_flushed = λ sound _. all_flushed sound;
   } where
     by : {P : Type 0} (f : AskFault) → (f ≡ Read → P) → (f ≡ Write → ⊥) → P
