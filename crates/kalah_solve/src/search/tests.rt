@@ -88,7 +88,7 @@ fn answers_after_few_nodes_get_no_entry(rt: HostRuntime) {
     assert!(rt; !houses.is_over());
     for _ in 0..2u8 {
         assert!(rt; search.clamped_worth(&houses, Window::whole()) == 7);
-        assert!(rt; search.table.look_up(&houses) == None);
+        assert!(rt; search.table.look_up(&houses).is_none());
     }
 }
 
