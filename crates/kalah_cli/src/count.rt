@@ -34,7 +34,7 @@ fn write_houses<O: Sink>(board: &Board, depth: u8, out: &mut O) -> u64
     total
 }
 
-/// PrintsByStatus the number of ways of `depth` moves to play on from a board, for each first move and in all. It allocates nothing.
+/// Prints the number of ways of `depth` moves to play on from a board, for each first move and in all. It allocates nothing.
 #[inline(never)] // Only this command's stack holds the table of sowings.
 pub(crate) fn write_count<O: Sink>(board: &Board, depth: u8, out: &mut O)
     requires { depth ≤ most_depth }

@@ -19,7 +19,7 @@ use kalah_rules::Board;
 use std::alloc::Global;
 use std::io::Write;
 
-// PrintsByStatus what the command prints of a board. Fails as `run_play` and `run_show` do, and then writes nothing.
+// Prints what the command prints of a board. Fails as `run_play` and `run_show` do, and then writes nothing.
 fn print<O: Sink>(
     alloc: Global,
     command: &LineCommand,
@@ -51,7 +51,7 @@ fn print<O: Sink>(
     Ok(())
 }
 
-/// PrintsByStatus what the command prints of the position that the line writes. A line that can't be read is answered by its fault, on `err` only.
+/// Prints what the command prints of the position that the line writes. A line that can't be read is answered by its fault, on `err` only.
 ///
 /// Returns `Clean`, or `LineFaults` for a line that can't be read. Fails for a house that may not be moved, or if memory was refused or a
 /// write failed.

@@ -42,7 +42,7 @@ pub(crate) fn write_move<O: Sink>(
     write_board(board_after(step), boards, out);
 }
 
-/// PrintsByStatus each legal move of a board, houses in ascending order, and draws the board after each if boards are drawn. It allocates nothing.
+/// Prints each legal move of a board, houses in ascending order, and draws the board after each if boards are drawn. It allocates nothing.
 pub(crate) fn write_moves<O: Sink>(board: &Board, boards: bool, out: &mut O)
     ensures { IsPrinted O.state out.old out.new (moves_output boards board.now) }
 {

@@ -23,7 +23,7 @@ fn illegal_house(board: &Board, first: Option<u8>) -> Option<u8>
     }
 }
 
-/// PrintsByStatus the game that best play leads to from a board, each move as soon as it is found. If `first` is a house, its move comes first,
+/// Prints the game that best play leads to from a board, each move as soon as it is found. If `first` is a house, its move comes first,
 /// and then the game of best play after it. If `values`, each move has the margin of best play of the position that it is made in.
 ///
 /// Fails, and writes nothing, with `IllegalHouse` if that house may not be moved, or with `OutOfMemory` if memory was refused. Memory is

@@ -127,7 +127,8 @@ pub fn run_words<R: Sources + Clock + Terminal + Threads + Wait + Sync, O: Sink,
     // Accepted arguments, in general; those of `moves LINE` also by their words.
     ensures accepted { DoesWhatIsAsked O.state out.old out.new result (R.may_give rt.now) (texts_of words.items) }
     ensures by_words { MovesByItsWords O.state (texts_of words.items) out.old out.new result }
-    // The game of `play` is one of best play (from the second move on, if the first is given), and a line of `show --lines` ends with the value of its move.
+    // The game of `play` is one of best play (from the second move on, if the first is given), and a line of `show --lines` ends with
+    // the value of its move.
     ensures best_play { PlaysBestGames }
     ensures variations { VariationsEndWithTheirValue }
     // Arguments that are refused, as those that ask for help or for the version.
