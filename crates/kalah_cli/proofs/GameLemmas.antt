@@ -22,7 +22,7 @@ use Rattle.kalah_solve.proofs.WorthLemmas.{final_swapped, value_moving_again, va
 use Rattle.kalah_jobs.specs.Writing.Sink.{SinkState, WasGiven}
 use Rattle.kalah_jobs.specs.Writing.Shown.{shown_of}
 use Rattle.kalah_jobs.specs.Writing.Variation.{variation_start}
-use Rattle.kalah_jobs.proofs.WritingLemmas.{given_then_flush, given_then}
+use Rattle.kalah_jobs.proofs.SinkLemmas.{given_then_flush, given_then}
 use Rattle.kalah_solve.specs.declared.solver.move_values.MoveValue.{MoveValue}
 use Rattle.kalah_cli.specs.Game.{IsNextMove, PlaysBestGames, VariationsEndWithTheirValue, best_game, best_moves, game_played, game_text, move_text, value_shown}
 use Rattle.kalah_cli.specs.Play.{MayBegin}

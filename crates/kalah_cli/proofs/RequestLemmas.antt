@@ -25,8 +25,8 @@ use Rattle.clap.proofs.WalkLemmas.{one_text-rows, raw_values-rows}
 use Rattle.clap.specs.declared.error.Error.{Error}
 use Rattle.kalah_rules.specs.Position.{Position}
 use Rattle.kalah_jobs.specs.Line.Line.{Reads, without_cr}
-use Rattle.kalah_jobs.specs.Line.Reading.{side_at, written_of}
-use Rattle.kalah_jobs.proofs.LineLemmas.{empty_is_no_line, line_is_written}
+use Rattle.kalah_jobs.specs.Line.Reading.{side_at, position_of_text}
+use Rattle.kalah_jobs.proofs.LineLemmas.{empty_is_no_line, line_is_read}
 
 -- ---- what the matches of each subcommand have of its arguments
 
@@ -195,12 +195,12 @@ faulty a words e is has = subst (λ b. HasKind (fault_of b words) e) is (has (ap
 -- ---- a line that is read is no flag, as no number begins with a dash
 
 pub read_is_plain : (line : List ℕ) (p : Position) → Reads line p → IsPlainWord line
-unfolding written_of side_at
+unfolding position_of_text side_at
 read_is_plain [] p reads = empty_is_no_line p reads.form
 read_is_plain (byte ∷ []) p reads = λ dash.
-    let none : None ≡ Some p = line_is_written (45 ∷ []) p (subst (λ b. Reads (b ∷ []) p) dash reads).form in
+    let none : None ≡ Some p = line_is_read (45 ∷ []) p (subst (λ b. Reads (b ∷ []) p) dash reads).form in
     cc
 read_is_plain (byte ∷ more ∷ rest) p reads = λ dash.
     let none : None ≡ Some p =
-    line_is_written (45 ∷ without_cr (more ∷ rest)) p (subst (λ b. Reads (b ∷ more ∷ rest) p) dash reads).form in
+    line_is_read (45 ∷ without_cr (more ∷ rest)) p (subst (λ b. Reads (b ∷ more ∷ rest) p) dash reads).form in
     cc

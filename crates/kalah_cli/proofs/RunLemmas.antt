@@ -6,7 +6,7 @@ use Rattle.kalah_rules.specs.Position.{Position}
 use Rattle.kalah_jobs.specs.Line.Line.{Reads}
 use Rattle.kalah_jobs.specs.Writing.Sink.{SinkState, WasGiven}
 use Rattle.kalah_jobs.proofs.LineLemmas.{no_line_reads_twice}
-use Rattle.kalah_jobs.proofs.WritingLemmas.{given_then_flush, prefix_none, prefix_then}
+use Rattle.kalah_jobs.proofs.SinkLemmas.{given_then_flush, prefix_none, prefix_then}
 use Rattle.kalah_cli.specs.Ends.{Ends, FailsWithoutOutput, IsPrinted, IsUnread, PrintsByStatus, ended_by}
 use Rattle.kalah_cli.specs.declared.failure.Failure.{Failure}
 use Rattle.kalah_cli.specs.Line.{MayPrint, command_output}

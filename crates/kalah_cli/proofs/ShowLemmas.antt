@@ -11,7 +11,7 @@ use Rattle.kalah_jobs.specs.Files.Lines.{line_feed}
 use Rattle.kalah_jobs.specs.Writing.Sink.{SinkState, WasGiven}
 use Rattle.kalah_jobs.specs.Writing.Picture.{picture_of}
 use Rattle.kalah_jobs.specs.Writing.Shown.{shown_of, values_line}
-use Rattle.kalah_jobs.proofs.WritingLemmas.{given_then}
+use Rattle.kalah_jobs.proofs.SinkLemmas.{given_then}
 use Rattle.kalah_cli.specs.Show.{of_rank, rank_in}
 use Rattle.kalah_cli.specs.Solver.{GameStart, IsOfVariations}
 use Rattle.kalah_cli.specs.declared.game.Form.TheVariants.{Houses}

@@ -19,7 +19,7 @@ pub(crate) fn board_after(step: &Step) -> &Board
 }
 
 // Draws the board, if boards are drawn.
-#[tactic(auto, using(kalah_jobs::proofs::WritingLemmas::given_none))]
+#[tactic(auto, using(kalah_jobs::proofs::SinkLemmas::given_none))]
 pub(crate) fn write_board<O: Sink>(board: &Board, boards: bool, out: &mut O)
     ensures { WasGiven O.state out.old out.new (board_lines boards board.now) }
 {

@@ -1,12 +1,10 @@
 -- Lines that come as a stream: what is answered of them, and how far.
 use Rattle.kalah_rules.specs.Position as position
-use Rattle.std.proofs.Common.{◌≡◌, ◌≢◌, ◌∙◌, ℕ, zero, suc, ◌+◌, ◌≤◌, Bool, true, false, List, [], ◌∷◌, ◌++◌, length, take, inl, inr, refl, sym, ap, ap₂, arith, append-nil, append_assoc, Err, not, ◌||◌, ◌&&◌, subst}
-use Rattle.std.specs.Prelude.{Result, Ok, Option}
+use Rattle.std.proofs.Common.{◌≡◌, ◌≢◌, ◌∙◌, ℕ, zero, suc, ◌+◌, ◌≤◌, Bool, true, false, List, [], ◌∷◌, ◌++◌, length, take, inl, inr, refl, sym, ap, ap₂, arith, append-nil, append_assoc, Err, not, ◌||◌, ◌&&◌, subst, length-take-le, take_all, Result, Ok, Option}
 use Rattle.std.specs.List.{flat_map, enumerate_from}
 use Rattle.std.proofs.lemmas.Bool.{cases_lt, cond_both}
 use Rattle.std.proofs.Math.Bool.{and-true}
 use Rattle.std.proofs.lemmas.Grind.{flat_map-append}
-use Rattle.std.proofs.lemmas.List.{length-take-le, take_all}
 use Rattle.std.proofs.lemmas.List.Folds.{list_any-append}
 use Rattle.kalah_rules.specs.Position.{is_over}
 use Rattle.kalah_jobs.specs.declared.files.question.Question.{Question}
@@ -24,13 +22,13 @@ use Rattle.kalah_jobs.specs.declared.line.line_fault.LineFault.TheVariants.{Long
 use Rattle.kalah_jobs.specs.Writing.Answer.{answer_of, joined_text, is_fault, place_text, IsOfOneLine}
 use Rattle.kalah_jobs.specs.Writing.Output.{is_faulty, line_output}
 use Rattle.kalah_jobs.specs.Writing.Splitting.{EndsWithItsLine}
-use Rattle.kalah_jobs.proofs.FilesLemmas.{lines_of-ended, lines_of-open, IsNoFeed, lines_of-empty}
-use Rattle.kalah_jobs.proofs.LineLemmas.{long_is_read}
-use Rattle.kalah_jobs.proofs.WritingLemmas.{files_split_between_lines, one_line_parts}
 use Rattle.std.specs.Io.KnownBytes.{Appends, Consumes, IsAtEnd, Keeps}
 use Rattle.std.proofs.KnownBytes.{Appends-kept, Appends-nil, Appends-trans, Consumes-kept, Consumes-nil, Consumes-trans, Consumes-whole, Keeps-refl}
 use Rattle.std.proofs.lemmas.List.Elements.{All-nil, All-push}
 use Rattle.kalah_jobs.specs.Writing.Sink.{AppendsPrefix, SinkState}
+use Rattle.kalah_jobs.proofs.FilesLemmas.{IsNoFeed, lines_of-ended, lines_of-open, lines_of-empty}
+use Rattle.kalah_jobs.proofs.WritingLemmas.{files_split_between_lines, one_line_parts}
+use Rattle.kalah_jobs.proofs.LineLemmas.{long_is_read}
 
 -- ==== What is answered, line by line
 
@@ -74,7 +72,7 @@ answers_to_one question bytes line one = ap (flat_map (reply question)) one ∙ 
 pub answers_to_more : (question : Question) (lines more line : List ℕ) → EndsWithItsLine lines → lines_of more ≡ line ∷ []
     → answers_to question (lines ++ more) ≡ answers_to question lines ++ reply question line
 answers_to_more question lines more line ends one =
-    answers_split question lines more ends ∙ ap (λ l. answers_to question lines ++ l) (answers_to_one question more line one)
+    answers_split question lines more ends ∙ ap (answers_to question lines ++◌) (answers_to_one question more line one)
 
 -- two lines are read if neither is faulty
 both_read : (a b : Bool) → not (a || (b || false)) ≡ (not a && not b)
@@ -122,7 +120,7 @@ kept_faulty line = ap (λ entry. is_fault (answer_of entry)) (kept_bytes_have_th
 take_more_kept : (n : ℕ) (line : List ℕ) (byte : ℕ) → take n (take n line ++ byte ∷ []) ≡ take n (line ++ byte ∷ [])
 take_more_kept zero line byte = refl
 take_more_kept (suc n) [] byte = refl
-take_more_kept (suc n) (first ∷ line) byte = ap (λ l. first ∷ l) (take_more_kept n line byte)
+take_more_kept (suc n) (first ∷ line) byte = ap (first ∷◌) (take_more_kept n line byte)
 
 -- what stands after the last line feed is answered as its lines are
 pub last_reply_is : (question : Question) (piece : List ℕ) → HasNoLineFeed piece
@@ -157,7 +155,7 @@ line_parts : (question : Question) → question ≢ Steps → (name : List ℕ) 
 unfolding entry_to
 line_parts question other name number line =
     let answer = answer_of (entry_to question line) in
-    ap (λ l. l ++ line_feed ∷ []) (one_line_parts name number answer (λ p e. subst IsOfOneLine e (one_line_read question other (reading_of line))))
+    ap (◌++ (line_feed ∷ [])) (one_line_parts name number answer (one_line_read question other (reading_of line)))
     ∙ append_assoc (place_text name number) (joined_text answer) (line_feed ∷ [])
 
 -- so is each answer line of a file
@@ -219,8 +217,7 @@ module _ {question : Question} {before now old new : Option (List ℕ)} {line : 
       Appends-trans old kept more (answers_to question u.lines) bytes (answers_kept kept keeps) appends
 
   -- more bytes are taken after those of the lines and of the part
-  more_taken : (next : Option (List ℕ)) (bytes : List ℕ) → Consumes now next bytes →
-      Consumes before next (u.lines ++ (u.part ++ bytes))
+  more_taken : (next : Option (List ℕ)) (bytes : List ℕ) → Consumes now next bytes → Consumes before next (u.lines ++ (u.part ++ bytes))
   more_taken next bytes taken =
       subst (Consumes before next) (append_assoc u.lines u.part bytes)
       (Consumes-trans before now next (u.lines ++ u.part) bytes u.taken taken)
@@ -266,7 +263,7 @@ module _ {question : Question} {before now old new : Option (List ℕ)} {line : 
         kept = refl;
         taken = subst (Consumes before next) (sym (append-nil (u.lines ++ whole))) (more_taken next (line_feed ∷ []) end);
         written = subst (Appends old more)
-            (ap (λ answer. answers_to question u.lines ++ answer) reply_whole
+            (ap (answers_to question u.lines ++◌) reply_whole
             ∙ sym (answers_to_more question u.lines whole u.part u.ended one))
             (more_written kept more (reply question line) keeps tells);
         status = ap₂ (λ a b. a && b) u.status (read ∙ ap (λ l. not (is_faulty l)) u.kept ∙ ap not (kept_faulty u.part))
@@ -351,8 +348,7 @@ write_failed has_failed begins = record {
 
 -- what holds of the bytes that a prompt reader has left holds of those that its reader has left
 pub of_reader : {question : Question} {first last before after : Option (List ℕ)} {old new : SinkState} {result : Result Bool AskFault}
-    → first ≡ before → last ≡ after → AnswersLines question first last old new result
-    → AnswersLines question before after old new result
+    → first ≡ before → last ≡ after → AnswersLines question first last old new result → AnswersLines question before after old new result
 of_reader is same holds = rw (sym is, sym same) holds
 
 -- while lines are underway, all whole lines are answered

@@ -1,20 +1,18 @@
 -- The lines of files, their entries, and the jobs of a batch.
-use Rattle.kalah_rules.specs.Position as position
-use Rattle.kalah_rules.specs.contracts.board.BoardPartialEq.TheImpl as board_eq
-use Rattle.std.proofs.Common.{◌≡◌, ◌≢◌, ℕ, ◌+◌, ◌<◌, ◌≤◌, List, [], ◌∷◌, ◌++◌, length, get_or, take, drop, take-append-drop, refl, ap, sym, ◌∙◌, arith, length-drop, ◌⊎◌, inl, inr, append_assoc, Ok, Err, zero, suc, ◌-◌, Bool, true, false, cond, map, length-append, ◌==◌, sum}
-use Rattle.std.specs.Prelude.{if◌then◌else◌, All, Some, slice_get, sum_by, count_by}
-use Rattle.std.specs.List.{onto_first, flat_map}
+use Rattle.std.proofs.Common.{◌≡◌, ◌≢◌, ℕ, ◌+◌, ◌<◌, ◌≤◌, List, [], ◌∷◌, ◌++◌, length, get_or, take, drop, take-append-drop, refl, ap, sym, ◌∙◌, arith, length-drop, ◌⊎◌, inl, inr, append_assoc, length-append, ◌==◌, if◌then◌else◌, All, Some, count_by, Ok, Err, zero, suc, Bool, true, false, map, slice_get, sum_by, flat_map}
+use Rattle.std.specs.List.{onto_first}
 use Rattle.std.proofs.lemmas.List.{take_all, drop_all, drop_more, append-nil, take_more, take-append-le, get_or_append_left, length-map, map-append, get_or-map}
 use Rattle.std.proofs.lemmas.List.Elements.{All-head, All-tail, All-nil, All-cons, All-pop}
 use Rattle.std.proofs.Math.Seq.{take-nil, get_or-append_seam}
-use Rattle.std.proofs.lemmas.List.Sums.{sum_by-cons, sum_by-append, sum_by_push, sum_by-drop_more, get_or-le-sum_by, count_by-le-length, sum-map}
+use Rattle.std.proofs.lemmas.List.Sums.{sum_by-cons, sum_by_push, sum_by-drop_more, get_or-le-sum_by, count_by-le-length}
 use Rattle.kalah_jobs.specs.Files.Lines.{line_feed, lines_of, HasNoLineFeed, with_line_feeds, EndsInOpenLine, AreLines, LinesAreOne}
 use Rattle.std.proofs.lemmas.Bool.{cases_eq}
+use Rattle.kalah_rules.specs.Position as position
+use Rattle.kalah_rules.specs.contracts.board.BoardPartialEq.TheImpl as board_eq
 use Rattle.kalah_jobs.specs.declared.files.entry.Entry.{Entry}
 use Rattle.kalah_jobs.specs.declared.files.entry.Entry.TheVariants.{Position, Bad}
 use Rattle.kalah_jobs.specs.Line.Reading.{reading_of}
 use Rattle.kalah_jobs.specs.Files.Entry.{Says, entry_asked, entry_of_reading, entry_of, entry_to, EntriesAreOne}
-use Rattle.kalah_jobs.proofs.LineLemmas.{is_reading, only_reading}
 use Rattle.std.proofs.lemmas.Bool.Decides.{nat_tests}
 use Rattle.std.proofs.lemmas.Option.{slice_get_within}
 use Rattle.std.proofs.lemmas.List.Concat.{length-flat_map}
@@ -30,20 +28,20 @@ use Rattle.kalah_jobs.specs.Writing.Output.{is_faulty, is_faulty_job}
 use Rattle.kalah_rules.proofs.KeyLemmas.{same_key}
 use Rattle.kalah_rules.proofs.PackedLemmas.{houses_within}
 use Rattle.kalah_rules.specs.contracts.board.BoardEq.TheImpl.Laws.{laws-law}
-use Rattle.std.proofs.lemmas.Simd.{map-map}
+use Rattle.kalah_jobs.proofs.ListLemmas.{count_map, count_flat, slice_get-append_left, slice_get-append_right}
+use Rattle.kalah_jobs.proofs.LineLemmas.{is_reading, only_reading}
 
 -- ==== Where the first line of some bytes ends
 
 -- a line feed ends an empty line
 pub lines_of-feed : (byte : ℕ) (bytes : List ℕ) → byte ≡ line_feed → lines_of (byte ∷ bytes) ≡ [] ∷ lines_of bytes
 unfolding lines_of
-lines_of-feed byte bytes is = grind arith
+lines_of-feed byte bytes is_feed = grind arith
 
 -- any other byte goes to the head of the first line
-pub lines_of-byte : (byte : ℕ) (bytes : List ℕ) → byte ≢ line_feed →
-    lines_of (byte ∷ bytes) ≡ onto_first byte (lines_of bytes)
+pub lines_of-byte : (byte : ℕ) (bytes : List ℕ) → byte ≢ line_feed → lines_of (byte ∷ bytes) ≡ onto_first byte (lines_of bytes)
 unfolding lines_of
-lines_of-byte byte bytes not = grind arith
+lines_of-byte byte bytes no_feed = grind arith
 
 -- the byte is no line feed
 abbrev pub IsNoFeed : ℕ → Type 0
@@ -54,7 +52,7 @@ pub lines_of-ended : (line rest : List ℕ) → HasNoLineFeed line → lines_of 
 lines_of-ended [] rest whole = lines_of-feed line_feed rest refl
 lines_of-ended (byte ∷ line) rest whole =
     lines_of-byte byte (line ++ line_feed ∷ rest) (All-head IsNoFeed byte line whole)
-    ∙ ap (λ lines. onto_first byte lines) (lines_of-ended line rest (All-tail IsNoFeed byte line whole))
+    ∙ ap (onto_first byte) (lines_of-ended line rest (All-tail IsNoFeed byte line whole))
 
 -- the end ends the bytes before it that have no line feed
 pub lines_of-open : (line : List ℕ) → HasNoLineFeed line → line ≢ [] → lines_of line ≡ line ∷ []
@@ -63,18 +61,17 @@ lines_of-open [] whole some = absurd (some refl)
 lines_of-open (byte ∷ []) whole some = lines_of-byte byte [] (All-head IsNoFeed byte [] whole)
 lines_of-open (byte ∷ another ∷ line) whole some =
     lines_of-byte byte (another ∷ line) (All-head IsNoFeed byte (another ∷ line) whole)
-    ∙ ap (λ lines. onto_first byte lines)
+    ∙ ap (onto_first byte)
     (lines_of-open (another ∷ line) (All-tail IsNoFeed byte (another ∷ line) whole) (λ e. cc))
 
 -- the first line ends at the first line feed, and what follows it is cut out of the bytes
-pub lines_of-cut : (bytes : List ℕ) (i n : ℕ) → i < length bytes → length bytes ≤ n + (i + 1) →
-    get_or bytes i 0 ≡ line_feed →
+pub lines_of-cut : (bytes : List ℕ) (i n : ℕ) → i < length bytes → length bytes ≤ n + (i + 1) → get_or bytes i 0 ≡ line_feed →
     HasNoLineFeed (take i bytes) → lines_of bytes ≡ take i bytes ∷ lines_of (take n (drop (i + 1) bytes))
-lines_of-cut bytes i n low high is none =
+lines_of-cut bytes i n low high is_feed none =
     let all : take n (drop (i + 1) bytes) ≡ drop (i + 1) bytes =
     take_all n (drop (i + 1) bytes) (omega (arith, length-drop (i + 1) bytes)) in
     ap lines_of (sym (take-append-drop i bytes)
-    ∙ ap (λ rest. take i bytes ++ rest) (drop_more bytes i 0 low ∙ ap (λ b. b ∷ drop (i + 1) bytes) is))
+    ∙ ap (take i bytes ++◌) (drop_more bytes i 0 low ∙ ap (◌∷ drop (i + 1) bytes) is_feed))
     ∙ lines_of-ended (take i bytes) (drop (i + 1) bytes) none ∙ ap (λ rest. take i bytes ∷ lines_of rest) (sym all)
 
 -- no bytes follow a line that is not ended
@@ -83,7 +80,7 @@ pub lines_of-last : (bytes : List ℕ) (n : ℕ) → 0 < length bytes → HasNoL
 unfolding lines_of
 lines_of-last bytes n some none =
     let nothing : take n (drop (length bytes) bytes) ≡ [] =
-    ap (λ rest. take n rest) (drop_all (length bytes) bytes (omega arith)) ∙ take-nil n in
+    ap (take n) (drop_all (length bytes) bytes (omega arith)) ∙ take-nil n in
     lines_of-open bytes none (λ e. omega (arith, ap length e, some)) ∙ ap (λ rest. bytes ∷ lines_of rest) (sym nothing)
 
 -- what cutting off the first line needs
@@ -128,10 +125,10 @@ pub ruleset no_line = (lines_of-empty, append-nil)
 -- a byte other than a line feed leaves the lines without one
 whole_after_byte : (byte : ℕ) (lines : List (List ℕ)) → byte ≢ line_feed → All HasNoLineFeed lines →
     All HasNoLineFeed (onto_first byte lines)
-whole_after_byte byte [] not whole = All-cons HasNoLineFeed (byte ∷ []) [] (All-cons IsNoFeed byte [] not (All-nil IsNoFeed)) whole
-whole_after_byte byte (line ∷ lines) not whole =
+whole_after_byte byte [] no_feed whole = All-cons HasNoLineFeed (byte ∷ []) [] (All-cons IsNoFeed byte [] no_feed (All-nil IsNoFeed)) whole
+whole_after_byte byte (line ∷ lines) no_feed whole =
     All-cons HasNoLineFeed (byte ∷ line) lines
-    (All-cons IsNoFeed byte line not (All-head HasNoLineFeed line lines whole))
+    (All-cons IsNoFeed byte line no_feed (All-head HasNoLineFeed line lines whole))
     (All-tail HasNoLineFeed line lines whole)
 
 -- lines before a last one that is not ended
@@ -141,26 +138,25 @@ open_lines before last some pieces_are bytes_are =
     inr (record { before = before; last = last; pieces_are = pieces_are; bytes_are = bytes_are; some_bytes = some })
 
 -- a byte before lines stands in the first, or in one of its own
-parts_after_byte : (byte : ℕ) (bytes : List ℕ) (lines : List (List ℕ))
-    → (bytes ≡ with_line_feeds lines) ⊎ EndsInOpenLine bytes lines →
+parts_after_byte : (byte : ℕ) (bytes : List ℕ) (lines : List (List ℕ)) → (bytes ≡ with_line_feeds lines) ⊎ EndsInOpenLine bytes lines →
     (byte ∷ bytes ≡ with_line_feeds (onto_first byte lines)) ⊎ EndsInOpenLine (byte ∷ bytes) (onto_first byte lines)
-parts_after_byte byte bytes [] (inl closed) = open_lines [] (byte ∷ []) (λ e. cc) refl (ap (λ rest. byte ∷ rest) closed)
-parts_after_byte byte bytes (line ∷ lines) (inl closed) = inl (ap (λ rest. byte ∷ rest) closed)
-parts_after_byte byte bytes lines (inr h) = go h.before h.pieces_are h.bytes_are
+parts_after_byte byte bytes [] (inl closed) = open_lines [] (byte ∷ []) (λ e. cc) refl (ap (byte ∷◌) closed)
+parts_after_byte byte bytes (line ∷ lines) (inl closed) = inl (ap (byte ∷◌) closed)
+parts_after_byte byte bytes lines (inr unended) = go unended.before unended.pieces_are unended.bytes_are
   where
-    go : (before : List (List ℕ)) → lines ≡ before ++ h.last ∷ [] → bytes ≡ with_line_feeds before ++ h.last →
+    go : (before : List (List ℕ)) → lines ≡ before ++ unended.last ∷ [] → bytes ≡ with_line_feeds before ++ unended.last →
         (byte ∷ bytes ≡ with_line_feeds (onto_first byte lines)) ⊎ EndsInOpenLine (byte ∷ bytes) (onto_first byte lines)
     go [] pieces_are bytes_are =
-        open_lines [] (byte ∷ h.last) (λ e. cc) (ap (onto_first byte) pieces_are) (ap (λ rest. byte ∷ rest) bytes_are)
+        open_lines [] (byte ∷ unended.last) (λ e. cc) (ap (onto_first byte) pieces_are) (ap (byte ∷◌) bytes_are)
     go (line ∷ before) pieces_are bytes_are =
-        open_lines ((byte ∷ line) ∷ before) h.last h.some_bytes (ap (onto_first byte) pieces_are) (ap (λ rest. byte ∷ rest) bytes_are)
+        open_lines ((byte ∷ line) ∷ before) unended.last unended.some_bytes (ap (onto_first byte) pieces_are) (ap (byte ∷◌) bytes_are)
 
 -- a line feed before lines is an empty line
 parts_after_feed : (bytes : List ℕ) (lines : List (List ℕ)) → (bytes ≡ with_line_feeds lines) ⊎ EndsInOpenLine bytes lines →
     (line_feed ∷ bytes ≡ with_line_feeds ([] ∷ lines)) ⊎ EndsInOpenLine (line_feed ∷ bytes) ([] ∷ lines)
-parts_after_feed bytes lines (inl closed) = inl (ap (λ rest. line_feed ∷ rest) closed)
-parts_after_feed bytes lines (inr h) =
-    open_lines ([] ∷ h.before) h.last h.some_bytes (ap (λ ls. [] ∷ ls) h.pieces_are) (ap (λ rest. line_feed ∷ rest) h.bytes_are)
+parts_after_feed bytes lines (inl closed) = inl (ap (line_feed ∷◌) closed)
+parts_after_feed bytes lines (inr unended) =
+    open_lines ([] ∷ unended.before) unended.last unended.some_bytes (ap ([] ∷◌) unended.pieces_are) (ap (line_feed ∷◌) unended.bytes_are)
 
 -- the lines of the bytes are lines of them
 pub are_lines_of : (bytes : List ℕ) → AreLines bytes (lines_of bytes)
@@ -170,15 +166,15 @@ are_lines_of (byte ∷ bytes) =
     let lines = lines_of bytes in
     let rest = are_lines_of bytes in
     elim (cases_eq byte line_feed) [
-      | inl is ↦
-          rw (lines_of-feed byte bytes is, is)
+      | inl is_feed ↦
+          rw (lines_of-feed byte bytes is_feed, is_feed)
           (record {
             whole = All-cons HasNoLineFeed [] lines (All-nil IsNoFeed) rest.whole;
             parts = parts_after_feed bytes lines rest.parts;
           })
-      | inr not ↦
-          rw (lines_of-byte byte bytes not)
-          (record { whole = whole_after_byte byte lines not rest.whole; parts = parts_after_byte byte bytes lines rest.parts })
+      | inr no_feed ↦
+          rw (lines_of-byte byte bytes no_feed)
+          (record { whole = whole_after_byte byte lines no_feed rest.whole; parts = parts_after_byte byte bytes lines rest.parts })
     ]
 
 -- ---- and no others are
@@ -213,9 +209,9 @@ lines_are_one = record { some = are_lines_of; one = no_others }
 -- a line says its entry only
 says_once : (line : List ℕ) (entry : Entry) → Says line entry → entry ≡ entry_of line
 unfolding entry_to
-says_once line (Position p) is = ap (entry_of_reading BestMove) (sym (only_reading line (Ok p) is))
-says_once line (Bad fault) is = ap (entry_of_reading BestMove) (sym (only_reading line (Err fault) is))
-says_once line entry is = absurd is
+says_once line (Position p) said = ap (entry_of_reading BestMove) (sym (only_reading line (Ok p) said))
+says_once line (Bad fault) said = ap (entry_of_reading BestMove) (sym (only_reading line (Err fault) said))
+says_once line entry said = absurd said
 
 pub entries_are_one : EntriesAreOne
 unfolding entry_to
@@ -225,21 +221,6 @@ entries_are_one = record { some = λ line. grind (arith, is_reading line); one =
 
 -- ---- counts
 
--- of the results of f as many pass a test as there are elements whose result does
-pub count_map : {A X : Type 0} (p : X → Bool) (f : A → X) (xs : List A) → count_by p (map f xs) ≡ count_by (λ x. p (f x)) xs
-count_map p f xs = sym (sum-map _ (map f xs)) ∙ ap sum (map-map _ f xs) ∙ sum-map _ xs
-
--- rows counted in one list
-pub count_flat : {X : Type 0} (q : X → Bool) (rows : List (List X)) →
-    count_by q (flat_map (λ r. r) rows) ≡ sum_by (λ r. count_by q r) rows
-count_flat q [] = refl
-count_flat {X} q (r ∷ rs) = omega (
-  arith,
-  count_flat q rs,
-  sum_by-cons (λ (r : List X). count_by q r) r rs,
-  sum_by-append (λ (x : X). cond (q x) 1 0) r (flat_map (λ (r : List X). r) rs),
-)
-
 -- the entries of all files
 abbrev pub all_entries : List (List Entry) → List Entry
 all_entries jobs = flat_map (λ own. own) jobs
@@ -247,7 +228,7 @@ all_entries jobs = flat_map (λ own. own) jobs
 -- the jobs of a file have the entries of its lines
 entries_of_file : (f k : ℕ) (own : List Entry) → map (λ (o : Job). o.entry) (file_jobs f k own) ≡ own
 entries_of_file f k [] = refl
-entries_of_file f k (e ∷ own) = ap (λ others. e ∷ others) (entries_of_file f (suc k) own)
+entries_of_file f k (e ∷ own) = ap (e ∷◌) (entries_of_file f (suc k) own)
 
 -- the jobs of the files have the entries of all lines
 entries_from : (f : ℕ) (jobs : List (List Entry)) → map (λ (o : Job). o.entry) (jobs_from f jobs) ≡ all_entries jobs
@@ -267,41 +248,29 @@ length-job_list jobs =
 
 -- ---- the place of a line in the list of jobs
 
--- an index within the first list finds its item
-slice_get-left : {X : Type 0} (xs ys : List X) (i : ℕ) → i < length xs → slice_get (xs ++ ys) i ≡ slice_get xs i
-slice_get-left [] ys i low = absurd (omega arith)
-slice_get-left (x ∷ xs) ys zero low = refl
-slice_get-left (x ∷ xs) ys (suc i) low = slice_get-left xs ys i (omega arith)
-
--- an index past the first list finds an item of the second
-slice_get-append_right : {X : Type 0} (xs ys : List X) (n i : ℕ) → n ≡ length xs + i → slice_get (xs ++ ys) n ≡ slice_get ys i
-slice_get-append_right [] ys n i is = ap (λ m. slice_get ys m) (let e : n ≡ i = omega arith in e)
-slice_get-append_right (x ∷ xs) ys zero i is = absurd (omega arith)
-slice_get-append_right (x ∷ xs) ys (suc n) i is = slice_get-append_right xs ys n i (omega arith)
-
 -- among the jobs of a file each stands at the index of its line
 slice_get-file_jobs : (f k i : ℕ) (entries : List Entry) (e : Entry) → slice_get entries i ≡ Some e
     → slice_get (file_jobs f k entries) i ≡ Some (line_job f (k + i) e)
-slice_get-file_jobs f k i [] e is = cc
-slice_get-file_jobs f k zero (x ∷ entries) e is = grind arith
-slice_get-file_jobs f k (suc i) (x ∷ entries) e is = grind (arith, slice_get-file_jobs f (suc k) i entries e is)
+slice_get-file_jobs f k i [] e entry_is = cc
+slice_get-file_jobs f k zero (x ∷ entries) e entry_is = grind arith
+slice_get-file_jobs f k (suc i) (x ∷ entries) e entry_is = grind (arith, slice_get-file_jobs f (suc k) i entries e entry_is)
 
 -- among the jobs of the files each comes after those of the files before its own
 slice_get-jobs_from : (f g k : ℕ) (jobs : List (List Entry)) (e : Entry) → slice_get (entries_of jobs g) k ≡ Some e
     → slice_get (jobs_from f jobs) (job_count (take g jobs) + k) ≡ Some (line_job (f + g) k e)
-slice_get-jobs_from f g k [] e is = cc
-slice_get-jobs_from f zero k (entries ∷ jobs) e is =
+slice_get-jobs_from f g k [] e entry_is = cc
+slice_get-jobs_from f zero k (entries ∷ jobs) e entry_is =
     grind (
       arith,
-      slice_get-left (file_jobs f 0 entries) (jobs_from (suc f) jobs) k,
+      slice_get-append_left (file_jobs f 0 entries) (jobs_from (suc f) jobs) k,
       slice_get_within (file_jobs f 0 entries) k (line_job f (0 + k) e),
-      slice_get-file_jobs f 0 k entries e is,
+      slice_get-file_jobs f 0 k entries e entry_is,
     )
-slice_get-jobs_from f (suc g) k (entries ∷ jobs) e is =
+slice_get-jobs_from f (suc g) k (entries ∷ jobs) e entry_is =
     grind (
       arith,
       slice_get-append_right (file_jobs f 0 entries) (jobs_from (suc f) jobs),
-      slice_get-jobs_from (suc f) g k jobs e is,
+      slice_get-jobs_from (suc f) g k jobs e entry_is,
       length-map (file_jobs f 0 entries) (λ (o : Job). o.entry),
       entries_of_file f 0 entries,
       sum_by-cons length entries (take g jobs),
@@ -309,9 +278,8 @@ slice_get-jobs_from f (suc g) k (entries ∷ jobs) e is =
 
 -- line k of file f comes after the jobs of the files before f
 pub slice_get-job_list : (jobs : List (List Entry)) (f k n : ℕ) (e : Entry) → n ≡ job_count (take f jobs) + k →
-    slice_get (entries_of jobs f) k ≡ Some e
-    → slice_get (job_list jobs) n ≡ Some (line_job f k e)
-slice_get-job_list jobs f k n e number is = grind (arith, slice_get-jobs_from 0 f k jobs e is)
+    slice_get (entries_of jobs f) k ≡ Some e → slice_get (job_list jobs) n ≡ Some (line_job f k e)
+slice_get-job_list jobs f k n e n_is entry_is = grind (arith, slice_get-jobs_from 0 f k jobs e entry_is)
 
 -- ---- the place of a job among the files
 
@@ -342,7 +310,7 @@ job_count-jobs_to question (file ∷ files) =
 -- one file more starts after all jobs so far
 pub starts_more : {jobs : List (List Entry)} {starts : List ℕ} {start : ℕ} (own : List Entry) → AreStarts jobs starts →
     start ≡ job_count jobs → AreStarts (jobs ++ own ∷ []) (starts ++ start ∷ [])
-starts_more {jobs} {starts} {start} own so_far is = record {
+starts_more {jobs} {starts} {start} own so_far start_is = record {
   as_many = omega (arith, so_far.as_many, length-append starts (start ∷ []), length-append jobs (own ∷ []));
   before = λ f low.
       grind (
@@ -376,26 +344,26 @@ pub one_more_read : {question : Question} {files : List NamedBytes} {count : ℕ
     → count < length files → file ≡ get_or files count file → own ≡ entries_to question file.bytes
     → many ≡ length own → count_by is_faulty_entry own ≡ found
     → AreRead question files (count + 1) (jobs ++ own ∷ []) (starts ++ before ∷ []) (before + many) (faults + found)
-one_more_read {question} {files} {count} {jobs} {own = own} file so_far low is own_is many_are found_are =
+one_more_read {question} {files} {count} {jobs} {own = own} file so_far low file_is own_is many_are found_are =
     let all = sum_by_push length jobs own in
     let next = sum_by-drop_more lines_in files count file low in
     let lines = ap length own_is ∙ length-entries_to question file.bytes in
     record {
-      read = ap (λ l. l ++ own ∷ []) so_far.read
-          ∙ ap (λ own. jobs_to question (take count files) ++ own ∷ []) (own_is ∙ ap (λ f. entries_to question f.bytes) is)
+      read = ap (◌++ (own ∷ [])) so_far.read
+          ∙ ap (λ own. jobs_to question (take count files) ++ own ∷ []) (own_is ∙ ap (λ f. entries_to question f.bytes) file_is)
           ∙ sym (map-append (λ f. entries_to question f.bytes) (take count files) (get_or files count file ∷ []))
           ∙ ap (jobs_to question) (sym (take_more files count file low));
       starts_are = starts_more own so_far.starts_are so_far.before_is;
       before_is = omega (arith, all, so_far.before_is, many_are);
-      lines = omega (arith, so_far.lines, next, lines, ap lines_in is, many_are);
+      lines = omega (arith, so_far.lines, next, lines, ap lines_in file_is, many_are);
       faults_are = omega (arith, so_far.faults_are, found_are, sum_by_push (count_by is_faulty_entry) jobs own);
       fewer = omega (arith, so_far.fewer, found_are, many_are, count_by-le-length is_faulty_entry own);
       many = omega (arith, so_far.many, length-append jobs (own ∷ []));
     }
 
 -- a file has no more lines than all together
-pub file_low : (jobs : List (List Entry)) (f : ℕ) → f < length jobs → length (entries_of jobs f) ≤ job_count jobs
-file_low jobs f within = get_or-le-sum_by length jobs f [] within
+pub no_more_than_all : (jobs : List (List Entry)) (f : ℕ) → f < length jobs → length (entries_of jobs f) ≤ job_count jobs
+no_more_than_all jobs f within = get_or-le-sum_by length jobs f [] within
 
 -- what the functions of jobs need of what is counted
 pub ruleset counts_of_jobs = (get_or-map, length-map, length-job_list, lines_between)
@@ -433,7 +401,7 @@ same_board p q = (board_eq.ghosts).eq p q
 
 -- boards that are equal by `==` show the same position
 pub same_board_means : (p q : position.Position) → IsWithinLimits p → IsWithinLimits q → same_board p q ≡ true → p ≡ q
-same_board_means p q p_limits q_limits h =
+same_board_means p q p_limits q_limits same =
     let rows : houses_in p ≡ houses_in q = same_key (houses_in p) (houses_in q) (houses_within p p_limits) (houses_within q q_limits)
     (grind (arith, nat_tests)) in
     let own_store : p.own_store ≡ q.own_store = grind (arith, nat_tests) in

@@ -1,5 +1,9 @@
 pub mod AskingLemmas
 pub mod CollectingLemmas
+pub mod CountingLemmas
 pub mod FilesLemmas
 pub mod LineLemmas
+pub mod ListLemmas
+pub mod SideLemmas
+pub mod SinkLemmas
 pub mod WritingLemmas

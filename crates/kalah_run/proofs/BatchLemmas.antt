@@ -1,9 +1,8 @@
 -- A batch: the pass of the calling thread, what stands written when it has ended, and a batch without a line.
-use Rattle.std.proofs.Common.{[], IfErr, ◌≡◌, ◌≤◌, ◌+◌, ℕ, List, ◌∷◌, ◌++◌, arith, sym, ap, ◌∙◌, Bool, true, false, refl, ⊎_elim, length, take, subst, ◌⊎◌, inl, inr}
+use Rattle.std.proofs.Common.{[], IfErr, ◌≡◌, ◌≤◌, ◌+◌, ℕ, List, ◌∷◌, ◌++◌, arith, sym, ap, ◌∙◌, Bool, true, false, refl, ⊎_elim, length, take, subst, ◌⊎◌, inl, inr, All, Some, IfSome, Option, None, Result, Ok, Err, OnOk, count_by, IfOk, flat_map}
 use Rattle.std.proofs.lemmas.List.{nil_from_length, map-append, append-nil, length-append, length-map}
 use Rattle.kalah_jobs.specs.declared.files.entry.Entry.{Entry}
 use Rattle.kalah_jobs.specs.declared.files.job.Job.{Job}
-use Rattle.std.specs.Prelude.{◌⊎◌, All, Some, IfSome, Option, None, Result, Ok, Err, OnOk, count_by, IfOk}
 use Rattle.kalah_jobs.specs.Files.JobList.{job_list}
 use Rattle.kalah_jobs.specs.Collecting.AnyOrder.{AreJobsInSomeOrder}
 use Rattle.kalah_run.specs.Batch.AtWork.{passes_of, puts_of, HaveRun}
@@ -14,13 +13,11 @@ use Rattle.kalah_jobs.specs.Writing.Sink.{AppendsPrefix, SinkState}
 use Rattle.kalah_jobs.proofs.WritingLemmas.{files_are_their_jobs}
 use Rattle.kalah_run.specs.Batch.OrderedOutput.{IsOnlyFlushed, WasGivenSince, text_of_job, text_of, IsNew, HasWritten, whole_output, Waits, WritesReady}
 use Rattle.kalah_run.specs.Batch.Leaving.{rest_by_pass, pass_list, HasDrawnNothing, IsAbandoned, DrawsOnlyTheRest}
-use Rattle.std.specs.List.{flat_map}
 use Rattle.std.proofs.lemmas.Bool.{both_ways, true_from_ne_false}
 use Rattle.kalah_jobs.specs.declared.collecting.refusal.Refusal.{Refusal}
 use Rattle.kalah_jobs.specs.Collecting.CollectorEvents.{Offers}
 use Rattle.kalah_jobs.specs.Writing.Output.{text_of_jobs, taken_output, output_to, output_of_jobs, names_of, tally_of, is_faulty_job}
 use Rattle.kalah_jobs.specs.declared.writing.tally.Tally.{Tally}
-use Rattle.kalah_jobs.proofs.CollectingLemmas.{new_files_are_in_step}
 use Rattle.kalah_jobs.specs.Files.NamedBytes.{NamedBytes}
 use Rattle.kalah_run.specs.declared.batch.ordered_output.OrderedOutput.{OrderedOutput}
 use Rattle.std.proofs.lemmas.List.Elements.{All-push}
@@ -49,6 +46,7 @@ unless_left (inl a) sound = a
 unless_left (inr left) (inl solve) = absurd (let both : Leave ≡ Solve = sym left.0 ∙ solve in cc)
 unless_left (inr left) (inr still) = absurd (both_ways _ still left.1)
 
+-- a failure isn't undone
 pub failed_still : {was : Bool} (now : Bool) → (now ≡ false → was ≡ false) → was ≡ true → now ≡ true
 failed_still now sound failed = true_from_ne_false now (λ still. both_ways _ (sound still) failed)
 
@@ -68,7 +66,7 @@ draws_trans {failed = failed} {first} {second} {third} one two = record {
   own = two.own;
   rest = two.rest ∙ one.rest;
   same = elim (two.same) [
-    | inl is ↦ ⊎_elim (λ (was : second ≡ first). inl (is ∙ was)) inr one.same
+    | inl same ↦ ⊎_elim (λ (first_same : second ≡ first). inl (same ∙ first_same)) inr one.same
     | inr left ↦ inr (sym one.rest ∙ left.0, left.1)
   ];
 }
@@ -105,33 +103,33 @@ module _ {G : Type 0} {knows : G → ℕ → Bool} {shared : SharedWork G} {befo
   -- a list that had room for all passes has room for them again
   pub passes_fit : {len capacity : ℕ} (left left' : Option PassState) → rest_by_pass left' ≡ rest_by_pass left → len ≡ length after
       → length before + length (pass_list left) ≤ capacity → len + length (pass_list left') ≤ capacity
-  passes_fit left left' same is room = omega (arith, is, run.as_many, room, as_many_left left left' same)
+  passes_fit left left' same len_is room = omega (arith, len_is, run.as_many, room, as_many_left left left' same)
 
   -- all passes of the desk are back
   pub passes_are_back : {passes : ℕ} {back : List PassState} (left left' : Option PassState) → rest_by_pass left' ≡ rest_by_pass left
       → back ≡ passes_of after ++ pass_list left' → length before + length (pass_list left) ≡ passes → length back ≡ passes
-  passes_are_back left left' same is all =
-      let many = ap length is ∙ length-append (passes_of after) (pass_list left') in
+  passes_are_back left left' same back_is all =
+      let many = ap length back_is ∙ length-append (passes_of after) (pass_list left') in
       omega (arith, many, length-map after (λ (w : Worker). w.pass), run.as_many, all, as_many_left left left' same)
 
   -- each of them is of the desk
   pub own_back : {back : List PassState} (left' : Option PassState) → IfSome left' (IsPassAt shared.desk)
       → back ≡ passes_of after ++ pass_list left' → All (IsPassAt shared.desk) back
-  own_back None own is = rw (is, append-nil (passes_of after)) (run_passes shared before after run)
-  own_back (Some p) own is = rw is (All-push (IsPassAt shared.desk) (passes_of after) p (run_passes shared before after run) own)
+  own_back None own back_is = rw (back_is, append-nil (passes_of after)) (run_passes shared before after run)
+  own_back (Some p) own back_is = rw back_is (All-push (IsPassAt shared.desk) (passes_of after) p (run_passes shared before after run) own)
 
   -- all passes to put are back, each in its place
   pub puts_back : {len count : ℕ} {puts : List PutPassState} → len ≡ length puts → puts ≡ puts_of after → count ≡ length before
       → ArePassesFrom shared.queue.id 0 (puts_of before) → (len ≡ count) × ArePassesFrom shared.queue.id 0 puts
-  puts_back many is count from = (
-    omega (arith, many, ap length is, length-map after (λ (w : Worker). w.put_pass), run.as_many, count),
-    rw is (puts_after shared before after 0 run from),
+  puts_back many puts_are count from = (
+    omega (arith, many, ap length puts_are, length-map after (λ (w : Worker). w.put_pass), run.as_many, count),
+    rw puts_are (puts_after shared before after 0 run from),
   )
 
 -- the calling thread has drawn nothing if it had not, unless the rest is left
 pub nothing_drawn : {desk : DeskState} {failed : Bool} {before after : Option PassState} → HasDrawnNothing before
     → DrawsOnlyTheRest desk failed before after → HasDrawnNothing after ⊎ IsAbandoned (rest_by_pass before) failed
-nothing_drawn nothing draws = ⊎_elim (λ is. inl (subst HasDrawnNothing (sym is) nothing)) inr draws.same
+nothing_drawn nothing draws = ⊎_elim (λ same. inl (subst HasDrawnNothing (sym same) nothing)) inr draws.same
 
 -- ==== What stands written when a batch has ended
 
@@ -160,7 +158,7 @@ pub one_longer : (before : GetPassState) {after : GetPassState} (outcome : Job) 
 one_longer before outcome has_got =
     ap (λ (p : GetPassState). length p.got) has_got.2 ∙ length-append before.got ((has_got.0, outcome) ∷ [])
 
--- what was collected before an outcome was got, or none
+-- what was collected so far, and then an outcome or none is got
 module _ {desk : DeskState} {Ended : Type 0} {output r : OrderedOutput} {begun out later : SinkState} {before now next : CallerPasses}
     (so_far : AreCollected desk output begun out before now r) where
   -- one outcome more was got and offered, and what is ready was written
@@ -170,13 +168,13 @@ module _ {desk : DeskState} {Ended : Type 0} {output r : OrderedOutput} {begun o
       → (more.has_failed ≡ false → later.has_failed ≡ false) → WritesReady offered later written more
       → AreCollected desk output begun more before next written
   one_collected {outcome} gave {more} {offered} {written} got files jobs current offers sound writes =
-      let is = got.got.2 in
+      let pass_is = got.got.2 in
       let was = written_kept got.flushed so_far.progress.0 in
       let more_got : outcomes_in next.get_pass.got ≡ outcomes_in now.get_pass.got ++ outcome ∷ [] =
-      ap (λ (p : GetPassState). outcomes_in p.got) is ∙ map-append (λ (p : ℕ × Job). p.1) now.get_pass.got ((got.got.0, outcome) ∷ []) in
+      ap (λ (p : GetPassState). outcomes_in p.got) pass_is ∙ map-append (λ (p : ℕ × Job). p.1) now.get_pass.got ((got.got.0, outcome) ∷ []) in
       record {
-        queue = ap (λ (p : GetPassState). p.queue) is ∙ so_far.queue;
-        workers = ap (λ (p : GetPassState). p.workers) is ∙ so_far.workers;
+        queue = ap (λ (p : GetPassState). p.queue) pass_is ∙ so_far.queue;
+        workers = ap (λ (p : GetPassState). p.workers) pass_is ∙ so_far.workers;
         draws = draws_weaken _ sound (draws_trans (draws_weaken _ got.flushed.sound so_far.draws) got.draws);
         progress = rw more_got (writes _ _ _ _ (record {
           of_files = files ∙ was.of_files;
@@ -204,17 +202,17 @@ pub has_collected : {desk : DeskState} {output r : OrderedOutput} {begun out lat
     → (length now.get_pass.got ≡ job_count output.jobs.now) ⊎ IsAbandoned (rest_by_pass before.rest_pass) later.has_failed
     → IsOnlyFlushed out later → HasCollected desk output begun later before after
 unfolding text_of
-has_collected {output = output} {r} {begun} {later = later} {before} {now} so_far is all_got flushed =
+has_collected {output = output} {r} {begun} {later = later} {before} {now} so_far same all_got flushed =
     let written = written_kept flushed so_far.progress.0 in
     let whole : text_of_jobs (text_of output.files.now) r.jobs.now ≡ whole_output output =
-    ap (λ l. text_of_jobs (text_of output.files.now) l) written.of_jobs in
-    rw is (record {
+    ap (text_of_jobs (text_of output.files.now)) written.of_jobs in
+    rw same (record {
       queue = so_far.queue;
       workers = so_far.workers;
       all_got = all_got;
       given = λ known. subst (WasGivenSince begun later) whole (⊎_elim
           (λ (each : AreJobsInSomeOrder output.jobs.now (outcomes_in now.get_pass.got)). progress_end written.progress
-          (subst (λ l. AreJobsInSomeOrder l (outcomes_in now.get_pass.got)) (sym written.of_jobs) each) so_far.progress.1)
+          (rw written.of_jobs each) so_far.progress.1)
           (λ (left : IsAbandoned (rest_by_pass before.rest_pass) later.has_failed). progress_failed written.progress left.1)
           known);
       draws = draws_weaken _ flushed.sound so_far.draws;
@@ -246,7 +244,7 @@ counted_tally question files = λ i. record {
 appends_none : (old new : Option (List ℕ)) (bytes : List ℕ) → bytes ≡ [] → Appends old new bytes → Keeps old new
 appends_none None new bytes none appends = tt
 appends_none (Some xs) None bytes none appends = absurd appends
-appends_none (Some xs) (Some ys) bytes none appends = appends ∙ (ap (λ l. xs ++ l) none ∙ append-nil xs)
+appends_none (Some xs) (Some ys) bytes none appends = appends ∙ (ap (xs ++◌) none ∙ append-nil xs)
 
 -- a prefix of nothing is nothing
 pub starts_none : (old new : Option (List ℕ)) (bytes : List ℕ) → bytes ≡ [] → AppendsPrefix old new bytes → Keeps old new
@@ -268,11 +266,11 @@ module _ {W : Type 0} (state : W → SinkState) (question : Question) (files : L
     counted = counted ∙ ap counts_of made.1 ∙ counted_tally question files;
   }
   answered made new (Err e) given counted sound fault =
-      subst (λ e. AnswersBatch state (output_to question files) files old new (Err e)) (sym fault.0) (made.0, given.start, fault.1)
+      rw fault.0 (made.0, given.start, fault.1)
 
 -- a sink that is as it was keeps what it has
 left_same : {W : Type 0} (state : W → SinkState) {old new : W} → new ≡ old → Keeps (state old).written (state new).written
-left_same state {old} same = subst (λ o. Keeps (state old).written (state o).written) (sym same) (Keeps-refl (state old).written)
+left_same state {old} same = rw same (Keeps-refl (state old).written)
 
 module _ (question : Question) (files : List NamedBytes) (none : lines_in_all files ≡ 0) where
   -- there is no job, and no output
@@ -293,18 +291,18 @@ module _ (question : Question) (files : List NamedBytes) (none : lines_in_all fi
   -- the result is one of a batch without a line
   pub nothing_answered : {W : Type 0} (state : W → SinkState) (old new : W) (result : Result Tally RunFault)
       → AnswersBatch state (output_to question files) files old new result → AnswersNothing (state old).written (state new).written result
-  nothing_answered state old new (Ok tally) is = record {
-    unwritten = appends_none _ _ _ no_output is.written;
-    uncounted = is.counted ∙ sym (counted_tally question files)
+  nothing_answered state old new (Ok tally) answers = record {
+    unwritten = appends_none _ _ _ no_output answers.written;
+    uncounted = answers.counted ∙ sym (counted_tally question files)
         ∙ ap (λ (l : List Job). let c : Tally = record { lines = length l; faults = count_by is_faulty_job l } in c) no_jobs;
     fault = tt;
   }
-  nothing_answered state old new (Err TooManyFiles) is = record { unwritten = left_same state is.1.0; uncounted = tt; fault = inl refl }
-  nothing_answered state old new (Err TooManyLines) is = absurd (let more = is.1 in omega arith)
-  nothing_answered state old new (Err OutOfMemory) is = record { unwritten = left_same state is.1.0; uncounted = tt; fault = inr (inl refl) }
-  nothing_answered state old new (Err NoWorker) is = absurd (let some = is.1 in omega arith)
-  nothing_answered state old new (Err Write) is = record {
-    unwritten = starts_none _ _ _ no_output is.1;
+  nothing_answered state old new (Err TooManyFiles) answers = record { unwritten = left_same state answers.1.0; uncounted = tt; fault = inl refl }
+  nothing_answered state old new (Err TooManyLines) answers = absurd (let more = answers.1 in omega arith)
+  nothing_answered state old new (Err OutOfMemory) answers = record { unwritten = left_same state answers.1.0; uncounted = tt; fault = inr (inl refl) }
+  nothing_answered state old new (Err NoWorker) answers = absurd (let some = answers.1 in omega arith)
+  nothing_answered state old new (Err Write) answers = record {
+    unwritten = starts_none _ _ _ no_output answers.1;
     uncounted = tt;
     fault = inr (inr refl);
   }

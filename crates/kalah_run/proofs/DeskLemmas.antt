@@ -1,6 +1,5 @@
 -- The desk: what is kept of its word and its seats, and what the rows are at the end.
-use Rattle.std.proofs.Common.{◌≡◌, ◌⊎◌, ⊎_elim, inl, inr, ℕ, zero, suc, ◌+◌, ◌≤◌, List, [], ◌∷◌, ◌++◌, length, set, refl, sym, ap, ◌∙◌, subst, arith, length-append, append-nil, append_assoc, ◌%◌, ◌^◌, ◌<◌, get_or, true, false, cond, ◌-◌}
-use Rattle.std.specs.Prelude.{◌==◌, Option, Some, None, sum_by, count_by, All, nat_lt, AllPairs, if◌then◌else◌, slice_index, max, min, IsTrue, ◌↔◌}
+use Rattle.std.proofs.Common.{◌≡◌, ◌⊎◌, ⊎_elim, inl, inr, ℕ, zero, suc, ◌+◌, ◌≤◌, List, [], ◌∷◌, ◌++◌, length, set, refl, sym, ap, ◌∙◌, subst, arith, length-append, append-nil, append_assoc, ◌%◌, ◌^◌, ◌<◌, get_or, true, false, cond, ◌-◌, ◌==◌, Option, Some, None, sum_by, count_by, All, nat_lt, AllPairs, if◌then◌else◌, slice_index, max, min, IsTrue, ◌↔◌}
 use Rattle.std.proofs.lemmas.List.Sums.{sum_by-cons, sum_by-append, sum_by_push, sum_by-set, count_by-le-length, get_or-le-sum_by}
 use Rattle.std.proofs.lemmas.List.Elements.{All-append, All-nil, All-cons, All-head, All-take, All-drop}
 use mathlib.Core.Option.{some, some-injective, some-ne-none, none}
@@ -40,54 +39,54 @@ times_rows x (r ∷ rs) =
     omega (arith, times_rows x rs, mine, sum_by-cons (times_in_row x) r rs)
 
 -- a sum, after a change of one term
-pub sum_set : {X : Type 0} (f : X → ℕ) (xs : List X) (k : ℕ) (v w : X) → get_elem? xs k ≡ some v
-    → sum_by f (set xs k w) + f v ≡ sum_by f xs + f w
-sum_set f xs k v w at = rw (view_at xs k v at) at (sum_by-set f xs k w v (in_views xs k at))
+pub sum_set : {X : Type 0} (f : X → ℕ) (xs : List X) (k : ℕ) (old new : X) → get_elem? xs k ≡ some old
+    → sum_by f (set xs k new) + f old ≡ sum_by f xs + f new
+sum_set f xs k old new has_old = rw (view_at xs k old has_old) at (sum_by-set f xs k new old (in_views xs k has_old))
 
 -- a term is within the sum
-sum_at : {X : Type 0} (f : X → ℕ) (xs : List X) (k : ℕ) (v : X) → get_elem? xs k ≡ some v → f v ≤ sum_by f xs
-sum_at f xs k v at = rw (view_at xs k v at) at (get_or-le-sum_by f xs k v (in_views xs k at))
+sum_at : {X : Type 0} (f : X → ℕ) (xs : List X) (k : ℕ) (term : X) → get_elem? xs k ≡ some term → f term ≤ sum_by f xs
+sum_at f xs k term has_term = rw (view_at xs k term has_term) at (get_or-le-sum_by f xs k term (in_views xs k has_term))
 
 -- the sum over all rows is one over the seats
-rows_sum : (f : DrawnRow → ℕ) (views : List DeskView) → sum_by f (all_rows views) ≡ sum_by (λ v. sum_by f (rows_in v)) views
+rows_sum : (f : DrawnRow → ℕ) (views : List DeskView) → sum_by f (all_rows views) ≡ sum_by (λ view. sum_by f (rows_in view)) views
 rows_sum f [] = refl
 rows_sum f (x ∷ xs) =
-    omega (arith, rows_sum f xs, sum_by-append f (rows_in x) (all_rows xs), sum_by-cons (λ v. sum_by f (rows_in v)) x xs)
+    omega (arith, rows_sum f xs, sum_by-append f (rows_in x) (all_rows xs), sum_by-cons (λ view. sum_by f (rows_in view)) x xs)
 
 -- the sum over all rows, after a change of one view
-pub rows_set : (f : DrawnRow → ℕ) (views : List DeskView) (seat : ℕ) (v w : DeskView) → get_elem? views seat ≡ some v
-    → sum_by f (all_rows (set views seat w)) + sum_by f (rows_in v) ≡ sum_by f (all_rows views) + sum_by f (rows_in w)
-rows_set f views seat v w at =
-    omega (arith, rows_sum f (set views seat w), rows_sum f views, sum_set (λ u. sum_by f (rows_in u)) views seat v w at)
+pub rows_set : (f : DrawnRow → ℕ) (views : List DeskView) (seat : ℕ) (old new : DeskView) → get_elem? views seat ≡ some old
+    → sum_by f (all_rows (set views seat new)) + sum_by f (rows_in old) ≡ sum_by f (all_rows views) + sum_by f (rows_in new)
+rows_set f views seat old new has_old =
+    omega (arith, rows_sum f (set views seat new), rows_sum f views, sum_set (λ u. sum_by f (rows_in u)) views seat old new has_old)
 
 -- the same with one seat more
-pub rows_push : (f : DrawnRow → ℕ) (views : List DeskView) (w : DeskView)
-    → sum_by f (all_rows (views ++ w ∷ [])) ≡ sum_by f (all_rows views) + sum_by f (rows_in w)
-rows_push f views w =
-    omega (arith, rows_sum f (views ++ w ∷ []), rows_sum f views, sum_by_push (λ u. sum_by f (rows_in u)) views w)
+pub rows_push : (f : DrawnRow → ℕ) (views : List DeskView) (new : DeskView)
+    → sum_by f (all_rows (views ++ new ∷ [])) ≡ sum_by f (all_rows views) + sum_by f (rows_in new)
+rows_push f views new =
+    omega (arith, rows_sum f (views ++ new ∷ []), rows_sum f views, sum_by_push (λ u. sum_by f (rows_in u)) views new)
 
 -- the sum over one seat's rows is within that over all
-pub rows_at : (f : DrawnRow → ℕ) (views : List DeskView) (seat : ℕ) (v : DeskView) → get_elem? views seat ≡ some v
-    → sum_by f (rows_in v) ≤ sum_by f (all_rows views)
-rows_at f views seat v at = omega (arith, rows_sum f views, sum_at (λ u. sum_by f (rows_in u)) views seat v at)
+pub rows_at : (f : DrawnRow → ℕ) (views : List DeskView) (seat : ℕ) (view : DeskView) → get_elem? views seat ≡ some view
+    → sum_by f (rows_in view) ≤ sum_by f (all_rows views)
+rows_at f views seat view has_view = omega (arith, rows_sum f views, sum_at (λ u. sum_by f (rows_in u)) views seat view has_view)
 
 -- a fact of the rows of one seat
-pub all_at : (P : DrawnRow → Type 0) (views : List DeskView) (seat : ℕ) (v : DeskView) → get_elem? views seat ≡ some v
-    → All P (all_rows views) → All P (rows_in v)
-all_at P [] seat v at all = absurd (some-ne-none v (sym at))
-all_at P (x ∷ xs) zero v at all = subst (λ u. All P (rows_in u)) (some-injective x v at)
+pub all_at : (P : DrawnRow → Type 0) (views : List DeskView) (seat : ℕ) (view : DeskView) → get_elem? views seat ≡ some view
+    → All P (all_rows views) → All P (rows_in view)
+all_at P [] seat view has_view all = absurd (some-ne-none view (sym has_view))
+all_at P (x ∷ xs) zero view has_view all = subst (λ u. All P (rows_in u)) (some-injective x view has_view)
     (rw (take_at (rows_in x) (all_rows xs) _ refl) at (All-take P (length (rows_in x)) _ all))
-all_at P (x ∷ xs) (suc seat) v at all =
-    all_at P xs seat v at (rw (drop_at (rows_in x) (all_rows xs) _ refl) at (All-drop P (length (rows_in x)) _ all))
+all_at P (x ∷ xs) (suc seat) view has_view all =
+    all_at P xs seat view has_view (rw (drop_at (rows_in x) (all_rows xs) _ refl) at (All-drop P (length (rows_in x)) _ all))
 
 -- a fact of the rows of each seat is one of all rows
-all_from : (P : DrawnRow → Type 0) (views : List DeskView) → Each (λ seat v. All P (rows_in v)) views → All P (all_rows views)
+all_from : (P : DrawnRow → Type 0) (views : List DeskView) → Each (λ seat view. All P (rows_in view)) views → All P (all_rows views)
 all_from P [] each = All-nil P
 all_from P (x ∷ xs) each =
-    All-append P (rows_in x) (all_rows xs) (each 0 x refl) (all_from P xs (λ seat v at. each (suc seat) v at))
+    All-append P (rows_in x) (all_rows xs) (each 0 x refl) (all_from P xs (λ seat view has_view. each (suc seat) view has_view))
 
 -- a seat has no more rows than it stands for passes
-rows_within_one : (v : DeskView) → length (rows_in v) ≤ passes_in v
+rows_within_one : (view : DeskView) → length (rows_in view) ≤ passes_in view
 rows_within_one (Opening total handed_out left) = omega arith
 rows_within_one (Drawing total number r) = omega arith
 rows_within_one (Closing rows) = omega arith
@@ -101,17 +100,17 @@ rows_within_passes (x ∷ xs) =
 -- a closing seat that took in all passes has all rows
 pub has_all : (views : List DeskView) (seat : ℕ) (rows : List DrawnRow) → get_elem? views seat ≡ some (Closing rows)
     → length rows ≡ sum_by passes_in views → all_rows views ≡ rows
-has_all [] seat rows at whole = absurd (some-ne-none (Closing rows) (sym at))
-has_all (x ∷ xs) zero rows at whole =
-    let is : x ≡ Closing rows = some-injective x (Closing rows) at in
-    let part : passes_in x ≡ length rows = ap passes_in is in
+has_all [] seat rows has_view whole = absurd (some-ne-none (Closing rows) (sym has_view))
+has_all (x ∷ xs) zero rows has_view whole =
+    let x_is : x ≡ Closing rows = some-injective x (Closing rows) has_view in
+    let part : passes_in x ≡ length rows = ap passes_in x_is in
     let rest : all_rows xs ≡ [] = nil_from_length (all_rows xs) (omega (arith, rows_within_passes xs, sum_by-cons passes_in x xs)) in
-    ap (λ u. rows_in u ++ all_rows xs) is ∙ ap (λ l. rows ++ l) rest ∙ append-nil rows
-has_all (x ∷ xs) (suc seat) rows at whole =
-    let mine : length rows ≤ sum_by passes_in xs = sum_at passes_in xs seat (Closing rows) at in
+    ap (λ u. rows_in u ++ all_rows xs) x_is ∙ ap (rows ++◌) rest ∙ append-nil rows
+has_all (x ∷ xs) (suc seat) rows has_view whole =
+    let mine : length rows ≤ sum_by passes_in xs = sum_at passes_in xs seat (Closing rows) has_view in
     let no_pass : passes_in x ≡ 0 = omega (arith, sum_by-cons passes_in x xs) in
     let short : rows_in x ≡ [] = nil_from_length (rows_in x) (omega (arith, rows_within_one x)) in
-    ap (λ l. l ++ all_rows xs) short ∙ has_all xs seat rows at (omega (arith, sum_by-cons passes_in x xs))
+    ap (◌++ all_rows xs) short ∙ has_all xs seat rows has_view (omega (arith, sum_by-cons passes_in x xs))
 
 -- the numbers of the row ascend
 abbrev Ascends : DrawnRow → Type 0
@@ -130,11 +129,11 @@ deals_alike {rows = rows} {others} deals drawn same ascending spent = record {
 }
 
 -- what is kept of each view: it has the plan's total, if it has one, and its rows ascend
-abbrev Fits : DeskPlan → ℕ → DeskView → Type 0
-Fits plan seat v = HasTotal plan.total v × All Ascends (rows_in v)
+abbrev FollowsPlan : DeskPlan → ℕ → DeskView → Type 0
+FollowsPlan plan seat view = HasTotal plan.total view × All Ascends (rows_in view)
 
-fitting : {S : Type 0} {plan : DeskPlan} {s : State S DeskView} → IsLawful plan s → Each (Fits plan) s.views
-fitting {s = s} kept seat v at = (kept.totals seat v at, all_at Ascends s.views seat v at kept.deals.ascending)
+following : {S : Type 0} {plan : DeskPlan} {s : State S DeskView} → IsLawful plan s → Each (FollowsPlan plan) s.views
+following {s = s} kept seat view has_view = (kept.totals seat view has_view, all_at Ascends s.views seat view has_view kept.deals.ascending)
 
 -- ==== A draw keeps the rule, and returns what it must
 
@@ -176,14 +175,14 @@ word_of {s = s} kept = kept.drawn + spent_in (all_rows s.views)
 
 -- a draw of a pass that is not spent
 module _ {S : Type 0} {plan : DeskPlan} {s : State S DeskView} (seat : ℕ) {total number : ℕ} {numbers : List ℕ} (kept : IsLawful plan s)
-    (at : get_elem? s.views seat ≡ some (unspent_view total number numbers)) where
+    (has_view : get_elem? s.views seat ≡ some (unspent_view total number numbers)) where
   -- all numbers of the pass's row are below the count of those drawn
   stands_below : All (λ x. x < kept.drawn) numbers
   stands_below k d within =
       let x : ℕ = get_or numbers k d in
       let here : cond (x == x) 1 0 ≤ count_by (λ y. y == x) numbers = get_or-le-sum_by (λ y. cond (y == x) 1 0) numbers k d within in
       let mine : sum_by (times_in_row x) (drawn_row numbers false ∷ []) ≤ sum_by (times_in_row x) (all_rows s.views) =
-      rows_at (times_in_row x) s.views seat (unspent_view total number numbers) at in
+      rows_at (times_in_row x) s.views seat (unspent_view total number numbers) has_view in
       below x kept.drawn (count_by (λ y. y == x) numbers) here (omega (arith, times_rows x (all_rows s.views), kept.deals.each_once x))
     where
       below : (x c n : ℕ) → cond (x == x) 1 0 ≤ n → n ≤ (if nat_lt x c then 1 else 0) → x < c
@@ -191,29 +190,28 @@ module _ {S : Type 0} {plan : DeskPlan} {s : State S DeskView} (seat : ℕ) {tot
 
   -- the row of the pass ascends, and all rows do after a change of it to one that does
   ascends : Ascends (drawn_row numbers false)
-  ascends = All-head Ascends (drawn_row numbers false) [] (fitting kept seat (unspent_view total number numbers) at).1
+  ascends = All-head Ascends (drawn_row numbers false) [] (following kept seat (unspent_view total number numbers) has_view).1
 
   stays_ascending : (view : DeskView) → All Ascends (rows_in view) → All Ascends (all_rows (set s.views seat view))
   stays_ascending view mine = all_from Ascends (set s.views seat view)
-      (each_set (λ k v. All Ascends (rows_in v)) s.views seat view mine (λ j u other there. (fitting kept j u there).1))
+      (each_set (λ k view. All Ascends (rows_in view)) s.views seat view mine (λ j u apart has_view. (following kept j u has_view).1))
 
   -- the rule stays if the row of the pass changes, and the rows deal each of the numbers once that the word counts
-  kept_after : {drawn word : ℕ} (row : DrawnRow)
-      → DealsEachOnce plan.total drawn (all_rows (set s.views seat (Drawing total number row)))
+  kept_after : {drawn word : ℕ} (row : DrawnRow) → DealsEachOnce plan.total drawn (all_rows (set s.views seat (Drawing total number row)))
       → word ≡ drawn + spent_in (all_rows (set s.views seat (Drawing total number row)))
       → IsLawful plan (after_step s (word ∷ []) seat (Drawing total number row))
   kept_after {drawn} row deals counts = record {
     few = kept.few;
     drawn = drawn;
-    word = ap (λ m. m ∷ []) counts;
+    word = ap (◌∷ []) counts;
     passes = omega (
       arith,
-      sum_set passes_in s.views seat (unspent_view total number numbers) (Drawing total number row) at,
+      sum_set passes_in s.views seat (unspent_view total number numbers) (Drawing total number row) has_view,
       kept.passes,
     );
     deals = deals;
-    totals = each_set (λ k v. HasTotal plan.total v) s.views seat (Drawing total number row)
-        (kept.totals seat (unspent_view total number numbers) at) (λ j u other there. kept.totals j u there);
+    totals = each_set (λ k view. HasTotal plan.total view) s.views seat (Drawing total number row)
+        (kept.totals seat (unspent_view total number numbers) has_view) (λ j u apart has_view. kept.totals j u has_view);
   }
 
   -- it finds a number below the total: the rule stays with that at the end of the pass's row, where it is above all others
@@ -225,22 +223,22 @@ module _ {S : Type 0} {plan : DeskPlan} {s : State S DeskView} (seat : ℕ) {tot
       let n : ℕ = kept.drawn in
       let after : DeskView = drawn_view total number numbers n in
       let rows : List DrawnRow = all_rows (set s.views seat after) in
-      let same : total ≡ plan.total = kept.totals seat before at in
+      let same : total ≡ plan.total = kept.totals seat before has_view in
       let none_spent : spent_in (all_rows s.views) ≡ 0 =
       elim (none_or_all kept.deals) [ inl unspent ↦ unspent | inr full ↦ omega arith ] in
-      let is : word_of kept ≡ n = omega arith in
+      let word_is : word_of kept ≡ n = omega arith in
       let drawn : drawn_in rows ≡ drawn_in (all_rows s.views) + 1 =
-      omega (arith, rows_set (λ r. length r.numbers) s.views seat before after at, length-append numbers (n ∷ [])) in
+      omega (arith, rows_set (λ r. length r.numbers) s.views seat before after has_view, length-append numbers (n ∷ [])) in
       let spent : spent_in rows ≡ spent_in (all_rows s.views) =
-      omega (arith, rows_set (λ r. cond r.spent 1 0) s.views seat before after at) in
+      omega (arith, rows_set (λ r. cond r.spent 1 0) s.views seat before after has_view) in
       let rises : Ascends (drawn_row (numbers ++ n ∷ []) false) = all_pairs_push (λ x y. x < y) numbers n ascends stands_below in
-      rw is (
+      rw word_is (
         kept_after (drawn_row (numbers ++ n ∷ []) false) (record {
           within = omega arith;
           count = omega (arith, kept.deals.count);
           each_once = λ x.
               let more : sum_by (times_in_row x) rows ≡ sum_by (times_in_row x) (all_rows s.views) + cond (n == x) 1 0 =
-              omega (arith, rows_set (times_in_row x) s.views seat before after at, sum_by_push (λ y. cond (y == x) 1 0) numbers n) in
+              omega (arith, rows_set (times_in_row x) s.views seat before after has_view, sum_by_push (λ y. cond (y == x) 1 0) numbers n) in
               times_rows x rows ∙ more
               ∙ ap (λ k. k + cond (n == x) 1 0) (sym (times_rows x (all_rows s.views)) ∙ kept.deals.each_once x)
               ∙ once_more x n;
@@ -255,121 +253,126 @@ module _ {S : Type 0} {plan : DeskPlan} {s : State S DeskView} (seat : ℕ) {tot
   draws_none high =
       let before : DeskView = unspent_view total number numbers in
       let after : DeskView = spent_view total number numbers in
-      let same : total ≡ plan.total = kept.totals seat before at in
+      let same : total ≡ plan.total = kept.totals seat before has_view in
       let full : kept.drawn ≡ plan.total =
       elim (none_or_all kept.deals) [ inl unspent ↦ (let within = kept.deals.within in omega arith) | inr full ↦ full ] in
       let drawn : drawn_in (all_rows (set s.views seat after)) ≡ drawn_in (all_rows s.views) =
-      omega (arith, rows_set (λ r. length r.numbers) s.views seat before after at) in
+      omega (arith, rows_set (λ r. length r.numbers) s.views seat before after has_view) in
       let spent : spent_in (all_rows (set s.views seat after)) ≡ spent_in (all_rows s.views) + 1 =
-      omega (arith, rows_set (λ r. cond r.spent 1 0) s.views seat before after at) in
+      omega (arith, rows_set (λ r. cond r.spent 1 0) s.views seat before after has_view) in
       kept_after (drawn_row numbers true)
-      (deals_alike kept.deals drawn (λ x. omega (arith, rows_set (times_in_row x) s.views seat before after at))
+      (deals_alike kept.deals drawn (λ x. omega (arith, rows_set (times_in_row x) s.views seat before after has_view))
       (stays_ascending after (All-cons Ascends (drawn_row numbers true) [] ascends (All-nil Ascends))) (λ _. full))
       (omega arith)
+
+  -- it draws no number: nothing changes
+  draws_nothing : {word : ℕ} → word ≡ word_of kept
+      → IsLawful plan (after_step s (word ∷ []) seat (unspent_view total number (numbers ++ [])))
+  draws_nothing word_is =
+      let same = set_again s.views seat _ (has_view ∙ ap (λ l. some (unspent_view total number l)) (sym (append-nil numbers))) in
+      let words = kept.word ∙ ap (◌∷ []) (sym word_is) in
+      subst (IsLawful plan) (λ i. let t : State S DeskView = record { words = words i; homes = s.homes; views = sym same i } in t) kept
+
+-- A step of a pass by f is allowed if from each lawful state it leaves a view that keeps the rule, and of which `known` holds.
+allowed_step : {S : Type 0} {plan : DeskPlan} {slots seat : ℕ} {before : DeskView} (f : ℕ → ℕ) (known : ℕ → Me S DeskView → Type 0)
+    → ((s : State S DeskView) (kept : IsLawful plan s) → get_elem? s.views seat ≡ some before → (after : DeskView)
+    × IsLawful plan (after_step s (f (word_of kept) ∷ []) seat after) × known (word_of kept) (after, []))
+    → Allows {S = S} (IsLawful plan) slots seat (before, []) 0 f known
+allowed_step f known steps s kept homes has_view fits =
+    let found : slice_index s.words 0 ≡ word_of kept = ap (λ words. slice_index words 0) kept.word in
+    let words : set s.words 0 (f (slice_index s.words 0)) ≡ f (word_of kept) ∷ [] =
+    ap (λ words. set words 0 (f (slice_index s.words 0))) kept.word ∙ ap (λ n. f n ∷ []) found in
+    let step = steps s kept has_view in
+    (step.0, keeps, tt, rw words step.1, rw found step.2)
 
 -- a draw of a pass that is not spent
 draws_at : {S : Type 0} (plan : DeskPlan) (slots seat total number : ℕ) (numbers : List ℕ)
     → Allows {S = S} (IsLawful plan) slots seat (unspent_view total number numbers, []) 0 (λ n. (n + 1) % 2 ^ 64)
     (Draws (step slots 0 1 0 none) (unspent_view total number numbers, []))
-draws_at {S} plan slots seat total number numbers s kept homes at fits =
+draws_at {S} plan slots seat total number numbers = allowed_step (λ n. (n + 1) % 2 ^ 64)
+    (Draws (step slots 0 1 0 none) (unspent_view total number numbers, [])) (λ s kept has_view.
     let n : ℕ = word_of kept in
-    let is : slice_index s.words 0 ≡ n = ap (λ ws. slice_index ws 0) kept.word in
-    let small : kept.drawn ≤ most_lines = omega (arith, kept.deals.within, kept.few.0) in
-    let few : spent_in (all_rows s.views) ≤ most_passes = omega (arith, few_spent kept, kept.few.1) in
-    let next : (slice_index s.words 0 + 1) % 2 ^ 64 ≡ n + 1 = mod-eq_of_lt (omega arith) ∙ ap (λ m. m + 1) is in
-    let words : set s.words 0 ((slice_index s.words 0 + 1) % 2 ^ 64) ≡ (n + 1) ∷ [] =
-    ap (λ ws. set ws 0 ((slice_index s.words 0 + 1) % 2 ^ 64)) kept.word ∙ ap (λ m. m ∷ []) next in
-    let done : (w : DeskView) × IsLawful {S = S} plan (after_step s ((n + 1) ∷ []) seat w)
-    × DrawsFrom (unspent_view total number numbers) n w =
+    let next : (n + 1) % 2 ^ 64 ≡ n + 1 =
+    mod-eq_of_lt (omega (arith, kept.deals.within, kept.few.0, few_spent kept, kept.few.1)) in
+    let step : (after : DeskView) × IsLawful {S = S} plan (after_step s ((n + 1) ∷ []) seat after)
+    × DrawsFrom (unspent_view total number numbers) n after =
     ⊎_elim
     (λ (low : n < total).
-    let some = draws_some seat kept at low in (drawn_view total number numbers n, some.0, rw (lt-ltb n total low) (refl, some.1)))
-    (λ (high : total ≤ n). (spent_view total number numbers, draws_none seat kept at high, rw (le-ltb n total high) refl))
-    (cases_lt n total)
-    in (done.0, keeps, tt, rw words done.1, (refl, rw is done.2))  -- view, act, that it may, the rule after it, and what is known then
+    let some = draws_some seat kept has_view low in (drawn_view total number numbers n, some.0, rw (lt-ltb n total low) (refl, some.1)))
+    (λ (high : total ≤ n). (spent_view total number numbers, draws_none seat kept has_view high, rw (le-ltb n total high) refl))
+    (cases_lt n total) in
+    (step.0, rw next step.1, (refl, step.2)))
 
 -- the seat's view, if it is a pass that is not spent
 unspent_me : {S : Type 0} (me : Me S DeskView) → me ≡ (as_pass_view me.0, []) → (row_in me.0).spent ≡ false
     → me ≡ (unspent_view (total_in me.0) (number_in me.0) (row_in me.0).numbers, [])
-unspent_me me is unspent =
-    let v = me.0 in
-    is ∙ ap (λ b. (Drawing (total_in v) (number_in v) (drawn_row (row_in v).numbers b), [])) unspent
+unspent_me me is_pass unspent =
+    let view = me.0 in
+    is_pass ∙ ap (λ b. (Drawing (total_in view) (number_in view) (drawn_row (row_in view).numbers b), [])) unspent
 
 pub draw_is_lawful : {S : Type 0} (plan : DeskPlan) (slots seat : ℕ) (me : Me S DeskView) → me ≡ (as_pass_view me.0, [])
     → (row_in me.0).spent ≡ false
     → Allows {S = S} (IsLawful plan) slots seat me 0 (λ n. (n + 1) % 2 ^ 64) (Draws (step slots 0 1 0 none) me)
-draw_is_lawful {S} plan slots seat me is unspent =
-    let v = me.0 in rw (unspent_me me is unspent) (draws_at plan slots seat (total_in v) (number_in v) (row_in v).numbers)
+draw_is_lawful {S} plan slots seat me is_pass unspent =
+    let view = me.0 in rw (unspent_me me is_pass unspent) (draws_at plan slots seat (total_in view) (number_in view) (row_in view).numbers)
 
 -- ==== A pass draws all that is left: that keeps the rule, as one draw after the other does
 
 -- it draws the numbers that are left, from the first of them on
 draws_all : {S : Type 0} {plan : DeskPlan} (left : ℕ) {s : State S DeskView} (seat : ℕ) {total number : ℕ} {numbers : List ℕ}
-    (kept : IsLawful plan s) (at : get_elem? s.views seat ≡ some (unspent_view total number numbers)) → word_of kept + left ≡ total
+    (kept : IsLawful plan s) (has_view : get_elem? s.views seat ≡ some (unspent_view total number numbers)) → word_of kept + left ≡ total
     → IsLawful plan (after_step s (total ∷ []) seat (unspent_view total number (numbers ++ range_with_len (word_of kept) left)))
-draws_all {S} {plan} zero {s} seat {total} {number} {numbers} kept at all =
-    let same : set s.views seat (unspent_view total number (numbers ++ [])) ≡ s.views =
-    set_again s.views seat _ (at ∙ ap (λ l. some (unspent_view total number l)) (sym (append-nil numbers))) in
-    let words : s.words ≡ total ∷ [] = kept.word ∙ ap (λ m. m ∷ []) (omega arith) in
-    subst (IsLawful plan) (λ i. let t : State S DeskView = record { words = words i; homes = s.homes; views = sym same i } in t) kept
-draws_all {S} {plan} (suc left) {s} seat {total} {number} {numbers} kept at all =
+draws_all zero seat kept has_view all = draws_nothing seat kept has_view (omega arith)
+draws_all {S} {plan} (suc left) {s} seat {total} {number} {numbers} kept has_view all =
     let n : ℕ = word_of kept in
-    let w : DeskView = drawn_view total number numbers n in
-    let one = (draws_some seat kept at (omega arith)).0 in
-    let here = set_here s.views seat w (in_views s.views seat at) in
-    let next : word_of one ≡ n + 1 = ap (λ ws. slice_index ws 0) (sym one.word) in
-    rw (set-set s.views seat w _, append_assoc numbers (n ∷ []) (range_with_len (n + 1) left)) at
-    (rw next at (draws_all left seat one here (omega (arith, next))))
+    let after : DeskView = drawn_view total number numbers n in
+    let one = (draws_some seat kept has_view (omega arith)).0 in
+    let has_after = set_here s.views seat after (in_views s.views seat has_view) in
+    let next : word_of one ≡ n + 1 = ap (λ words. slice_index words 0) (sym one.word) in
+    rw (set-set s.views seat after _, append_assoc numbers (n ∷ []) (range_with_len (n + 1) left)) at
+    (rw next at (draws_all left seat one has_after (omega (arith, next))))
 
 draws_rest_at : {S : Type 0} (plan : DeskPlan) (slots seat total number : ℕ) (numbers : List ℕ) (limit : ℕ) → limit ≡ plan.total
     → Allows {S = S} (IsLawful plan) slots seat (unspent_view total number numbers, []) 0 (λ n. max n limit)
     (DrawsRest (step slots 0 limit 0 none) (unspent_view total number numbers, []))
-draws_rest_at {S} plan slots seat total number numbers limit limit_is s kept homes at fits =
+draws_rest_at {S} plan slots seat total number numbers limit limit_is = allowed_step (λ n. max n limit)
+    (DrawsRest (step slots 0 limit 0 none) (unspent_view total number numbers, [])) (λ s kept has_view.
     let n : ℕ = word_of kept in
-    let is : slice_index s.words 0 ≡ n = ap (λ ws. slice_index ws 0) kept.word in
-    let same : total ≡ plan.total = kept.totals seat (unspent_view total number numbers) at in
-    let w : DeskView = unspent_view total number (numbers ++ range_with_len n (total - n)) in
-    let words : set s.words 0 (max (slice_index s.words 0) limit) ≡ max n limit ∷ [] =
-    ap (λ ws. set ws 0 (max (slice_index s.words 0) limit)) kept.word ∙ ap (λ m. max m limit ∷ []) is in
-    let done : IsLawful {S = S} plan (after_step s (max n limit ∷ []) seat w) =
+    let same : total ≡ plan.total = kept.totals seat (unspent_view total number numbers) has_view in
+    let after : DeskView = unspent_view total number (numbers ++ range_with_len n (total - n)) in
+    let lawful : IsLawful {S = S} plan (after_step s (max n limit ∷ []) seat after) =
     ⊎_elim
     (λ (low : n < total).
     let most : total ≡ max n limit = omega arith in
-    subst (λ m. IsLawful plan (after_step s (m ∷ []) seat w)) most (draws_all (total - n) seat kept at (omega arith)))
-    (λ (high : total ≤ n).
-    let none_left : total - n ≡ 0 = omega arith in
-    let row : numbers ++ range_with_len n (total - n) ≡ numbers = ap (λ k. numbers ++ range_with_len n k) none_left ∙ append-nil numbers in
-    let views : set s.views seat w ≡ s.views =
-    set_again s.views seat w (at ∙ ap (λ l. some (unspent_view total number l)) (sym row)) in
-    let unchanged : s.words ≡ max n limit ∷ [] = kept.word ∙ ap (λ m. m ∷ []) (omega arith) in
-    subst (IsLawful plan) (λ i. let t : State S DeskView = record { words = unchanged i; homes = s.homes; views = sym views i } in t) kept)
-    (cases_lt n total)
-    in (w, keeps, tt, rw words done, (refl, rw is refl))
+    subst (λ word. IsLawful plan (after_step s (word ∷ []) seat after)) most (draws_all (total - n) seat kept has_view (omega arith)))
+    (λ (high : total ≤ n). let none_left : total - n ≡ 0 = omega arith in rw none_left (draws_nothing seat kept has_view (omega arith)))
+    (cases_lt n total) in
+    (after, lawful, (refl, refl)))
 
 pub draw_rest_is_lawful : {S : Type 0} (plan : DeskPlan) (slots seat : ℕ) (me : Me S DeskView) (limit : ℕ) → limit ≡ plan.total
     → me ≡ (as_pass_view me.0, []) → (row_in me.0).spent ≡ false
     → Allows {S = S} (IsLawful plan) slots seat me 0 (λ n. max n limit) (DrawsRest (step slots 0 limit 0 none) me)
-draw_rest_is_lawful {S} plan slots seat me limit limit_is is unspent =
-    let v = me.0 in
-    rw (unspent_me me is unspent) (draws_rest_at plan slots seat (total_in v) (number_in v) (row_in v).numbers limit limit_is)
+draw_rest_is_lawful {S} plan slots seat me limit limit_is is_pass unspent =
+    let view = me.0 in
+    rw (unspent_me me is_pass unspent) (draws_rest_at plan slots seat (total_in view) (number_in view) (row_in view).numbers limit limit_is)
 
 -- ==== The seats that come and go keep the rule: the first one, that of a pass handed out, the closing one, that of a pass that ends
 
 -- The rule stays if seats change and the sums over all rows don't, and no pass is lost. An empty row that is not spent adds nothing.
 kept_alike : {S : Type 0} {plan : DeskPlan} {s : State S DeskView} (after : State S DeskView) → IsLawful plan s → after.words ≡ s.words
     → ((f : DrawnRow → ℕ) → f (drawn_row [] false) ≡ 0 → sum_by f (all_rows after.views) ≡ sum_by f (all_rows s.views))
-    → sum_by passes_in after.views ≡ sum_by passes_in s.views → Each (Fits plan) after.views → IsLawful plan after
+    → sum_by passes_in after.views ≡ sum_by passes_in s.views → Each (FollowsPlan plan) after.views → IsLawful plan after
 kept_alike after kept words same passes fits =
     let spent = same (λ r. cond r.spent 1 0) refl in
     record {
       few = kept.few;
       drawn = kept.drawn;
-      word = words ∙ kept.word ∙ ap (λ m. m ∷ []) (omega (arith, spent));
+      word = words ∙ kept.word ∙ ap (◌∷ []) (omega (arith, spent));
       passes = passes ∙ kept.passes;
       deals = deals_alike kept.deals (same (λ r. length r.numbers) refl) (λ x. same (times_in_row x) refl)
-          (all_from Ascends after.views (λ seat v at. (fits seat v at).1))
+          (all_from Ascends after.views (λ seat view has_view. (fits seat view has_view).1))
           (λ some_spent. kept.deals.spent (omega (arith, spent, some_spent)));
-      totals = λ seat v at. (fits seat v at).0;
+      totals = λ seat view has_view. (fits seat view has_view).0;
     }
 
 -- the empty desk
@@ -387,65 +390,34 @@ opening_is_lawful plan total passes = record {
     ascending = All-nil (λ r. AllPairs (λ x y. x < y) r.numbers);
     spent = λ some_spent. absurd (omega arith);
   };
-  totals = λ seat v at. only seat v at;
+  totals = λ seat view has_view. only seat view has_view;
 }
   where
-    only : (seat : ℕ) (v : DeskView) → get_elem? (opening_view plan ∷ []) seat ≡ some v → HasTotal plan.total v
-    only zero v at = subst (HasTotal plan.total) (some-injective _ _ at) refl
-    only (suc seat) v at = absurd (some-ne-none v (sym at))
+    only : (seat : ℕ) (view : DeskView) → get_elem? (opening_view plan ∷ []) seat ≡ some view → HasTotal plan.total view
+    only zero view has_view = subst (HasTotal plan.total) (some-injective _ _ has_view) refl
+    only (suc seat) view has_view = absurd (some-ne-none view (sym has_view))
 
 -- the next pass is handed out
 pub hand_out_is_lawful : {S : Type 0} (plan : DeskPlan) (seat : ℕ) (v : DeskView) (total handed_out left : ℕ)
-    → v ≡ Opening total handed_out left
-    → 0 < left → Splits {S = S} (IsLawful plan) seat v (after_handing_out v) (pass_handed_out v)
-hand_out_is_lawful {S} plan seat v total handed_out left is some_left = rw is (λ s kept at.
-    let a : DeskView = Opening total (handed_out + 1) (left - 1) in
-    let b : DeskView = Drawing total handed_out (drawn_row [] false) in
-    let now : List DeskView = set s.views seat a in
-    let mine : HasTotal plan.total b = kept.totals seat (Opening total handed_out left) at in
+    → v ≡ Opening total handed_out left → 0 < left → Splits {S = S} (IsLawful plan) seat v (after_handing_out v) (pass_handed_out v)
+hand_out_is_lawful {S} plan seat v total handed_out left opening some_left = rw opening (λ s kept has_view.
+    let opener : DeskView = Opening total (handed_out + 1) (left - 1) in
+    let pass : DeskView = Drawing total handed_out (drawn_row [] false) in
+    let views : List DeskView = set s.views seat opener in
+    let mine : HasTotal plan.total pass = kept.totals seat (Opening total handed_out left) has_view in
     let none : Ascends (drawn_row [] false) = λ i j d under within. absurd (omega arith) in
     kept_alike _ kept refl
     (λ f nothing. omega (
       arith,
-      rows_push f now b,
-      rows_set f s.views seat (Opening total handed_out left) a at,
+      rows_push f views pass,
+      rows_set f s.views seat (Opening total handed_out left) opener has_view,
       sum_by-cons f (drawn_row [] false) [],
       nothing,
     ))
-    (omega (arith, sum_by_push passes_in now b, sum_set passes_in s.views seat (Opening total handed_out left) a at))
-    (each_more (Fits plan) now b
-    (each_set (Fits plan) s.views seat a (mine, All-nil Ascends) (λ j u other there. fitting kept j u there))
+    (omega (arith, sum_by_push passes_in views pass, sum_set passes_in s.views seat (Opening total handed_out left) opener has_view))
+    (each_more (FollowsPlan plan) views pass
+    (each_set (FollowsPlan plan) s.views seat opener (mine, All-nil Ascends) (λ j u apart has_view. following kept j u has_view))
     (mine, All-cons Ascends (drawn_row [] false) [] none (All-nil Ascends))))
-
-pub draw_pass_more : (desk : DeskState) (count : ℕ) (passes : List PassState) (p : PassState) → AreNewPasses desk count passes
-    → p ≡ new_pass desk count → AreNewPasses desk (count + 1) (passes ++ p ∷ [])
-draw_pass_more desk count passes p handed_out is = (
-  omega (arith, length-append passes (p ∷ []), handed_out.0),
-  λ k d within. ⊎_elim
-      (λ (old : k < count). get_or_append_left passes (p ∷ []) d k (omega (arith, handed_out.0)) ∙ handed_out.1 k d old)
-      (λ (new : count ≤ k). let same : k ≡ count = omega arith in get_or_push passes p d k (handed_out.0 ∙ sym same) ∙ is
-      ∙ ap (new_pass desk) (sym same))
-      (cases_lt k count),
-)
-
--- if the last row is empty, the others have all numbers
-deals_but_last : (total drawn : ℕ) (rows : List DrawnRow) (r : DrawnRow) → r.numbers ≡ []
-    → DealsEachOnce total drawn (rows ++ r ∷ []) → DealsEachOnce total drawn rows
-deals_but_last total drawn rows r empty deals = deals_alike deals
-    (omega (arith, sum_by_push (λ (x : DrawnRow). length x.numbers) rows r, ap length empty))
-    (λ x. omega (arith, sum_by_push (times_in_row x) rows r, ap (λ (l : List ℕ). count_by (λ y. y == x) l) empty))
-    (λ k d within. subst Ascends (get_or_append_left rows (r ∷ []) d k within)
-    (deals.ascending k d (omega (arith, within, length-append rows (r ∷ [])))))
-    (λ some. deals.spent (omega (arith, some, sum_by_push (λ (x : DrawnRow). if x.spent then 1 else 0) rows r)))
-
--- if the calling thread has drawn nothing, the workers have all numbers
-pub deals_to_others : {total drawn : ℕ} (passes : List PassState) (left : Option PassState) → HasDrawnNothing left
-    → DealsEachOnce total drawn (drawn_rows (passes ++ pass_list left)) → DealsEachOnce total drawn (drawn_rows passes)
-deals_to_others {total} {drawn} passes None nothing deals =
-    subst (λ (l : List PassState). DealsEachOnce total drawn (drawn_rows l)) (append-nil passes) deals
-deals_to_others {total} {drawn} passes (Some p) nothing deals =
-    deals_but_last total drawn (drawn_rows passes) p.row nothing
-    (subst (λ (l : List DrawnRow). DealsEachOnce total drawn l) (map-append (λ (p : PassState). p.row) passes (p ∷ [])) deals)
 
 -- a seat that is to reclaim the passes
 pub start_closing_is_lawful : {S : Type 0} (plan : DeskPlan) (slots : ℕ)
@@ -454,7 +426,7 @@ start_closing_is_lawful {S} plan slots s kept homes fits = (
   Closing [],
   kept_alike _ kept refl (λ f nothing. omega (arith, rows_push f s.views (Closing [])))
       (omega (arith, sum_by_push passes_in s.views (Closing [])))
-      (each_more (Fits plan) s.views (Closing []) (fitting kept) (tt, All-nil Ascends)),
+      (each_more (FollowsPlan plan) s.views (Closing []) (following kept) (tt, All-nil Ascends)),
   refl,
 )
 
@@ -462,30 +434,29 @@ start_closing_is_lawful {S} plan slots s kept homes fits = (
 reclaims_at : {S : Type 0} (plan : DeskPlan) (seat : ℕ) (rows : List DrawnRow) (other total number : ℕ) (r : DrawnRow)
     → Joins {S = S} (IsLawful plan) seat (Closing rows) other (Drawing total number r)
     (after_reclaiming_row (Closing rows) (Drawing total number r)) Ended
-reclaims_at {S} plan seat rows other total number r s kept at apart there =
-    let w : DeskView = Closing (r ∷ rows) in
-    let u : DeskView = Drawing total number r in
-    let between : List DeskView = set s.views seat w in
-    let own : All Ascends rows = all_at Ascends s.views seat (Closing rows) at kept.deals.ascending in
+reclaims_at {S} plan seat rows other total number r s kept has_view apart has_pass =
+    let closing : DeskView = Closing (r ∷ rows) in
+    let pass : DeskView = Drawing total number r in
+    let between : List DeskView = set s.views seat closing in
+    let own : All Ascends rows = all_at Ascends s.views seat (Closing rows) has_view kept.deals.ascending in
     let theirs : All Ascends (r ∷ []) =
-    all_at Ascends s.views other u (was_there s.views seat other w u apart there) kept.deals.ascending in
+    all_at Ascends s.views other pass (was_there s.views seat other closing pass apart has_pass) kept.deals.ascending in
     kept_alike _ kept refl
     (λ f nothing. omega (
       arith,
-      rows_set f s.views seat (Closing rows) w at,
-      rows_set f between other u Ended there,
+      rows_set f s.views seat (Closing rows) closing has_view,
+      rows_set f between other pass Ended has_pass,
       sum_by-cons f r rows,
     ))
-    (omega (arith, sum_set passes_in s.views seat (Closing rows) w at, sum_set passes_in between other u Ended there))
-    (each_set (Fits plan) between other Ended (tt, All-nil Ascends) (λ i x away here.
-    each_set (Fits plan) s.views seat w (tt, All-append Ascends (r ∷ []) rows theirs own)
-    (λ j y other there. fitting kept j y there) i x here))
+    (omega (arith, sum_set passes_in s.views seat (Closing rows) closing has_view, sum_set passes_in between other pass Ended has_pass))
+    (each_set (FollowsPlan plan) between other Ended (tt, All-nil Ascends) (λ i view away has_view.
+    each_set (FollowsPlan plan) s.views seat closing (tt, All-append Ascends (r ∷ []) rows theirs own)
+    (λ j u apart has_view. following kept j u has_view) i view has_view))
 
 pub reclaim_is_lawful : {S : Type 0} (plan : DeskPlan) (seat : ℕ) (v : DeskView) (other : ℕ) (w : DeskView)
-    → v ≡ Closing (rows_in v) → w ≡ as_pass_view w → Joins {S = S} (IsLawful plan) seat v other w
-    (after_reclaiming_row v w) Ended
-reclaim_is_lawful plan seat v other w is pass =
-    rw is (rw pass (reclaims_at plan seat (rows_in v) other (total_in w) (number_in w) (row_in w)))
+    → v ≡ Closing (rows_in v) → w ≡ as_pass_view w → Joins {S = S} (IsLawful plan) seat v other w (after_reclaiming_row v w) Ended
+reclaim_is_lawful plan seat v other w closing is_pass =
+    rw closing (rw is_pass (reclaims_at plan seat (rows_in v) other (total_in w) (number_in w) (row_in w)))
 
 -- ==== The rule of the desk, in plain words
 
@@ -522,10 +493,43 @@ last_word {total} {word = word} {rows = rows} counts found =
 pub rows_at_end : {S : Type 0} {plan : DeskPlan} {seat word : ℕ} {v : DeskView} {rows : List DrawnRow} (words : List ℕ) (homes : List S)
     → v ≡ Closing rows → Final {S = S} (Seen (IsLawful plan) seat v) words homes → length rows ≡ plan.passes
     → get_elem? words 0 ≡ some word → Determines word plan.total rows
-rows_at_end {rows = rows} words homes is last whole found =
+rows_at_end {rows = rows} words homes closing last whole found =
     let kept = last.1.0 in
-    let all : all_rows last.0.views ≡ rows = has_all last.0.views _ rows (last.1.1 ∙ ap some is) (whole ∙ sym kept.passes) in
+    let all : all_rows last.0.views ≡ rows = has_all last.0.views _ rows (last.1.1 ∙ ap some closing) (whole ∙ sym kept.passes) in
     last_word (rw (last.2, all) at (counts_what_it_deals kept)) found
+
+-- ==== Lists of passes
+
+-- one new pass more
+pub draw_pass_more : (desk : DeskState) (count : ℕ) (passes : List PassState) (p : PassState) → AreNewPasses desk count passes
+    → p ≡ new_pass desk count → AreNewPasses desk (count + 1) (passes ++ p ∷ [])
+draw_pass_more desk count passes p handed_out p_is = (
+  omega (arith, length-append passes (p ∷ []), handed_out.0),
+  λ k d within. ⊎_elim
+      (λ (old : k < count). get_or_append_left passes (p ∷ []) d k (omega (arith, handed_out.0)) ∙ handed_out.1 k d old)
+      (λ (new : count ≤ k). let same : k ≡ count = omega arith in get_or_push passes p d k (handed_out.0 ∙ sym same) ∙ p_is
+      ∙ ap (new_pass desk) (sym same))
+      (cases_lt k count),
+)
+
+-- if the last row is empty, the others have all numbers
+deals_but_last : (total drawn : ℕ) (rows : List DrawnRow) (r : DrawnRow) → r.numbers ≡ []
+    → DealsEachOnce total drawn (rows ++ r ∷ []) → DealsEachOnce total drawn rows
+deals_but_last total drawn rows r empty deals = deals_alike deals
+    (omega (arith, sum_by_push (λ (x : DrawnRow). length x.numbers) rows r, ap length empty))
+    (λ x. omega (arith, sum_by_push (times_in_row x) rows r, ap (λ (l : List ℕ). count_by (λ y. y == x) l) empty))
+    (λ k d within. subst Ascends (get_or_append_left rows (r ∷ []) d k within)
+    (deals.ascending k d (omega (arith, within, length-append rows (r ∷ [])))))
+    (λ some. deals.spent (omega (arith, some, sum_by_push (λ (x : DrawnRow). if x.spent then 1 else 0) rows r)))
+
+-- if the calling thread has drawn nothing, the workers have all numbers
+pub deals_to_others : {total drawn : ℕ} (passes : List PassState) (left : Option PassState) → HasDrawnNothing left
+    → DealsEachOnce total drawn (drawn_rows (passes ++ pass_list left)) → DealsEachOnce total drawn (drawn_rows passes)
+deals_to_others {total} {drawn} passes None nothing deals =
+    rw (append-nil passes) at deals
+deals_to_others {total} {drawn} passes (Some p) nothing deals =
+    deals_but_last total drawn (drawn_rows passes) p.row nothing
+    (subst (DealsEachOnce total drawn) (map-append (λ (p : PassState). p.row) passes (p ∷ [])) deals)
 
 -- there are as many rows of numbers as passes
 pub length-drawn_numbers : (passes : List PassState) → length (drawn_numbers (drawn_rows passes)) ≡ length passes

@@ -1,15 +1,14 @@
 -- The output of a batch: what its sink was given, and the loop that writes each line once it is ready.
-use Rattle.std.proofs.Common.{[], add-one, ◌≡◌, ◌≤◌, ◌<◌, ◌+◌, ◌-◌, ℕ, suc, List, ◌∷◌, ◌++◌, arith, sym, ap, ◌∙◌, Bool, true, false, refl, ⊎_elim, length, get_or, take, drop, subst, inl, inr}
+use Rattle.std.proofs.Common.{[], add-one, ◌≡◌, ◌≤◌, ◌<◌, ◌+◌, ◌-◌, ℕ, suc, List, ◌∷◌, ◌++◌, arith, sym, ap, ◌∙◌, Bool, true, false, refl, ⊎_elim, length, get_or, take, drop, subst, inl, inr, Some, slice_get, None, Result, sum_by}
 use Rattle.std.proofs.lemmas.List.{take-append-drop, take_all, take_more, flat_map_more, get_or-map}
 use Rattle.kalah_jobs.specs.declared.files.entry.Entry.{Entry}
 use Rattle.kalah_jobs.specs.declared.files.job.Job.{Job}
-use Rattle.std.specs.Prelude.{Some, slice_get, None, Result, sum_by}
 use Rattle.std.proofs.lemmas.Option.{get_or_from_slice_get, slice_get_within}
 use Rattle.kalah_jobs.specs.Files.JobList.{job_list, jobs_from, file_jobs, line_job, entries_of, entry_at}
 use Rattle.kalah_jobs.specs.Collecting.AnyOrder.{AreJobsInSomeOrder}
 use Rattle.std.proofs.KnownBytes.{Appends-kept, Appends-nil, Appends-trans}
 use Rattle.kalah_jobs.specs.Writing.Sink.{SinkState, WasGiven}
-use Rattle.kalah_jobs.proofs.WritingLemmas.{prefix_none, prefix_then, prefix_longer, prefix_kept}
+use Rattle.kalah_jobs.proofs.SinkLemmas.{prefix_none, prefix_then, prefix_longer, prefix_kept}
 use Rattle.kalah_run.specs.Batch.OrderedOutput.{IsOnlyFlushed, WasGivenSince, text_of_job, written_upto, IsUnderWay, text_of, IsNew, HasWritten}
 use Rattle.std.specs.List.{flat_map, enumerate_from}
 use Rattle.std.proofs.lemmas.Bool.{cases_eq, cases_lt, both_ways}
@@ -47,7 +46,7 @@ pub since_more : {W : Type 0} {state : W → SinkState} {begun : SinkState} {old
     → WasGivenSince begun (state old) bs → WasGiven state old new cs → WasGivenSince begun (state new) (bs ++ cs)
 since_more {state = state} {begun} {old} {new} bs cs given more = by (state old).has_failed refl where
   by : (b : Bool) → (state old).has_failed ≡ b → WasGivenSince begun (state new) (bs ++ cs)
-  by true failed = subst (λ o. WasGivenSince begun (state o) (bs ++ cs)) (sym (more.quiet failed)) (since_failed bs cs given failed)
+  by true failed = rw (more.quiet failed) (since_failed bs cs given failed)
   by false sound = record {
     start = prefix_then begun.written (state old).written (state new).written (bs ++ cs) bs cs refl (given.whole sound) more.start;
     whole = λ still. Appends-trans begun.written (state old).written (state new).written bs cs (given.whole sound) (more.whole still).1;
@@ -69,7 +68,7 @@ module _ (text : ℕ → Taken → List ℕ) (jobs : List (List Entry)) where
   texts_of_lines : (f n : ℕ) (own : List Entry)
       → flat_map (text_of_job text) (file_jobs f n own) ≡ flat_map (text_of_line text f) (enumerate_from n own)
   texts_of_lines f n [] = refl
-  texts_of_lines f n (e ∷ own) = rw add-one (ap (λ l. text_of_line text f (n, e) ++ l) (texts_of_lines f (suc n) own))
+  texts_of_lines f n (e ∷ own) = rw add-one (ap (text_of_line text f (n, e) ++◌) (texts_of_lines f (suc n) own))
 
   -- those of all jobs, from file f on
   pub texts_from : (f : ℕ) (files : List (List Entry))
@@ -83,19 +82,18 @@ module _ (text : ℕ → Taken → List ℕ) (jobs : List (List Entry)) where
   written_line : (f n : ℕ) (e : Entry) → entry_at jobs f n ≡ Some e
       → written_upto text jobs f n ++ text f (answered_line (n, e)) ≡ written_upto text jobs f (n + 1)
   unfolding written_upto
-  written_line f n e is =
+  written_line f n e entry_is =
       let m : ℕ = job_count (take f jobs) + n in
       let o : Job = line_job f n e in
-      let at : slice_get (job_list jobs) m ≡ Some o = slice_get-job_list jobs f n m e refl is in
+      let job_is : slice_get (job_list jobs) m ≡ Some o = slice_get-job_list jobs f n m e refl entry_is in
       let next : m + 1 ≡ job_count (take f jobs) + (n + 1) = omega arith in
       flat_map_more (text_of_job text) [] (take m (job_list jobs)) o
-      ∙ ap (λ x. flat_map (text_of_job text) (take m (job_list jobs) ++ x ∷ [])) (sym (get_or_from_slice_get (job_list jobs) m o o at))
-      ∙ ap (flat_map (text_of_job text)) (sym (take_more (job_list jobs) m o (slice_get_within (job_list jobs) m o at)))
+      ∙ ap (λ x. flat_map (text_of_job text) (take m (job_list jobs) ++ x ∷ [])) (sym (get_or_from_slice_get (job_list jobs) m o o job_is))
+      ∙ ap (flat_map (text_of_job text)) (sym (take_more (job_list jobs) m o (slice_get_within (job_list jobs) m o job_is)))
       ∙ ap (λ k. flat_map (text_of_job text) (take k (job_list jobs))) next
 
   -- all lines of the file are written
-  written_file : (f : ℕ) → f < length jobs → written_upto text jobs f (length (entries_of jobs f)) ≡ written_upto text
-      jobs (f + 1) 0
+  written_file : (f : ℕ) → f < length jobs → written_upto text jobs f (length (entries_of jobs f)) ≡ written_upto text jobs (f + 1) 0
   unfolding written_upto
   written_file f low =
       let next : job_count (take f jobs) + length (entries_of jobs f) ≡ job_count (take (f + 1) jobs) + 0 =
@@ -129,8 +127,8 @@ module _ (text : ℕ → Taken → List ℕ) (jobs : List (List Entry)) where
         kept = new_files_are_in_step jobs;
         before = λ g low. absurd (omega arith);
         later = λ g high. new_taken jobs g;
-        written = subst (λ (l : List ℕ). WasGivenSince begun begun l)
-            (sym (ap (λ n. written_upto text jobs 0 n) (new_taken jobs 0))) (since_none begun);
+        written = subst (WasGivenSince begun begun)
+            (sym (ap (written_upto text jobs 0) (new_taken jobs 0))) (since_none begun);
       }
 
 -- a step of a batch that is under way
@@ -145,26 +143,26 @@ module _ {text : ℕ → Taken → List ℕ} {jobs : List (List Entry)} {past : 
       let now : List ArrivalsState = after_take files f in
       let other : (g : ℕ) → (g ≡ f → ⊥) → state_of now g ≡ state_of files g =
       λ g np. state_other files f g (with_one_taken (state_of files f)) np in
-      let w = progress.kept.offered.only f t.line t.answer step.next_line.came in
+      let offer = progress.kept.offered.only f t.line t.answer step.next_line.came in
       let line : t.line ≡ n = step.next_line.first in
-      let at : entry_at jobs f n ≡ Some w.entry = ap (λ k. entry_at jobs f k) (sym line) ∙ w.at in
+      let entry_is : entry_at jobs f n ≡ Some offer.entry = ap (entry_at jobs f) (sym line) ∙ offer.entry_is in
       let taken : (state_of now f).taken ≡ n + 1 =
       ap (λ (s : ArrivalsState). s.taken) (state_same files f (with_one_taken (state_of files f)) step.file_there) in
       let text_is : written_upto text jobs f n ++ text f t ≡ written_upto text jobs f (state_of now f).taken =
-      ap (λ x. written_upto text jobs f n ++ text f x) (taken_is t n w.entry line w.is)
-      ∙ written_line text jobs f n w.entry at
-      ∙ ap (λ m. written_upto text jobs f m) (sym taken) in
+      ap (λ x. written_upto text jobs f n ++ text f x) (taken_is t n offer.entry line offer.answer_is)
+      ∙ written_line text jobs f n offer.entry entry_is
+      ∙ ap (written_upto text jobs f) (sym taken) in
       let new : IsUnderWay text jobs past now f begun more = record {
-        kept = subst (λ (s : List ArrivalsState). AreInStep jobs past s) step.kept (kept_by_take progress.kept f t step);
+        kept = subst (AreInStep jobs past) step.kept (kept_by_take progress.kept f t step);
         before = λ g g_low. ap (λ (s : ArrivalsState). s.taken) (other g (λ q. omega arith)) ∙ progress.before g g_low;
         later = λ g g_high. ap (λ (s : ArrivalsState). s.taken) (other g (λ q. omega arith)) ∙ progress.later g g_high;
-        written = subst (λ (l : List ℕ). WasGivenSince begun more l) text_is (gives (written_upto text jobs f n) progress.written);
+        written = subst (WasGivenSince begun more) text_is (gives (written_upto text jobs f n) progress.written);
       } in
-      subst (λ (s : List ArrivalsState). IsUnderWay text jobs past s f begun more) (sym step.kept) new
+      rw step.kept new
 
   -- no line is taken
   pub wrote_nothing : (after : List ArrivalsState) → Takes files f None after → IsUnderWay text jobs past after f begun out
-  wrote_nothing after step = subst (λ (s : List ArrivalsState). IsUnderWay text jobs past s f begun out) (sym step.unchanged) progress
+  wrote_nothing after step = rw step.unchanged progress
 
   -- a file is completely written, and the next becomes the current one
   pub wrote_file : f < length files → HasEnded (state_of files f) → front (state_of files f) ≤ (state_of files f).taken
@@ -176,14 +174,14 @@ module _ {text : ℕ → Taken → List ℕ} {jobs : List (List Entry)} {past : 
       let jobs_low : f < length jobs = (let m = files_many jobs files counts in omega arith) in
       let none : (state_of files (f + 1)).taken ≡ 0 = progress.later (f + 1) (omega arith) in
       let text_is : written_upto text jobs f (state_of files f).taken ≡ written_upto text jobs (f + 1) (state_of files (f + 1)).taken =
-      ap (λ m. written_upto text jobs f m) whole
+      ap (written_upto text jobs f) whole
       ∙ written_file text jobs f jobs_low
-      ∙ ap (λ m. written_upto text jobs (f + 1) m) (sym none) in
+      ∙ ap (written_upto text jobs (f + 1)) (sym none) in
       record {
         kept = progress.kept;
         before = λ g g_low.
             ⊎_elim
-            (λ (p : g ≡ f). subst (λ x. (state_of files x).taken ≡ length (entries_of jobs x)) (sym p) whole)
+            (λ (p : g ≡ f). rw p whole)
             (λ (np : g ≡ f → ⊥). progress.before g (omega arith))
             (cases_eq g f);
         later = λ g g_high. progress.later g (omega arith);
@@ -199,7 +197,7 @@ module _ {text : ℕ → Taken → List ℕ} {jobs : List (List Entry)} {past : 
         kept = now.0;
         before = λ g g_low. now.1 g ∙ progress.before g g_low;
         later = λ g g_high. now.1 g ∙ progress.later g g_high;
-        written = subst (λ n. WasGivenSince begun out (written_upto text jobs f n)) (sym (now.1 f)) progress.written;
+        written = rw (now.1 f) progress.written;
       }
 
   -- a sink that has failed was given all, as far as it took it
@@ -231,36 +229,35 @@ module _ {text : ℕ → Taken → List ℕ} {jobs : List (List Entry)} {past : 
 pub text_of_taken : (files : List NamedBytes) (f : ℕ) (file : NamedBytes) (name : List ℕ) (taken : Taken) → f < length files →
     file ≡ get_or files f file → name ≡ file.name → text_of files f taken ≡ answer_line name taken ++ line_feed ∷ []
 unfolding text_of
-text_of_taken files f file name taken low at is =
+text_of_taken files f file name taken low file_is name_is =
     ap (λ n. answer_line n taken ++ line_feed ∷ [])
-    (get_or-map (λ (x : NamedBytes). x.name) files f file [] low ∙ sym (ap (λ (x : NamedBytes). x.name) at) ∙ sym is)
+    (get_or-map (λ (x : NamedBytes). x.name) files f file [] low ∙ sym (ap (λ (x : NamedBytes). x.name) file_is) ∙ sym name_is)
 
 -- an output advances with the state of what is under way
 pub written_on : {files : List NamedBytes} {jobs : List (List Entry)} {past : List Job} {begun out more : SinkState}
-    {r after : OrderedOutput} → HasWritten files jobs past begun out r → after.files.now ≡ r.files.now
-    → after.jobs.now ≡ r.jobs.now
+    {r after : OrderedOutput} → HasWritten files jobs past begun out r → after.files.now ≡ r.files.now → after.jobs.now ≡ r.jobs.now
     → (IsUnderWay (text_of r.files.now) r.jobs.now past r.collector r.current begun out
     → IsUnderWay (text_of r.files.now) r.jobs.now past after.collector after.current begun more)
     → HasWritten files jobs past begun more after
-written_on is same_files same_jobs on =
+written_on was same_files same_jobs step =
     record {
-      of_files = same_files ∙ is.of_files;
-      of_jobs = same_jobs ∙ is.of_jobs;
+      of_files = same_files ∙ was.of_files;
+      of_jobs = same_jobs ∙ was.of_jobs;
       progress =
-          rw same_jobs (rw (← is.of_files) (on (rw is.of_files is.progress)));
+          rw same_jobs (rw (← was.of_files) (step (rw was.of_files was.progress)));
     }
 
 -- what an output has written stays if nothing more is written
 pub written_kept : {files : List NamedBytes} {jobs : List (List Entry)} {past : List Job} {begun out later : SinkState}
     {r : OrderedOutput} → IsOnlyFlushed out later → HasWritten files jobs past begun out r → HasWritten files jobs past begun later r
-written_kept flushed is = record {
-  of_files = is.of_files;
-  of_jobs = is.of_jobs;
+written_kept flushed was = record {
+  of_files = was.of_files;
+  of_jobs = was.of_jobs;
   progress = record {
-    kept = is.progress.kept;
-    before = is.progress.before;
-    later = is.progress.later;
-    written = since_kept is.progress.written flushed;
+    kept = was.progress.kept;
+    before = was.progress.before;
+    later = was.progress.later;
+    written = since_kept was.progress.written flushed;
   };
 }
 

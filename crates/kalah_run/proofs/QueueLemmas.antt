@@ -30,33 +30,32 @@ sent_by_worker-append w (t ∷ ts) ys =
     joined false x xs ys = refl
 
 other_pair : (w : ℕ) (t : ℕ × Job) (l : List Job) → t.0 ≢ w → (if t.0 == w then t.1 ∷ l else l) ≡ l
-other_pair w t l e = ap (λ (b : Bool). if b then t.1 ∷ l else l) (ne_eqb t.0 w e)
+other_pair w t l apart = ap (λ (b : Bool). if b then t.1 ∷ l else l) (ne_eqb t.0 w apart)
 
 -- one pair more, of the worker itself
 pub own_pair_goes_last : (w : ℕ) (xs : List (ℕ × Job)) (t : ℕ × Job) → t.0 ≡ w
     → sent_by_worker w (xs ++ t ∷ []) ≡ sent_by_worker w xs ++ t.1 ∷ []
-own_pair_goes_last w xs t e = sent_by_worker-append w xs (t ∷ [])
-    ∙ ap (λ (b : Bool). sent_by_worker w xs ++ (if b then t.1 ∷ [] else [])) (eq-eqb t.0 w e)
+own_pair_goes_last w xs t own = sent_by_worker-append w xs (t ∷ [])
+    ∙ ap (λ (b : Bool). sent_by_worker w xs ++ (if b then t.1 ∷ [] else [])) (eq-eqb t.0 w own)
 
 -- one pair more, of another worker
 pub other_pair_changes_nothing : (w : ℕ) (xs : List (ℕ × Job)) (t : ℕ × Job) → t.0 ≢ w
     → sent_by_worker w (xs ++ t ∷ []) ≡ sent_by_worker w xs
-other_pair_changes_nothing w xs t e =
+other_pair_changes_nothing w xs t apart =
     sent_by_worker-append w xs (t ∷ [])
-    ∙ (ap (λ (l : List Job). sent_by_worker w xs ++ l) (other_pair w t [] e) ∙ append-nil (sent_by_worker w xs))
+    ∙ (ap (sent_by_worker w xs ++◌) (other_pair w t [] apart) ∙ append-nil (sent_by_worker w xs))
 
 -- there is nothing of a worker who isn't among them
 pub no_pair_beyond_workers : (workers w : ℕ) (xs : List (ℕ × Job)) → All (λ (t : ℕ × Job). t.0 < workers) xs → workers ≤ w
     → sent_by_worker w xs ≡ []
 no_pair_beyond_workers workers w [] below le = refl
 no_pair_beyond_workers workers w (t ∷ ts) below le =
-    let h : t.0 < workers = below 0 t (omega arith) in
+    let first : t.0 < workers = below 0 t (omega arith) in
     other_pair w t (sent_by_worker w ts) (λ e. omega arith) ∙ no_pair_beyond_workers workers w ts (λ k d lt. below (suc k) d (omega arith)) le
 
 -- of pairs that are all of workers, the one that comes next is
 pub next_below : (workers : ℕ) (taken : List (ℕ × Job)) (t : ℕ × Job) (rest : List (ℕ × Job))
-    → All (λ (u : ℕ × Job). u.0 < workers) (taken ++ t ∷ rest)
-    → t.0 < workers
+    → All (λ (u : ℕ × Job). u.0 < workers) (taken ++ t ∷ rest) → t.0 < workers
 next_below workers taken t rest below =
     rw (get_or_at taken t rest t _ refl) at (below (length taken) t (omega (arith, length-append taken (t ∷ rest))))
 
@@ -67,8 +66,8 @@ known_more : (known : List (List Job)) (s : List Job) (given : ℕ → List Job)
 known_more known s given same next k lt = elim (cases_lt k (length known)) [
   | inl old ↦ same k old ∙ sym (get_or_append_left known (s ∷ []) [] k old)
   | inr new ↦
-      let at : k ≡ length known = omega (arith, length-append known (s ∷ [])) in
-      ap given at ∙ next ∙ sym (get_or_push known s [] k (sym at))
+      let k_is : k ≡ length known = omega (arith, length-append known (s ∷ [])) in
+      ap given k_is ∙ next ∙ sym (get_or_push known s [] k (sym k_is))
 ]
 
 -- ---- what the pairs account for
@@ -78,30 +77,28 @@ pub accounts_none : Accounts 0 [] []
 accounts_none = record { below = λ k d lt. absurd (omega arith); whole = λ w lt. absurd (omega arith) }
 
 -- a pair more, of a worker whose list isn't known yet
-pub accounts_pair : (workers : ℕ) (known : List (List Job)) (pairs : List (ℕ × Job)) (x : ℕ × Job) → x.0 < workers
-    → length known ≤ x.0
+pub accounts_pair : (workers : ℕ) (known : List (List Job)) (pairs : List (ℕ × Job)) (x : ℕ × Job) → x.0 < workers → length known ≤ x.0
     → Accounts workers known pairs → Accounts workers known (pairs ++ x ∷ [])
-accounts_pair workers known pairs x lt le h =
+accounts_pair workers known pairs x lt le accounts =
     record {
-      below = All-push (λ (t : ℕ × Job). t.0 < workers) pairs x h.below lt;
-      whole = λ w b. let ne : x.0 ≢ w = (λ q. omega arith) in other_pair_changes_nothing w pairs x ne ∙ h.whole w b;
+      below = All-push (λ (t : ℕ × Job). t.0 < workers) pairs x accounts.below lt;
+      whole = λ w b. let ne : x.0 ≢ w = (λ q. omega arith) in other_pair_changes_nothing w pairs x ne ∙ accounts.whole w b;
     }
 
 -- a worker more
 pub accounts_worker : (workers : ℕ) (known : List (List Job)) (pairs : List (ℕ × Job)) → Accounts workers known pairs
     → Accounts (workers + 1) known pairs
-accounts_worker workers known pairs h =
+accounts_worker workers known pairs accounts =
     record {
-      below = λ k d lt. let b : (slice_index_or pairs k d).0 < workers = h.below k d lt in omega arith;
-      whole = h.whole;
+      below = λ k d lt. let b : (slice_index_or pairs k d).0 < workers = accounts.below k d lt in omega arith;
+      whole = accounts.whole;
     }
 
 -- a list more that is known: what the worker with the number after those known has sent
 pub accounts_known : (workers : ℕ) (known : List (List Job)) (pairs : List (ℕ × Job)) (sent : List Job)
-    → sent ≡ sent_by_worker (length known) pairs
-    → Accounts workers known pairs → Accounts workers (known ++ sent ∷ []) pairs
-accounts_known workers known pairs sent e h =
-    record { below = h.below; whole = known_more known sent (λ w. sent_by_worker w pairs) h.whole (sym e) }
+    → sent ≡ sent_by_worker (length known) pairs → Accounts workers known pairs → Accounts workers (known ++ sent ∷ []) pairs
+accounts_known workers known pairs sent sent_is accounts =
+    record { below = accounts.below; whole = known_more known sent (λ w. sent_by_worker w pairs) accounts.whole (sym sent_is) }
 
 -- ==== What the pass to get knows, and lists of passes to put
 
@@ -112,16 +109,15 @@ known_in _ = []
 
 -- one pass more, of the next worker
 pub put_pass_more : (id : TableId) (n : ℕ) (ps : List PutPassState) (p : PutPassState) → ArePassesFrom id n ps → p.queue ≡ id
-    → p.number ≡ n + length ps
-    → ArePassesFrom id n (ps ++ p ∷ [])
-put_pass_more id n [] p h q is = (q, omega arith, tt)
-put_pass_more id n (x ∷ xs) p h q is = (h.0, h.1, put_pass_more id (suc n) xs p h.2 q (omega arith))
+    → p.number ≡ n + length ps → ArePassesFrom id n (ps ++ p ∷ [])
+put_pass_more id n [] p from same_queue number_is = (same_queue, omega arith, tt)
+put_pass_more id n (x ∷ xs) p from same_queue number_is = (from.0, from.1, put_pass_more id (suc n) xs p from.2 same_queue (omega arith))
 
 -- the passes to put to one queue are all of that queue
 pub all_are_of : (id : TableId) (n : ℕ) (ps : List PutPassState) → ArePassesFrom id n ps → All (λ p. p.queue ≡ id) ps
-all_are_of id n [] h k d lt = absurd (omega arith)
-all_are_of id n (x ∷ xs) h zero d lt = h.0
-all_are_of id n (x ∷ xs) h (suc k) d lt = all_are_of id (suc n) xs h.2 k d (omega arith)
+all_are_of id n [] from k d lt = absurd (omega arith)
+all_are_of id n (x ∷ xs) from zero d lt = from.0
+all_are_of id n (x ∷ xs) from (suc k) d lt = all_are_of id (suc n) xs from.2 k d (omega arith)
 
 -- ==== Each step keeps the rule of the results queue
 
@@ -148,7 +144,7 @@ record IsOldest (x : Job) (items : List Job) (inside : List (ℕ × Job)) : Type
 oldest : (x : Job) (items : List Job) (inside : List (ℕ × Job)) → outcomes_in inside ≡ x ∷ items → IsOldest x items inside
 oldest x items [] held = absurd (cc)
 oldest x items (p ∷ ps) held =
-    let is : p.1 ≡ x = cc in record { worker = p.0; rest = ps; first = ap (λ (o : Job). (p.0, o) ∷ ps) is; held = cc }
+    let outcome_is : p.1 ≡ x = cc in record { worker = p.0; rest = ps; first = ap (λ (o : Job). (p.0, o) ∷ ps) outcome_is; held = cc }
 
 module _ {items : List Job} {views : List QueueView} (kept : IsLawful items views) where
   -- the pairs that were taken out, followed by those inside
@@ -156,66 +152,66 @@ module _ {items : List Job} {views : List QueueView} (kept : IsLawful items view
   pairs = kept.taken ++ kept.inside
 
   -- the pass to get stands first, and knows the truth
-  knows_truth : (place : ℕ) {v : QueueView} {made : ℕ} {got : List (ℕ × Job)} {known : List (List Job)} → v ≡ Getting made got known
+  getter_is_first : (place : ℕ) {v : QueueView} {made : ℕ} {got : List (ℕ × Job)} {known : List (List Job)} → v ≡ Getting made got known
       → get_elem? views place ≡ some v → (place ≡ 0) × (v ≡ Getting kept.made kept.taken kept.known)
-  knows_truth place is at =
-      let first : place ≡ 0 = kept.fits place _ (at ∙ ap some is) in
-      (first, some-injective _ _ (sym at ∙ ap (get_elem? views) first ∙ kept.getter))
+  getter_is_first place getting has_view =
+      let first : place ≡ 0 = kept.fits place _ (has_view ∙ ap some getting) in
+      (first, some-injective _ _ (sym has_view ∙ ap (get_elem? views) first ∙ kept.getter))
 
   -- the view of another pass fits if one pair more was sent, by a worker that has not ended
   fits_more : {place : ℕ} (x : ℕ × Job) → place ≡ suc x.0 → (j : ℕ) (u : QueueView) → j ≢ place → get_elem? views j ≡ some u
       → Fits (pairs ++ x ∷ []) (length kept.known) j u
-  fits_more x place_is j (Putting number sent) other at =
-      let fit : FitsPut pairs (length kept.known) j number sent = kept.fits j _ at in
-      let ne : x.0 ≢ number = (λ q. other (fit.place_is ∙ (ap suc (sym q) ∙ sym place_is))) in
-      record { place_is = fit.place_is; running = fit.running; all_sent = fit.all_sent ∙ sym (other_pair_changes_nothing number pairs x ne) }
-  fits_more x place_is j (Getting made got known) other at = kept.fits j _ at
-  fits_more x place_is j Ended other at = tt
+  fits_more x place_is j (Putting number sent) apart has_view =
+      let fit : FitsPut pairs (length kept.known) j number sent = kept.fits j _ has_view in
+      let another : x.0 ≢ number = (λ q. apart (fit.place_is ∙ (ap suc (sym q) ∙ sym place_is))) in
+      record { place_is = fit.place_is; running = fit.running; all_sent = fit.all_sent ∙ sym (other_pair_changes_nothing number pairs x another) }
+  fits_more x place_is j (Getting made got known) apart has_view = kept.fits j _ has_view
+  fits_more x place_is j Ended apart has_view = tt
 
   -- the view of another pass fits if one worker more has ended
   fits_ended : {ended : ℕ} → ended ≡ suc (length kept.known) → (j : ℕ) (u : QueueView) → j ≢ ended → get_elem? views j ≡ some u
       → Fits pairs (length kept.known + 1) j u
-  fits_ended is j (Putting number sent) apart at =
-      let fit : FitsPut pairs (length kept.known) j number sent = kept.fits j _ at in
-      let ne : number ≢ length kept.known = (λ q. apart (fit.place_is ∙ (ap suc q ∙ sym is))) in
+  fits_ended ended_is j (Putting number sent) apart has_view =
+      let fit : FitsPut pairs (length kept.known) j number sent = kept.fits j _ has_view in
+      let another : number ≢ length kept.known = (λ q. apart (fit.place_is ∙ (ap suc q ∙ sym ended_is))) in
       record { place_is = fit.place_is; running = omega arith; all_sent = fit.all_sent }
-  fits_ended is j (Getting made got known) apart at = kept.fits j _ at
-  fits_ended is j Ended apart at = tt
+  fits_ended ended_is j (Getting made got known) apart has_view = kept.fits j _ has_view
+  fits_ended ended_is j Ended apart has_view = tt
 
   -- the pass of a worker that has not ended puts an outcome
   lawful_with_put : (place : ℕ) (x : Job) {number : ℕ} {sent : List Job} → get_elem? views place ≡ some (Putting number sent)
       → IsLawful (items ++ x ∷ []) (set views place (Putting number (sent ++ x ∷ [])))
-  lawful_with_put place x {number} {sent} at =
+  lawful_with_put place x {number} {sent} has_view =
       let pair : ℕ × Job = (number, x) in
-      let w : QueueView = Putting number (sent ++ x ∷ []) in
-      let fit : FitsPut pairs (length kept.known) place number sent = kept.fits place _ at in
-      let now : FitsPut (pairs ++ pair ∷ []) (length kept.known) place number (sent ++ x ∷ []) = record {
+      let after : QueueView = Putting number (sent ++ x ∷ []) in
+      let fit : FitsPut pairs (length kept.known) place number sent = kept.fits place _ has_view in
+      let fits : FitsPut (pairs ++ pair ∷ []) (length kept.known) place number (sent ++ x ∷ []) = record {
         place_is = fit.place_is;
         running = fit.running;
-        all_sent = ap (λ (l : List Job). l ++ x ∷ []) fit.all_sent ∙ sym (own_pair_goes_last number pairs pair refl);
+        all_sent = ap (◌++ (x ∷ [])) fit.all_sent ∙ sym (own_pair_goes_last number pairs pair refl);
       } in
       record {
         made = kept.made;
         taken = kept.taken;
         known = kept.known;
         inside = kept.inside ++ pair ∷ [];
-        getter = set_else views place 0 w (λ q. omega (arith, q, fit.place_is)) ∙ kept.getter;
-        count = length-set views place w ∙ kept.count;
-        held = map-append (λ (p : ℕ × Job). p.1) kept.inside (pair ∷ []) ∙ ap (λ (l : List Job). l ++ x ∷ []) kept.held;
+        getter = set_else views place 0 after (λ q. omega (arith, q, fit.place_is)) ∙ kept.getter;
+        count = length-set views place after ∙ kept.count;
+        held = map-append (λ (p : ℕ × Job). p.1) kept.inside (pair ∷ []) ∙ ap (◌++ (x ∷ [])) kept.held;
         accounts = rw (← append_assoc kept.taken kept.inside (pair ∷ [])) (accounts_pair kept.made kept.known pairs pair
-            (omega (arith, fit.place_is, kept.count, in_views views place at)) fit.running kept.accounts);
+            (omega (arith, fit.place_is, kept.count, in_views views place has_view)) fit.running kept.accounts);
         fits = rw (← append_assoc kept.taken kept.inside (pair ∷ []))
-            (each_set (Fits (pairs ++ pair ∷ []) (length kept.known)) views place w now (fits_more pair fit.place_is));
+            (each_set (Fits (pairs ++ pair ∷ []) (length kept.known)) views place after fits (fits_more pair fit.place_is));
       }
 
   -- a pass is made for the next worker, before any has ended
   lawful_with_pass : kept.known ≡ []
       → IsLawful items (set views 0 (Getting (kept.made + 1) kept.taken kept.known) ++ Putting kept.made [] ∷ [])
   lawful_with_pass none =
-      let w : QueueView = Getting (kept.made + 1) kept.taken kept.known in
-      let vs : List QueueView = set views 0 w in
-      let same : length vs ≡ length views = length-set views 0 w in
-      let fresh : FitsPut pairs (length kept.known) (length vs) kept.made [] = record {
+      let getter : QueueView = Getting (kept.made + 1) kept.taken kept.known in
+      let after : List QueueView = set views 0 getter in
+      let same : length after ≡ length views = length-set views 0 getter in
+      let fresh : FitsPut pairs (length kept.known) (length after) kept.made [] = record {
         place_is = same ∙ kept.count;
         running = omega (arith, ap length none);
         all_sent = sym (no_pair_beyond_workers kept.made kept.made _ kept.accounts.below (omega arith));
@@ -225,56 +221,56 @@ module _ {items : List Job} {views : List QueueView} (kept : IsLawful items view
         taken = kept.taken;
         known = kept.known;
         inside = kept.inside;
-        getter = at_longer vs (Putting kept.made [] ∷ []) 0 _ (set_here views 0 w (in_views views 0 kept.getter));
-        count = omega (arith, length_push vs (Putting kept.made []), same, kept.count);
+        getter = at_longer after (Putting kept.made [] ∷ []) 0 _ (set_here views 0 getter (in_views views 0 kept.getter));
+        count = omega (arith, length_push after (Putting kept.made []), same, kept.count);
         held = kept.held;
         accounts = accounts_worker kept.made kept.known pairs kept.accounts;
-        fits = each_more (Fits pairs (length kept.known)) vs (Putting kept.made [])
-            (each_set (Fits pairs (length kept.known)) views 0 w refl (λ j u other at. kept.fits j u at)) fresh;
+        fits = each_more (Fits pairs (length kept.known)) after (Putting kept.made [])
+            (each_set (Fits pairs (length kept.known)) views 0 getter refl (λ j u apart has_view. kept.fits j u has_view)) fresh;
       }
 
   -- the pass of the next worker to end is reclaimed
   lawful_with_end : (other : ℕ) {sent : List Job} → other ≢ 0 → get_elem? views other ≡ some (Putting (length kept.known) sent)
       → IsLawful items (set (set views 0 (Getting kept.made kept.taken (kept.known ++ sent ∷ []))) other Ended)
-  lawful_with_end other {sent} apart at =
-      let w : QueueView = Getting kept.made kept.taken (kept.known ++ sent ∷ []) in
-      let vs : List QueueView = set views 0 w in
-      let fit : FitsPut pairs (length kept.known) other (length kept.known) sent = kept.fits other _ at in
+  lawful_with_end other {sent} apart has_view =
+      let getter : QueueView = Getting kept.made kept.taken (kept.known ++ sent ∷ []) in
+      let between : List QueueView = set views 0 getter in
+      let fit : FitsPut pairs (length kept.known) other (length kept.known) sent = kept.fits other _ has_view in
       let F : ℕ → QueueView → Type 0 = Fits pairs (length kept.known + 1) in
-      let others = each_set (λ j u. j ≢ other → F j u) views 0 w (λ _. refl) (λ j u ne at apart. fits_ended fit.place_is j u apart at) in
+      let others = each_set (λ j u. j ≢ other → F j u) views 0 getter (λ _. refl) (λ j u elsewhere has_view apart. fits_ended fit.place_is j u apart has_view) in
       record {
         made = kept.made;
         taken = kept.taken;
         known = kept.known ++ sent ∷ [];
         inside = kept.inside;
-        getter = set_else vs other 0 Ended (λ q. apart (sym q)) ∙ set_here views 0 w (in_views views 0 kept.getter);
-        count = length-set vs other Ended ∙ length-set views 0 w ∙ kept.count;
+        getter = set_else between other 0 Ended (λ q. apart (sym q)) ∙ set_here views 0 getter (in_views views 0 kept.getter);
+        count = length-set between other Ended ∙ length-set views 0 getter ∙ kept.count;
         held = kept.held;
         accounts = accounts_known kept.made kept.known pairs sent fit.all_sent kept.accounts;
-        fits = rw (length_push kept.known sent) (each_set F vs other Ended tt (λ j u ne at. others j u at ne));
+        fits = rw (length_push kept.known sent) (each_set F between other Ended tt (λ j u elsewhere has_view. others j u has_view elsewhere));
       }
 
 -- the oldest outcome is got, which is of one of the workers
 lawful_with_get : {x : Job} {items : List Job} {views : List QueueView} (kept : IsLawful (x ∷ items) views)
     → (worker : ℕ) × (worker < kept.made) × IsLawful items (set views 0 (Getting kept.made (kept.taken ++ (worker, x) ∷ []) kept.known))
 lawful_with_get {x} {items} {views} kept =
-    let oldest = oldest x items kept.inside kept.held in
-    let pair : ℕ × Job = (oldest.worker, x) in
-    let w : QueueView = Getting kept.made (kept.taken ++ pair ∷ []) kept.known in
-    let same : (kept.taken ++ pair ∷ []) ++ oldest.rest ≡ pairs kept =
-    append_assoc kept.taken (pair ∷ []) oldest.rest ∙ ap (λ l. kept.taken ++ l) (sym oldest.first) in (
-      oldest.worker,
-      next_below kept.made kept.taken pair oldest.rest (rw oldest.first at kept.accounts.below),
+    let first = oldest x items kept.inside kept.held in
+    let pair : ℕ × Job = (first.worker, x) in
+    let getter : QueueView = Getting kept.made (kept.taken ++ pair ∷ []) kept.known in
+    let same : (kept.taken ++ pair ∷ []) ++ first.rest ≡ pairs kept =
+    append_assoc kept.taken (pair ∷ []) first.rest ∙ ap (kept.taken ++◌) (sym first.first) in (
+      first.worker,
+      next_below kept.made kept.taken pair first.rest (rw first.first at kept.accounts.below),
       record {
         made = kept.made;
         taken = kept.taken ++ pair ∷ [];
         known = kept.known;
-        inside = oldest.rest;
-        getter = set_here views 0 w (in_views views 0 kept.getter);
-        count = length-set views 0 w ∙ kept.count;
-        held = oldest.held;
+        inside = first.rest;
+        getter = set_here views 0 getter (in_views views 0 kept.getter);
+        count = length-set views 0 getter ∙ kept.count;
+        held = first.held;
         accounts = rw same kept.accounts;
-        fits = rw same (each_set (Fits (pairs kept) (length kept.known)) views 0 w refl (λ j u other at. kept.fits j u at));
+        fits = rw same (each_set (Fits (pairs kept) (length kept.known)) views 0 getter refl (λ j u apart has_view. kept.fits j u has_view));
       },
     )
 
@@ -282,34 +278,34 @@ lawful_with_get {x} {items} {views} kept =
 
 pub put_is_lawful : (n place : ℕ) {v : QueueView} (x : Job) {number : ℕ} {sent : List Job} → v ≡ Putting number sent
     → Pushes IsLawful n place v x (λ w. w ≡ after_put v x)
-put_is_lawful n place x is = rw is (λ items views room h at. (_, lawful_with_put h place x at, refl))
+put_is_lawful n place x putting = rw putting (λ items views room kept has_view. (_, lawful_with_put kept place x has_view, refl))
 
 pub get_is_lawful : (place : ℕ) {v : QueueView} {made : ℕ} {got : List (ℕ × Job)} {known : List (List Job)} → v ≡ Getting made got known
     → Pops IsLawful place v (IsGot v)
-get_is_lawful place is = λ x items views h at.
-    let truth = knows_truth h place is at in
-    let now = lawful_with_get h in
-    rw (truth.0, truth.1) (_, now.2, (now.0, now.1, refl))
+get_is_lawful place getting = λ x items views kept has_view.
+    let getter = getter_is_first kept place getting has_view in
+    let now = lawful_with_get kept in
+    rw (getter.0, getter.1) (_, now.2, (now.0, now.1, refl))
 
 pub new_pass_is_lawful : (place : ℕ) {v : QueueView} {made : ℕ} {got : List (ℕ × Job)} → v ≡ Getting made got []
     → Forks IsLawful place v (after_making_one v) (one_made v)
-new_pass_is_lawful place is = λ items views h at.
-    let truth = knows_truth h place is at in
-    rw (truth.0, truth.1) (lawful_with_pass h (ap known_in (sym truth.1 ∙ is)))
+new_pass_is_lawful place getting = λ items views kept has_view.
+    let getter = getter_is_first kept place getting has_view in
+    rw (getter.0, getter.1) (lawful_with_pass kept (ap known_in (sym getter.1 ∙ getting)))
 
 pub reclaim_is_lawful : (place other : ℕ) {v u : QueueView} {made : ℕ} {got : List (ℕ × Job)} {known : List (List Job)} {number : ℕ}
     {sent : List Job} → v ≡ Getting made got known → u ≡ Putting number sent → number ≡ length known
     → Merges IsLawful place v other u (after_reclaiming_sent v u) Ended
-reclaim_is_lawful place other {sent = sent} is theirs next = λ items views h at apart there.
-    let truth = knows_truth h place is at in
-    let number = next ∙ ap (λ v. length (known_in v)) (sym is ∙ truth.1) in
-    let here = was_there views place other _ _ apart there ∙ ap some (theirs ∙ ap (λ n. Putting n sent) number) in
-    rw (truth.0, truth.1, theirs) (lawful_with_end h other (λ q. apart (q ∙ sym truth.0)) here)
+reclaim_is_lawful place other {sent = sent} getting putting next = λ items views kept has_view apart has_other.
+    let getter = getter_is_first kept place getting has_view in
+    let number = next ∙ ap (λ v. length (known_in v)) (sym getting ∙ getter.1) in
+    let here = was_there views place other _ _ apart has_other ∙ ap some (putting ∙ ap (λ n. Putting n sent) number) in
+    rw (getter.0, getter.1, putting) (lawful_with_end kept other (λ q. apart (q ∙ sym getter.0)) here)
 
 -- what the pass to get learns of the queue
 pub getter_knows_sent : (place : ℕ) {v : QueueView} {made : ℕ} {got : List (ℕ × Job)} {known : List (List Job)} → v ≡ Getting made got known
     → Learns IsLawful place v (KnowsSent v)
-getter_knows_sent place is = λ items views h at. rw (knows_truth h place is at).1 (h.inside, h.held, h.accounts)
+getter_knows_sent place getting = λ items views kept has_view. rw (getter_is_first kept place getting has_view).1 (kept.inside, kept.held, kept.accounts)
 
 -- ==== What the pass to get knows once it has reclaimed the others
 
@@ -317,19 +313,18 @@ getter_knows_sent place is = λ items views h at. rw (knows_truth h place is at)
 pub reclaimed : {v u after : QueueView} {made : ℕ} {got : List (ℕ × Job)} {known : List (List Job)} {number : ℕ} {sent : List Job}
     → v ≡ Getting made got known → u ≡ Putting number sent → after ≡ after_reclaiming_sent v u
     → after ≡ Getting made got (known ++ sent ∷ [])
-reclaimed getting putting is = is ∙ λ i. after_reclaiming_sent (getting i) (putting i)
+reclaimed getting putting after_is = after_is ∙ λ i. after_reclaiming_sent (getting i) (putting i)
 
 -- once it has reclaimed all, it learns what all workers have sent
-pub whole_when_reclaimed : {v : QueueView} {made left : ℕ} {got : List (ℕ × Job)} {known all : List (List Job)}
-    (rest : List (List Job))
+pub whole_when_reclaimed : {v : QueueView} {made left : ℕ} {got : List (ℕ × Job)} {known all : List (List Job)} (rest : List (List Job))
     → v ≡ Getting made got known → length rest ≡ 0 → known ++ rest ≡ all → Held left (KnowsSent v)
     → (inside : List (ℕ × Job)) × (length inside ≡ left) × Accounts made all (got ++ inside)
 whole_when_reclaimed (x ∷ xs) getting none whole held = absurd (omega arith)
 whole_when_reclaimed {made = made} {got = got} {known} [] getting none whole held =
-    let told : KnowsSent (Getting made got known) held.0 = subst (λ (u : QueueView). KnowsSent u held.0) getting held.2 in (
+    let told : KnowsSent (Getting made got known) held.0 = rw getting at held.2 in (
       told.0,
-      sym (length-map told.0 (λ (p : ℕ × Job). p.1)) ∙ ap (λ (l : List Job). length l) told.1 ∙ held.1,
-      subst (λ (sent : List (List Job)). Accounts made sent (got ++ told.0)) (sym (append-nil known) ∙ whole) told.2,
+      sym (length-map told.0 (λ (p : ℕ × Job). p.1)) ∙ ap length told.1 ∙ held.1,
+      rw (sym (append-nil known) ∙ whole) at told.2,
     )
 
 -- ==== The rule of the results queue, in plain words
@@ -342,10 +337,10 @@ queue_is_lawful items views kept = record {
   ended = kept.known;
   held = kept.held;
   gets = kept.getter;
-  no_other_gets = λ place others taken lists at. kept.fits place (Getting others taken lists) at;
+  no_other_gets = λ place others taken lists has_view. kept.fits place (Getting others taken lists) has_view;
   below = kept.accounts.below;
-  running = λ place worker sent at.
-      let fit : FitsPut (pairs kept) (length kept.known) place worker sent = kept.fits place (Putting worker sent) at in
-      (omega (arith, fit.place_is, kept.count, in_views views place at), sym fit.all_sent);
+  running = λ place worker sent has_view.
+      let fit : FitsPut (pairs kept) (length kept.known) place worker sent = kept.fits place (Putting worker sent) has_view in
+      (omega (arith, fit.place_is, kept.count, in_views views place has_view), sym fit.all_sent);
   reclaimed = kept.accounts.whole;
 }

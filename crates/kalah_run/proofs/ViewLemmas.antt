@@ -1,5 +1,5 @@
 -- The views of seats or passes, each at its place: what holds of each view still does after a change of one, and with one more.
-use Rattle.std.proofs.Common.{◌≡◌, ◌≢◌, ℕ, zero, suc, ◌<◌, List, [], ◌∷◌, ◌++◌, length, get_or, set, refl, sym, ap, subst, arith, ◌⊎◌, ⊎_elim, inl, inr}
+use Rattle.std.proofs.Common.{◌≡◌, ◌≢◌, ℕ, zero, suc, ◌<◌, List, [], ◌∷◌, ◌++◌, length, get_or, set, refl, sym, ap, arith, ◌⊎◌, inl, inr}
 use mathlib.Core.Option.{some, some-injective, some-ne-none}
 use lib.ListN.{get_elem?}
 use Rattle.atomic_table.proofs.Lists.{at_set}
@@ -11,43 +11,41 @@ module _ {V : Type 0} where
 
   -- a place that has a view is below the number of views
   pub in_views : (views : List V) (place : ℕ) {v : V} → get_elem? views place ≡ some v → place < length views
-  in_views [] place {v} e = absurd (some-ne-none v (sym e))
-  in_views (x ∷ xs) zero e = omega arith
-  in_views (x ∷ xs) (suc place) e = omega (arith, in_views xs place e)
+  in_views [] place {v} has_view = absurd (some-ne-none v (sym has_view))
+  in_views (x ∷ xs) zero has_view = omega arith
+  in_views (x ∷ xs) (suc place) has_view = omega (arith, in_views xs place has_view)
 
   -- what stands there is that view
   pub view_at : (views : List V) (place : ℕ) {v : V} (d : V) → get_elem? views place ≡ some v → get_or views place d ≡ v
-  view_at [] place {v} d e = absurd (some-ne-none v (sym e))
-  view_at (x ∷ xs) zero {v} d e = some-injective x v e
-  view_at (x ∷ xs) (suc place) d e = view_at xs place d e
+  view_at [] place {v} d has_view = absurd (some-ne-none v (sym has_view))
+  view_at (x ∷ xs) zero {v} d has_view = some-injective x v has_view
+  view_at (x ∷ xs) (suc place) d has_view = view_at xs place d has_view
 
   -- a view of a list with one more stood there before, or is the one more
   pub at_end : (views : List V) (a b : V) (place : ℕ) → get_elem? (views ++ a ∷ []) place ≡ some b
       → (get_elem? views place ≡ some b) ⊎ ((place ≡ length views) × (a ≡ b))
-  at_end [] a b zero e = inr (refl, some-injective a b e)
-  at_end [] a b (suc place) e = absurd (some-ne-none b (sym e))
-  at_end (x ∷ xs) a b zero e = inl e
-  at_end (x ∷ xs) a b (suc place) e =
-      ⊎_elim (λ (h : get_elem? xs place ≡ some b). inl h) (λ (h : (place ≡ length xs) × (a ≡ b)). inr (ap suc h.0, h.1))
-      (at_end xs a b place e)
+  at_end [] a b zero has_b = inr (refl, some-injective a b has_b)
+  at_end [] a b (suc place) has_b = absurd (some-ne-none b (sym has_b))
+  at_end (x ∷ xs) a b zero has_b = inl has_b
+  at_end (x ∷ xs) a b (suc place) has_b =
+      elim (at_end xs a b place has_b) [ inl before ↦ inl before | inr last ↦ inr (ap suc last.0, last.1) ]
 
   -- if one view changes, its fact is shown anew and the others' may change with it
   pub each_set : (F : ℕ → V → Type 0) (views : List V) (place : ℕ) (w : V) → F place w
       → ((j : ℕ) (u : V) → j ≢ place → get_elem? views j ≡ some u → F j u) → Each F (set views place w)
-  each_set F views place w mine others j u e =
-      ⊎_elim (λ (x : (j ≡ place) × (w ≡ u)). subst (λ (y : ℕ × V). F y.0 y.1) (λ i. (sym x.0 i, x.1 i)) mine)
-      (λ (x : (j ≢ place) × (get_elem? views j ≡ some u)). others j u x.0 x.1) (at_set views place j w u e)
+  each_set F views place w has_fact others j u has_u =
+      elim (at_set views place j w u has_u) [
+        | inl here ↦ rw (here.0, ← here.1) has_fact
+        | inr elsewhere ↦ others j u elsewhere.0 elsewhere.1
+      ]
 
   -- one view more, at the end
   pub each_more : (F : ℕ → V → Type 0) (views : List V) (w : V) → Each F views → F (length views) w → Each F (views ++ w ∷ [])
-  each_more F views w h fits j u e =
-      ⊎_elim (λ (x : get_elem? views j ≡ some u). h j u x)
-      (λ (x : (j ≡ length views) × (w ≡ u)). subst (λ (y : ℕ × V). F y.0 y.1) (λ i. (sym x.0 i, x.1 i)) fits)
-      (at_end views w u j e)
+  each_more F views w each has_fact j u has_u =
+      elim (at_end views w u j has_u) [ inl before ↦ each j u before | inr last ↦ rw (last.0, ← last.1) has_fact ]
 
   -- what another place has after a change of one, it had before
   pub was_there : (views : List V) (place other : ℕ) (w u : V) → other ≢ place → get_elem? (set views place w) other ≡ some u
       → get_elem? views other ≡ some u
-  was_there views place other w u apart there =
-      ⊎_elim (λ (x : (other ≡ place) × (w ≡ u)). absurd (apart x.0)) (λ (x : (other ≢ place) × (get_elem? views other ≡ some u)). x.1)
-      (at_set views place other w u there)
+  was_there views place other w u apart has_u =
+      elim (at_set views place other w u has_u) [ inl here ↦ absurd (apart here.0) | inr elsewhere ↦ elsewhere.1 ]

@@ -1,19 +1,16 @@
 -- The workers of a batch: what each sends, and what is known once all have run.
-use Rattle.std.proofs.Common.{[], ◌≡◌, ◌≤◌, ◌<◌, ◌+◌, ◌-◌, ℕ, suc, List, ◌∷◌, ◌++◌, arith, sym, ap, ◌∙◌, Bool, true, length, get_or, append_assoc, subst, zero, map, reverse, ◌==◌, if◌then◌else◌, ne_eqb, inl, inr}
+use Rattle.std.proofs.Common.{[], ◌≡◌, ◌≤◌, ◌<◌, ◌+◌, ◌-◌, ℕ, suc, List, ◌∷◌, ◌++◌, arith, sym, ap, ◌∙◌, Bool, true, length, get_or, append_assoc, subst, zero, map, reverse, ◌==◌, if◌then◌else◌, ne_eqb, inl, inr, All, Some, fold, slice_get, count_by}
 use Rattle.std.proofs.lemmas.List.{map-append, reverse-append, get_or-map, length-append, length-map}
 use Rattle.kalah_jobs.specs.declared.files.entry.Entry.{Entry}
 use Rattle.kalah_jobs.specs.declared.files.job.Job.{Job}
-use Rattle.std.specs.Prelude.{All, Some, fold, slice_get, count_by}
 use Rattle.std.proofs.lemmas.List.Sums.{fold-append, sum_by-cons}
 use Rattle.std.proofs.lemmas.Option.{get_or_from_slice_get}
-use Rattle.kalah_jobs.specs.Files.JobList.{job_list, line_job}
-use Rattle.kalah_jobs.specs.declared.files.entry.Entry.TheVariants.{Bad}
-use Rattle.kalah_jobs.specs.declared.line.line_fault.LineFault.TheVariants.{Empty}
+use Rattle.kalah_jobs.specs.Files.JobList.{job_list, no_job}
 use Rattle.kalah_jobs.specs.Collecting.AnyOrder.{job, AreJobsInSomeOrder}
 use Rattle.kalah_run.specs.declared.desk.rule.DrawnRow.{DrawnRow}
 use Rattle.kalah_run.specs.Batch.AtWork.{drawn_jobs, passes_of, puts_of, AreAtWork, HasRun, HaveRun}
 use Rattle.std.proofs.lemmas.Bool.{cases_eq, cases_lt, lt-ltb}
-use Rattle.kalah_jobs.proofs.CollectingLemmas.{gets_each_job_once, as_many_as_numbers}
+use Rattle.kalah_jobs.proofs.CountingLemmas.{gets_each_job_once, as_many_as_numbers}
 use Rattle.std.proofs.lemmas.List.Elements.{All-cons, All-map, All-tail}
 use Rattle.kalah_run.specs.Queue.States.{PutPassState, ArePassesFrom, sent_by, Accounts, outcomes_in}
 use Rattle.kalah_run.specs.Desk.States.{PassState, IsPassAt, AreNewPasses, new_pass, drawn_rows}
@@ -32,9 +29,9 @@ use Rattle.kalah_run.proofs.QueueLemmas.{all_are_of}
 -- the outcome of the job that was drawn stands after those of the row so far
 pub drawn_jobs-more : (jobs : List (List Entry)) (numbers : List ℕ) (n : ℕ) (o : Job) → slice_get (job_list jobs) n ≡ Some o
     → drawn_jobs jobs (numbers ++ n ∷ []) ≡ drawn_jobs jobs numbers ++ o ∷ []
-drawn_jobs-more jobs numbers n o is =
+drawn_jobs-more jobs numbers n o job_is =
     map-append (job jobs) numbers (n ∷ [])
-    ∙ ap (λ x. drawn_jobs jobs numbers ++ x ∷ []) (get_or_from_slice_get (job_list jobs) n o (line_job 0 0 (Bad Empty)) is)
+    ∙ ap (λ x. drawn_jobs jobs numbers ++ x ∷ []) (get_or_from_slice_get (job_list jobs) n o no_job job_is)
 
 -- one above the last number of a row, and 0 for an empty row: it grows with each draw, so the total bounds the draws of a loop
 abbrev pub least_above : List ℕ → ℕ
@@ -49,68 +46,62 @@ none_above (x ∷ xs) first limit low below = none_above xs (x + 1) limit (let l
 
 -- with one number more there is less left to draw
 pub less_left : (numbers more : List ℕ) (number total : ℕ) → more ≡ numbers ++ number ∷ [] → All (λ x. x < number) numbers
-    → number < total
-    → total - least_above more < total - least_above numbers
-less_left numbers more number total is above below =
-    let last : least_above more ≡ number + 1 = ap least_above is ∙ fold-append (λ above x. x + 1) 0 numbers (number ∷ []) in
+    → number < total → total - least_above more < total - least_above numbers
+less_left numbers more number total more_is above below =
+    let last : least_above more ≡ number + 1 = ap least_above more_is ∙ fold-append (λ above x. x + 1) 0 numbers (number ∷ []) in
     let before = none_above numbers 0 number (omega arith) above in
     omega (arith, last, before, below)
 
 -- ==== Workers put together from their passes, the last one first, and taken apart, the first one first
 
 -- the last worker is the first of the reversed list
-last_first : (workers workers' : List Worker) (w : Worker) → workers' ≡ workers ++ w ∷ []
-    → reverse workers' ≡ w ∷ reverse workers
-last_first workers workers' w is = ap (λ (l : List Worker). reverse l) is ∙ reverse-append workers (w ∷ [])
+last_first : (workers workers' : List Worker) (w : Worker) → workers' ≡ workers ++ w ∷ [] → reverse workers' ≡ w ∷ reverse workers
+last_first workers workers' w workers_are = ap reverse workers_are ∙ reverse-append workers (w ∷ [])
 
 -- the last of what waits is given to one worker more
 pub one_given : {X : Type 0} (f : Worker → X) (workers : List Worker) {workers' : List Worker} {w : Worker} {waiting all : List X}
-    (rest : List X) {x : X}
-    → workers' ≡ workers ++ w ∷ [] → f w ≡ x → waiting ≡ rest ++ x ∷ []
+    (rest : List X) {x : X} → workers' ≡ workers ++ w ∷ [] → f w ≡ x → waiting ≡ rest ++ x ∷ []
     → waiting ++ map f (reverse workers) ≡ all → rest ++ map f (reverse workers') ≡ all
-one_given {X} f workers {workers'} {w} rest {x} is its took so_far =
-    ap (λ (l : List Worker). rest ++ map f l) (last_first workers workers' w is)
-    ∙ ap (λ (y : X). rest ++ y ∷ map f (reverse workers)) its
+one_given {X} f workers {workers'} {w} rest {x} workers_are x_is took so_far =
+    ap (λ (l : List Worker). rest ++ map f l) (last_first workers workers' w workers_are)
+    ∙ ap (λ (y : X). rest ++ y ∷ map f (reverse workers)) x_is
     ∙ sym (append_assoc rest (x ∷ []) (map f (reverse workers)))
-    ∙ ap (λ (l : List X). l ++ map f (reverse workers)) (sym took)
+    ∙ ap (◌++ map f (reverse workers)) (sym took)
     ∙ so_far
 
 -- one worker more has its table
-pub tables_more : (workers workers' : List Worker) (w : Worker) (entries : ℕ) → workers' ≡ workers ++ w ∷ []
-    → HasOwnTable entries w
+pub tables_more : (workers workers' : List Worker) (w : Worker) (entries : ℕ) → workers' ≡ workers ++ w ∷ [] → HasOwnTable entries w
     → HaveOwnTables entries (reverse workers) → HaveOwnTables entries (reverse workers')
-tables_more workers workers' w entries is has so_far =
-    subst (λ l. HaveOwnTables entries l) (sym (last_first workers workers' w is))
-    (All-cons (HasOwnTable entries) w (reverse workers) has so_far)
+tables_more workers workers' w entries workers_are own so_far =
+    subst (HaveOwnTables entries) (sym (last_first workers workers' w workers_are))
+    (All-cons (HasOwnTable entries) w (reverse workers) own so_far)
 
 -- one worker more has given one of its passes
 pub one_taken : {X : Type 0} (f : Worker → X) (workers : List Worker) (w : Worker) {given given' : List X}
     → given' ≡ given ++ f w ∷ [] → given ≡ map f workers → given' ≡ map f (workers ++ w ∷ [])
-one_taken f workers w is so_far = is ∙ ap (λ l. l ++ f w ∷ []) so_far ∙ sym (map-append f workers (w ∷ []))
+one_taken f workers w given_is so_far = given_is ∙ ap (◌++ (f w ∷ [])) so_far ∙ sym (map-append f workers (w ∷ []))
 
 -- a list that has room for one element of each worker that is left, and for some more, has room for the first worker's
 pub room_for_one : {w : Worker} {workers workers' : List Worker} {len capacity : ℕ} (more : ℕ) → workers ≡ w ∷ workers'
     → length workers + (len + more) ≤ capacity → len < capacity
-room_for_one more is room = omega (arith, room, ap length is)
+room_for_one more workers_are room = omega (arith, room, ap length workers_are)
 
 -- then it has room for those of the others
 pub room_still : {w : Worker} {workers workers' : List Worker} {len' capacity capacity' : ℕ} (len more : ℕ) → workers ≡ w ∷ workers'
     → len' ≡ len + 1 → capacity' ≡ capacity → length workers + (len + more) ≤ capacity → length workers' + (len' + more) ≤ capacity'
-room_still len more is longer same room = omega (arith, room, longer, same, ap length is)
+room_still len more workers_are longer same room = omega (arith, room, longer, same, ap length workers_are)
 
 -- ==== The workers of a batch, from their passes to what was got of them
 
 -- there are as many workers as passes
-pub as_many_workers : (workers : List Worker) (passes : List PassState) (count : ℕ) → passes_of workers ≡ passes
-    → length passes ≡ count
+pub as_many_workers : (workers : List Worker) (passes : List PassState) (count : ℕ) → passes_of workers ≡ passes → length passes ≡ count
     → length workers ≡ count
 as_many_workers workers passes count are many =
     sym (length-map workers (λ (w : Worker). w.pass)) ∙ ap length are ∙ many
 
 -- workers with new passes, that have sent nothing, are at work
 pub new_at_work : {G : Type 0} {knows : G → ℕ → Bool} (shared : SharedWork G) (workers : List Worker) (count : ℕ)
-    → AreNewPasses shared.desk count (passes_of workers)
-    → ArePassesFrom shared.queue.id 0 (puts_of workers)
+    → AreNewPasses shared.desk count (passes_of workers) → ArePassesFrom shared.queue.id 0 (puts_of workers)
     → All (λ p. p.sent ≡ []) (puts_of workers) → AreAtWork knows shared workers
 new_at_work {knows = knows} shared workers count new from unsent = λ k d within.
     let w = get_or workers k d in
@@ -144,10 +135,9 @@ puts_after {knows = knows} shared (b ∷ bs) (a ∷ others) n run from =
 
 -- the workers have run if each element of their list has
 pub have_run : {G : Type 0} {knows : G → ℕ → Bool} {shared : SharedWork G} {before list after : List Worker} → list ≡ before
-    → length after ≡ length list
-    → ((k : ℕ) (w : Worker) → k < length list → HasRun knows shared (get_or list k w) (get_or after k w))
+    → length after ≡ length list → ((k : ℕ) (w : Worker) → k < length list → HasRun knows shared (get_or list k w) (get_or after k w))
     → HaveRun knows shared before after
-have_run is as_many each = rw (← is) (record { as_many = as_many; each = each })
+have_run list_is as_many each = rw (← list_is) (record { as_many = as_many; each = each })
 
 -- each worker that has run
 module _ {G : Type 0} {knows : G → ℕ → Bool} (shared : SharedWork G) (before after : List Worker)
@@ -162,13 +152,28 @@ module _ {G : Type 0} {knows : G → ℕ → Bool} (shared : SharedWork G) (befo
 
 -- what worker w sent are the outcomes of its row
 sent_in_order : {G : Type 0} {knows : G → ℕ → Bool} (shared : SharedWork G) (workers : List Worker) (w : ℕ)
-    → AreAtWork knows shared workers
-    → w < length workers →
+    → AreAtWork knows shared workers → w < length workers →
     get_or (sent_by (puts_of workers)) w [] ≡ drawn_jobs shared.jobs.now (get_or (drawn_numbers (drawn_rows (passes_of workers))) w [])
 sent_in_order shared [] w at_work within = absurd (omega arith)
 sent_in_order shared (x ∷ xs) zero at_work within = (at_work 0 x (omega arith)).sent
 sent_in_order shared (x ∷ xs) (suc w) at_work within = sent_in_order shared xs w (λ k d low. at_work (suc k) d (omega arith))
     (omega arith)
+
+-- what the workers have sent was shared out by the rows of their passes
+shares_of_workers : {G : Type 0} {knows : G → ℕ → Bool} {shared : SharedWork G} {before after : List Worker} {count drawn : ℕ}
+    (run : HaveRun knows shared before after) (pairs : List (ℕ × Job)) → count ≡ length before
+    → DealsEachOnce (job_count shared.jobs.now) drawn (drawn_rows (passes_of after)) → Accounts count (sent_by (puts_of after)) pairs
+    → AreShared drawn (job shared.jobs.now) (drawn_numbers (drawn_rows (passes_of after))) pairs
+shares_of_workers {shared = shared} {before} {after} run pairs count_is deals accounts =
+    let row_count = length-drawn_numbers (passes_of after) ∙ length-map after (λ (w : Worker). w.pass) in
+    let sent_count = length-map (puts_of after) (λ (p : PutPassState). p.sent) ∙ length-map after (λ (w : Worker). w.put_pass) in
+    record {
+      each_once = deals.each_once;
+      workers = rw (count_is ∙ sym run.as_many ∙ sym row_count) at accounts.below;
+      whole = λ w within.
+          let low : w < length after = omega (arith, within, row_count) in
+          accounts.whole w (omega (arith, low, sent_count)) ∙ sent_in_order shared after w (run_at_work shared before after run) low;
+    }
 
 -- Each number below the count of those drawn stands in the rows once, the pairs that were got and those left inside account for what was
 -- sent, and as many were got as there are jobs: so each job was got once.
@@ -177,50 +182,43 @@ pub each_job_got : {G : Type 0} {knows : G → ℕ → Bool} {shared : SharedWor
     → count ≡ length before → DealsEachOnce (job_count shared.jobs.now) drawn (drawn_rows (passes_of after)) → puts ≡ puts_of after
     → (rest : List (ℕ × Job)) × (length rest ≡ left) × Accounts count (sent_by puts) (got ++ rest)
     → jobs ≡ shared.jobs.now → length got ≡ job_count jobs → AreJobsInSomeOrder jobs (outcomes_in got)
-each_job_got {shared = shared} {before} {after = workers} {count} {drawn} run got each deals are inside is all =
+each_job_got {shared = shared} {after = after} {drawn = drawn} run got count_is deals puts_are inside jobs_are all =
+    let own : List (List Entry) = shared.jobs.now in
+    let rows = drawn_numbers (drawn_rows (passes_of after)) in
     let rest = inside.0 in
-    let accounts : Accounts count (sent_by (puts_of workers)) (got ++ rest) = rw are at inside.2 in
-    rw is (let all : length got ≡ job_count shared.jobs.now = all ∙ ap job_count is in
-    let jobs = shared.jobs.now in
-    let rows = drawn_numbers (drawn_rows (passes_of workers)) in
-    let row_count : length rows ≡ length workers = length-drawn_numbers (passes_of workers)
-    ∙ length-map workers (λ (w : Worker). w.pass) in
-    let sent_count : length (sent_by (puts_of workers)) ≡ length workers =
-    length-map (puts_of workers) (λ (p : PutPassState). p.sent) ∙ length-map workers (λ (w : Worker). w.put_pass) in
-    let row_workers : count ≡ length rows = each ∙ sym run.as_many ∙ sym row_count in
-    let are_shared : AreShared drawn (job jobs) rows (got ++ rest) = record {
-      each_once = deals.each_once;
-      workers = subst (λ n. All (λ (t : ℕ × Job). t.0 < n) (got ++ rest)) row_workers accounts.below;
-      whole = λ w within.
-          let low : w < length workers = omega arith in
-          accounts.whole w (omega arith) ∙ sent_in_order shared workers w (run_at_work shared before workers run) low;
-    } in
-    let many : length (job_list jobs) ≡ job_count jobs = length-job_list jobs in
-    let whole : drawn ≡ length (job_list jobs) =
-    omega (arith, as_many_as_numbers drawn (job jobs) rows (got ++ rest) are_shared, length-append got rest, all, deals.within, many) in
-    gets_each_job_once jobs rows got rest (subst (λ n. AreShared n (job jobs) rows (got ++ rest)) whole are_shared) (all ∙ sym many))
+    let are_shared = shares_of_workers run (got ++ rest) count_is deals (rw puts_are at inside.2) in
+    let many : length got ≡ length (job_list own) = all ∙ ap job_count jobs_are ∙ sym (length-job_list own) in
+    let whole : drawn ≡ length (job_list own) = omega (
+      arith,
+      as_many_as_numbers drawn (job own) rows (got ++ rest) are_shared,
+      length-append got rest,
+      many,
+      deals.within,
+      length-job_list own,
+    ) in
+    rw jobs_are (gets_each_job_once own rows got rest (subst (λ n. AreShared n (job own) rows (got ++ rest)) whole are_shared) many)
 
 -- ==== The gate knows each job, if all are drawn
 
 -- a number that stands in a list has what all numbers there have
-has_of_list : (P : ℕ → Type 0) (x : ℕ) (xs : List ℕ) → 0 < count_by (λ y. y == x) xs → All P xs → P x
-has_of_list P x [] some all = absurd (omega arith)
-has_of_list P x (y ∷ ys) some all =
+All-at_member : (P : ℕ → Type 0) (x : ℕ) (xs : List ℕ) → 0 < count_by (λ y. y == x) xs → All P xs → P x
+All-at_member P x [] some all = absurd (omega arith)
+All-at_member P x (y ∷ ys) some all =
     elim (cases_eq y x) [
       | inl same ↦ subst P same (all 0 y (omega arith))
-      | inr other ↦ has_of_list P x ys
+      | inr other ↦ All-at_member P x ys
           (let none = ap {B = ℕ} (λ (b : Bool). if b then 1 else 0) (ne_eqb y x other) in
           omega (arith, some, none, sum_by-cons (λ z. if z == x then 1 else 0) y ys)) (All-tail P y ys all)
     ]
 
 -- a number that stands in some row has what all numbers there have
-has_of_rows : (P : ℕ → Type 0) (x : ℕ) (rows : List DrawnRow) → 0 < times_in x (drawn_numbers rows)
+All-at_dealt : (P : ℕ → Type 0) (x : ℕ) (rows : List DrawnRow) → 0 < times_in x (drawn_numbers rows)
     → All (λ r. All P r.numbers) rows → P x
-has_of_rows P x [] some all = absurd (omega arith)
-has_of_rows P x (r ∷ rs) some all =
+All-at_dealt P x [] some all = absurd (omega arith)
+All-at_dealt P x (r ∷ rs) some all =
     elim (cases_lt 0 (count_by (λ y. y == x) r.numbers)) [
-      | inl here ↦ has_of_list P x r.numbers here (all 0 r (omega arith))
-      | inr none ↦ has_of_rows P x rs
+      | inl here ↦ All-at_member P x r.numbers here (all 0 r (omega arith))
+      | inr none ↦ All-at_dealt P x rs
           (omega (arith, some, none, sum_by-cons (λ (l : List ℕ). count_by (λ y. y == x) l) r.numbers (drawn_numbers rs)))
           (All-tail (λ r. All P r.numbers) r rs all)
     ]
@@ -247,7 +245,7 @@ each_job_known {knows = knows} {shared} {before} {after} {drawn} run some deals 
     (run.each k w (omega (arith, run.as_many))).spent in
     let all : drawn ≡ job_count shared.jobs.now = deals.spent (some_spent after (omega (arith, run.as_many)) spent) in
     let once = deals.each_once job ∙ ap {B = ℕ} (λ (b : Bool). if b then 1 else 0) (lt-ltb job drawn (omega arith)) in
-    has_of_rows Known job (drawn_rows (passes_of after)) (omega (arith, once))
+    All-at_dealt Known job (drawn_rows (passes_of after)) (omega (arith, once))
     (All-map (λ (r : DrawnRow). All Known r.numbers) (λ (p : PassState). p.row) (passes_of after)
     (All-map (λ (p : PassState). All Known p.row.numbers) (λ (w : Worker). w.pass) after
     (λ k w within. (run_at_work shared before after run k w within).known)))

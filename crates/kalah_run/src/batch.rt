@@ -64,7 +64,7 @@ pub fn answer_batch<R: Threads + Wait + Sync, G: Gate, V: Watch, W: Sink>(
 ) -> Result<Tally, RunFault>
     requires not_failed { (W.state out.old).has_failed ≡ false }
 
-    // What Ok means, what was written in any case, and when each fault comes: a field for each.
+    // What Ok means, what was written in any case, and when each fault comes: a case for each result.
     ensures answers { AnswersBatch W.state (output_to request.now.question request.now.files.now)
         request.now.files.now out.old out.new result }
 

@@ -1,19 +1,17 @@
 -- The jobs of a batch in any order, and what follows if each is offered once.
 use Rattle.std.specs.Prelude.{◌≡◌, ℕ, List, ◌∷◌, ◌++◌, length, map, count_by, slice_index_or, Bool, Result, IsOk}
 use Rattle.kalah_jobs.specs.declared.files.entry.Entry.{Entry}
-use Rattle.kalah_jobs.specs.declared.files.entry.Entry.TheVariants.{Bad}
-use Rattle.kalah_jobs.specs.declared.line.line_fault.LineFault.TheVariants.{Empty}
 use Rattle.kalah_jobs.specs.declared.collecting.refusal.Refusal.{Refusal}
 use Rattle.kalah_jobs.specs.declared.files.job.Job.{Job}
-use Rattle.kalah_jobs.specs.Files.JobList.{line_job, job_list}
+use Rattle.kalah_jobs.specs.Files.JobList.{no_job, job_list}
 use Rattle.kalah_jobs.specs.Collecting.CollectorState.{ArrivalsState, state_of, HasEnded, new_files}
 use Rattle.kalah_jobs.specs.Collecting.CollectorEvents.{Event, offers, Offers}
 use Rattle.kalah_jobs.specs.Collecting.CollectorLaw.{Runs}
 use Rattle.kalah_jobs.specs.Collecting.Shares.{AreShared}
 
--- job number n, and some job past the last one
+-- job number n, and `no_job` past the last one
 abbrev pub job : List (List Entry) → ℕ → Job
-job jobs n = slice_index_or (job_list jobs) n (line_job 0 0 (Bad Empty))
+job jobs n = slice_index_or (job_list jobs) n no_job
 
 -- The list has each job once and nothing else, in some order: for each test, the number of offers that pass equals that of the jobs.
 pub record AreJobsInSomeOrder (jobs : List (List Entry)) (got : List Job) : Type 0 where

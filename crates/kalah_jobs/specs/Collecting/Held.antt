@@ -10,8 +10,8 @@ use Rattle.kalah_jobs.specs.Collecting.CollectorState.{ArrivalsState, state_of, 
 -- line k of file f is one of the jobs, the answer is that of its entry, and it was offered with that entry
 pub record IsOffered (jobs : List (List Entry)) (past : List Job) (f k : ℕ) (answer : Answer) : Type 0 where
   pub entry : Entry
-  pub at : entry_at jobs f k ≡ Some entry
-  pub is : answer ≡ answer_of entry
+  pub entry_is : entry_at jobs f k ≡ Some entry
+  pub answer_is : answer ≡ answer_of entry
   pub offered : Contains past (line_job f k entry)
 
 -- What came are the answers of the lines that were offered with their entry, and nothing else.

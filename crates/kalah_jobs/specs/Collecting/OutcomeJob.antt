@@ -1,6 +1,5 @@
 -- The parts of an outcome, from its job.
-use Rattle.std.specs.Prelude.{◌≡◌}
-use Rattle.std.proofs.Common.{ap, sym}
+use Rattle.std.proofs.Common.{ap, sym, ◌≡◌}
 use Rattle.kalah_jobs.specs.declared.collecting.outcome.Found.{Found}
 use Rattle.kalah_jobs.specs.Collecting.Found.{found_of}
 use Rattle.kalah_jobs.specs.declared.files.job.Job.{Job}

@@ -1,6 +1,8 @@
 -- The jobs of a batch: of each file the entries of its lines, and all of them in one list.
 use Rattle.std.specs.Prelude.{ℕ, suc, List, [], ◌∷◌, ◌++◌, Option, slice_get, slice_index_or}
 use Rattle.kalah_jobs.specs.declared.files.entry.Entry.{Entry}
+use Rattle.kalah_jobs.specs.declared.files.entry.Entry.TheVariants.{Bad}
+use Rattle.kalah_jobs.specs.declared.line.line_fault.LineFault.TheVariants.{Empty}
 use Rattle.kalah_jobs.specs.declared.files.job.Job.{Job}
 
 -- the entries of file f; none if there is no such file
@@ -14,6 +16,10 @@ entry_at jobs f k = slice_get (entries_of jobs f) k
 -- line k of file f, with its entry
 abbrev pub line_job : ℕ → ℕ → Entry → Job
 line_job f k e = record { file = f; line = k; entry = e }
+
+-- some job, past the last one
+abbrev pub no_job : Job
+no_job = line_job 0 0 (Bad Empty)
 
 -- the lines of file f from line k on
 abbrev pub file_jobs : ℕ → ℕ → List Entry → List Job

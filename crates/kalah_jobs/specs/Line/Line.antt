@@ -32,6 +32,10 @@ slash = 47
 abbrev pub space : ℕ
 space = 32
 
+-- the byte that names the empty-capture rule, after a space
+abbrev pub letter_e : ℕ
+letter_e = 101
+
 -- ---- the grammar
 
 -- the line without one CR at its end, if it has one

@@ -6,7 +6,7 @@ use Rattle.kalah_rules.specs.Position.{Position, side_length, seeds_in_houses}
 use Rattle.kalah_rules.specs.declared.rule.Rule.{Rule}
 use Rattle.kalah_rules.specs.declared.rule.Rule.TheVariants.{Classic, EmptyCapture}
 use Rattle.kalah_jobs.specs.Limits.{most_line_bytes}
-use Rattle.kalah_jobs.specs.Line.Line.{zero_digit, comma, slash, space, without_cr}
+use Rattle.kalah_jobs.specs.Line.Line.{zero_digit, comma, slash, space, letter_e, without_cr}
 use Rattle.kalah_jobs.specs.declared.line.line_fault.LineFault.{LineFault}
 use Rattle.kalah_jobs.specs.declared.line.line_fault.LineFault.TheVariants.{Long, Empty, Shape, Houses, Seeds}
 
@@ -59,7 +59,7 @@ side_at bytes = side_from (length bytes) [] bytes
 abbrev pub rule_of : List ℕ → Option Rule
 rule_of [] = Some Classic
 rule_of (mark ∷ []) = None
-rule_of (mark ∷ byte ∷ []) = if mark == space && byte == 101 then Some EmptyCapture else None
+rule_of (mark ∷ byte ∷ []) = if mark == space && byte == letter_e then Some EmptyCapture else None
 rule_of (_ ∷ _ ∷ _ ∷ _) = None
 
 -- the position with these sides and this rule
@@ -76,8 +76,8 @@ position_from own (mark ∷ rest) = if mark == space then (do
   Some (position_of_sides own other rule)) else None
 
 -- the position that the text writes, of any number of houses and seeds
-unfoldable pub written_of : List ℕ → Option Position
-written_of text = do
+unfoldable pub position_of_text : List ℕ → Option Position
+position_of_text text = do
   own ← side_at text
   position_from own own.rest
 
@@ -95,7 +95,7 @@ admitted_if_written None (_ ∷ _) = Err Shape
 
 -- the position that the line is read as, or its first fault
 abbrev pub reading_of_text : List ℕ → Result Position LineFault
-reading_of_text text = if nat_lt most_line_bytes (length text) then Err Long else admitted_if_written (written_of text) text
+reading_of_text text = if nat_lt most_line_bytes (length text) then Err Long else admitted_if_written (position_of_text text) text
 
 unfoldable pub reading_of : List ℕ → Result Position LineFault
 reading_of line = reading_of_text (without_cr line)

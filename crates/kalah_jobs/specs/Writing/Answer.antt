@@ -49,9 +49,13 @@ value_text v = decimal v.house ++ (codes ":" ++ signed_decimal v.value)
 abbrev pub values_text : List MoveValue → List ℕ
 values_text values = join_with_byte space (map value_text values)
 
--- `H POSITION again`, `H POSITION turn` or `H POSITION over` for each legal house, in ascending order
+-- the text of the step of a house: `H POSITION again`, `H POSITION turn` or `H POSITION over`
+abbrev pub house_step_text : position.Position → ℕ → List ℕ
+house_step_text p house = step_text_of house (step_of p house)
+
+-- the texts of the steps of the legal houses, in ascending order
 abbrev pub steps_texts : position.Position → List (List ℕ)
-steps_texts p = map (λ h. step_text_of h (step_of p h)) (legal_houses p)
+steps_texts p = map (house_step_text p) (legal_houses p)
 
 -- the texts of an answer, each for a line of its own: those of steps, otherwise one, `MARGIN house H`, `MARGIN over`, `H:V H:V ..`
 -- or `fault WORD`

@@ -1,9 +1,8 @@
 -- A position as it is shown: its picture, and below it what each move is worth.
 use Rattle.std.specs.Prelude.{ℕ, ℤ, ◌+◌, ◌-◌, ◌≤◌, List, [], ◌∷◌, ◌++◌, All, if◌then◌else◌, codes, length, replicate, ⊤}
 use Rattle.std.specs.Fmt.{signed_decimal}
-use Rattle.kalah_rules.specs.Limits.{most_houses}
-use Rattle.kalah_rules.specs.Position.{Position, IsSmallMargin, final_margin, is_over}
-use Rattle.kalah_solve.specs.Solver.MoveValues.{values_of}
+use Rattle.kalah_rules.specs.Position.{Position, final_margin, is_over}
+use Rattle.kalah_solve.specs.Solver.MoveValues.{IsMoveValue, values_of}
 use Rattle.kalah_solve.specs.declared.solver.move_values.MoveValue.{MoveValue}
 use Rattle.kalah_jobs.specs.Files.Lines.{line_feed}
 use Rattle.kalah_jobs.specs.Line.Line.{space}
@@ -39,4 +38,4 @@ AscendFrom low (v ∷ vs) = (low ≤ v.house) × AscendFrom (v.house + 1) vs
 
 -- values and houses are ones that a game can have
 abbrev pub AreSmall : List MoveValue → Type 0
-AreSmall values = All (λ v. IsSmallMargin v.value × (v.house ≤ most_houses)) values
+AreSmall values = All IsMoveValue values

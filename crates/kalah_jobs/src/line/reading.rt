@@ -3,7 +3,7 @@ ghost use Rattle.std.specs.Prelude.{◌≡◌, ◌≤◌, length, IfOk, IfErr, I
 ghost use Rattle.kalah_rules.specs.Limits.{most_in_store};
 ghost use Rattle.kalah_rules.specs.Position.{Position};
 ghost use Rattle.kalah_jobs.specs.Line.Line.{without_cr, Reads, HasFault, line_text_of};
-ghost use Rattle.kalah_jobs.specs.Line.Reading.{admitted, reading_of_text, reading_of, rule_of, written_of};
+ghost use Rattle.kalah_jobs.specs.Line.Reading.{admitted, reading_of_text, reading_of, rule_of, position_of_text};
 ghost use Rattle.kalah_jobs.specs.Line.Side.{AreSidesOf};
 ghost use Rattle.kalah_jobs.specs.Limits.{most_line_bytes};
 
@@ -57,18 +57,18 @@ fn board_of(own: &Side, other: &Side, rule: Rule) -> Result<Board, LineFault>
 }
 
 // Returns the position that a text writes by two sides, with one space between them, and the suffix of its rule, or its fault.
-#[tactic(auto, unfolding(crate::specs::Line::Reading::written_of))]
+#[tactic(auto, unfolding(crate::specs::Line::Reading::position_of_text))]
 #[inline(always)]
 fn read_sides(text: &[u8]) -> Option<Result<Board, LineFault>>
     requires { length text.now ≤ most_line_bytes }
-    ensures read { IfSome result (λ read. (p : Position) × ((read ≡ admitted p) × (written_of text.now ≡ Some p))) }
-    ensures none { IfNone result (written_of text.now ≡ None) }
+    ensures read { IfSome result (λ read. (p : Position) × ((read ≡ admitted p) × (position_of_text text.now ≡ Some p))) }
+    ensures none { IfNone result (position_of_text text.now ≡ None) }
 {
-    let (own, rest) = Side::take(text)?;
+    let (own, rest) = Side::read(text)?;
     let [b' ', rest @ ..] = rest else {
         return None;
     };
-    let (other, rest) = Side::take(rest)?;
+    let (other, rest) = Side::read(rest)?;
     let rule = read_rule(rest)?;
     Some(board_of(&own, &other, rule))
 }

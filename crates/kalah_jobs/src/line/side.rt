@@ -8,7 +8,7 @@ use kalah_rules::HouseRow;
 // Returns the number at the front of some bytes, and the bytes after it. It is `0`, or one or two digits that do not start with `0`.
 // Returns `None` if there is none.
 #[inline(always)]
-fn take_number(bytes: &[u8]) -> Option<(u8, &[u8])>
+fn read_number(bytes: &[u8]) -> Option<(u8, &[u8])>
     ensures read { IfSome result (λ found. number_at bytes.now ≡ Some (found.0, found.1.now)) }
     ensures none { IfNone result (number_at bytes.now ≡ None) }
 {
@@ -68,7 +68,7 @@ impl Side {
 
     // Returns the side at the front of some bytes, and the bytes after it.
     #[inline(always)]
-    pub(crate) fn take(bytes: &[u8]) -> Option<(Side, &[u8])>
+    pub(crate) fn read(bytes: &[u8]) -> Option<(Side, &[u8])>
         requires { length bytes.now ≤ most_line_bytes }
         ensures read { IfSome result (λ found. StartsWithSide bytes.now found.0 found.1.now) }
         ensures none { IfNone result (side_at bytes.now ≡ None) }
@@ -76,11 +76,11 @@ impl Side {
         let mut side = Side::new();
         let mut rest = bytes;
         loop {
-            let (seeds, after) = take_number(rest)?;
+            let (seeds, after) = read_number(rest)?;
             side.push(seeds);
             match after {
                 [b'/', more @ ..] => {
-                    let (store, after) = take_number(more)?;
+                    let (store, after) = read_number(more)?;
                     side.store = store;
                     return Some((side, after));
                 }

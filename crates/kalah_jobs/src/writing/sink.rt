@@ -43,7 +43,7 @@ pub trait Sink {
 }
 
 /// Writes the bytes. If the sink has failed it is not called, and the bytes are dropped.
-#[tactic(auto, using(crate::proofs::WritingLemmas::given_once, crate::proofs::WritingLemmas::given_after_failure))]
+#[tactic(auto, using(crate::proofs::SinkLemmas::given_once, crate::proofs::SinkLemmas::given_after_failure))]
 #[inline(always)]
 pub fn write_unless_failed<O: Sink>(out: &mut O, bytes: &[u8])
     ensures { WasGiven O.state out.old out.new bytes.now }
@@ -54,7 +54,7 @@ pub fn write_unless_failed<O: Sink>(out: &mut O, bytes: &[u8])
 }
 
 /// Flushes the sink. If it has failed it is not called.
-#[tactic(auto, using(crate::proofs::WritingLemmas::flush_gives_nothing, crate::proofs::WritingLemmas::given_after_failure))]
+#[tactic(auto, using(crate::proofs::SinkLemmas::flush_gives_nothing, crate::proofs::SinkLemmas::given_after_failure))]
 pub fn flush_unless_failed<O: Sink>(out: &mut O)
     ensures given { WasGiven O.state out.old out.new [] }
     ensures all_flushed { (O.state out.new).has_failed ≡ false → (O.state out.new).is_flushed ≡ true }

@@ -1,9 +1,8 @@
 //! The steps of a position in one line.
 ghost use Rattle.std.specs.Prelude.{◌∷◌, [], ◌++◌, if◌then◌else◌, Contains, codes};
-ghost use Rattle.kalah_rules.specs.Play.{legal_houses, step_of};
+ghost use Rattle.kalah_rules.specs.Play.{legal_houses};
 ghost use Rattle.kalah_jobs.specs.Files.Lines.{line_feed};
-ghost use Rattle.kalah_jobs.specs.Line.Line.{step_text_of};
-ghost use Rattle.kalah_jobs.specs.Writing.Answer.{in_one_line, steps_texts};
+ghost use Rattle.kalah_jobs.specs.Writing.Answer.{house_step_text, in_one_line, steps_texts};
 ghost use Rattle.kalah_jobs.specs.Writing.Sink.{WasGiven};
 
 use crate::writing::position_text::text_of_step;
@@ -13,7 +12,7 @@ use kalah_rules::Board;
 // Writes the text of a move, and before it `; ` if it isn't the first.
 fn write_next<W: Sink>(out: &mut W, is_first: bool, board: &Board, h: u8)
     requires { Contains (legal_houses board.now) h }
-    ensures { WasGiven W.state out.old out.new ((if is_first then [] else codes "; ") ++ step_text_of h (step_of board.now h)) }
+    ensures { WasGiven W.state out.old out.new ((if is_first then [] else codes "; ") ++ house_step_text board.now h) }
 {
     let mut text = text_of_step(h, &board.apply(h), "");
     if !is_first {

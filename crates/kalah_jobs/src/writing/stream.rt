@@ -23,7 +23,7 @@ fn write_once<W: Write>(writer: &mut W, bytes: &[u8]) -> io::Result<usize>
 }
 
 // Writes all the bytes as `write_pieces` does.
-#[tactic(auto, using(crate::proofs::WritingLemmas::parts_written))]
+#[tactic(auto, using(crate::proofs::SinkLemmas::parts_written))]
 #[cold]
 #[inline(never)]
 fn write_rest<W: Write>(writer: &mut W, bytes: &[u8]) -> io::Result<()>

@@ -1,6 +1,5 @@
 -- What is known of a batch: once it is open, while it is run, and when it has ended.
-use Rattle.std.specs.Prelude.{◌≡◌, ℕ, ◌+◌, ◌<◌, ◌≤◌, Bool, max, min, List, [], length, vec_capacity, ◌⊎◌, Option, IfSome, IfNone}
-use Rattle.std.specs.List.{All}
+use Rattle.std.specs.Prelude.{◌≡◌, ℕ, ◌+◌, ◌<◌, ◌≤◌, Bool, max, min, List, [], length, vec_capacity, ◌⊎◌, Option, IfSome, IfNone, All}
 use Rattle.std.specs.declared.alloc.Global.{Global}
 use Rattle.crossbeam_utils.specs.Padded.{padded_value}
 use Rattle.kalah_solve.specs.declared.solver.Solver.{Solver}

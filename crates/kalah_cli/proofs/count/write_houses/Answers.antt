@@ -12,7 +12,7 @@ use Rattle.kalah_jobs.specs.Writing.Counts.{ways_line}
 use Rattle.kalah_jobs.specs.Writing.Sink.{WasGiven}
 use Rattle.kalah_cli.specs.Count.{ways_lines}
 use Rattle.kalah_cli.proofs.RunLemmas.{few_ways, house_line}
-use Rattle.kalah_jobs.proofs.WritingLemmas.{given_all, given_all_after_failure, given_then_flush, given_more}
+use Rattle.kalah_jobs.proofs.SinkLemmas.{given_all, given_all_after_failure, given_then_flush, given_more}
 use Rattle.kalah_cli.proofs.count.write_houses.Goals as goal
 
 -- the sum of the ways that begin with a legal move is the number of all

@@ -1,6 +1,6 @@
 use Rattle.std.proofs.Common.{◌∙◌, [], sym, subst}
 use Rattle.kalah_jobs.specs.Writing.Sink.{WasGiven}
-use Rattle.kalah_jobs.proofs.WritingLemmas.{given_more_after_failure}
+use Rattle.kalah_jobs.proofs.SinkLemmas.{given_more_after_failure}
 use Rattle.kalah_cli.proofs.GameLemmas.{next_of_verdict, no_text, shown_flushed}
 use Rattle.kalah_cli.proofs.game.next_move.Goals as goal
 

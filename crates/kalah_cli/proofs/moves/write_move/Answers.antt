@@ -3,7 +3,7 @@ use Rattle.kalah_rules.specs.Play.{position_after}
 use Rattle.kalah_jobs.specs.Line.Line.{step_text_of}
 use Rattle.kalah_jobs.specs.Files.Lines.{line_feed}
 use Rattle.kalah_jobs.specs.Writing.Sink.{WasGiven}
-use Rattle.kalah_jobs.proofs.WritingLemmas.{given_then}
+use Rattle.kalah_jobs.proofs.SinkLemmas.{given_then}
 use Rattle.kalah_jobs.specs.Writing.Variation.{value_suffix}
 use Rattle.kalah_cli.specs.Moves.{board_lines}
 use Rattle.kalah_cli.proofs.moves.write_move.Goals as goal

@@ -1,7 +1,7 @@
 use Rattle.std.proofs.Common.{ℕ, List, None, arith, subst}
 use Rattle.kalah_rules.specs.Play.{step_of}
 use Rattle.kalah_jobs.specs.Writing.Sink.{WasGiven}
-use Rattle.kalah_jobs.proofs.WritingLemmas.{given_all, given_more}
+use Rattle.kalah_jobs.proofs.SinkLemmas.{given_all, given_more}
 use Rattle.kalah_cli.specs.Moves.{move_lines}
 use Rattle.kalah_cli.proofs.RunLemmas.{printed_flushed}
 use Rattle.kalah_cli.proofs.moves.write_moves.Goals as goal

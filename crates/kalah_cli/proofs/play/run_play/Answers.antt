@@ -1,4 +1,4 @@
-use Rattle.kalah_jobs.proofs.WritingLemmas.{given_then}
+use Rattle.kalah_jobs.proofs.SinkLemmas.{given_then}
 use Rattle.kalah_cli.proofs.GameLemmas.{shown_first}
 use Rattle.kalah_cli.proofs.play.run_play.Goals as goal
 

@@ -1,6 +1,6 @@
 use Rattle.std.proofs.Common.{◌≡◌, ℕ, ◌+◌, ◌==◌, ◌∙◌, Bool, true, false, if◌then◌else◌, List, Some, find, drop, slice_get, arith, refl, sym}
 use Rattle.kalah_solve.specs.declared.solver.move_values.MoveValue.{MoveValue}
-use Rattle.kalah_jobs.proofs.WritingLemmas.{items_from}
+use Rattle.kalah_jobs.proofs.ListLemmas.{items_from}
 use Rattle.kalah_cli.specs.Show.{rank_in}
 use Rattle.kalah_cli.proofs.show.of_rank.Goals as goal
 

@@ -3,7 +3,7 @@ use Rattle.std.specs.List.{range_with_len}
 use Rattle.std.proofs.lemmas.List.FromFn.{get_or-range_with_len, length-range_with_len}
 use Rattle.kalah_solve.specs.Solver.MoveValues.{values_of}
 use Rattle.kalah_jobs.specs.Writing.Sink.{WasGiven}
-use Rattle.kalah_jobs.proofs.WritingLemmas.{given_all, given_more}
+use Rattle.kalah_jobs.proofs.SinkLemmas.{given_all, given_more}
 use Rattle.kalah_cli.specs.Show.{lines_asked, ranked_line}
 use Rattle.kalah_cli.proofs.GameLemmas.{variations_go_on}
 use Rattle.kalah_cli.proofs.show.write_lines.Goals as goal

@@ -5,7 +5,7 @@ use Rattle.kalah_jobs.specs.Files.Lines.{line_feed}
 use Rattle.kalah_jobs.specs.Writing.Sink.{WasGiven}
 use Rattle.kalah_jobs.specs.Writing.Picture.{picture_of}
 use Rattle.kalah_jobs.specs.Writing.Shown.{shown_of, values_line}
-use Rattle.kalah_jobs.proofs.WritingLemmas.{given_more_after_failure, given_then}
+use Rattle.kalah_jobs.proofs.SinkLemmas.{given_more_after_failure, given_then}
 use Rattle.kalah_cli.specs.Ends.{IsPrinted}
 use Rattle.kalah_cli.specs.Show.{lines_asked, show_output}
 use Rattle.kalah_cli.proofs.RunLemmas.{printed_flushed}

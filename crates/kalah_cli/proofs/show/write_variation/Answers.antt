@@ -4,7 +4,7 @@ use Rattle.kalah_rules.specs.Play.{position_after}
 use Rattle.kalah_jobs.specs.Files.Lines.{line_feed}
 use Rattle.kalah_jobs.specs.Writing.Sink.{WasGiven}
 use Rattle.kalah_jobs.specs.Writing.Variation.{variation_start}
-use Rattle.kalah_jobs.proofs.WritingLemmas.{given_then}
+use Rattle.kalah_jobs.proofs.SinkLemmas.{given_then}
 use Rattle.kalah_cli.specs.Game.{best_game, game_text}
 use Rattle.kalah_cli.specs.Show.{of_rank, variation_line}
 use Rattle.kalah_cli.specs.declared.game.Form.TheVariants.{Houses}

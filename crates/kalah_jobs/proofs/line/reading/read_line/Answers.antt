@@ -8,12 +8,12 @@ unfolding reading_of
 returns c =
     let line = c.args.bytes.now in
     let exact = c.read_text.ensures ∙ ap reading_of_text c.drop_cr.ensures in
-    let is = result_of_reading line c.read_text.result (subst (IsReading line) (sym exact) (is_reading line)) in
+    let known = result_of_reading line c.read_text.result (subst (IsReading line) (sym exact) (is_reading line)) in
     record {
-      reads = is.reads;
-      text = is.text;
-      stores = is.stores;
+      reads = known.reads;
+      text = known.text;
+      stores = known.stores;
       every = λ p reads. exact ∙ only_reading line (Ok p) reads;
-      fault = is.fault;
+      fault = known.fault;
       exact = exact;
     }

@@ -2,18 +2,19 @@ use Rattle.std.proofs.Common.{◌≡◌, ◌∷◌, ◌-◌, arith, drop, length
 use Rattle.std.proofs.lemmas.Grind.{common_steps}
 use Rattle.kalah_rules.specs.Position.{Position}
 use Rattle.kalah_jobs.specs.Line.Line.{space}
-use Rattle.kalah_jobs.proofs.LineLemmas.{houses_are_some, number_at_most_99, rest_is_no_longer, sides_are_read, written_is_line}
+use Rattle.kalah_jobs.proofs.SideLemmas.{houses_are_some, number_at_most_99, rest_is_no_longer}
+use Rattle.kalah_jobs.proofs.LineLemmas.{sides_are_read, line_is_written}
 use Rattle.kalah_jobs.proofs.line.reading.read_sides.Goals as goal
 
-pub take-requires-2 : goal.take-requires-2
-take-requires-2 c = grind (arith, common_steps, c.requires, rest_is_no_longer c.args.text.now c.in_ok-own.ensures.read.read)
+pub read-requires-2 : goal.read-requires-2
+read-requires-2 c = grind (arith, common_steps, c.requires, rest_is_no_longer c.args.text.now c.in_ok-own.ensures.read.read)
 
 pub returns-clause-read : goal.returns-clause-read
 returns-clause-read c =
     let own = c.in_ok-own.ensures.read in
     let other = c.in_ok-other.ensures.read in
     let rest = c.in_ok-own.rest.now in
-    let is : rest ≡ space ∷ take (length rest - 1) (drop 1 rest) = grind (arith, common_steps) in
+    let space_next : rest ≡ space ∷ take (length rest - 1) (drop 1 rest) = grind (arith, common_steps) in
     let p : Position = record {
       own = own.houses;
       own_store = c.in_ok-own.own.store;
@@ -21,8 +22,8 @@ returns-clause-read c =
       other_store = c.in_ok-other.other.store;
       rule = c.in_ok-rule.rule;
     } in
-    let written = sides_are_read c.args.text.now own.read is other.read (sym c.in_ok-rule.ensures) in
-    let form = written_is_line c.args.text.now p written in (
+    let written = sides_are_read c.args.text.now own.read space_next other.read (sym c.in_ok-rule.ensures) in
+    let form = line_is_written c.args.text.now p written in (
       p,
       (
         c.board_of.ensures p (record {

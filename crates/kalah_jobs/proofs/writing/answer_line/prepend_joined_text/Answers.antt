@@ -1,5 +1,4 @@
-use Rattle.std.proofs.Common.{◌++◌, ◌∙◌, ap, arith, codes}
-use Rattle.std.specs.Fmt.{decimal}
+use Rattle.std.proofs.Common.{◌++◌, ◌∙◌, ap, arith, codes, decimal}
 use Rattle.std.proofs.lemmas.Int.{ints}
 use Rattle.kalah_jobs.specs.Writing.Answer.{joined_text}
 use Rattle.kalah_jobs.proofs.WritingLemmas.{from_margin}
@@ -8,7 +7,7 @@ use Rattle.kalah_jobs.proofs.writing.answer_line.prepend_joined_text.Goals as go
 pub returns-in-Best-clause-joined : goal.returns-in-Best-clause-joined
 returns-in-Best-clause-joined c =
     from_margin c.args.answer.now c.in-Best.margin (codes " house " ++ decimal c.in-Best.house) _ (omega (arith, ints))
-    (ap joined_text c.in-Best.is) (c.prepend.ensures.piece ∙ ap (λ l. codes " house " ++ l) c.prepend_byte.ensures.number)
+    (ap joined_text c.in-Best.is) (c.prepend.ensures.piece ∙ ap (codes " house " ++◌) c.prepend_byte.ensures.number)
     c.prepend_margin.ensures.margin
 
 pub returns-in-Over-clause-joined : goal.returns-in-Over-clause-joined

@@ -1,6 +1,6 @@
 use Rattle.std.proofs.Common.{◌++◌, List, ℕ, ap₂, subst}
 use Rattle.kalah_jobs.specs.Writing.Sink.{WasGiven}
-use Rattle.kalah_jobs.proofs.WritingLemmas.{given_then}
+use Rattle.kalah_jobs.proofs.SinkLemmas.{given_then}
 use Rattle.kalah_jobs.proofs.writing.named_text.write_apart.Goals as goal
 
 pub returns : goal.returns

@@ -9,7 +9,7 @@ returns-clause-read_back c =
     let board = c.args.board.now in
     let text = line_text_of board in
     let same : c.as_str.result.now ≡ text =
-    c.as_str.ensures ∙ c.prepend_board.ensures.line ∙ ap (λ (t : List ℕ). text ++ t) c.new-text.ensures ∙ append-nil text in
+    c.as_str.ensures ∙ c.prepend_board.ensures.line ∙ ap (text ++◌) c.new-text.ensures ∙ append-nil text in
     IfOk-weaker c.from_str.result (λ t. string_bytes t ≡ c.as_str.result.now) (λ t. Reads (string_bytes t) board)
     (λ t e. subst (λ (u : List ℕ). Reads u board) (sym (e ∙ same))
     (every_text_is_read_back board c.prepend_board.ensures.limits c.requires.own_low c.requires.other_low))

@@ -1,26 +1,24 @@
 use Rattle.std.proofs.Common.{◌++◌, ◌+◌, ◌∙◌, ap, arith, drop, sym}
 use Rattle.kalah_jobs.specs.Writing.Picture.{empty_columns}
 use Rattle.kalah_jobs.specs.Writing.Shown.{value_columns}
-use Rattle.kalah_jobs.proofs.WritingLemmas.{column_before, items_from, next_value}
+use Rattle.kalah_jobs.proofs.WritingLemmas.{column_before, next_value}
+use Rattle.kalah_jobs.proofs.ListLemmas.{items_from}
 use Rattle.kalah_jobs.proofs.writing.shown.+prepend_columns.Goals as goal
 
 pub overflow_add-value : goal.overflow_add-value
 overflow_add-value t c =
-    let next = next_value c.args.filled c.args.values.now c.args.i c.get-value.result c.get-value.ensures c.requires.ascend
-    c.requires.small in
-    omega (arith, next.0.1)
+    omega (arith, (next_value c.args.filled c.args.values.now c.args.i _ c.get-value.ensures c.requires.ascend c.requires.small).0.last)
 
 pub prepend_columns-requires : goal.prepend_columns-requires
 prepend_columns-requires t c =
-    let next = next_value c.args.filled c.args.values.now c.args.i c.get-value.result c.get-value.ensures c.requires.ascend
-    c.requires.small in (
+    let next = next_value c.args.filled c.args.values.now c.args.i _ c.get-value.ensures c.requires.ascend c.requires.small in (
       omega (arith, c.decreases),
-      (c.requires.room, (omega arith, (omega (arith, next.0.1), (next.1, next.2)))),
+      (c.requires.room, (omega arith, (omega (arith, next.0.last), (next.1, next.2)))),
     )
 
 pub prepend_value_cell-requires-clause-small : goal.prepend_value_cell-requires-clause-small
 prepend_value_cell-requires-clause-small t c =
-    (next_value c.args.filled c.args.values.now c.args.i c.get-value.result c.get-value.ensures c.requires.ascend c.requires.small).0.0
+    (next_value c.args.filled c.args.values.now c.args.i _ c.get-value.ensures c.requires.ascend c.requires.small).0.small
 
 pub returns-clause-columns : goal.returns-clause-columns
 returns-clause-columns t c =

@@ -3,14 +3,14 @@ use Rattle.kalah_jobs.proofs.writing.shown.prepend_value_cell.Goals as goal
 
 pub overflow_sub-end : goal.overflow_sub-end
 overflow_sub-end c =
-    value_room c.args.value.value _ _ _ _ _ c.requires.small c.from.ensures c.prepend_margin.ensures.margin c.len-end.ensures c.len.ensures
+    value_room _ c.requires.small c.from.ensures c.prepend_margin.ensures.margin c.len-end.ensures c.len.ensures
 
 pub returns-clause-cell : goal.returns-clause-cell
 returns-clause-cell c =
-    value_at_right c.args.value.value _ _ _ _ _ c.requires.small c.from.ensures c.prepend_margin.ensures.margin c.len-end.ensures
+    value_at_right _ c.requires.small c.from.ensures c.prepend_margin.ensures.margin c.len-end.ensures
     c.len.ensures _ c.prepend_blanks.ensures.blanks
 
 pub returns-clause-longer : goal.returns-clause-longer
 returns-clause-longer c =
-    value_longer c.args.value.value _ _ _ _ _ c.requires.small c.from.ensures c.prepend_margin.ensures.margin c.len-end.ensures
+    value_longer _ c.requires.small c.from.ensures c.prepend_margin.ensures.margin c.len-end.ensures
     c.len.ensures _ c.prepend_blanks.ensures.longer

@@ -3,14 +3,16 @@ use Rattle.std.specs.List.{join_with_byte}
 use Rattle.kalah_rules.specs.Play.{step_of}
 use Rattle.kalah_jobs.specs.Files.Lines.{line_feed}
 use Rattle.kalah_jobs.specs.Line.Line.{step_text_of}
+use Rattle.kalah_jobs.specs.Writing.Answer.{house_step_text}
 use Rattle.kalah_jobs.specs.Writing.Sink.{WasGiven}
-use Rattle.kalah_jobs.proofs.WritingLemmas.{given_all, given_more, lines_end_in_feeds}
+use Rattle.kalah_jobs.proofs.SinkLemmas.{given_all, given_more}
+use Rattle.kalah_jobs.proofs.WritingLemmas.{lines_end_in_feeds}
 use Rattle.kalah_jobs.proofs.writing.steps.write_steps.Goals as goal
 
 pub loop-i-preserved : goal.loop-i-preserved
 loop-i-preserved g c =
     let place = c.args.name.now ++ c.args.place.now in
-    let one : ℕ → List ℕ = λ h. (place ++ step_text_of h (step_of c.args.board.now h)) ++ line_feed ∷ [] in
+    let one : ℕ → List ℕ = λ h. (place ++ house_step_text c.args.board.now h) ++ line_feed ∷ [] in
     let line = subst (λ s. WasGiven g.W.Sink.state c.loop-i.out c.write_step_line.new.out
     ((place ++ step_text_of c.get-h.result s) ++ line_feed ∷ [])) c.apply.ensures.step c.write_step_line.ensures in
     given_more _ one c.legal-moves.ensures.moves c.loop-i.i _ _ c.loop-i.invariant _ c.get-h.result
@@ -19,11 +21,11 @@ loop-i-preserved g c =
 pub returns : goal.returns
 returns g c =
     let place = c.args.name.now ++ c.args.place.now in
-    let text : ℕ → List ℕ = λ h. step_text_of h (step_of c.args.board.now h) in
+    let text : ℕ → List ℕ = house_step_text c.args.board.now in
     let moves = c.legal-moves.result in
     let some : 0 < length moves = omega (arith, c.if-len-eq0.false, c.len.ensures) in
     subst (WasGiven g.W.Sink.state c.args.out.now c.loop-i.out)
     (sym (lines_end_in_feeds place text moves some)
-    ∙ ap (λ ms. join_with_byte line_feed (map (λ t. place ++ t) (map text ms)) ++ line_feed ∷ []) c.legal-moves.ensures.moves)
+    ∙ ap (λ ms. join_with_byte line_feed (map (place ++◌) (map text ms)) ++ line_feed ∷ []) c.legal-moves.ensures.moves)
     (given_all _ (λ h. (place ++ text h) ++ line_feed ∷ []) (let same : moves ≡ moves = λ _. moves in same) c.loop-i.i _ _
     c.loop-i.invariant (omega (arith, c.loop-i-test.false, c.len-i-end.ensures)))

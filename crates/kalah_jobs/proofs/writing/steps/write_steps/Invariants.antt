@@ -1,10 +1,9 @@
 use Rattle.std.proofs.Common.{◌++◌, ◌∷◌, [], flat_map, take}
-use Rattle.kalah_rules.specs.Play.{step_of}
 use Rattle.kalah_jobs.specs.Files.Lines.{line_feed}
-use Rattle.kalah_jobs.specs.Line.Line.{step_text_of}
+use Rattle.kalah_jobs.specs.Writing.Answer.{house_step_text}
 use Rattle.kalah_jobs.specs.Writing.Sink.{WasGiven}
 use Rattle.kalah_jobs.proofs.writing.steps.write_steps.Given as goal
 
 abbrev pub invariant-loop-i : goal.invariant-loop-i
 invariant-loop-i g l = WasGiven g.W.Sink.state l.initial.out l.out
-    (flat_map (λ h. ((l.fn.name ++ l.fn.place) ++ step_text_of h (step_of l.board h)) ++ line_feed ∷ []) (take l.i l.moves))
+    (flat_map (λ h. ((l.fn.name ++ l.fn.place) ++ house_step_text l.board h) ++ line_feed ∷ []) (take l.i l.moves))

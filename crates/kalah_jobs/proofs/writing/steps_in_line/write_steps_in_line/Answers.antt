@@ -1,15 +1,14 @@
-use Rattle.std.proofs.Common.{◌++◌, ◌∷◌, [], ◌==◌, ◌∙◌, ℕ, List, ap, arith, codes, cond, subst, sym, take}
-use Rattle.std.proofs.lemmas.List.{take_all}
-use Rattle.kalah_rules.specs.Play.{step_of}
+use Rattle.std.proofs.Common.{◌++◌, ◌∷◌, [], ◌==◌, ◌∙◌, ℕ, List, ap, arith, codes, cond, subst, sym, take, take_all}
 use Rattle.kalah_jobs.specs.Files.Lines.{line_feed}
-use Rattle.kalah_jobs.specs.Line.Line.{step_text_of}
+use Rattle.kalah_jobs.specs.Writing.Answer.{house_step_text}
 use Rattle.kalah_jobs.specs.Writing.Sink.{WasGiven}
-use Rattle.kalah_jobs.proofs.WritingLemmas.{given_then, one_text_more, texts_in_line}
+use Rattle.kalah_jobs.proofs.SinkLemmas.{given_then}
+use Rattle.kalah_jobs.proofs.WritingLemmas.{one_text_more, texts_in_line}
 use Rattle.kalah_jobs.proofs.writing.steps_in_line.write_steps_in_line.Goals as goal
 
 pub loop-i-preserved : goal.loop-i-preserved
 loop-i-preserved g c =
-    let text : ℕ → List ℕ = λ h. step_text_of h (step_of c.args.board.now h) in
+    let text : ℕ → List ℕ = house_step_text c.args.board.now in
     let moves = c.legal-moves.result in
     let i = c.loop-i.i in
     let more = one_text_more text moves i (omega (arith, c.loop-i-test.true, c.len-i-end.ensures)) in
@@ -19,7 +18,7 @@ loop-i-preserved g c =
 
 pub returns : goal.returns
 returns g c =
-    let text : ℕ → List ℕ = λ h. step_text_of h (step_of c.args.board.now h) in
+    let text : ℕ → List ℕ = house_step_text c.args.board.now in
     let moves = c.legal-moves.result in
     let all = take_all c.loop-i.i moves (omega (arith, c.loop-i-test.false, c.len-i-end.ensures)) ∙ c.legal-moves.ensures.moves in
     subst (WasGiven g.W.Sink.state c.args.out.now c.write_unless_failed.new.out)

@@ -1,10 +1,9 @@
 use Rattle.std.proofs.Common.{take}
-use Rattle.kalah_rules.specs.Play.{step_of}
-use Rattle.kalah_jobs.specs.Line.Line.{step_text_of}
+use Rattle.kalah_jobs.specs.Writing.Answer.{house_step_text}
 use Rattle.kalah_jobs.specs.Writing.Sink.{WasGiven}
 use Rattle.kalah_jobs.proofs.WritingLemmas.{texts_in_line}
 use Rattle.kalah_jobs.proofs.writing.steps_in_line.write_steps_in_line.Given as goal
 
 abbrev pub invariant-loop-i : goal.invariant-loop-i
 invariant-loop-i g l = WasGiven g.W.Sink.state l.initial.out l.out
-    (texts_in_line (λ h. step_text_of h (step_of l.board h)) (take l.i l.moves))
+    (texts_in_line (house_step_text l.board) (take l.i l.moves))

@@ -1,4 +1,4 @@
-use Rattle.kalah_jobs.proofs.WritingLemmas.{IsPartWritten}
+use Rattle.kalah_jobs.proofs.SinkLemmas.{IsPartWritten}
 use Rattle.kalah_jobs.proofs.writing.stream.write_rest.Given as goal
 
 abbrev pub invariant-loop : goal.invariant-loop

@@ -1,5 +1,4 @@
-use Rattle.std.proofs.Common.{◌≡◌, ◌≤◌, ◌+◌, ◌++◌, reverse, vec_len}
-use Rattle.std.specs.Prelude.{vec_capacity}
+use Rattle.std.proofs.Common.{◌≡◌, ◌≤◌, ◌+◌, ◌++◌, reverse, vec_len, vec_capacity}
 use Rattle.kalah_run.specs.Batch.AtWork.{passes_of, puts_of}
 use Rattle.kalah_run.specs.Batch.Running.{HaveOwnTables}
 use Rattle.kalah_run.proofs.batch.open_batch.put_together.Given as goal

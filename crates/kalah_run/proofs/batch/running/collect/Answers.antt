@@ -1,8 +1,6 @@
-use Rattle.std.proofs.Common.{◌+◌, ℕ, List, inl, inr, length, refl, ap, ◌∙◌, arith, rules}
+use Rattle.std.proofs.Common.{◌+◌, inl, inr, length, refl, ap, ◌∙◌, arith, rules, Some}
 use Rattle.std.proofs.lemmas.Grind.{common_steps}
-use Rattle.std.specs.Prelude.{Some}
 use Rattle.std.proofs.KnownBytes.{Keeps-refl}
-use Rattle.kalah_jobs.specs.declared.files.job.Job.{Job}
 use Rattle.kalah_run.specs.Batch.Running.{MayHaveGot}
 use Rattle.kalah_run.proofs.BatchLemmas.{failed_still, got_after, has_collected, collected_at_start, one_collected, one_longer, rest_left}
 use Rattle.kalah_run.proofs.batch.running.collect.Given as given
@@ -12,7 +10,7 @@ use Rattle.kalah_run.proofs.batch.running.collect.Goals.{in-Some, in-None+in-Som
 pub loop-init : goal.loop-init
 loop-init g c = record {
   collected = collected_at_start c.requires.first c.requires.own c.requires.new c.write.ensures.writes;
-  counted = ap (λ (l : List (ℕ × Job)). length l) c.requires.first;
+  counted = ap length c.requires.first;
   few_tries = omega arith;
 }
 
@@ -40,7 +38,7 @@ loop-preserved g c =
     record {
       collected = one_collected c.loop.invariant.collected _ next refl refl refl c.offer.ensures.offers c.write-in-loop.ensures.sound
           c.write-in-loop.ensures.writes;
-      counted = one_longer _ _ next.got ∙ ap (λ n. n + 1) c.loop.invariant.counted;
+      counted = one_longer _ _ next.got ∙ ap (◌+ 1) c.loop.invariant.counted;
       few_tries = search rules;
     }
 

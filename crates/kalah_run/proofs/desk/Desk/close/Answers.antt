@@ -47,14 +47,14 @@ loop-pass-preserved c =
       table = search rules;
       passes = λ k d low.
           let within : k < length c.loop-pass.rest.items =
-          omega (arith, low, ap (λ (l : List PassState). length l) parts, length-append left (c.in-Some.pass ∷ [])) in
+          omega (arith, low, ap length parts, length-append left (c.in-Some.pass ∷ [])) in
           ap (λ (p : PassState). p.desk)
           (sym (ap (λ (l : List PassState). get_or l k d) parts ∙ get_or_append_left left (c.in-Some.pass ∷ []) d k low))
           ∙ c.loop-pass.invariant.passes k d within;
       closing = search rules;
-      rows = ap (λ rows. drawn_rows left ++ rows) row
+      rows = ap (drawn_rows left ++◌) row
           ∙ sym (append_assoc (drawn_rows left) (c.in-Some.pass.row ∷ []) past)
-          ∙ ap (λ rows. rows ++ past) (sym (map-append (λ (p : PassState). p.row) left (c.in-Some.pass ∷ []))
+          ∙ ap (◌++ past) (sym (map-append (λ (p : PassState). p.row) left (c.in-Some.pass ∷ []))
           ∙ ap drawn_rows (sym parts))
           ∙ c.loop-pass.invariant.rows;
     }

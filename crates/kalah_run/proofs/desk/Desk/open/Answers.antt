@@ -1,7 +1,7 @@
-use Rattle.std.proofs.Common.{◌∙◌, ◌+◌, List, [], rules, ap, arith, subst, sym}
+use Rattle.std.proofs.Common.{◌∙◌, ◌+◌, [], rules, ap, arith, subst, sym}
 use Rattle.kalah_run.proofs.DeskLemmas.{opening_is_lawful, hand_out_is_lawful, draw_pass_more}
 use Rattle.kalah_run.specs.Desk.Rule.{after_handing_out, pass_handed_out}
-use Rattle.kalah_run.specs.Desk.States.{DeskState, PassState, AreNewPasses, number_in, row_in, total_in}
+use Rattle.kalah_run.specs.Desk.States.{DeskState, AreNewPasses, number_in, row_in, total_in}
 use Rattle.kalah_run.specs.declared.desk.rule.DeskView.TheVariants.{Opening}
 use Rattle.kalah_run.proofs.desk.Desk.open.Goals as goal
 
@@ -27,7 +27,7 @@ loop-preserved c =
       opener = seats.2 ∙ ap (λ m. (after_handing_out m.0, m.1)) so_far.opener
           ∙ ap (λ n. (Opening c.in_ok-table.table.shared.key.total (c.loop.counter + 1) n, [])) (omega arith);
       room = search rules;
-      handed_out = subst (λ (l : List PassState). AreNewPasses desk (c.loop.counter + 1) l) (sym c.push_reserved.ensures.items)
+      handed_out = subst (AreNewPasses desk (c.loop.counter + 1)) (sym c.push_reserved.ensures.items)
           (draw_pass_more desk _ _ _ so_far.handed_out (λ i. let v = (me i).0 in record {
             desk = id i;
             total = total_in v;

@@ -39,10 +39,10 @@ loop-put-preserved g c =
     let more = ap known_in now in
     record {
       place = (same.0 ∙ so_far.place.0, same.2 ∙ so_far.place.1);
-      getting = now ∙ ap (λ l. Getting c.args.pass.workers c.args.pass.got l) (sym more);
+      getting = now ∙ ap (Getting c.args.pass.workers c.args.pass.got) (sym more);
       passes = subst (λ n. ArePassesFrom c.self.inside.outcomes.table.shared.table_id n rest)
-          (omega (arith, ap (λ l. length l) more, length_push known put.sent)) passes.2;
-      known = ap (λ l. l ++ sent_by rest) more ∙ append_assoc known (put.sent ∷ []) (sent_by rest)
+          (omega (arith, ap length more, length_push known put.sent)) passes.2;
+      known = ap (◌++ sent_by rest) more ∙ append_assoc known (put.sent ∷ []) (sent_by rest)
           ∙ ap (λ l. known ++ sent_by l) (sym step) ∙ so_far.known;
     }
 

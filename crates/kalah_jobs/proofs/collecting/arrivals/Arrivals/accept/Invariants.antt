@@ -1,5 +1,4 @@
-use Rattle.std.proofs.Common.{◌≡◌, ◌≤◌, ◌-◌, length, set}
-use Rattle.std.specs.Prelude.{Some}
+use Rattle.std.proofs.Common.{◌≡◌, ◌≤◌, ◌-◌, length, set, Some}
 use Rattle.kalah_jobs.specs.Collecting.CollectorState.{front_of}
 use Rattle.kalah_jobs.proofs.collecting.arrivals.Arrivals.accept.Given as goal
 

@@ -1,5 +1,4 @@
-use Rattle.std.proofs.Common.{◌≡◌, ◌≤◌, map, length, take}
-use Rattle.std.specs.Prelude.{vec_capacity}
+use Rattle.std.proofs.Common.{◌≡◌, ◌≤◌, map, length, take, vec_capacity}
 use Rattle.kalah_jobs.specs.Collecting.CollectorState.{new_file}
 use Rattle.kalah_jobs.proofs.collecting.collector.Collector.new.Given as goal
 

@@ -1,5 +1,4 @@
-use Rattle.std.proofs.Common.{◌≤◌, length, map}
-use Rattle.std.specs.Prelude.{vec_capacity}
+use Rattle.std.proofs.Common.{◌≤◌, length, map, vec_capacity}
 use Rattle.kalah_jobs.proofs.FilesLemmas.{AreRead}
 use Rattle.kalah_jobs.proofs.files.jobs.Jobs.asking.Given as goal
 

@@ -17,7 +17,7 @@ returns g c =
     let as_many = c.for_each_mut.auto.s in
     rw (
       c.end.ensures,
-      with_items_is c.args.self.workers c.for_each_mut.new.s (as_many ∙ ap (λ l. length l) c.as_mut_slice.ensures.value
+      with_items_is c.args.self.workers c.for_each_mut.new.s (as_many ∙ ap length c.as_mut_slice.ensures.value
           ∙ sym c.args.self.workers.ok.0),
     ) (have_run c.as_mut_slice.ensures.value as_many (λ k w low.
     let ran = (c.for_each_mut.ensures k w low).1 in rw (← ran.left, ← ran.argument_is) ran.call))

@@ -32,8 +32,7 @@ loop-self-preserved g c = record {
       let nothing = c.in_default.ensures.takes in
       written_on (c.loop-self.invariant.progress files jobs past begun so_far) refl refl
       (λ progress. wrote_file (wrote_nothing progress c.take.new.self nothing) ended.0 ended.1
-      (subst (λ (s : List ArrivalsState). front (state_of s c.loop-self.self.current) ≤ (state_of s c.loop-self.self.current).taken)
-      (sym nothing.unchanged) nothing.none_ready));
+      (rw nothing.unchanged nothing.none_ready));
 }
 
 pub returns-else-ended-clause-writes : goal.returns-else-ended-clause-writes

@@ -1,26 +1,26 @@
 use Rattle.std.proofs.lemmas.Grind.{common_steps}
 use Rattle.std.proofs.Common.{◌≡◌, ◌∷◌, ◌++◌, ◌-◌, [], arith, drop, length, take}
 use Rattle.kalah_jobs.specs.Line.Line.{comma, slash}
-use Rattle.kalah_jobs.proofs.LineLemmas.{begins_taking, house_follows, store_follows}
-use Rattle.kalah_jobs.proofs.line.side.Side.take.Goals as goal
+use Rattle.kalah_jobs.proofs.SideLemmas.{read_at_start, house_follows, store_follows}
+use Rattle.kalah_jobs.proofs.line.side.Side.read.Goals as goal
 
 pub loop-seeds-init : goal.loop-seeds-init
-loop-seeds-init c = begins_taking c.args.bytes.now c.new-side.result c.new-side.ensures.houses c.new-side.ensures.none
+loop-seeds-init c = read_at_start c.args.bytes.now c.new-side.result c.new-side.ensures.houses c.new-side.ensures.none
 
 pub returns-in-47-clause-read : goal.returns-in-47-clause-read
 returns-in-47-clause-read c =
     let so_far = c.loop-seeds.invariant in
     let after = c.in_ok-seeds.after.now in
-    let is : after ≡ slash ∷ take (length after - 1) (drop 1 after) = grind (arith, common_steps) in
+    let slash_next : after ≡ slash ∷ take (length after - 1) (drop 1 after) = grind (arith, common_steps) in
     record {
       houses = so_far.houses ++ c.in_ok-seeds.seeds ∷ [];
       are_kept = c.push.ensures.houses so_far.houses so_far.are_kept;
-      read = store_follows so_far c.in_ok-seeds.ensures.read is c.in_ok-store-in-47.ensures.read;
+      read = store_follows so_far c.in_ok-seeds.ensures.read slash_next c.in_ok-store-in-47.ensures.read;
     }
 
 pub loop-seeds-preserved : goal.loop-seeds-preserved
 loop-seeds-preserved c =
     let so_far = c.loop-seeds.invariant in
     let after = c.in_ok-seeds.after.now in
-    let is : after ≡ comma ∷ take (length after - 1) (drop 1 after) = grind (arith, common_steps) in
-    house_follows so_far c.in_ok-seeds.ensures.read is (c.push.ensures.houses so_far.houses so_far.are_kept) c.push.ensures.one
+    let comma_next : after ≡ comma ∷ take (length after - 1) (drop 1 after) = grind (arith, common_steps) in
+    house_follows so_far c.in_ok-seeds.ensures.read comma_next (c.push.ensures.houses so_far.houses so_far.are_kept) c.push.ensures.one
