@@ -7,11 +7,9 @@ use Rattle.std.proofs.Math.Bool.{and-true}
 use Rattle.std.proofs.lemmas.Grind.{flat_map-append}
 use Rattle.std.proofs.lemmas.List.Folds.{list_any-append}
 use Rattle.kalah_rules.specs.Position.{is_over}
-use Rattle.kalah_jobs.specs.declared.files.question.Question.{Question}
+use Rattle.kalah_jobs.specs.Types.{AskFault, Question, LineFault}
 use Rattle.kalah_jobs.specs.declared.files.question.Question.TheVariants.{BestMove, Values, Steps}
-use Rattle.kalah_jobs.specs.declared.asking.ask_fault.AskFault.{AskFault}
 use Rattle.kalah_jobs.specs.declared.asking.ask_fault.AskFault.TheVariants.{Write}
-use Rattle.kalah_jobs.specs.declared.line.line_fault.LineFault.{LineFault}
 use Rattle.kalah_jobs.specs.Asking.{kept_bytes, reply, last_reply, is_last_read, answers_to, are_all_read, AnswersAreThoseOfAFile, AnswersLines, AreAnswered, Asking, IsAnswered, IsBegun, IsCutOff}
 use Rattle.kalah_jobs.specs.Files.Entry.{entry_of_reading, entry_to}
 use Rattle.kalah_jobs.specs.declared.files.entry.Entry.TheVariants.{Bad}
@@ -35,7 +33,7 @@ use Rattle.kalah_jobs.proofs.LineLemmas.{long_is_read}
 -- ---- the lines of a piece
 
 -- a piece that ends is one line
-pub feed_ends_one_line : (piece : List ℕ) → HasNoLineFeed piece → lines_of (piece ++ line_feed ∷ []) ≡ piece ∷ []
+feed_ends_one_line : (piece : List ℕ) → HasNoLineFeed piece → lines_of (piece ++ line_feed ∷ []) ≡ piece ∷ []
 unfolding lines_of
 feed_ends_one_line piece none = lines_of-ended piece [] none
 
@@ -44,32 +42,32 @@ rest_is_one_line : (byte : ℕ) (piece : List ℕ) → HasNoLineFeed (byte ∷ p
 rest_is_one_line byte piece none = lines_of-open (byte ∷ piece) none (λ e. cc)
 
 -- a piece is one line at most
-pub one_line : (piece : List ℕ) → HasNoLineFeed piece → length (lines_of piece) ≤ 1
+one_line : (piece : List ℕ) → HasNoLineFeed piece → length (lines_of piece) ≤ 1
 one_line [] none = rw (lines_of-empty [] refl) (omega arith)
 one_line (byte ∷ piece) none = rw (rest_is_one_line byte piece none) (omega arith)
 
 -- ---- the answers
 
 -- the answers to whole lines and more are those to both, in order
-pub answers_split : (question : Question) (lines more : List ℕ) → EndsWithItsLine lines →
+answers_split : (question : Question) (lines more : List ℕ) → EndsWithItsLine lines →
     answers_to question (lines ++ more) ≡ answers_to question lines ++ answers_to question more
 unfolding answers_to
 answers_split question lines more ends =
     simp ((files_split_between_lines.parts lines more ends).lines, flat_map-append)
 
 -- nothing is answered by nothing
-pub no_answers : (question : Question) → answers_to question [] ≡ []
+no_answers : (question : Question) → answers_to question [] ≡ []
 unfolding answers_to
 no_answers question = ap (flat_map (reply question)) (lines_of-empty [] refl)
 
 -- the answer to one line
-pub answers_to_one : (question : Question) (bytes line : List ℕ) → lines_of bytes ≡ line ∷ []
+answers_to_one : (question : Question) (bytes line : List ℕ) → lines_of bytes ≡ line ∷ []
     → answers_to question bytes ≡ reply question line
 unfolding answers_to
 answers_to_one question bytes line one = ap (flat_map (reply question)) one ∙ append-nil (reply question line)
 
 -- the answers to whole lines and one more
-pub answers_to_more : (question : Question) (lines more line : List ℕ) → EndsWithItsLine lines → lines_of more ≡ line ∷ []
+answers_to_more : (question : Question) (lines more line : List ℕ) → EndsWithItsLine lines → lines_of more ≡ line ∷ []
     → answers_to question (lines ++ more) ≡ answers_to question lines ++ reply question line
 answers_to_more question lines more line ends one =
     answers_split question lines more ends ∙ ap (answers_to question lines ++◌) (answers_to_one question more line one)
@@ -81,7 +79,7 @@ both_read false true = refl
 both_read false false = refl
 
 -- all are read if one more is, and those before
-pub all_read_more : (lines more line : List ℕ) → EndsWithItsLine lines → lines_of more ≡ line ∷ []
+all_read_more : (lines more line : List ℕ) → EndsWithItsLine lines → lines_of more ≡ line ∷ []
     → are_all_read (lines ++ more) ≡ (are_all_read lines && not (is_faulty line))
 all_read_more lines more line ends one =
     simp ((files_split_between_lines.parts lines more ends).lines, one, list_any-append, both_read)
@@ -100,7 +98,7 @@ unfolding entry_to
 too_long question line long = ap (entry_of_reading question) (long_is_read line (omega (arith, cr_is_one line, long)))
 
 -- the bytes that are kept have the entry of the line
-pub kept_bytes_have_the_entry : (question : Question) (line : List ℕ) → entry_to question (take kept_bytes line) ≡ entry_to question line
+kept_bytes_have_the_entry : (question : Question) (line : List ℕ) → entry_to question (take kept_bytes line) ≡ entry_to question line
 kept_bytes_have_the_entry question line = elim (cases_lt kept_bytes (length line)) [
   | inl long ↦
       too_long question (take kept_bytes line) (omega (arith, length-take-le kept_bytes line (omega (arith, long))))
@@ -109,11 +107,11 @@ kept_bytes_have_the_entry question line = elim (cases_lt kept_bytes (length line
 ]
 
 -- the bytes that are kept are answered as the line is
-pub kept_reply : (question : Question) (line : List ℕ) → reply question (take kept_bytes line) ≡ reply question line
+kept_reply : (question : Question) (line : List ℕ) → reply question (take kept_bytes line) ≡ reply question line
 kept_reply question line = ap (λ entry. joined_text (answer_of entry) ++ line_feed ∷ []) (kept_bytes_have_the_entry question line)
 
 -- they are answered by a fault if and only if the line is
-pub kept_faulty : (line : List ℕ) → is_faulty (take kept_bytes line) ≡ is_faulty line
+kept_faulty : (line : List ℕ) → is_faulty (take kept_bytes line) ≡ is_faulty line
 kept_faulty line = ap (λ entry. is_fault (answer_of entry)) (kept_bytes_have_the_entry BestMove line)
 
 -- of the first n bytes and one more the first n are those of all and one more
@@ -123,14 +121,14 @@ take_more_kept (suc n) [] byte = refl
 take_more_kept (suc n) (first ∷ line) byte = ap (first ∷◌) (take_more_kept n line byte)
 
 -- what stands after the last line feed is answered as its lines are
-pub last_reply_is : (question : Question) (piece : List ℕ) → HasNoLineFeed piece
+last_reply_is : (question : Question) (piece : List ℕ) → HasNoLineFeed piece
     → answers_to question piece ≡ last_reply question (take kept_bytes piece)
 last_reply_is question [] none = no_answers question
 last_reply_is question (byte ∷ piece) none =
     answers_to_one question (byte ∷ piece) (byte ∷ piece) (rest_is_one_line byte piece none) ∙ sym (kept_reply question (byte ∷ piece))
 
 -- all lines are read if those before the last line feed are, and what stands after it
-pub last_read : (lines piece : List ℕ) → EndsWithItsLine lines → HasNoLineFeed piece
+last_read : (lines piece : List ℕ) → EndsWithItsLine lines → HasNoLineFeed piece
     → are_all_read (lines ++ piece) ≡ (are_all_read lines && is_last_read (take kept_bytes piece))
 last_read lines [] ends none = ap are_all_read (append-nil lines) ∙ sym (and-true (are_all_read lines))
 last_read lines (byte ∷ piece) ends none =
@@ -220,7 +218,7 @@ module _ {question : Question} {before now old new : Option (List ℕ)} {line : 
   more_taken : (next : Option (List ℕ)) (bytes : List ℕ) → Consumes now next bytes → Consumes before next (u.lines ++ (u.part ++ bytes))
   more_taken next bytes taken =
       subst (Consumes before next) (append_assoc u.lines u.part bytes)
-      (Consumes-trans before now next (u.lines ++ u.part) bytes u.taken taken)
+      (Consumes-trans _ _ _ (u.lines ++ u.part) bytes u.taken taken)
 
   -- at the end the bytes of the lines and of the part are all
   all_taken : (next : Option (List ℕ)) → Consumes now next [] → Consumes before next (u.lines ++ u.part)
@@ -265,7 +263,7 @@ module _ {question : Question} {before now old new : Option (List ℕ)} {line : 
         written = subst (Appends old more)
             (ap (answers_to question u.lines ++◌) reply_whole
             ∙ sym (answers_to_more question u.lines whole u.part u.ended one))
-            (more_written kept more (reply question line) keeps tells);
+            (more_written _ _ _ keeps tells);
         status = ap₂ (λ a b. a && b) u.status (read ∙ ap (λ l. not (is_faulty l)) u.kept ∙ ap not (kept_faulty u.part))
             ∙ sym (all_read_more u.lines whole u.part u.ended one);
       }
@@ -277,7 +275,7 @@ module _ {question : Question} {before now old new : Option (List ℕ)} {line : 
     part = u.part;
     ended = u.ended;
     unended = u.unended;
-    taken = Consumes-kept before now next (u.lines ++ u.part) u.taken left;
+    taken = Consumes-kept _ _ _ (u.lines ++ u.part) u.taken left;
     written = answers_kept kept keeps;
   }
 
@@ -288,7 +286,7 @@ module _ {question : Question} {before now old new : Option (List ℕ)} {line : 
     last = u.part;
     ended = u.ended;
     one = one_line u.part u.unended;
-    taken = Consumes-kept before now next (u.lines ++ u.part) u.taken left;
+    taken = Consumes-kept _ _ _ (u.lines ++ u.part) u.taken left;
     count = 0;
     written = subst (Appends old kept) (sym (append-nil (answers_to question u.lines))) (answers_kept kept keeps);
   }
@@ -304,7 +302,7 @@ module _ {question : Question} {before now old new : Option (List ℕ)} {line : 
     one = one;
     taken = taken;
     count = start.0;
-    written = more_written kept more (take start.0 (answers_to question last)) keeps
+    written = more_written _ _ _ keeps
         (subst (λ l. Appends kept more (take start.0 l)) is start.1);
   }
 
@@ -331,7 +329,7 @@ module _ {question : Question} {before now old new : Option (List ℕ)} {line : 
     taken = all_taken next end;
     all = Consumes-whole before now (u.lines ++ u.part) (λ bytes. u.lines ++ u.part ≡ bytes) u.taken at_end refl;
     written = subst (Appends old more) (sym (answers_split question u.lines u.part u.ended))
-        (more_written kept more (answers_to question u.part) keeps (subst (Appends kept more) reply_part tells));
+        (more_written _ _ _ keeps (subst (Appends kept more) reply_part tells));
     status = ap₂ (λ a b. a && b) u.status (read ∙ ap is_last_read u.kept) ∙ sym (last_read u.lines u.part u.ended u.unended);
   }
 

@@ -1,23 +1,19 @@
 -- The collector: how far each file has come, and what any list of offers and takes makes of it.
 use Rattle.std.proofs.Common.{◌≡◌, ℕ, zero, suc, ◌+◌, ◌<◌, ◌≤◌, List, [], ◌∷◌, length, set, get_or, replicate, true, false, refl, arith, ap, eq-eqb, ◌≢◌, inl, inr, cond, ◌++◌, map, ◌∙◌, sym, ne_eqb, subst, length-set, get_or-set_other, get_or-set_same, take, Option, Some, None, is_some, IsSome, Contains, Result, Ok, Err, IsOk}
 use Rattle.std.proofs.lemmas.Bool.{cases_eq}
-use Rattle.kalah_jobs.specs.declared.writing.answer.Answer.{Answer}
+use Rattle.kalah_jobs.specs.Types.{Answer, Job, Entry, Refusal, Taken}
 use Rattle.kalah_jobs.specs.Collecting.CollectorState.{front_of, ArrivalsState, no_file, state_of, line_count, arrived_for, HasLinesOf, with_answer, with_one_taken, after_offer, after_take, new_files, front, IsNext, HasEnded}
-use Rattle.kalah_jobs.specs.declared.files.job.Job.{Job}
 use Rattle.std.specs.List.{enumerate_from}
 use Rattle.std.proofs.lemmas.List.Sums.{sum_by-append}
 use Rattle.std.proofs.lemmas.List.Elements.{Contains-append_left, Contains-push, Contains-push_cases}
 use Rattle.std.proofs.lemmas.List.{length-map, get_or_default, length-replicate, get_or-replicate, get_or_past, append-nil, append_assoc, take_all, take_more, get_or-map}
 use Rattle.std.proofs.lemmas.Bool.Decides.{nat_tests}
 use Rattle.std.proofs.lemmas.Option.{slice_get_within, get_or_from_slice_get, slice_get-get_or}
-use Rattle.kalah_jobs.specs.declared.files.entry.Entry.{Entry}
-use Rattle.kalah_jobs.specs.declared.collecting.refusal.Refusal.{Refusal}
 use Rattle.kalah_jobs.specs.Writing.Answer.{answer_of}
 use Rattle.kalah_jobs.specs.Files.JobList.{entries_of, entry_at, line_job, no_job}
 use Rattle.kalah_jobs.specs.Collecting.Refusals.{IsWanted, IsRefusedFor, AnswersInOneWay}
 use Rattle.kalah_jobs.specs.Collecting.Held.{IsOffered, HoldsOffered, AreInStep}
 use Rattle.std.proofs.lemmas.List.FromFn.{length-enumerate_from, get_or-enumerate_from}
-use Rattle.kalah_jobs.specs.declared.writing.answer.Taken.{Taken}
 use Rattle.kalah_jobs.specs.Collecting.CollectorEvents.{Event, Offered, Took, Offers, Gives, offers, takes, with_taken, HasArrived, answered_line, answered_lines}
 use Rattle.kalah_jobs.specs.Collecting.CollectorLaw.{Runs, KeepsItsLaw}
 use Rattle.kalah_jobs.specs.Collecting.AnyOrder.{AreJobsInSomeOrder, AcceptsEachJob, MakesEveryLineReady}
@@ -66,7 +62,7 @@ front_none zero = refl
 front_none (suc n) = refl
 
 -- if the first m lines have come, the front has come so far
-pub front_least : (xs : List (Option Answer)) (m : ℕ) → ((k : ℕ) → k < m → is_some (get_or xs k None) ≡ true) → m ≤ front_of xs
+front_least : (xs : List (Option Answer)) (m : ℕ) → ((k : ℕ) → k < m → is_some (get_or xs k None) ≡ true) → m ≤ front_of xs
 front_least xs m all = grind (arith, front_more xs (front_of xs), all (front_of xs))
 
 -- the lemmas for accepting and for taking an answer
@@ -85,7 +81,7 @@ pub state_other : (files : List ArrivalsState) (f g : ℕ) (s : ArrivalsState) �
 state_other files f g s ne = get_or-set_other files f g s no_file ne
 
 -- what holds of the changed file, and of each other as it was, holds of each
-pub each_file : (files : List ArrivalsState) (f : ℕ) (s : ArrivalsState) → f < length files → (P : ℕ → ArrivalsState → Type 0) → P f s →
+each_file : (files : List ArrivalsState) (f : ℕ) (s : ArrivalsState) → f < length files → (P : ℕ → ArrivalsState → Type 0) → P f s →
     ((g : ℕ) → g ≢ f → P g (state_of files g)) → (g : ℕ) → P g (state_of (set files f s) g)
 each_file files f s low P here others g = elim (cases_eq g f) [
   | inl same ↦ rw (same, state_same files f s low) here
@@ -146,7 +142,7 @@ file_there files f k low = grind (arith, get_or_past files f no_file)
 -- what came before an offer or a take
 module _ {jobs : List (List Entry)} {past : List Job} {files : List ArrivalsState} (holds : HoldsOffered jobs past files) where
   -- an accepted offer keeps what holds
-  pub holds_accepted : (o : Job) → IsWanted jobs files o
+  holds_accepted : (o : Job) → IsWanted jobs files o
       → HoldsOffered jobs (past ++ o ∷ []) (after_offer files o.file o.line (answer_of o.entry))
   holds_accepted o wanted =
       let a : Answer = answer_of o.entry in
@@ -165,7 +161,7 @@ module _ {jobs : List (List Entry)} {past : List Job} {files : List ArrivalsStat
       }
 
   -- if a line is offered with its entry and refused, it had come before
-  pub refused_came : (f k : ℕ) (e : Entry) (r : Refusal) → entry_at jobs f k ≡ Some e → IsRefusedFor jobs files (line_job f k e) r
+  refused_came : (f k : ℕ) (e : Entry) (r : Refusal) → entry_at jobs f k ≡ Some e → IsRefusedFor jobs files (line_job f k e) r
       → IsSome (arrived_for (state_of files f) k)
   refused_came f k e r entry_is refused =
       grind (
@@ -177,7 +173,7 @@ module _ {jobs : List (List Entry)} {past : List Job} {files : List ArrivalsStat
       )
 
   -- a refused offer changes nothing, and what holds stays true with one more offer
-  pub holds_refused : (o : Job) (r : Refusal) → IsRefusedFor jobs files o r → HoldsOffered jobs (past ++ o ∷ []) files
+  holds_refused : (o : Job) (r : Refusal) → IsRefusedFor jobs files o r → HoldsOffered jobs (past ++ o ∷ []) files
   holds_refused o r refused = record {
     counts = holds.counts;
     came = λ f k e entry_is offered. elim (Contains-push_cases past o (line_job f k e) offered) [
@@ -192,7 +188,7 @@ module _ {jobs : List (List Entry)} {past : List Job} {files : List ArrivalsStat
   }
 
   -- a take changes nothing of what came, so what holds stays true
-  pub holds_take : (f : ℕ) → f < length files → HoldsOffered jobs past (after_take files f)
+  holds_take : (f : ℕ) → f < length files → HoldsOffered jobs past (after_take files f)
   holds_take f low =
       let taken : ArrivalsState = with_one_taken (state_of files f) in
       record {
@@ -343,7 +339,7 @@ new_files_are_in_step jobs = record {
 -- ---- the law
 
 -- after these events the offers have come
-pub offers_held : (jobs : List (List Entry)) (events : List Event) (files : List ArrivalsState) → Runs jobs (new_files jobs) events files
+offers_held : (jobs : List (List Entry)) (events : List Event) (files : List ArrivalsState) → Runs jobs (new_files jobs) events files
     → HoldsOffered jobs (offers events) files
 offers_held jobs events files run = (runs_keep jobs [] events (new_files jobs) files run (new_files_are_in_step jobs)).0.offered
 
@@ -378,7 +374,7 @@ pub ruleset new_counts = (new_lines, take_all)
 -- ---- each job once, in any order
 
 -- each line was offered with its entry
-pub each_came : (jobs : List (List Entry)) (got : List Job) → AreJobsInSomeOrder jobs got → (f k : ℕ) (e : Entry) →
+each_came : (jobs : List (List Entry)) (got : List Job) → AreJobsInSomeOrder jobs got → (f k : ℕ) (e : Entry) →
     entry_at jobs f k ≡ Some e → Contains got (line_job f k e)
 each_came jobs got each_once f k e entry_is =
     let o : Job = line_job f k e in

@@ -13,8 +13,7 @@ use Rattle.kalah_jobs.proofs.ListLemmas.{count_by-cons, count_map, count_flat}
 use Rattle.std.proofs.lemmas.Bool.{cases_eq, cases_Bool}
 use Rattle.std.specs.Coded.{Coded, codes}
 use base.Stored.{Gv, gnil, gnum, gcons}
-use Rattle.kalah_jobs.specs.declared.files.job.Job.{Job}
-use Rattle.kalah_jobs.specs.declared.files.entry.Entry.{Entry}
+use Rattle.kalah_jobs.specs.Types.{Job, Entry}
 
 -- ==== What is got of jobs that were shared out: each job's result, once
 -- Both are counted by classes (`by_class`): results by workers, each of which sent those of its row, and the numbers of rows one by one.
@@ -69,17 +68,17 @@ rows_count n rows q once =
     let flat : List ℕ = flat_map (λ r. r) rows in
     let times_in_flat : (x : ℕ) → count_by (λ y. y == x) flat ≡ (if nat_lt x n then 1 else 0) = λ x. count_flat (λ y. y == x) rows ∙ once x in
     let passes : ℕ → ℕ = λ x. cond (q x) 1 0 in
-    let many : length (map passes (range_with_len 0 n)) ≡ n = length-map-range_with_len passes 0 n in
-    let below : All (λ z. z < length (map passes (range_with_len 0 n))) flat = λ k d within.
+    let counts : List ℕ = map passes (range_with_len 0 n) in
+    let many : length counts ≡ n = length-map-range_with_len passes 0 n in
+    let below : All (λ z. z < length counts) flat = λ k d within.
     let z = get_or flat k d in
     let some = rw (eq-eqb z z refl) at (get_or-le-sum_by (λ y. cond (y == z) 1 0) flat k d within) in
     let low : z < n = grind (arith, times_in_flat z, some, nat_tests) in
     omega (arith, many) in
-    let own : (x : ℕ) → x < length (map passes (range_with_len 0 n)) →
-    in_class (λ y. y) q x flat ≡ get_or (map passes (range_with_len 0 n)) x 0 = λ x low.
+    let own : (x : ℕ) → x < length counts → in_class (λ y. y) q x flat ≡ get_or counts x 0 = λ x low.
     class_of_number q x flat ∙ ap (λ c. if q x then c else 0) (times_in_flat x ∙ rw (lt-ltb x n (omega (arith, low, many))) refl)
     ∙ sym (get_or-map-range_with_len passes 0 n x x 0 (omega (arith, low, many)) (omega arith)) in
-    sym (count_flat q rows) ∙ by_class (λ y. y) q flat (map passes (range_with_len 0 n)) below own ∙ sum-map passes (range_with_len 0 n)
+    sym (count_flat q rows) ∙ by_class (λ y. y) q flat counts below own ∙ sum-map passes (range_with_len 0 n)
 
 -- for each test, the number of received results that pass it equals that of the results of all numbers
 got_all_once : {X : Type 0} (p : X → Bool) (n : ℕ) (f : ℕ → X) (rows : List (List ℕ)) (got : List (ℕ × X))
@@ -110,7 +109,6 @@ as_many_as_numbers {X} n f rows got shared =
     ∙ got_all_once (λ (x : X). true) n f rows got shared
     ∙ count_true (range_with_len 0 n) ∙ length-range_with_len 0 n
 
--- the law
 pub gets_each_job_once : GetsEachJobOnce
 gets_each_job_once jobs rows got rest shared whole =
     let n : ℕ = length (job_list jobs) in

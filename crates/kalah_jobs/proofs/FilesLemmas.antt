@@ -5,23 +5,20 @@ use Rattle.std.proofs.lemmas.List.{take_all, drop_all, drop_more, append-nil, ta
 use Rattle.std.proofs.lemmas.List.Elements.{All-head, All-tail, All-nil, All-cons, All-pop}
 use Rattle.std.proofs.Math.Seq.{take-nil, get_or-append_seam}
 use Rattle.std.proofs.lemmas.List.Sums.{sum_by-cons, sum_by_push, sum_by-drop_more, get_or-le-sum_by, count_by-le-length}
-use Rattle.kalah_jobs.specs.Files.Lines.{line_feed, lines_of, HasNoLineFeed, with_line_feeds, EndsInOpenLine, AreLines, LinesAreOne}
+use Rattle.kalah_jobs.specs.Files.Lines.{line_feed, lines_of, HasNoLineFeed, with_line_feeds, ArePieces, AreLines, LinesAreOne}
 use Rattle.std.proofs.lemmas.Bool.{cases_eq}
 use Rattle.kalah_rules.specs.Position as position
 use Rattle.kalah_rules.specs.contracts.board.BoardPartialEq.TheImpl as board_eq
-use Rattle.kalah_jobs.specs.declared.files.entry.Entry.{Entry}
+use Rattle.kalah_jobs.specs.Types.{BestMove, Entry, Job, Question}
 use Rattle.kalah_jobs.specs.declared.files.entry.Entry.TheVariants.{Position, Bad}
 use Rattle.kalah_jobs.specs.Line.Reading.{reading_of}
 use Rattle.kalah_jobs.specs.Files.Entry.{Says, entry_asked, entry_of_reading, entry_of, entry_to, EntriesAreOne}
 use Rattle.std.proofs.lemmas.Bool.Decides.{nat_tests}
 use Rattle.std.proofs.lemmas.Option.{slice_get_within}
 use Rattle.std.proofs.lemmas.List.Concat.{length-flat_map}
-use Rattle.kalah_jobs.specs.declared.files.job.Job.{Job}
 use Rattle.kalah_jobs.specs.Files.NamedBytes.{NamedBytes}
 use Rattle.kalah_jobs.specs.Files.JobList.{entries_of, line_job, file_jobs, jobs_from, job_list}
 use Rattle.kalah_jobs.specs.Files.Jobs.{lines_in_all, lines_in, entries_to, jobs_to, job_count, AreStarts}
-use Rattle.kalah_jobs.specs.declared.files.question.Question.{Question}
-use Rattle.kalah_jobs.specs.declared.files.question.Question.TheVariants.{BestMove}
 use Rattle.kalah_rules.specs.Position.{IsWithinLimits, houses_in}
 use Rattle.kalah_jobs.specs.Writing.Answer.{answer_of, is_faulty_entry}
 use Rattle.kalah_jobs.specs.Writing.Output.{is_faulty, is_faulty_job}
@@ -133,33 +130,32 @@ whole_after_byte byte (line ∷ lines) no_feed whole =
 
 -- lines before a last one that is not ended
 open_lines : {bytes : List ℕ} {lines : List (List ℕ)} (before : List (List ℕ)) (last : List ℕ) → last ≢ [] →
-    lines ≡ before ++ last ∷ [] → bytes ≡ with_line_feeds before ++ last → (bytes ≡ with_line_feeds lines) ⊎ EndsInOpenLine bytes lines
+    lines ≡ before ++ last ∷ [] → bytes ≡ with_line_feeds before ++ last → ArePieces bytes lines
 open_lines before last some pieces_are bytes_are =
     inr (record { before = before; last = last; pieces_are = pieces_are; bytes_are = bytes_are; some_bytes = some })
 
 -- a byte before lines stands in the first, or in one of its own
-parts_after_byte : (byte : ℕ) (bytes : List ℕ) (lines : List (List ℕ)) → (bytes ≡ with_line_feeds lines) ⊎ EndsInOpenLine bytes lines →
-    (byte ∷ bytes ≡ with_line_feeds (onto_first byte lines)) ⊎ EndsInOpenLine (byte ∷ bytes) (onto_first byte lines)
+parts_after_byte : (byte : ℕ) (bytes : List ℕ) (lines : List (List ℕ)) → ArePieces bytes lines →
+    ArePieces (byte ∷ bytes) (onto_first byte lines)
 parts_after_byte byte bytes [] (inl closed) = open_lines [] (byte ∷ []) (λ e. cc) refl (ap (byte ∷◌) closed)
 parts_after_byte byte bytes (line ∷ lines) (inl closed) = inl (ap (byte ∷◌) closed)
 parts_after_byte byte bytes lines (inr unended) = go unended.before unended.pieces_are unended.bytes_are
   where
     go : (before : List (List ℕ)) → lines ≡ before ++ unended.last ∷ [] → bytes ≡ with_line_feeds before ++ unended.last →
-        (byte ∷ bytes ≡ with_line_feeds (onto_first byte lines)) ⊎ EndsInOpenLine (byte ∷ bytes) (onto_first byte lines)
+        ArePieces (byte ∷ bytes) (onto_first byte lines)
     go [] pieces_are bytes_are =
         open_lines [] (byte ∷ unended.last) (λ e. cc) (ap (onto_first byte) pieces_are) (ap (byte ∷◌) bytes_are)
     go (line ∷ before) pieces_are bytes_are =
         open_lines ((byte ∷ line) ∷ before) unended.last unended.some_bytes (ap (onto_first byte) pieces_are) (ap (byte ∷◌) bytes_are)
 
 -- a line feed before lines is an empty line
-parts_after_feed : (bytes : List ℕ) (lines : List (List ℕ)) → (bytes ≡ with_line_feeds lines) ⊎ EndsInOpenLine bytes lines →
-    (line_feed ∷ bytes ≡ with_line_feeds ([] ∷ lines)) ⊎ EndsInOpenLine (line_feed ∷ bytes) ([] ∷ lines)
+parts_after_feed : (bytes : List ℕ) (lines : List (List ℕ)) → ArePieces bytes lines → ArePieces (line_feed ∷ bytes) ([] ∷ lines)
 parts_after_feed bytes lines (inl closed) = inl (ap (line_feed ∷◌) closed)
 parts_after_feed bytes lines (inr unended) =
     open_lines ([] ∷ unended.before) unended.last unended.some_bytes (ap ([] ∷◌) unended.pieces_are) (ap (line_feed ∷◌) unended.bytes_are)
 
 -- the lines of the bytes are lines of them
-pub are_lines_of : (bytes : List ℕ) → AreLines bytes (lines_of bytes)
+are_lines_of : (bytes : List ℕ) → AreLines bytes (lines_of bytes)
 unfolding lines_of
 are_lines_of [] = record { whole = All-nil HasNoLineFeed; parts = inl refl }
 are_lines_of (byte ∷ bytes) =
@@ -221,29 +217,32 @@ entries_are_one = record { some = λ line. grind (arith, is_reading line); one =
 
 -- ---- counts
 
+abbrev entry_in : Job → Entry
+entry_in job = job.entry
+
 -- the entries of all files
 abbrev pub all_entries : List (List Entry) → List Entry
 all_entries jobs = flat_map (λ own. own) jobs
 
 -- the jobs of a file have the entries of its lines
-entries_of_file : (f k : ℕ) (own : List Entry) → map (λ (o : Job). o.entry) (file_jobs f k own) ≡ own
+entries_of_file : (f k : ℕ) (own : List Entry) → map entry_in (file_jobs f k own) ≡ own
 entries_of_file f k [] = refl
 entries_of_file f k (e ∷ own) = ap (e ∷◌) (entries_of_file f (suc k) own)
 
 -- the jobs of the files have the entries of all lines
-entries_from : (f : ℕ) (jobs : List (List Entry)) → map (λ (o : Job). o.entry) (jobs_from f jobs) ≡ all_entries jobs
+entries_from : (f : ℕ) (jobs : List (List Entry)) → map entry_in (jobs_from f jobs) ≡ all_entries jobs
 entries_from f [] = refl
 entries_from f (own ∷ jobs) =
-    grind (arith, map-append (λ (o : Job). o.entry) (file_jobs f 0 own), entries_of_file f 0 own, entries_from (suc f) jobs)
+    grind (arith, map-append entry_in (file_jobs f 0 own), entries_of_file f 0 own, entries_from (suc f) jobs)
 
 -- they are those of the jobs, in order
-pub entries_of_jobs : (jobs : List (List Entry)) → map (λ (o : Job). o.entry) (job_list jobs) ≡ all_entries jobs
+entries_of_jobs : (jobs : List (List Entry)) → map entry_in (job_list jobs) ≡ all_entries jobs
 entries_of_jobs jobs = entries_from 0 jobs
 
 -- there are as many jobs as lines
 pub length-job_list : (jobs : List (List Entry)) → length (job_list jobs) ≡ job_count jobs
 length-job_list jobs =
-    sym (length-map (job_list jobs) (λ (o : Job). o.entry)) ∙ ap length (entries_of_jobs jobs)
+    sym (length-map (job_list jobs) entry_in) ∙ ap length (entries_of_jobs jobs)
     ∙ length-flat_map (λ (own : List Entry). own) jobs
 
 -- ---- the place of a line in the list of jobs
@@ -271,7 +270,7 @@ slice_get-jobs_from f (suc g) k (entries ∷ jobs) e entry_is =
       arith,
       slice_get-append_right (file_jobs f 0 entries) (jobs_from (suc f) jobs),
       slice_get-jobs_from (suc f) g k jobs e entry_is,
-      length-map (file_jobs f 0 entries) (λ (o : Job). o.entry),
+      length-map (file_jobs f 0 entries) entry_in,
       entries_of_file f 0 entries,
       sum_by-cons length entries (take g jobs),
     )
@@ -308,7 +307,7 @@ job_count-jobs_to question (file ∷ files) =
     )
 
 -- one file more starts after all jobs so far
-pub starts_more : {jobs : List (List Entry)} {starts : List ℕ} {start : ℕ} (own : List Entry) → AreStarts jobs starts →
+starts_more : {jobs : List (List Entry)} {starts : List ℕ} {start : ℕ} (own : List Entry) → AreStarts jobs starts →
     start ≡ job_count jobs → AreStarts (jobs ++ own ∷ []) (starts ++ start ∷ [])
 starts_more {jobs} {starts} {start} own so_far start_is = record {
   as_many = omega (arith, so_far.as_many, length-append starts (start ∷ []), length-append jobs (own ∷ []));
@@ -387,7 +386,7 @@ asked_fault question line =
 -- as many jobs are answered by a fault as entries
 pub faulty_jobs : (jobs : List (List Entry)) → count_by is_faulty_job (job_list jobs) ≡ count_by is_faulty_entry (all_entries jobs)
 faulty_jobs jobs =
-    sym (count_map is_faulty_entry (λ (o : Job). o.entry) (job_list jobs)) ∙ ap (count_by is_faulty_entry) (entries_of_jobs jobs)
+    sym (count_map is_faulty_entry entry_in (job_list jobs)) ∙ ap (count_by is_faulty_entry) (entries_of_jobs jobs)
 
 -- counted file by file
 pub faults_by_file : (jobs : List (List Entry)) → count_by is_faulty_job (job_list jobs) ≡ sum_by (count_by is_faulty_entry) jobs

@@ -11,7 +11,7 @@ use Rattle.kalah_rules.specs.Limits.{most_houses, most_seeds, most_in_store}
 use Rattle.kalah_jobs.specs.Line.LineFault.{order_of}
 use Rattle.kalah_jobs.specs.Line.LineLaws.{NoLineReadsTwice, OnlyTheSuffixNamesTheRule, EveryLineIsItsText, EveryTextIsReadBack}
 use Rattle.kalah_jobs.specs.Limits.{most_line_bytes}
-use Rattle.kalah_jobs.specs.declared.line.line_fault.LineFault.{LineFault}
+use Rattle.kalah_jobs.specs.Types.{LineFault}
 use Rattle.kalah_jobs.specs.declared.line.line_fault.LineFault.TheVariants.{Long, Empty, Shape, Houses, Seeds}
 use Rattle.kalah_jobs.proofs.SideLemmas.{both_succeed, passes_and_succeeds, side_is_written, side_is_read, number_text, number_at_most_99, decimal_is_number, house_before_others}
 use Rattle.std.proofs.lemmas.Fmt.{length-decimal-le}
@@ -23,7 +23,7 @@ use Rattle.std.proofs.lemmas.List.Sums.{sum_by-cons}
 -- ---- the suffix that names the rule
 
 -- the suffix of a rule is read as that rule
-pub suffix_is_read : (rule : Rule) → rule_of (suffix_of rule) ≡ Some rule
+suffix_is_read : (rule : Rule) → rule_of (suffix_of rule) ≡ Some rule
 suffix_is_read rule = grind arith
 
 -- bytes that are read as a rule are its suffix
@@ -96,7 +96,7 @@ unfolding position_of_text side_at
 empty_is_no_line p line = absurd (cc (line_is_read [] p line))
 
 -- a line writes one position only
-pub one_position : (text : List ℕ) (p q : Position) → IsLineOf text p → IsLineOf text q → p ≡ q
+one_position : (text : List ℕ) (p q : Position) → IsLineOf text p → IsLineOf text q → p ≡ q
 one_position text p q first second =
     let same : ◌≡◌ {A = Option Position} (Some p) (Some q) = sym (line_is_read text p first) ∙ line_is_read text q second in
     cc
@@ -248,14 +248,14 @@ without_cr-other (byte ∷ more ∷ text) last other = ap (byte ∷◌) (without
 pub ruleset ends_of_lines = (without_cr-cr, without_cr-other)
 
 -- the bytes before another byte stay
-pub without_cr-append : (text : List ℕ) (byte : ℕ) (rest : List ℕ) → without_cr (text ++ byte ∷ rest) ≡ text ++ without_cr (byte ∷ rest)
+without_cr-append : (text : List ℕ) (byte : ℕ) (rest : List ℕ) → without_cr (text ++ byte ∷ rest) ≡ text ++ without_cr (byte ∷ rest)
 without_cr-append [] byte rest = refl
 without_cr-append (first ∷ []) byte rest = refl
 without_cr-append (first ∷ second ∷ text) byte rest =
     ap (first ∷◌) (without_cr-append (second ∷ text) byte rest)
 
 -- a number doesn't end in a CR
-pub number_ends_without_cr : (byte : ℕ) (text : List ℕ) (n : ℕ) → IsNumber text n → without_cr (byte ∷ text) ≡ byte ∷ text
+number_ends_without_cr : (byte : ℕ) (text : List ℕ) (n : ℕ) → IsNumber text n → without_cr (byte ∷ text) ≡ byte ∷ text
 number_ends_without_cr byte text n written = grind (arith, nat_tests)
 
 -- ==== Only the suffix of a line names the rule

@@ -16,8 +16,7 @@ pub count_map : {A X : Type 0} (p : X → Bool) (f : A → X) (xs : List A) → 
 count_map p f xs = sym (sum-map _ (map f xs)) ∙ ap sum (map-map _ f xs) ∙ sum-map _ xs
 
 -- rows counted in one list
-pub count_flat : {X : Type 0} (q : X → Bool) (rows : List (List X)) →
-    count_by q (flat_map (λ r. r) rows) ≡ sum_by (count_by q) rows
+pub count_flat : {X : Type 0} (q : X → Bool) (rows : List (List X)) → count_by q (flat_map (λ r. r) rows) ≡ sum_by (count_by q) rows
 count_flat q [] = refl
 count_flat {X} q (r ∷ rs) = omega (
   arith,

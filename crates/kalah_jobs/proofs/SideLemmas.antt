@@ -1,5 +1,5 @@
 -- Numbers and sides of a line: what writes them is read, and what is read is written.
-use Rattle.std.proofs.Common.{◌≡◌, ℕ, ◌+◌, ◌-◌, ◌<◌, ◌≤◌, inl, inr, true, List, [], ◌∷◌, ◌++◌, length, Some, refl, sym, ap, subst, ◌∙◌, length-append, arith, zero, suc, pred, ◌==◌, Bool, cond, Option, None, append_assoc, eqb-true}
+use Rattle.std.proofs.Common.{◌≡◌, ℕ, ◌+◌, ◌-◌, ◌<◌, ◌≤◌, inl, inr, true, List, [], ◌∷◌, ◌++◌, length, Some, refl, sym, ap, ◌∙◌, length-append, arith, zero, suc, pred, ◌==◌, Bool, cond, Option, None, append_assoc, eqb-true}
 use Rattle.std.specs.Prelude.{decimal, ◌&&◌, nat_lt, ⊤}
 use Rattle.std.specs.Char.{is_ascii_digit, IsAsciiDigit}
 use Rattle.std.proofs.lemmas.Bool.{cases_Bool, cond-true, cond-false}
@@ -32,7 +32,7 @@ digits_written first (byte ∷ rest) digit = elim (cases_Bool (nat_lt 0 (first -
 ]
 
 -- a number that is read is written at the front of the bytes
-pub number_is_written : (bytes : List ℕ) (found : ℕ × List ℕ) → number_at bytes ≡ Some found → WritesNumber bytes found.0 found.1
+number_is_written : (bytes : List ℕ) (found : ℕ × List ℕ) → number_at bytes ≡ Some found → WritesNumber bytes found.0 found.1
 number_is_written [] found read = absurd cc
 number_is_written (first ∷ rest) found read =
     let parts = cond_some (is_ascii_digit first) (number_from (first - zero_digit) rest) found read in
@@ -45,16 +45,16 @@ EndsNumber [] = ⊤
 EndsNumber (byte ∷ rest) = ¬ IsAsciiDigit byte
 
 -- a number that is written is read, if no digit follows
-pub number_is_read : (text : List ℕ) (n : ℕ) (rest : List ℕ) → IsNumber text n → EndsNumber rest →
+number_is_read : (text : List ℕ) (n : ℕ) (rest : List ℕ) → IsNumber text n → EndsNumber rest →
     number_at (text ++ rest) ≡ Some (n, rest)
 number_is_read text n rest written ends = grind (arith, nat_tests)
 
 -- a text that writes a number isn't empty
-pub number_has_bytes : (text : List ℕ) (n : ℕ) → IsNumber text n → 0 < length text
+number_has_bytes : (text : List ℕ) (n : ℕ) → IsNumber text n → 0 < length text
 number_has_bytes text n written = grind arith
 
 -- the rest after a number is shorter
-pub rest_is_shorter : (bytes : List ℕ) (found : ℕ × List ℕ) → number_at bytes ≡ Some found → length found.1 < length bytes
+rest_is_shorter : (bytes : List ℕ) (found : ℕ × List ℕ) → number_at bytes ≡ Some found → length found.1 < length bytes
 rest_is_shorter bytes found read =
     let written = number_is_written bytes found read in
     omega (arith, ap length written.parts, length-append written.text found.1, number_has_bytes written.text found.0 written.number)
@@ -199,9 +199,13 @@ side_is_written bytes found side_read = side_from_written (length bytes) [] byte
 
 module _ (store_text : List ℕ) (store : ℕ) (following : List ℕ) (stored : IsNumber store_text store) (ends : EndsNumber following)
   where
+    -- the bytes after the houses
+    abbrev ending : List ℕ
+    ending = slash ∷ (store_text ++ following)
+
     -- houses and a store that are written are read, after the houses so far
     houses_are_read : (text more : List ℕ) → AreHouses text more → (i : ℕ) (houses : List ℕ) → length text ≤ i →
-        side_from i houses (text ++ slash ∷ (store_text ++ following))
+        side_from i houses (text ++ ending)
         ≡ Some (record { houses = houses ++ more; store = store; rest = following })
     houses_are_read text [] written i houses few = absurd written
     houses_are_read text (n ∷ more) written zero houses few = absurd (omega (arith, few, some_bytes text n more written))
@@ -212,14 +216,14 @@ module _ (store_text : List ℕ) (store : ℕ) (following : List ℕ) (stored : 
             omega (arith, ap length written.parts, length-append written.house_text (comma ∷ written.others_text))
     houses_are_read text (n ∷ []) written (suc i) houses few =
         rw (
-          number_is_read text n (slash ∷ (store_text ++ following)) written (λ digit. omega (arith, digit)),
+          number_is_read text n ending written (λ digit. omega (arith, digit)),
           number_is_read store_text store following stored ends,
         ) refl
     houses_are_read text (n ∷ m ∷ more) written (suc i) houses few =
-        let rest = written.others_text ++ slash ∷ (store_text ++ following) in
-        let cut : text ++ slash ∷ (store_text ++ following) ≡ written.house_text ++ comma ∷ rest =
-        ap (◌++ (slash ∷ (store_text ++ following))) written.parts
-        ∙ append_assoc written.house_text (comma ∷ written.others_text) (slash ∷ (store_text ++ following)) in
+        let rest = written.others_text ++ ending in
+        let cut : text ++ ending ≡ written.house_text ++ comma ∷ rest =
+        ap (◌++ ending) written.parts
+        ∙ append_assoc written.house_text (comma ∷ written.others_text) ending in
         let short : length written.others_text ≤ i =
         omega (arith, few, ap length written.parts, length-append written.house_text (comma ∷ written.others_text)) in
         rw (cut, number_is_read written.house_text n (comma ∷ rest) written.house_written (λ digit. omega (arith, digit)))

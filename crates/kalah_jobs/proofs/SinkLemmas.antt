@@ -23,14 +23,14 @@ pub prefix_then : (old between new : Option (List ℕ)) (bs done rest : List ℕ
 prefix_then old between new bs done rest parts first start =
     let split : take (length done + start.0) bs ≡ done ++ take start.0 rest = ap (take (length done + start.0)) parts
     ∙ take-append-add done rest start.0 in
-    (length done + start.0, subst (Appends old new) (sym split) (Appends-trans old between new done (take start.0 rest) first start.1))
+    (length done + start.0, subst (Appends old new) (sym split) (Appends-trans _ _ _ done (take start.0 rest) first start.1))
 
 -- a prefix is also one of what is longer
 pub prefix_longer : (old new : Option (List ℕ)) (bs cs : List ℕ) → AppendsPrefix old new bs → AppendsPrefix old new (bs ++ cs)
 prefix_longer old new bs cs start =
     let all : bs ++ cs ≡ take start.0 bs ++ (drop start.0 bs ++ cs) =
     ap (◌++ cs) (sym (take-append-drop start.0 bs)) ∙ append_assoc (take start.0 bs) (drop start.0 bs) cs in
-    prefix_then old new new (bs ++ cs) (take start.0 bs) (drop start.0 bs ++ cs) all start.1 (prefix_none new (drop start.0 bs ++ cs))
+    prefix_then _ _ _ (bs ++ cs) (take start.0 bs) (drop start.0 bs ++ cs) all start.1 (prefix_none new (drop start.0 bs ++ cs))
 
 -- what keeps the bytes keeps the prefix
 pub prefix_kept : (old between new : Option (List ℕ)) (bs : List ℕ) → AppendsPrefix old between bs → Keeps between new
@@ -52,11 +52,11 @@ left_all old bytes = record { done = []; parts = refl; written = Appends-nil old
 module _ {old now : Option (List ℕ)} (next : Option (List ℕ)) {bytes rest : List ℕ} (left : IsPartWritten old now bytes rest) where
   -- a prefix of the rest was written
   pub left_prefix : AppendsPrefix now next rest → AppendsPrefix old next bytes
-  left_prefix start = prefix_then old now next bytes left.done rest left.parts left.written start
+  left_prefix start = prefix_then _ _ _ bytes left.done rest left.parts left.written start
 
   -- the rest was written
   pub left_whole : Appends now next rest → Appends old next bytes
-  left_whole adds = subst (Appends old next) (sym left.parts) (Appends-trans old now next left.done rest left.written adds)
+  left_whole adds = subst (Appends old next) (sym left.parts) (Appends-trans _ _ _ left.done rest left.written adds)
 
   -- a part of the rest was written
   pub left_part : (taken : ℕ) → Appends now next (take taken rest)
@@ -67,7 +67,7 @@ module _ {old now : Option (List ℕ)} (next : Option (List ℕ)) {bytes rest : 
       record {
         done = left.done ++ take taken rest;
         parts = left.parts ∙ ap (left.done ++◌) (sym parts) ∙ sym (append_assoc left.done (take taken rest) _);
-        written = Appends-trans old now next left.done (take taken rest) left.written part;
+        written = Appends-trans _ _ _ left.done (take taken rest) left.written part;
       }
 
 -- what writing bytes in parts needs
@@ -93,8 +93,8 @@ module _ {O : Type 0} (state : O → SinkState) where
   pub flush_gives_nothing : (old new : O) → (state old).has_failed ≡ false → Keeps (state old).written (state new).written
       → WasGiven state old new []
   flush_gives_nothing old new sound keeps = record {
-    start = prefix_kept_all (state old).written (state new).written [] keeps;
-    whole = λ still. (sound, Appends-kept (state old).written (state old).written (state new).written [] (Appends-nil (state old).written) keeps);
+    start = prefix_kept_all _ _ [] keeps;
+    whole = λ still. (sound, Appends-kept _ _ _ [] (Appends-nil (state old).written) keeps);
     quiet = λ failed. cc;
   }
 
@@ -122,20 +122,19 @@ module _ {O : Type 0} (state : O → SinkState) where
       → ((state between).has_failed ≡ false → more ≡ right) → WasGiven state between new more → WasGiven state old new (text ++ right)
   given_then_if_sound old between new text more right first same second = by (state between).has_failed refl where
     by : (b : Bool) → (state between).has_failed ≡ b → WasGiven state old new (text ++ right)
-    by true failed = given_then old between new text right first
-        (rw (second.quiet failed) (given_after_failure between right failed))
-    by false sound = given_then old between new text right first (subst (WasGiven state between new) (same sound) second)
+    by true failed = given_then _ _ _ _ _ first (rw (second.quiet failed) (given_after_failure between right failed))
+    by false sound = given_then _ _ _ _ _ first (subst (WasGiven state between new) (same sound) second)
 
   -- a text, and then a flush
   pub given_then_flush : (old between new : O) (text : List ℕ) → WasGiven state old between text
       → WasGiven state between new [] → WasGiven state old new text
   given_then_flush old between new text first second =
-      subst (WasGiven state old new) (append-nil text) (given_then old between new text [] first second)
+      subst (WasGiven state old new) (append-nil text) (given_then _ _ _ _ _ first second)
 
   -- a text that goes on after a failure
   pub given_more_after_failure : (old between : O) (text more : List ℕ) → WasGiven state old between text → (state between).has_failed ≡ true
       → WasGiven state old between (text ++ more)
-  given_more_after_failure old between text more first failed = given_then old between between text more first (given_after_failure between more failed)
+  given_more_after_failure old between text more first failed = given_then _ _ _ _ _ first (given_after_failure between more failed)
 
   -- the texts of the first elements were given
   module _ (one : ℕ → List ℕ) {elements all : List ℕ} (same : elements ≡ all) (i : ℕ) (old between : O)
@@ -146,14 +145,13 @@ module _ {O : Type 0} (state : O → SinkState) where
     given_more new element within element_is more = subst (WasGiven state old new)
         (flat_map_more one [] (take i elements) element
         ∙ ap (flat_map one) (ap (λ e. take i elements ++ e ∷ []) element_is ∙ sym (take_more elements i 0 within)))
-        (given_then old between new (flat_map one (take i elements)) (one element) so_far more)
+        (given_then _ _ _ _ _ so_far more)
 
     -- a call had failed, so the sink was given all
     pub given_all_after_failure : (state between).has_failed ≡ true → WasGiven state old between (flat_map one all)
     given_all_after_failure failed = subst (WasGiven state old between)
         (sym (flat_map-append one (take i elements) (drop i elements)) ∙ ap (flat_map one) (take-append-drop i elements ∙ same))
-        (given_then old between between (flat_map one (take i elements)) (flat_map one (drop i elements)) so_far
-        (given_after_failure between (flat_map one (drop i elements)) failed))
+        (given_then _ _ _ _ _ so_far (given_after_failure between (flat_map one (drop i elements)) failed))
 
     -- there are no more elements
     pub given_all : length elements ≤ i → WasGiven state old between (flat_map one all)

@@ -7,7 +7,7 @@ use Rattle.std.proofs.lemmas.Str.Ascii.{IsAscii-nil, IsAscii-cons}
 use Rattle.kalah_jobs.specs.Line.Line.{comma, space, side_text}
 use Rattle.kalah_rules.specs.Position.{Position, side_length, IsWithinLimits, IsSmallMargin, is_over}
 use Rattle.kalah_jobs.specs.Writing.Player.{houses_of}
-use Rattle.kalah_jobs.specs.declared.writing.player.Player.{Player}
+use Rattle.kalah_jobs.specs.Types.{BestMove, Player, Answer, Taken, Question, Tally}
 use Rattle.kalah_jobs.specs.declared.writing.player.Player.TheVariants.{Mover, Other}
 use Rattle.std.proofs.Math.ListN.{drop_of_length-le}
 use Rattle.std.proofs.lemmas.List.{length-take-le, length-drop, drop_at, drop-drop, drop_more}
@@ -16,28 +16,22 @@ use Rattle.std.proofs.lemmas.Bool.{ne_eqb, cond_both, cases_eq}
 use Rattle.kalah_jobs.specs.Files.Lines.{line_feed, lines_of}
 use Rattle.kalah_jobs.specs.Writing.Answer.{in_one_line, answer_line, joined_text, place_text, value_text, values_text, answer_of, is_faulty_entry, IsOfOneLine}
 use Rattle.kalah_jobs.specs.Writing.Picture.{cell, column_width, empty_columns}
-use Rattle.kalah_jobs.specs.declared.writing.answer.Answer.{Answer}
 use Rattle.kalah_jobs.specs.declared.writing.answer.Answer.TheVariants.{Best, Over, Values, Steps, Fault}
 use Rattle.std.specs.Int.Signed.{mag}
 use Rattle.std.proofs.lemmas.Int.{ints, to_z-of_z}
 use Rattle.std.proofs.lemmas.List.Elements.{All-head, All-tail, All-map, All-from_get_or, Contains-get_or}
-use Rattle.kalah_rules.specs.Limits.{most_houses}
 use Rattle.kalah_rules.specs.Play.{legal_houses}
 use Rattle.kalah_solve.specs.Solver.MoveValues.{IsMoveValue, move_value, values_of}
 use Rattle.kalah_solve.specs.declared.solver.move_values.MoveValue.{MoveValue}
 use Rattle.kalah_solve.proofs.SolverLemmas.{move_value_small}
 use Rattle.kalah_jobs.specs.Writing.Shown.{AreSmall, AscendFrom, value_cell, value_columns}
-use Rattle.kalah_jobs.specs.declared.writing.answer.Taken.{Taken}
 use Rattle.kalah_jobs.proofs.ListLemmas.{items_from, count_map, onto_first-append, enumerate_from-append}
 use Rattle.std.proofs.lemmas.Grind.{flat_map-append}
 use Rattle.std.proofs.lemmas.List.Sums.{sum_by-cons, sum_by-append}
 use Rattle.kalah_jobs.specs.Files.NamedBytes.{NamedBytes}
 use Rattle.kalah_jobs.specs.Files.Entry.{entry_to}
-use Rattle.kalah_jobs.specs.declared.files.question.Question.{Question}
-use Rattle.kalah_jobs.specs.Files.Jobs.{entries_to, jobs_to}
+use Rattle.kalah_jobs.specs.Files.Jobs.{entries_to, jobs_to, lines_in}
 use Rattle.kalah_jobs.specs.Writing.Output.{line_output, file_output, output_to, is_faulty, tally_of, text_of_line, text_of_file, taken_output, names_of, FilesAreTheirJobs}
-use Rattle.kalah_jobs.specs.declared.writing.tally.Tally.{Tally}
-use Rattle.kalah_jobs.specs.declared.files.question.Question.TheVariants.{BestMove}
 use Rattle.kalah_jobs.specs.Writing.Splitting.{OutputSplitsByFiles, EndsWithItsLine, FilesSplitBetweenLines}
 use Rattle.kalah_jobs.proofs.FilesLemmas.{lines_of-feed, lines_of-byte, length-lines_of, all_entries, length-job_list, job_count-jobs_to, asked_fault, faulty_jobs}
 
@@ -211,7 +205,7 @@ small_mag (pos n) small = omega (arith, ints, small.high)
 small_mag (negsuc n) small = omega (arith, ints, small.low)
 
 -- a value of a game has at most four bytes
-pub value_length : (v : ℤ) → IsSmallMargin v → length (signed_decimal v) ≤ 4
+value_length : (v : ℤ) → IsSmallMargin v → length (signed_decimal v) ≤ 4
 value_length (pos n) small = length_signed_le 3 (pos n) (omega (arith, ints, small.high)) (small_mag (pos n) small)
 value_length (negsuc n) small = length_signed_le 3 (negsuc n) (omega (arith, ints, small.low)) (small_mag (negsuc n) small)
 
@@ -364,7 +358,7 @@ output_splits_by_files = record {
   asked = λ question first others. flat_map-append (file_output question) first others;
   best_moves = λ first others. flat_map-append (file_output BestMove) first others;
   counts = λ first others. ap₂ counts
-      (sum_by-append (λ (file : NamedBytes). length (lines_of file.bytes)) first others)
+      (sum_by-append lines_in first others)
       (sum_by-append (λ (file : NamedBytes). count_by is_faulty (lines_of file.bytes)) first others);
 }
 

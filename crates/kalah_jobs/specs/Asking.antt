@@ -5,12 +5,10 @@ use Rattle.std.specs.List.{flat_map, enumerate_from, join_with_byte, list_any}
 use Rattle.std.specs.Io.Buffered.{reader_remaining}
 use Rattle.std.specs.Io.KnownBytes.{Appends, Consumes}
 use Rattle.kalah_rules.specs.Position.{seeds_in_houses}
-use Rattle.kalah_jobs.specs.declared.asking.ask_fault.AskFault.{AskFault}
 use Rattle.kalah_jobs.specs.declared.asking.ask_fault.AskFault.TheVariants.{Read, Write}
 use Rattle.kalah_jobs.specs.declared.asking.prompt_reader.PromptReader.{PromptReader}
-use Rattle.kalah_jobs.specs.declared.files.entry.Entry.{Entry}
+use Rattle.kalah_jobs.specs.Types.{AskFault, Entry, Question}
 use Rattle.kalah_jobs.specs.declared.files.entry.Entry.TheVariants.{Position, ValuesOf}
-use Rattle.kalah_jobs.specs.declared.files.question.Question.{Question}
 use Rattle.kalah_jobs.specs.declared.files.question.Question.TheVariants.{Steps}
 use Rattle.kalah_jobs.specs.Limits.{most_line_bytes}
 use Rattle.kalah_jobs.specs.Files.Lines.{line_feed, lines_of, HasNoLineFeed}

@@ -1,8 +1,7 @@
 -- A batch: the pass of the calling thread, what stands written when it has ended, and a batch without a line.
 use Rattle.std.proofs.Common.{[], IfErr, ◌≡◌, ◌≤◌, ◌+◌, ℕ, List, ◌∷◌, ◌++◌, arith, sym, ap, ◌∙◌, Bool, true, false, refl, ⊎_elim, length, take, subst, ◌⊎◌, inl, inr, All, Some, IfSome, Option, None, Result, Ok, Err, OnOk, count_by, IfOk, flat_map}
 use Rattle.std.proofs.lemmas.List.{nil_from_length, map-append, append-nil, length-append, length-map}
-use Rattle.kalah_jobs.specs.declared.files.entry.Entry.{Entry}
-use Rattle.kalah_jobs.specs.declared.files.job.Job.{Job}
+use Rattle.kalah_run.specs.Types.{Entry, Job, Refusal, Tally, Question}
 use Rattle.kalah_jobs.specs.Files.JobList.{job_list}
 use Rattle.kalah_jobs.specs.Collecting.AnyOrder.{AreJobsInSomeOrder}
 use Rattle.kalah_run.specs.Batch.AtWork.{passes_of, puts_of, HaveRun}
@@ -14,10 +13,8 @@ use Rattle.kalah_jobs.proofs.WritingLemmas.{files_are_their_jobs}
 use Rattle.kalah_run.specs.Batch.OrderedOutput.{IsOnlyFlushed, WasGivenSince, text_of_job, text_of, IsNew, HasWritten, whole_output, Waits, WritesReady}
 use Rattle.kalah_run.specs.Batch.Leaving.{rest_by_pass, pass_list, HasDrawnNothing, IsAbandoned, DrawsOnlyTheRest}
 use Rattle.std.proofs.lemmas.Bool.{both_ways, true_from_ne_false}
-use Rattle.kalah_jobs.specs.declared.collecting.refusal.Refusal.{Refusal}
 use Rattle.kalah_jobs.specs.Collecting.CollectorEvents.{Offers}
 use Rattle.kalah_jobs.specs.Writing.Output.{text_of_jobs, taken_output, output_to, output_of_jobs, names_of, tally_of, is_faulty_job}
-use Rattle.kalah_jobs.specs.declared.writing.tally.Tally.{Tally}
 use Rattle.kalah_jobs.specs.Files.NamedBytes.{NamedBytes}
 use Rattle.kalah_run.specs.declared.batch.ordered_output.OrderedOutput.{OrderedOutput}
 use Rattle.std.proofs.lemmas.List.Elements.{All-push}
@@ -31,7 +28,6 @@ use Rattle.kalah_jobs.proofs.FilesLemmas.{length-job_list, job_count-jobs_to}
 use Rattle.kalah_run.specs.declared.batch.shared_work.SharedWork.{SharedWork}
 use Rattle.kalah_run.specs.declared.batch.request.Rest.{Rest}
 use Rattle.kalah_run.specs.declared.batch.request.Rest.TheVariants.{Solve, Leave}
-use Rattle.kalah_jobs.specs.declared.files.question.Question.{Question}
 use Rattle.kalah_run.specs.Batch.Answering.{AnswersBatch, counts_of, AnswersNothing}
 use Rattle.kalah_run.specs.declared.batch.run_fault.RunFault.{RunFault}
 use Rattle.kalah_run.specs.declared.batch.run_fault.RunFault.TheVariants.{TooManyFiles, TooManyLines, OutOfMemory, NoWorker, Write}
@@ -51,7 +47,7 @@ pub failed_still : {was : Bool} (now : Bool) → (now ≡ false → was ≡ fals
 failed_still now sound failed = true_from_ne_false now (λ still. both_ways _ (sound still) failed)
 
 -- the calling thread's pass, before and after a call of the output
-pub draws_weaken : {desk : DeskState} {was : Bool} {before after : Option PassState} (now : Bool) → (now ≡ false → was ≡ false)
+draws_weaken : {desk : DeskState} {was : Bool} {before after : Option PassState} (now : Bool) → (now ≡ false → was ≡ false)
     → DrawsOnlyTheRest desk was before after → DrawsOnlyTheRest desk now before after
 draws_weaken {was = was} {before} now sound draws = record {
   own = draws.own;
@@ -60,7 +56,7 @@ draws_weaken {was = was} {before} now sound draws = record {
 }
 
 -- the calling thread's pass after two steps
-pub draws_trans : {desk : DeskState} {failed : Bool} {first second third : Option PassState} → DrawsOnlyTheRest desk failed first second
+draws_trans : {desk : DeskState} {failed : Bool} {first second third : Option PassState} → DrawsOnlyTheRest desk failed first second
     → DrawsOnlyTheRest desk failed second third → DrawsOnlyTheRest desk failed first third
 draws_trans {failed = failed} {first} {second} {third} one two = record {
   own = two.own;
@@ -298,9 +294,9 @@ module _ (question : Question) (files : List NamedBytes) (none : lines_in_all fi
     fault = tt;
   }
   nothing_answered state old new (Err TooManyFiles) answers = record { unwritten = left_same state answers.1.0; uncounted = tt; fault = inl refl }
-  nothing_answered state old new (Err TooManyLines) answers = absurd (let more = answers.1 in omega arith)
+  nothing_answered state old new (Err TooManyLines) answers = absurd (omega (arith, answers.1))
   nothing_answered state old new (Err OutOfMemory) answers = record { unwritten = left_same state answers.1.0; uncounted = tt; fault = inr (inl refl) }
-  nothing_answered state old new (Err NoWorker) answers = absurd (let some = answers.1 in omega arith)
+  nothing_answered state old new (Err NoWorker) answers = absurd (omega (arith, answers.1))
   nothing_answered state old new (Err Write) answers = record {
     unwritten = starts_none _ _ _ no_output answers.1;
     uncounted = tt;

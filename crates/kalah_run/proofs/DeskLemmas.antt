@@ -6,9 +6,7 @@ use mathlib.Core.Option.{some, some-injective, some-ne-none, none}
 use lib.ListN.{get_elem?}
 use Rattle.atomic_table.proofs.Lists.{set_again, set_here}
 use Rattle.kalah_run.proofs.ViewLemmas.{Each, each_more, each_set, in_views, view_at, was_there}
-use Rattle.kalah_run.specs.declared.desk.rule.DrawnRow.{DrawnRow}
-use Rattle.kalah_run.specs.declared.desk.rule.DeskPlan.{DeskPlan}
-use Rattle.kalah_run.specs.declared.desk.rule.DeskView.{DeskView}
+use Rattle.kalah_run.specs.Types.{DrawnRow, DeskPlan, DeskView}
 use Rattle.kalah_run.specs.declared.desk.rule.DeskView.TheVariants.{Opening, Drawing, Closing, Ended}
 use Rattle.kalah_jobs.specs.Collecting.Shares.{times_in}
 use Rattle.kalah_run.specs.Desk.Rows.{drawn_numbers, drawn_row, drawn_in, spent_in, DealsEachOnce}
@@ -32,14 +30,14 @@ abbrev pub times_in_row : ℕ → DrawnRow → ℕ
 times_in_row x r = count_by (λ y. y == x) r.numbers
 
 -- how often x stands in the rows, as a sum over the rows
-pub times_rows : (x : ℕ) (rows : List DrawnRow) → times_in x (drawn_numbers rows) ≡ sum_by (times_in_row x) rows
+times_rows : (x : ℕ) (rows : List DrawnRow) → times_in x (drawn_numbers rows) ≡ sum_by (times_in_row x) rows
 times_rows x [] = refl
 times_rows x (r ∷ rs) =
     let mine = sum_by-cons (λ numbers. count_by (λ y. y == x) numbers) r.numbers (drawn_numbers rs) in
     omega (arith, times_rows x rs, mine, sum_by-cons (times_in_row x) r rs)
 
 -- a sum, after a change of one term
-pub sum_set : {X : Type 0} (f : X → ℕ) (xs : List X) (k : ℕ) (old new : X) → get_elem? xs k ≡ some old
+sum_set : {X : Type 0} (f : X → ℕ) (xs : List X) (k : ℕ) (old new : X) → get_elem? xs k ≡ some old
     → sum_by f (set xs k new) + f old ≡ sum_by f xs + f new
 sum_set f xs k old new has_old = rw (view_at xs k old has_old) at (sum_by-set f xs k new old (in_views xs k has_old))
 
@@ -54,24 +52,24 @@ rows_sum f (x ∷ xs) =
     omega (arith, rows_sum f xs, sum_by-append f (rows_in x) (all_rows xs), sum_by-cons (λ view. sum_by f (rows_in view)) x xs)
 
 -- the sum over all rows, after a change of one view
-pub rows_set : (f : DrawnRow → ℕ) (views : List DeskView) (seat : ℕ) (old new : DeskView) → get_elem? views seat ≡ some old
+rows_set : (f : DrawnRow → ℕ) (views : List DeskView) (seat : ℕ) (old new : DeskView) → get_elem? views seat ≡ some old
     → sum_by f (all_rows (set views seat new)) + sum_by f (rows_in old) ≡ sum_by f (all_rows views) + sum_by f (rows_in new)
 rows_set f views seat old new has_old =
     omega (arith, rows_sum f (set views seat new), rows_sum f views, sum_set (λ u. sum_by f (rows_in u)) views seat old new has_old)
 
 -- the same with one seat more
-pub rows_push : (f : DrawnRow → ℕ) (views : List DeskView) (new : DeskView)
+rows_push : (f : DrawnRow → ℕ) (views : List DeskView) (new : DeskView)
     → sum_by f (all_rows (views ++ new ∷ [])) ≡ sum_by f (all_rows views) + sum_by f (rows_in new)
 rows_push f views new =
     omega (arith, rows_sum f (views ++ new ∷ []), rows_sum f views, sum_by_push (λ u. sum_by f (rows_in u)) views new)
 
 -- the sum over one seat's rows is within that over all
-pub rows_at : (f : DrawnRow → ℕ) (views : List DeskView) (seat : ℕ) (view : DeskView) → get_elem? views seat ≡ some view
+rows_at : (f : DrawnRow → ℕ) (views : List DeskView) (seat : ℕ) (view : DeskView) → get_elem? views seat ≡ some view
     → sum_by f (rows_in view) ≤ sum_by f (all_rows views)
 rows_at f views seat view has_view = omega (arith, rows_sum f views, sum_at (λ u. sum_by f (rows_in u)) views seat view has_view)
 
 -- a fact of the rows of one seat
-pub all_at : (P : DrawnRow → Type 0) (views : List DeskView) (seat : ℕ) (view : DeskView) → get_elem? views seat ≡ some view
+all_at : (P : DrawnRow → Type 0) (views : List DeskView) (seat : ℕ) (view : DeskView) → get_elem? views seat ≡ some view
     → All P (all_rows views) → All P (rows_in view)
 all_at P [] seat view has_view all = absurd (some-ne-none view (sym has_view))
 all_at P (x ∷ xs) zero view has_view all = subst (λ u. All P (rows_in u)) (some-injective x view has_view)
@@ -92,13 +90,13 @@ rows_within_one (Drawing total number r) = omega arith
 rows_within_one (Closing rows) = omega arith
 rows_within_one Ended = omega arith
 
-pub rows_within_passes : (views : List DeskView) → length (all_rows views) ≤ sum_by passes_in views
+rows_within_passes : (views : List DeskView) → length (all_rows views) ≤ sum_by passes_in views
 rows_within_passes [] = omega arith
 rows_within_passes (x ∷ xs) =
     omega (arith, rows_within_passes xs, rows_within_one x, sum_by-cons passes_in x xs, length-append (rows_in x) (all_rows xs))
 
 -- a closing seat that took in all passes has all rows
-pub has_all : (views : List DeskView) (seat : ℕ) (rows : List DrawnRow) → get_elem? views seat ≡ some (Closing rows)
+has_all : (views : List DeskView) (seat : ℕ) (rows : List DrawnRow) → get_elem? views seat ≡ some (Closing rows)
     → length rows ≡ sum_by passes_in views → all_rows views ≡ rows
 has_all [] seat rows has_view whole = absurd (some-ne-none (Closing rows) (sym has_view))
 has_all (x ∷ xs) zero rows has_view whole =
@@ -225,8 +223,8 @@ module _ {S : Type 0} {plan : DeskPlan} {s : State S DeskView} (seat : ℕ) {tot
       let rows : List DrawnRow = all_rows (set s.views seat after) in
       let same : total ≡ plan.total = kept.totals seat before has_view in
       let none_spent : spent_in (all_rows s.views) ≡ 0 =
-      elim (none_or_all kept.deals) [ inl unspent ↦ unspent | inr full ↦ omega arith ] in
-      let word_is : word_of kept ≡ n = omega arith in
+      elim (none_or_all kept.deals) [ inl unspent ↦ unspent | inr full ↦ omega (arith, full, same, low) ] in
+      let word_is : word_of kept ≡ n = omega (arith, none_spent) in
       let drawn : drawn_in rows ≡ drawn_in (all_rows s.views) + 1 =
       omega (arith, rows_set (λ r. length r.numbers) s.views seat before after has_view, length-append numbers (n ∷ [])) in
       let spent : spent_in rows ≡ spent_in (all_rows s.views) =
@@ -234,8 +232,8 @@ module _ {S : Type 0} {plan : DeskPlan} {s : State S DeskView} (seat : ℕ) {tot
       let rises : Ascends (drawn_row (numbers ++ n ∷ []) false) = all_pairs_push (λ x y. x < y) numbers n ascends stands_below in
       rw word_is (
         kept_after (drawn_row (numbers ++ n ∷ []) false) (record {
-          within = omega arith;
-          count = omega (arith, kept.deals.count);
+          within = omega (arith, low, same, word_is);
+          count = omega (arith, drawn, kept.deals.count);
           each_once = λ x.
               let more : sum_by (times_in_row x) rows ≡ sum_by (times_in_row x) (all_rows s.views) + cond (n == x) 1 0 =
               omega (arith, rows_set (times_in_row x) s.views seat before after has_view, sum_by_push (λ y. cond (y == x) 1 0) numbers n) in
@@ -243,8 +241,8 @@ module _ {S : Type 0} {plan : DeskPlan} {s : State S DeskView} (seat : ℕ) {tot
               ∙ ap (λ k. k + cond (n == x) 1 0) (sym (times_rows x (all_rows s.views)) ∙ kept.deals.each_once x)
               ∙ once_more x n;
           ascending = stays_ascending after (All-cons Ascends (drawn_row (numbers ++ n ∷ []) false) [] rises (All-nil Ascends));
-          spent = λ some_spent. absurd (omega arith);
-        }) (omega arith),
+          spent = λ some_spent. absurd (omega (arith, some_spent, spent, none_spent));
+        }) (omega (arith, spent, none_spent)),
         stands_below,
       )
 
@@ -255,7 +253,7 @@ module _ {S : Type 0} {plan : DeskPlan} {s : State S DeskView} (seat : ℕ) {tot
       let after : DeskView = spent_view total number numbers in
       let same : total ≡ plan.total = kept.totals seat before has_view in
       let full : kept.drawn ≡ plan.total =
-      elim (none_or_all kept.deals) [ inl unspent ↦ (let within = kept.deals.within in omega arith) | inr full ↦ full ] in
+      elim (none_or_all kept.deals) [ inl unspent ↦ omega (arith, unspent, kept.deals.within, same, high) | inr full ↦ full ] in
       let drawn : drawn_in (all_rows (set s.views seat after)) ≡ drawn_in (all_rows s.views) =
       omega (arith, rows_set (λ r. length r.numbers) s.views seat before after has_view) in
       let spent : spent_in (all_rows (set s.views seat after)) ≡ spent_in (all_rows s.views) + 1 =
@@ -263,7 +261,7 @@ module _ {S : Type 0} {plan : DeskPlan} {s : State S DeskView} (seat : ℕ) {tot
       kept_after (drawn_row numbers true)
       (deals_alike kept.deals drawn (λ x. omega (arith, rows_set (times_in_row x) s.views seat before after has_view))
       (stays_ascending after (All-cons Ascends (drawn_row numbers true) [] ascends (All-nil Ascends))) (λ _. full))
-      (omega arith)
+      (omega (arith, spent))
 
   -- it draws no number: nothing changes
   draws_nothing : {word : ℕ} → word ≡ word_of kept
@@ -322,15 +320,15 @@ draw_is_lawful {S} plan slots seat me is_pass unspent =
 draws_all : {S : Type 0} {plan : DeskPlan} (left : ℕ) {s : State S DeskView} (seat : ℕ) {total number : ℕ} {numbers : List ℕ}
     (kept : IsLawful plan s) (has_view : get_elem? s.views seat ≡ some (unspent_view total number numbers)) → word_of kept + left ≡ total
     → IsLawful plan (after_step s (total ∷ []) seat (unspent_view total number (numbers ++ range_with_len (word_of kept) left)))
-draws_all zero seat kept has_view all = draws_nothing seat kept has_view (omega arith)
+draws_all zero seat kept has_view all = draws_nothing seat kept has_view (omega (arith, all))
 draws_all {S} {plan} (suc left) {s} seat {total} {number} {numbers} kept has_view all =
     let n : ℕ = word_of kept in
     let after : DeskView = drawn_view total number numbers n in
-    let one = (draws_some seat kept has_view (omega arith)).0 in
+    let one = (draws_some seat kept has_view (omega (arith, all))).0 in
     let has_after = set_here s.views seat after (in_views s.views seat has_view) in
     let next : word_of one ≡ n + 1 = ap (λ words. slice_index words 0) (sym one.word) in
     rw (set-set s.views seat after _, append_assoc numbers (n ∷ []) (range_with_len (n + 1) left)) at
-    (rw next at (draws_all left seat one has_after (omega (arith, next))))
+    (rw next at (draws_all left seat one has_after (omega (arith, next, all))))
 
 draws_rest_at : {S : Type 0} (plan : DeskPlan) (slots seat total number : ℕ) (numbers : List ℕ) (limit : ℕ) → limit ≡ plan.total
     → Allows {S = S} (IsLawful plan) slots seat (unspent_view total number numbers, []) 0 (λ n. max n limit)
@@ -343,9 +341,10 @@ draws_rest_at {S} plan slots seat total number numbers limit limit_is = allowed_
     let lawful : IsLawful {S = S} plan (after_step s (max n limit ∷ []) seat after) =
     ⊎_elim
     (λ (low : n < total).
-    let most : total ≡ max n limit = omega arith in
-    subst (λ word. IsLawful plan (after_step s (word ∷ []) seat after)) most (draws_all (total - n) seat kept has_view (omega arith)))
-    (λ (high : total ≤ n). let none_left : total - n ≡ 0 = omega arith in rw none_left (draws_nothing seat kept has_view (omega arith)))
+    let most : total ≡ max n limit = omega (arith, low, same, limit_is) in
+    subst (λ word. IsLawful plan (after_step s (word ∷ []) seat after)) most (draws_all (total - n) seat kept has_view (omega (arith, low))))
+    (λ (high : total ≤ n).
+    let none_left : total - n ≡ 0 = omega (arith, high) in rw none_left (draws_nothing seat kept has_view (omega (arith, high, same, limit_is))))
     (cases_lt n total) in
     (after, lawful, (refl, refl)))
 

@@ -1,8 +1,7 @@
 -- The output of a batch: what its sink was given, and the loop that writes each line once it is ready.
 use Rattle.std.proofs.Common.{[], add-one, ◌≡◌, ◌≤◌, ◌<◌, ◌+◌, ◌-◌, ℕ, suc, List, ◌∷◌, ◌++◌, arith, sym, ap, ◌∙◌, Bool, true, false, refl, ⊎_elim, length, get_or, take, drop, subst, inl, inr, Some, slice_get, None, Result, sum_by}
 use Rattle.std.proofs.lemmas.List.{take-append-drop, take_all, take_more, flat_map_more, get_or-map}
-use Rattle.kalah_jobs.specs.declared.files.entry.Entry.{Entry}
-use Rattle.kalah_jobs.specs.declared.files.job.Job.{Job}
+use Rattle.kalah_run.specs.Types.{Entry, Job, Taken, Refusal}
 use Rattle.std.proofs.lemmas.Option.{get_or_from_slice_get, slice_get_within}
 use Rattle.kalah_jobs.specs.Files.JobList.{job_list, jobs_from, file_jobs, line_job, entries_of, entry_at}
 use Rattle.kalah_jobs.specs.Collecting.AnyOrder.{AreJobsInSomeOrder}
@@ -13,8 +12,6 @@ use Rattle.kalah_run.specs.Batch.OrderedOutput.{IsOnlyFlushed, WasGivenSince, te
 use Rattle.std.specs.List.{flat_map, enumerate_from}
 use Rattle.std.proofs.lemmas.Bool.{cases_eq, cases_lt, both_ways}
 use Rattle.std.proofs.lemmas.Grind.{flat_map-append}
-use Rattle.kalah_jobs.specs.declared.writing.answer.Taken.{Taken}
-use Rattle.kalah_jobs.specs.declared.collecting.refusal.Refusal.{Refusal}
 use Rattle.kalah_jobs.specs.Writing.Answer.{answer_line}
 use Rattle.kalah_jobs.specs.Collecting.CollectorState.{ArrivalsState, state_of, front, HasEnded, with_one_taken, new_files, after_take}
 use Rattle.kalah_jobs.specs.Collecting.CollectorEvents.{Offers, Takes, answered_line}
@@ -37,7 +34,7 @@ since_none begun = record { start = prefix_none begun.written []; whole = λ sou
 since_failed : {begun out : SinkState} (bs cs : List ℕ) → WasGivenSince begun out bs → out.has_failed ≡ true
     → WasGivenSince begun out (bs ++ cs)
 since_failed {begun} {out} bs cs given broken = record {
-  start = prefix_longer begun.written out.written bs cs given.start;
+  start = prefix_longer _ _ bs cs given.start;
   whole = λ sound. absurd (both_ways _ sound broken);
 }
 
@@ -48,16 +45,16 @@ since_more {state = state} {begun} {old} {new} bs cs given more = by (state old)
   by : (b : Bool) → (state old).has_failed ≡ b → WasGivenSince begun (state new) (bs ++ cs)
   by true failed = rw (more.quiet failed) (since_failed bs cs given failed)
   by false sound = record {
-    start = prefix_then begun.written (state old).written (state new).written (bs ++ cs) bs cs refl (given.whole sound) more.start;
-    whole = λ still. Appends-trans begun.written (state old).written (state new).written bs cs (given.whole sound) (more.whole still).1;
+    start = prefix_then _ _ _ (bs ++ cs) bs cs refl (given.whole sound) more.start;
+    whole = λ still. Appends-trans _ _ _ bs cs (given.whole sound) (more.whole still).1;
   }
 
 -- what was given stays given if nothing more is written
 pub since_kept : {begun out more : SinkState} {bs : List ℕ} → WasGivenSince begun out bs → IsOnlyFlushed out more
     → WasGivenSince begun more bs
 since_kept {begun} {out} {more} {bs} given flushed = record {
-  start = prefix_kept begun.written out.written more.written bs given.start flushed.keeps;
-  whole = λ sound. Appends-kept begun.written out.written more.written bs (given.whole (flushed.sound sound)) flushed.keeps;
+  start = prefix_kept _ _ _ bs given.start flushed.keeps;
+  whole = λ sound. Appends-kept _ _ _ bs (given.whole (flushed.sound sound)) flushed.keeps;
 }
 
 -- ==== The loop that writes each line once it is ready and all before it were written
@@ -120,7 +117,7 @@ module _ (text : ℕ → Taken → List ℕ) (jobs : List (List Entry)) where
       )
 
   -- nothing was offered and nothing taken
-  pub progress_start : (begun : SinkState) → IsUnderWay text jobs [] (new_files jobs) 0 begun begun
+  progress_start : (begun : SinkState) → IsUnderWay text jobs [] (new_files jobs) 0 begun begun
   unfolding written_upto
   progress_start begun =
       record {
@@ -171,7 +168,7 @@ module _ {text : ℕ → Taken → List ℕ} {jobs : List (List Entry)} {past : 
       let up : (state_of files f).taken ≤ front (state_of files f) = progress.kept.within f in
       let counts = progress.kept.offered.counts in
       let whole : (state_of files f).taken ≡ length (entries_of jobs f) = omega (arith, lines_are jobs files counts f) in
-      let jobs_low : f < length jobs = (let m = files_many jobs files counts in omega arith) in
+      let jobs_low : f < length jobs = omega (arith, low, files_many jobs files counts) in
       let none : (state_of files (f + 1)).taken ≡ 0 = progress.later (f + 1) (omega arith) in
       let text_is : written_upto text jobs f (state_of files f).taken ≡ written_upto text jobs (f + 1) (state_of files (f + 1)).taken =
       ap (written_upto text jobs f) whole

@@ -2,13 +2,12 @@
 use Rattle.std.proofs.Common.{◌≡◌, ◌≢◌, ℕ, zero, suc, ◌+◌, ◌<◌, ◌≤◌, ◌==◌, if◌then◌else◌, Bool, true, false, List, [], ◌∷◌, ◌++◌, length, All, slice_index_or, refl, sym, ap, ◌∙◌, eq-eqb, ne_eqb, arith, set, subst, append_assoc, inl, inr, length-append}
 use Rattle.std.proofs.lemmas.List.{append-nil, length-map, length-set, length_push, map-append, get_or_at, get_or_append_left, get_or_push}
 use Rattle.std.proofs.lemmas.List.Elements.{All-push}
-use Rattle.kalah_jobs.specs.declared.files.job.Job.{Job}
+use Rattle.kalah_run.specs.Types.{Job, QueueView}
 use Rattle.kalah_jobs.specs.Collecting.Shares.{sent_by_worker}
 use mathlib.Core.Option.{some, some-injective, some-ne-none}
 use lib.ListN.{get_elem?}
 use Rattle.atomic_table.proofs.Lists.{at_longer, set_else, set_here}
 use Rattle.kalah_run.proofs.ViewLemmas.{each_more, each_set, in_views, was_there}
-use Rattle.kalah_run.specs.declared.queue.rule.QueueView.{QueueView}
 use Rattle.kalah_run.specs.declared.queue.rule.QueueView.TheVariants.{Getting, Putting, Ended}
 use Rattle.atomic_table.specs.Seated.{TableId}
 use Rattle.kalah_run.specs.Queue.States.{PutPassState, ArePassesFrom, Accounts, outcomes_in}
@@ -19,7 +18,7 @@ use Rattle.std.proofs.lemmas.Bool.{cases_lt}
 -- ==== What the pairs determine of one worker, and of all
 
 -- what a worker sent by two lists of pairs is what it sent by the first, and then by the second
-pub sent_by_worker-append : (w : ℕ) (xs ys : List (ℕ × Job)) → sent_by_worker w (xs ++ ys) ≡ sent_by_worker w xs ++ sent_by_worker w ys
+sent_by_worker-append : (w : ℕ) (xs ys : List (ℕ × Job)) → sent_by_worker w (xs ++ ys) ≡ sent_by_worker w xs ++ sent_by_worker w ys
 sent_by_worker-append w [] ys = refl
 sent_by_worker-append w (t ∷ ts) ys =
     ap (λ (l : List Job). if t.0 == w then t.1 ∷ l else l) (sent_by_worker-append w ts ys)
@@ -33,20 +32,20 @@ other_pair : (w : ℕ) (t : ℕ × Job) (l : List Job) → t.0 ≢ w → (if t.0
 other_pair w t l apart = ap (λ (b : Bool). if b then t.1 ∷ l else l) (ne_eqb t.0 w apart)
 
 -- one pair more, of the worker itself
-pub own_pair_goes_last : (w : ℕ) (xs : List (ℕ × Job)) (t : ℕ × Job) → t.0 ≡ w
+own_pair_goes_last : (w : ℕ) (xs : List (ℕ × Job)) (t : ℕ × Job) → t.0 ≡ w
     → sent_by_worker w (xs ++ t ∷ []) ≡ sent_by_worker w xs ++ t.1 ∷ []
 own_pair_goes_last w xs t own = sent_by_worker-append w xs (t ∷ [])
     ∙ ap (λ (b : Bool). sent_by_worker w xs ++ (if b then t.1 ∷ [] else [])) (eq-eqb t.0 w own)
 
 -- one pair more, of another worker
-pub other_pair_changes_nothing : (w : ℕ) (xs : List (ℕ × Job)) (t : ℕ × Job) → t.0 ≢ w
+other_pair_changes_nothing : (w : ℕ) (xs : List (ℕ × Job)) (t : ℕ × Job) → t.0 ≢ w
     → sent_by_worker w (xs ++ t ∷ []) ≡ sent_by_worker w xs
 other_pair_changes_nothing w xs t apart =
     sent_by_worker-append w xs (t ∷ [])
     ∙ (ap (sent_by_worker w xs ++◌) (other_pair w t [] apart) ∙ append-nil (sent_by_worker w xs))
 
 -- there is nothing of a worker who isn't among them
-pub no_pair_beyond_workers : (workers w : ℕ) (xs : List (ℕ × Job)) → All (λ (t : ℕ × Job). t.0 < workers) xs → workers ≤ w
+no_pair_beyond_workers : (workers w : ℕ) (xs : List (ℕ × Job)) → All (λ (t : ℕ × Job). t.0 < workers) xs → workers ≤ w
     → sent_by_worker w xs ≡ []
 no_pair_beyond_workers workers w [] below le = refl
 no_pair_beyond_workers workers w (t ∷ ts) below le =
@@ -54,7 +53,7 @@ no_pair_beyond_workers workers w (t ∷ ts) below le =
     other_pair w t (sent_by_worker w ts) (λ e. omega arith) ∙ no_pair_beyond_workers workers w ts (λ k d lt. below (suc k) d (omega arith)) le
 
 -- of pairs that are all of workers, the one that comes next is
-pub next_below : (workers : ℕ) (taken : List (ℕ × Job)) (t : ℕ × Job) (rest : List (ℕ × Job))
+next_below : (workers : ℕ) (taken : List (ℕ × Job)) (t : ℕ × Job) (rest : List (ℕ × Job))
     → All (λ (u : ℕ × Job). u.0 < workers) (taken ++ t ∷ rest) → t.0 < workers
 next_below workers taken t rest below =
     rw (get_or_at taken t rest t _ refl) at (below (length taken) t (omega (arith, length-append taken (t ∷ rest))))
@@ -73,11 +72,11 @@ known_more known s given same next k lt = elim (cases_lt k (length known)) [
 -- ---- what the pairs account for
 
 -- there are no workers and no pairs
-pub accounts_none : Accounts 0 [] []
+accounts_none : Accounts 0 [] []
 accounts_none = record { below = λ k d lt. absurd (omega arith); whole = λ w lt. absurd (omega arith) }
 
 -- a pair more, of a worker whose list isn't known yet
-pub accounts_pair : (workers : ℕ) (known : List (List Job)) (pairs : List (ℕ × Job)) (x : ℕ × Job) → x.0 < workers → length known ≤ x.0
+accounts_pair : (workers : ℕ) (known : List (List Job)) (pairs : List (ℕ × Job)) (x : ℕ × Job) → x.0 < workers → length known ≤ x.0
     → Accounts workers known pairs → Accounts workers known (pairs ++ x ∷ [])
 accounts_pair workers known pairs x lt le accounts =
     record {
@@ -86,16 +85,16 @@ accounts_pair workers known pairs x lt le accounts =
     }
 
 -- a worker more
-pub accounts_worker : (workers : ℕ) (known : List (List Job)) (pairs : List (ℕ × Job)) → Accounts workers known pairs
+accounts_worker : (workers : ℕ) (known : List (List Job)) (pairs : List (ℕ × Job)) → Accounts workers known pairs
     → Accounts (workers + 1) known pairs
 accounts_worker workers known pairs accounts =
     record {
-      below = λ k d lt. let b : (slice_index_or pairs k d).0 < workers = accounts.below k d lt in omega arith;
+      below = λ k d lt. omega (arith, accounts.below k d lt);
       whole = accounts.whole;
     }
 
 -- a list more that is known: what the worker with the number after those known has sent
-pub accounts_known : (workers : ℕ) (known : List (List Job)) (pairs : List (ℕ × Job)) (sent : List Job)
+accounts_known : (workers : ℕ) (known : List (List Job)) (pairs : List (ℕ × Job)) (sent : List Job)
     → sent ≡ sent_by_worker (length known) pairs → Accounts workers known pairs → Accounts workers (known ++ sent ∷ []) pairs
 accounts_known workers known pairs sent sent_is accounts =
     record { below = accounts.below; whole = known_more known sent (λ w. sent_by_worker w pairs) accounts.whole (sym sent_is) }

@@ -22,7 +22,7 @@ module _ {V : Type 0} where
   view_at (x ∷ xs) (suc place) d has_view = view_at xs place d has_view
 
   -- a view of a list with one more stood there before, or is the one more
-  pub at_end : (views : List V) (a b : V) (place : ℕ) → get_elem? (views ++ a ∷ []) place ≡ some b
+  at_end : (views : List V) (a b : V) (place : ℕ) → get_elem? (views ++ a ∷ []) place ≡ some b
       → (get_elem? views place ≡ some b) ⊎ ((place ≡ length views) × (a ≡ b))
   at_end [] a b zero has_b = inr (refl, some-injective a b has_b)
   at_end [] a b (suc place) has_b = absurd (some-ne-none b (sym has_b))

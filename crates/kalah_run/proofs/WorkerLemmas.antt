@@ -1,13 +1,11 @@
 -- The workers of a batch: what each sends, and what is known once all have run.
 use Rattle.std.proofs.Common.{[], ◌≡◌, ◌≤◌, ◌<◌, ◌+◌, ◌-◌, ℕ, suc, List, ◌∷◌, ◌++◌, arith, sym, ap, ◌∙◌, Bool, true, length, get_or, append_assoc, subst, zero, map, reverse, ◌==◌, if◌then◌else◌, ne_eqb, inl, inr, All, Some, fold, slice_get, count_by}
 use Rattle.std.proofs.lemmas.List.{map-append, reverse-append, get_or-map, length-append, length-map}
-use Rattle.kalah_jobs.specs.declared.files.entry.Entry.{Entry}
-use Rattle.kalah_jobs.specs.declared.files.job.Job.{Job}
+use Rattle.kalah_run.specs.Types.{Entry, Job, DrawnRow}
 use Rattle.std.proofs.lemmas.List.Sums.{fold-append, sum_by-cons}
 use Rattle.std.proofs.lemmas.Option.{get_or_from_slice_get}
 use Rattle.kalah_jobs.specs.Files.JobList.{job_list, no_job}
 use Rattle.kalah_jobs.specs.Collecting.AnyOrder.{job, AreJobsInSomeOrder}
-use Rattle.kalah_run.specs.declared.desk.rule.DrawnRow.{DrawnRow}
 use Rattle.kalah_run.specs.Batch.AtWork.{drawn_jobs, passes_of, puts_of, AreAtWork, HasRun, HaveRun}
 use Rattle.std.proofs.lemmas.Bool.{cases_eq, cases_lt, lt-ltb}
 use Rattle.kalah_jobs.proofs.CountingLemmas.{gets_each_job_once, as_many_as_numbers}
@@ -41,7 +39,7 @@ least_above numbers = fold (λ above x. x + 1) 0 numbers
 none_above : (numbers : List ℕ) (first limit : ℕ) → first ≤ limit → All (λ x. x < limit) numbers
     → fold (λ above x. x + 1) first numbers ≤ limit
 none_above [] first limit low below = low
-none_above (x ∷ xs) first limit low below = none_above xs (x + 1) limit (let least = below 0 x (omega arith) in omega arith)
+none_above (x ∷ xs) first limit low below = none_above xs (x + 1) limit (omega (arith, below 0 x (omega arith)))
     (λ k d within. below (suc k) d (omega arith))
 
 -- with one number more there is less left to draw
@@ -143,7 +141,7 @@ have_run list_is as_many each = rw (← list_is) (record { as_many = as_many; ea
 module _ {G : Type 0} {knows : G → ℕ → Bool} (shared : SharedWork G) (before after : List Worker)
     (run : HaveRun knows shared before after) where
   -- it is at work
-  pub run_at_work : AreAtWork knows shared after
+  run_at_work : AreAtWork knows shared after
   run_at_work = λ k d within. (run.each k d (omega (arith, run.as_many))).at_work
 
   -- its pass is of the desk

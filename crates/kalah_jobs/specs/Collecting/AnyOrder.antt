@@ -1,8 +1,6 @@
 -- The jobs of a batch in any order, and what follows if each is offered once.
 use Rattle.std.specs.Prelude.{◌≡◌, ℕ, List, ◌∷◌, ◌++◌, length, map, count_by, slice_index_or, Bool, Result, IsOk}
-use Rattle.kalah_jobs.specs.declared.files.entry.Entry.{Entry}
-use Rattle.kalah_jobs.specs.declared.collecting.refusal.Refusal.{Refusal}
-use Rattle.kalah_jobs.specs.declared.files.job.Job.{Job}
+use Rattle.kalah_jobs.specs.Types.{Entry, Refusal, Job}
 use Rattle.kalah_jobs.specs.Files.JobList.{no_job, job_list}
 use Rattle.kalah_jobs.specs.Collecting.CollectorState.{ArrivalsState, state_of, HasEnded, new_files}
 use Rattle.kalah_jobs.specs.Collecting.CollectorEvents.{Event, offers, Offers}

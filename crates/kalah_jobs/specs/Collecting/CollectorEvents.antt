@@ -1,11 +1,8 @@
 -- What offers and takes do, and what a list of them determines without the collector.
 use Rattle.std.specs.Prelude.{◌≡◌, ℕ, ◌+◌, ◌<◌, ◌≤◌, ◌==◌, if◌then◌else◌, List, [], ◌∷◌, length, map, Option, Some, None, Result, MatchOption, MatchResult, IsSomeAnd, Contains}
 use Rattle.std.specs.List.{enumerate_from}
-use Rattle.kalah_jobs.specs.declared.files.entry.Entry.{Entry}
-use Rattle.kalah_jobs.specs.declared.writing.answer.Taken.{Taken}
-use Rattle.kalah_jobs.specs.declared.collecting.refusal.Refusal.{Refusal}
+use Rattle.kalah_jobs.specs.Types.{Entry, Taken, Refusal, Job}
 use Rattle.kalah_jobs.specs.Writing.Answer.{answer_of}
-use Rattle.kalah_jobs.specs.declared.files.job.Job.{Job}
 use Rattle.kalah_jobs.specs.Files.JobList.{entries_of, entry_at, line_job}
 use Rattle.kalah_jobs.specs.Collecting.CollectorState.{ArrivalsState, state_of, front, IsNext, HasNoNext, after_offer, after_take}
 use Rattle.kalah_jobs.specs.Collecting.Refusals.{IsWanted, IsRefusedFor}

@@ -1,6 +1,6 @@
 -- The law of a collector: after any list of offers and takes its state is the one that the list determines.
 use Rattle.std.specs.Prelude.{◌≡◌, ℕ, ◌≤◌, ◌↔◌, List, [], ◌∷◌, take, IsSome}
-use Rattle.kalah_jobs.specs.declared.files.entry.Entry.{Entry}
+use Rattle.kalah_jobs.specs.Types.{Entry}
 use Rattle.kalah_jobs.specs.Files.JobList.{entries_of}
 use Rattle.kalah_jobs.specs.Collecting.CollectorState.{ArrivalsState, state_of, new_files, front, arrived_for, HasLinesOf}
 use Rattle.kalah_jobs.specs.Collecting.CollectorEvents.{Event, Offered, Took, Offers, Takes, takes, HasArrived, IsFront, answered_lines}

@@ -1,8 +1,6 @@
 -- What has come to a collector, as plain data.
 use Rattle.std.specs.Prelude.{◌≡◌, ℕ, ◌+◌, ◌<◌, ◌≤◌, List, [], ◌∷◌, length, map, Option, Some, None, slice_index_or, slice_set, replicate}
-use Rattle.kalah_jobs.specs.declared.writing.answer.Answer.{Answer}
-use Rattle.kalah_jobs.specs.declared.writing.answer.Taken.{Taken}
-use Rattle.kalah_jobs.specs.declared.files.entry.Entry.{Entry}
+use Rattle.kalah_jobs.specs.Types.{Answer, Taken, Entry}
 
 -- Of a file: for each of its lines the answer that came for it, if one came; and how many answers were taken, from the first line on.
 pub record ArrivalsState : Type 0 where

@@ -1,6 +1,5 @@
 -- What a solver finds for an entry.
-use Rattle.kalah_jobs.specs.declared.files.entry.Entry.{Entry}
-use Rattle.kalah_jobs.specs.declared.writing.answer.Answer.{Answer}
+use Rattle.kalah_jobs.specs.Types.{Entry, Answer}
 use Rattle.kalah_jobs.specs.declared.writing.answer.Answer.TheVariants as answer
 use Rattle.kalah_jobs.specs.declared.collecting.outcome.Found.{Found}
 use Rattle.kalah_jobs.specs.declared.collecting.outcome.Found.TheVariants.{Verdict, Values, Nothing}

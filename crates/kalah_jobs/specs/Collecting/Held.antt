@@ -1,9 +1,7 @@
 -- What has come, once these offers were made.
 use Rattle.std.specs.Prelude.{◌≡◌, ℕ, ◌≤◌, List, Some, Contains}
-use Rattle.kalah_jobs.specs.declared.files.entry.Entry.{Entry}
-use Rattle.kalah_jobs.specs.declared.writing.answer.Answer.{Answer}
+use Rattle.kalah_jobs.specs.Types.{Entry, Answer, Job}
 use Rattle.kalah_jobs.specs.Writing.Answer.{answer_of}
-use Rattle.kalah_jobs.specs.declared.files.job.Job.{Job}
 use Rattle.kalah_jobs.specs.Files.JobList.{entry_at, line_job}
 use Rattle.kalah_jobs.specs.Collecting.CollectorState.{ArrivalsState, state_of, arrived_for, front, HasLinesOf}
 

@@ -2,7 +2,7 @@
 use Rattle.std.proofs.Common.{ap, sym, ◌≡◌}
 use Rattle.kalah_jobs.specs.declared.collecting.outcome.Found.{Found}
 use Rattle.kalah_jobs.specs.Collecting.Found.{found_of}
-use Rattle.kalah_jobs.specs.declared.files.job.Job.{Job}
+use Rattle.kalah_jobs.specs.Types.{Job}
 use Rattle.kalah_jobs.specs.declared.collecting.outcome.Outcome.TheInside.{Inside}
 
 -- the one outcome of a job

@@ -1,9 +1,7 @@
 -- Which offers are accepted, and which refusal each other one meets: the first that holds.
 use Rattle.std.specs.Prelude.{◌≡◌, ◌≢◌, ◌<◌, ◌≤◌, List, length, Some, None, IsSome}
-use Rattle.kalah_jobs.specs.declared.files.entry.Entry.{Entry}
-use Rattle.kalah_jobs.specs.declared.collecting.refusal.Refusal.{Refusal}
+use Rattle.kalah_jobs.specs.Types.{Entry, Refusal, Job}
 use Rattle.kalah_jobs.specs.declared.collecting.refusal.Refusal.TheVariants.{NoSuchFile, FileEnded, NoSuchLine, WrongPosition, Double}
-use Rattle.kalah_jobs.specs.declared.files.job.Job.{Job}
 use Rattle.kalah_jobs.specs.Files.JobList.{entry_at}
 use Rattle.kalah_jobs.specs.Collecting.CollectorState.{ArrivalsState, state_of, line_count, arrived_for, HasEnded}
 

@@ -3,10 +3,8 @@ use Rattle.std.specs.Prelude.{◌≡◌, ℕ, List, Result, Ok, Err}
 use Rattle.kalah_rules.specs.Position as position
 use Rattle.kalah_jobs.specs.Line.Line.{Reads, HasFault}
 use Rattle.kalah_jobs.specs.Line.Reading.{reading_of}
-use Rattle.kalah_jobs.specs.declared.line.line_fault.LineFault.{LineFault}
-use Rattle.kalah_jobs.specs.declared.files.entry.Entry.{Entry}
+use Rattle.kalah_jobs.specs.Types.{LineFault, Entry, Question}
 use Rattle.kalah_jobs.specs.declared.files.entry.Entry.TheVariants.{Position, ValuesOf, StepsOf, Bad}
-use Rattle.kalah_jobs.specs.declared.files.question.Question.{Question}
 use Rattle.kalah_jobs.specs.declared.files.question.Question.TheVariants.{BestMove, Values, Steps}
 
 -- the line says the entry: it is read as the position, or the fault is the first that holds of it. A question is no part of a line

@@ -1,9 +1,8 @@
 -- The jobs of a batch: of each file the entries of its lines, and all of them in one list.
 use Rattle.std.specs.Prelude.{ℕ, suc, List, [], ◌∷◌, ◌++◌, Option, slice_get, slice_index_or}
-use Rattle.kalah_jobs.specs.declared.files.entry.Entry.{Entry}
+use Rattle.kalah_jobs.specs.Types.{Entry, Job}
 use Rattle.kalah_jobs.specs.declared.files.entry.Entry.TheVariants.{Bad}
 use Rattle.kalah_jobs.specs.declared.line.line_fault.LineFault.TheVariants.{Empty}
-use Rattle.kalah_jobs.specs.declared.files.job.Job.{Job}
 
 -- the entries of file f; none if there is no such file
 abbrev pub entries_of : List (List Entry) → ℕ → List Entry

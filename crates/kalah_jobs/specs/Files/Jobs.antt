@@ -1,6 +1,6 @@
 -- The jobs of a batch, from its files.
 use Rattle.std.specs.Prelude.{◌≡◌, ◌<◌, ◌≤◌, ℕ, List, length, map, take, sum_by, count_by, slice_index, Result, Ok, Err}
-use Rattle.kalah_jobs.specs.declared.files.entry.Entry.{Entry}
+use Rattle.kalah_jobs.specs.Types.{Entry, Question}
 use Rattle.kalah_jobs.specs.Files.NamedBytes.{NamedBytes}
 use Rattle.kalah_jobs.specs.Files.Lines.{lines_of}
 use Rattle.kalah_jobs.specs.Files.Entry.{entry_to}
@@ -8,7 +8,6 @@ use Rattle.kalah_jobs.specs.Writing.Answer.{is_faulty_entry}
 use Rattle.kalah_jobs.specs.Limits.{most_files, most_lines}
 use Rattle.kalah_jobs.specs.declared.files.jobs.JobsFault.{JobsFault}
 use Rattle.kalah_jobs.specs.declared.files.jobs.JobsFault.TheVariants.{TooManyFiles, TooManyLines, OutOfMemory}
-use Rattle.kalah_jobs.specs.declared.files.question.Question.{Question}
 
 -- the number of lines of a file
 abbrev pub lines_in : NamedBytes → ℕ

@@ -20,11 +20,14 @@ pub record EndsInOpenLine (bytes : List ℕ) (pieces : List (List ℕ)) : Type 0
   pub bytes_are : bytes ≡ with_line_feeds before ++ last
   pub some_bytes : last ≢ []
 
--- The pieces are the lines of the bytes: none of them has a line feed, and the bytes are the pieces, each followed by a line feed; only
--- the last may lack it, if it isn't empty.
+-- the bytes are the pieces, each followed by a line feed; only the last may lack it, if it isn't empty
+abbrev pub ArePieces : List ℕ → List (List ℕ) → Type 0
+ArePieces bytes pieces = (bytes ≡ with_line_feeds pieces) ⊎ EndsInOpenLine bytes pieces
+
+-- the pieces are the lines of the bytes: none of them has a line feed
 pub record AreLines (bytes : List ℕ) (pieces : List (List ℕ)) : Type 0 where
   pub whole : All HasNoLineFeed pieces
-  pub parts : (bytes ≡ with_line_feeds pieces) ⊎ EndsInOpenLine bytes pieces
+  pub parts : ArePieces bytes pieces
 
 -- the lines of the bytes: a line feed ends a line, and any other byte stands at the head of the first line of what follows
 unfoldable pub lines_of : List ℕ → List (List ℕ)

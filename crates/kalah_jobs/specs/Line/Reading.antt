@@ -7,7 +7,7 @@ use Rattle.kalah_rules.specs.declared.rule.Rule.{Rule}
 use Rattle.kalah_rules.specs.declared.rule.Rule.TheVariants.{Classic, EmptyCapture}
 use Rattle.kalah_jobs.specs.Limits.{most_line_bytes}
 use Rattle.kalah_jobs.specs.Line.Line.{zero_digit, comma, slash, space, letter_e, without_cr}
-use Rattle.kalah_jobs.specs.declared.line.line_fault.LineFault.{LineFault}
+use Rattle.kalah_jobs.specs.Types.{LineFault}
 use Rattle.kalah_jobs.specs.declared.line.line_fault.LineFault.TheVariants.{Long, Empty, Shape, Houses, Seeds}
 
 infixl 10 ◌>>=◌

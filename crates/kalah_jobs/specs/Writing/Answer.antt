@@ -11,11 +11,9 @@ use Rattle.kalah_solve.specs.declared.solver.move_values.MoveValue.{MoveValue}
 use Rattle.kalah_jobs.specs.Files.Lines.{line_feed}
 use Rattle.kalah_jobs.specs.Line.Line.{space, step_text_of}
 use Rattle.kalah_jobs.specs.Line.LineFault.{fault_word}
-use Rattle.kalah_jobs.specs.declared.files.entry.Entry.{Entry}
+use Rattle.kalah_jobs.specs.Types.{Entry, Answer, Taken}
 use Rattle.kalah_jobs.specs.declared.files.entry.Entry.TheVariants.{Position, ValuesOf, StepsOf, Bad}
-use Rattle.kalah_jobs.specs.declared.writing.answer.Answer.{Answer}
 use Rattle.kalah_jobs.specs.declared.writing.answer.Answer.TheVariants.{Best, Over, Values, Steps, Fault}
-use Rattle.kalah_jobs.specs.declared.writing.answer.Taken.{Taken}
 
 -- the final margin of a game that is over, otherwise this answer
 abbrev pub unless_over : position.Position → Answer → Answer

@@ -1,18 +1,13 @@
 -- What a batch writes, and what it counts.
 use Rattle.std.specs.Prelude.{◌≡◌, ℕ, List, [], ◌∷◌, ◌++◌, length, map, sum_by, count_by, slice_index_or, Bool}
 use Rattle.std.specs.List.{flat_map, enumerate_from}
-use Rattle.kalah_jobs.specs.declared.files.entry.Entry.{Entry}
-use Rattle.kalah_jobs.specs.declared.writing.answer.Taken.{Taken}
-use Rattle.kalah_jobs.specs.declared.writing.tally.Tally.{Tally}
+use Rattle.kalah_jobs.specs.Types.{BestMove, Entry, Taken, Tally, Job, Question}
 use Rattle.kalah_jobs.specs.Files.NamedBytes.{NamedBytes}
 use Rattle.kalah_jobs.specs.Files.Lines.{line_feed, lines_of}
 use Rattle.kalah_jobs.specs.Files.Entry.{entry_of, entry_to}
 use Rattle.kalah_jobs.specs.Writing.Answer.{answer_of, is_faulty_entry, answer_line}
-use Rattle.kalah_jobs.specs.declared.files.job.Job.{Job}
 use Rattle.kalah_jobs.specs.Files.JobList.{job_list}
-use Rattle.kalah_jobs.specs.Files.Jobs.{jobs_to}
-use Rattle.kalah_jobs.specs.declared.files.question.Question.{Question}
-use Rattle.kalah_jobs.specs.declared.files.question.Question.TheVariants.{BestMove}
+use Rattle.kalah_jobs.specs.Files.Jobs.{jobs_to, lines_in_all}
 
 -- the answer line of a line with this entry, or its lines, each followed by a line feed; the number counts from 0
 abbrev pub answered : List ℕ → ℕ → Entry → List ℕ
@@ -41,7 +36,7 @@ is_faulty line = is_faulty_entry (entry_of line)
 -- the number of lines answered, and the number of faults among them
 unfoldable pub tally_of : List NamedBytes → Tally
 tally_of files = record {
-  lines = sum_by (λ file. length (lines_of file.bytes)) files;
+  lines = lines_in_all files;
   faults = sum_by (λ file. count_by is_faulty (lines_of file.bytes)) files;
 }
 

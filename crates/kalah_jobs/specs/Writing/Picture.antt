@@ -5,7 +5,7 @@ use Rattle.kalah_rules.specs.Position.{Position, opposite, seeds, side_length}
 use Rattle.kalah_jobs.specs.Line.Line.{space}
 use Rattle.kalah_jobs.specs.Files.Lines.{line_feed}
 use Rattle.kalah_jobs.specs.Writing.Player.{houses_of}
-use Rattle.kalah_jobs.specs.declared.writing.player.Player.{Player}
+use Rattle.kalah_jobs.specs.Types.{Player}
 use Rattle.kalah_jobs.specs.declared.writing.player.Player.TheVariants.{Mover, Other}
 
 -- the bytes of a column

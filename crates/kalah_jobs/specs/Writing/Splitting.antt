@@ -1,11 +1,10 @@
 -- How a batch can be split over machines: by its files, and within a file between two lines.
 use Rattle.std.specs.Prelude.{◌≡◌, ◌⊎◌, ℕ, ◌+◌, List, [], ◌∷◌, ◌++◌, length}
 use Rattle.std.specs.List.{flat_map, enumerate_from}
-use Rattle.kalah_jobs.specs.declared.files.question.Question.{Question}
+use Rattle.kalah_jobs.specs.Types.{Question, Tally}
 use Rattle.kalah_jobs.specs.Files.Lines.{line_feed, lines_of}
 use Rattle.kalah_jobs.specs.Files.NamedBytes.{NamedBytes}
 use Rattle.kalah_jobs.specs.Writing.Output.{line_output, output_of, output_to, tally_of}
-use Rattle.kalah_jobs.specs.declared.writing.tally.Tally.{Tally}
 
 -- what two batches count together
 abbrev pub counted_together : Tally → Tally → Tally

@@ -4,16 +4,14 @@ use Rattle.std.specs.Io.KnownBytes.{Appends, Keeps}
 use Rattle.kalah_jobs.specs.Writing.Sink.{AppendsPrefix, SinkState}
 use Rattle.kalah_jobs.specs.Limits.{most_files, most_lines}
 use Rattle.kalah_jobs.specs.Files.Jobs.{AreFew, lines_in_all}
-use Rattle.kalah_jobs.specs.declared.files.entry.Entry.{Entry}
+use Rattle.kalah_run.specs.Types.{Entry, Tally, Question}
 use Rattle.kalah_jobs.specs.Files.JobList.{job_list}
 use Rattle.kalah_jobs.specs.Files.NamedBytes.{NamedBytes}
 use Rattle.kalah_jobs.specs.Writing.Output.{tally_of, is_faulty_job, output_to}
-use Rattle.kalah_jobs.specs.declared.writing.tally.Tally.{Tally}
 use Rattle.kalah_jobs.specs.declared.files.jobs.JobsFault.{JobsFault}
 use Rattle.kalah_jobs.specs.declared.files.jobs.JobsFault.TheVariants as jobs
 use Rattle.kalah_run.specs.declared.batch.run_fault.RunFault.{RunFault}
 use Rattle.kalah_run.specs.declared.batch.run_fault.RunFault.TheVariants.{TooManyFiles, TooManyLines, OutOfMemory, NoWorker, Write}
-use Rattle.kalah_jobs.specs.declared.files.question.Question.{Question}
 
 -- the fault of a batch whose jobs could not be made
 abbrev pub run_fault_of : JobsFault → RunFault

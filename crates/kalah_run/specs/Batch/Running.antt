@@ -3,8 +3,7 @@ use Rattle.std.specs.Prelude.{◌≡◌, ℕ, ◌+◌, ◌<◌, ◌≤◌, Bool,
 use Rattle.std.specs.declared.alloc.Global.{Global}
 use Rattle.crossbeam_utils.specs.Padded.{padded_value}
 use Rattle.kalah_solve.specs.declared.solver.Solver.{Solver}
-use Rattle.kalah_jobs.specs.declared.files.entry.Entry.{Entry}
-use Rattle.kalah_jobs.specs.declared.files.job.Job.{Job}
+use Rattle.kalah_run.specs.Types.{Entry, Job}
 use Rattle.kalah_jobs.specs.Files.Jobs.{job_count}
 use Rattle.kalah_jobs.specs.Writing.Sink.{SinkState}
 use Rattle.kalah_solve.specs.Table.Entries.{empty_table}

@@ -1,7 +1,7 @@
 -- The rows of a desk: for each pass the numbers that it has drawn, and whether it is spent.
 use Rattle.std.specs.Prelude.{◌≡◌, ℕ, ◌<◌, ◌≤◌, List, length, map, Bool, nat_lt, if◌then◌else◌, sum_by, count_by, All, AllPairs}
 use Rattle.kalah_jobs.specs.Collecting.Shares.{times_in}
-use Rattle.kalah_run.specs.declared.desk.rule.DrawnRow.{DrawnRow}
+use Rattle.kalah_run.specs.Types.{DrawnRow}
 
 abbrev pub drawn_row : List ℕ → Bool → DrawnRow
 drawn_row numbers spent = record { numbers = numbers; spent = spent }

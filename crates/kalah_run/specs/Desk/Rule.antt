@@ -5,9 +5,7 @@ use lib.ListN.{get_elem?}
 use Rattle.atomic_table.specs.Table.{State, Me, Step}
 use Rattle.kalah_jobs.specs.Limits.{most_lines}
 use Rattle.kalah_run.specs.Limits.{most_passes}
-use Rattle.kalah_run.specs.declared.desk.rule.DrawnRow.{DrawnRow}
-use Rattle.kalah_run.specs.declared.desk.rule.DeskPlan.{DeskPlan}
-use Rattle.kalah_run.specs.declared.desk.rule.DeskView.{DeskView}
+use Rattle.kalah_run.specs.Types.{DrawnRow, DeskPlan, DeskView}
 use Rattle.kalah_run.specs.declared.desk.rule.DeskView.TheVariants.{Opening, Drawing, Closing, Ended}
 use Rattle.kalah_run.specs.Desk.Rows.{spent_in, DealsEachOnce, drawn_row}
 use Rattle.std.specs.List.{range_with_len}

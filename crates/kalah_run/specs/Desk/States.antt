@@ -1,8 +1,7 @@
 -- A desk and a pass, as contracts see them.
 use Rattle.std.specs.Prelude.{◌≡◌, ℕ, ◌<◌, List, [], length, false, slice_index_or, map}
 use Rattle.atomic_table.specs.Seated.{TableId}
-use Rattle.kalah_run.specs.declared.desk.rule.DrawnRow.{DrawnRow}
-use Rattle.kalah_run.specs.declared.desk.rule.DeskView.{DeskView}
+use Rattle.kalah_run.specs.Types.{DrawnRow, DeskView}
 use Rattle.kalah_run.specs.declared.desk.rule.DeskView.TheVariants.{Drawing}
 use Rattle.kalah_run.specs.Desk.Rows.{drawn_row}
 

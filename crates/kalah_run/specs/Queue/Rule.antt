@@ -2,9 +2,8 @@
 use Rattle.std.specs.Prelude.{◌≡◌, ℕ, suc, ◌≤◌, List, ◌++◌, length, ◌<◌, All, slice_index_or, [], ◌+◌, ◌∷◌}
 use mathlib.Core.Option.{some}
 use lib.ListN.{get_elem?}
-use Rattle.kalah_jobs.specs.declared.files.job.Job.{Job}
+use Rattle.kalah_run.specs.Types.{Job, QueueView}
 use Rattle.kalah_jobs.specs.Collecting.Shares.{sent_by_worker}
-use Rattle.kalah_run.specs.declared.queue.rule.QueueView.{QueueView}
 use Rattle.kalah_run.specs.declared.queue.rule.QueueView.TheVariants.{Getting, Putting, Ended}
 use Rattle.kalah_run.specs.Queue.States.{Accounts, outcomes_in}
 

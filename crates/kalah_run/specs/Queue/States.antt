@@ -1,7 +1,7 @@
 -- The results queue and its passes, as contracts see them, and what was sent through it.
 use Rattle.std.specs.Prelude.{◌≡◌, ℕ, suc, ◌<◌, List, [], ◌∷◌, ◌++◌, map, length, slice_index_or, All, Option, MatchOption}
 use Rattle.atomic_table.specs.Seated.{TableId}
-use Rattle.kalah_jobs.specs.declared.files.job.Job.{Job}
+use Rattle.kalah_run.specs.Types.{Job}
 use Rattle.kalah_jobs.specs.Collecting.Shares.{sent_by_worker}
 
 -- the identity of the queue, and its capacity

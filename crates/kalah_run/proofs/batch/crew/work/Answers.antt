@@ -1,5 +1,5 @@
 use Rattle.std.proofs.Common.{◌≡◌, ℕ, ◌∷◌, ◌++◌, [], true, rules, sym, ap, ◌∙◌}
-use Rattle.kalah_run.specs.declared.desk.rule.DrawnRow.{DrawnRow}
+use Rattle.kalah_run.specs.Types.{DrawnRow}
 use Rattle.kalah_run.specs.Desk.States.{PassState}
 use Rattle.kalah_run.specs.Queue.States.{PutPassState}
 use Rattle.std.proofs.lemmas.List.Elements.{All-push}

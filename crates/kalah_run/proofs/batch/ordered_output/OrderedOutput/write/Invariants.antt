@@ -1,8 +1,7 @@
 use Rattle.std.proofs.Common.{◌≡◌, ◌+◌, ◌-◌, List, false, length}
 use Rattle.kalah_jobs.specs.Files.NamedBytes.{NamedBytes}
 use Rattle.kalah_jobs.specs.Writing.Sink.{SinkState}
-use Rattle.kalah_jobs.specs.declared.files.job.Job.{Job}
-use Rattle.kalah_jobs.specs.declared.files.entry.Entry.{Entry}
+use Rattle.kalah_run.specs.Types.{Job, Entry}
 use Rattle.kalah_run.specs.Batch.OrderedOutput.{HasWritten}
 use Rattle.kalah_run.proofs.OutputLemmas.{ready_lines}
 use Rattle.kalah_run.proofs.batch.ordered_output.OrderedOutput.write.Given as goal

@@ -1,0 +1,12 @@
+-- The types that most definitions name, passed on from one place. Declares nothing.
+pub use Rattle.kalah_jobs.specs.declared.files.question.Question.{Question}
+pub use Rattle.kalah_jobs.specs.declared.files.question.Question.TheVariants.{BestMove}
+pub use Rattle.kalah_jobs.specs.declared.files.entry.Entry.{Entry}
+pub use Rattle.kalah_jobs.specs.declared.files.job.Job.{Job}
+pub use Rattle.kalah_jobs.specs.declared.line.line_fault.LineFault.{LineFault}
+pub use Rattle.kalah_jobs.specs.declared.writing.answer.Answer.{Answer}
+pub use Rattle.kalah_jobs.specs.declared.writing.answer.Taken.{Taken}
+pub use Rattle.kalah_jobs.specs.declared.writing.tally.Tally.{Tally}
+pub use Rattle.kalah_jobs.specs.declared.writing.player.Player.{Player}
+pub use Rattle.kalah_jobs.specs.declared.collecting.refusal.Refusal.{Refusal}
+pub use Rattle.kalah_jobs.specs.declared.asking.ask_fault.AskFault.{AskFault}
