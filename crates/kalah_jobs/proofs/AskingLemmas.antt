@@ -222,7 +222,7 @@ module _ {question : Question} {before now old new : Option (List ℕ)} {line : 
 
   -- at the end the bytes of the lines and of the part are all
   all_taken : (next : Option (List ℕ)) → Consumes now next [] → Consumes before next (u.lines ++ u.part)
-  all_taken next end = subst (λ l. Consumes before next (u.lines ++ l)) (append-nil u.part) (more_taken next [] end)
+  all_taken next end = subst (λ l. Consumes before next (u.lines ++ l)) (append-nil u.part) (more_taken _ _ end)
 
   -- what was kept of the line is answered as the whole of it
   reply_whole : reply question line ≡ reply question u.part
@@ -241,7 +241,7 @@ module _ {question : Question} {before now old new : Option (List ℕ)} {line : 
     ended = u.ended;
     unended = All-push IsNoFeed u.part byte u.unended other;
     kept = ap (λ l. take kept_bytes (l ++ byte ∷ [])) u.kept ∙ take_more_kept kept_bytes u.part byte;
-    taken = more_taken next (byte ∷ []) taken;
+    taken = more_taken _ _ taken;
     written = answers_kept kept keeps;
     status = u.status;
   }
@@ -250,7 +250,7 @@ module _ {question : Question} {before now old new : Option (List ℕ)} {line : 
   pub line_read : {next more : Option (List ℕ)} {is_read : Bool} (kept : Option (List ℕ)) → Consumes now next (line_feed ∷ [])
       → Keeps new kept → Appends kept more (reply question line) → is_read ≡ not (is_faulty line)
       → IsAnsweredSoFar question before next old more [] (all_read && is_read)
-  line_read {next} {more} {is_read} kept end keeps tells read =
+  line_read {next} {more} {is_read} kept fed keeps answered read =
       let whole : List ℕ = u.part ++ line_feed ∷ [] in
       let one = feed_ends_one_line u.part u.unended in
       record {
@@ -259,11 +259,11 @@ module _ {question : Question} {before now old new : Option (List ℕ)} {line : 
         ended = inr (u.lines ++ u.part, sym (append_assoc u.lines u.part (line_feed ∷ [])));
         unended = All-nil IsNoFeed;
         kept = refl;
-        taken = subst (Consumes before next) (sym (append-nil (u.lines ++ whole))) (more_taken next (line_feed ∷ []) end);
+        taken = subst (Consumes before next) (sym (append-nil (u.lines ++ whole))) (more_taken _ _ fed);
         written = subst (Appends old more)
             (ap (answers_to question u.lines ++◌) reply_whole
             ∙ sym (answers_to_more question u.lines whole u.part u.ended one))
-            (more_written _ _ _ keeps tells);
+            (more_written _ _ _ keeps answered);
         status = ap₂ (λ a b. a && b) u.status (read ∙ ap (λ l. not (is_faulty l)) u.kept ∙ ap not (kept_faulty u.part))
             ∙ sym (all_read_more u.lines whole u.part u.ended one);
       }
@@ -295,7 +295,7 @@ module _ {question : Question} {before now old new : Option (List ℕ)} {line : 
   begun : {next more : Option (List ℕ)} (kept : Option (List ℕ)) (last answer : List ℕ) → length (lines_of last) ≤ 1
       → Consumes before next (u.lines ++ last) → answer ≡ answers_to question last → Keeps new kept → AppendsPrefix kept more answer
       → IsBegun question before next old more
-  begun {next} {more} kept last answer one taken is keeps start = record {
+  begun {next} {more} kept last answer one taken answer_is keeps start = record {
     lines = u.lines;
     last = last;
     ended = u.ended;
@@ -303,7 +303,7 @@ module _ {question : Question} {before now old new : Option (List ℕ)} {line : 
     taken = taken;
     count = start.0;
     written = more_written _ _ _ keeps
-        (subst (λ l. Appends kept more (take start.0 l)) is start.1);
+        (subst (λ l. Appends kept more (take start.0 l)) answer_is start.1);
   }
 
   -- of a line that ended
@@ -311,7 +311,7 @@ module _ {question : Question} {before now old new : Option (List ℕ)} {line : 
       → AppendsPrefix kept more (reply question line) → IsBegun question before next old more
   begun_line {next} kept end =
       let one = feed_ends_one_line u.part u.unended in
-      begun kept (u.part ++ line_feed ∷ []) (reply question line) (rw one (omega arith)) (more_taken next (line_feed ∷ []) end)
+      begun kept (u.part ++ line_feed ∷ []) (reply question line) (rw one (omega arith)) (more_taken _ _ end)
       (reply_whole ∙ sym (answers_to_one question (u.part ++ line_feed ∷ []) u.part one))
 
   -- of what stands after the last line feed, where nothing is left
@@ -324,12 +324,12 @@ module _ {question : Question} {before now old new : Option (List ℕ)} {line : 
   pub all_answered : {next more : Option (List ℕ)} {is_read : Bool} (kept : Option (List ℕ)) → Consumes now next [] → IsAtEnd now
       → Keeps new kept → Appends kept more (last_reply question line) → is_read ≡ is_last_read line
       → IsAnswered question before next old more (all_read && is_read)
-  all_answered {next} {more} {is_read} kept end at_end keeps tells read = record {
+  all_answered {next} {more} {is_read} kept end at_end keeps answered read = record {
     read = u.lines ++ u.part;
     taken = all_taken next end;
     all = Consumes-whole before now (u.lines ++ u.part) (λ bytes. u.lines ++ u.part ≡ bytes) u.taken at_end refl;
     written = subst (Appends old more) (sym (answers_split question u.lines u.part u.ended))
-        (more_written _ _ _ keeps (subst (Appends kept more) reply_part tells));
+        (more_written _ _ _ keeps (subst (Appends kept more) reply_part answered));
     status = ap₂ (λ a b. a && b) u.status (read ∙ ap is_last_read u.kept) ∙ sym (last_read u.lines u.part u.ended u.unended);
   }
 
@@ -338,7 +338,7 @@ pub write_failed : {question : Question} {before after : Option (List ℕ)} {old
     IsBegun question before after old.written new.written → AnswersLines question before after old new (Err Write)
 write_failed has_failed begins = record {
   answered = tt;
-  cut_off = λ is. absurd cc;
+  cut_off = λ cut_off. absurd cc;
   begins = begins;
   failed = (λ _. refl, λ _. has_failed);
   all_flushed = λ sound. absurd cc;
@@ -347,10 +347,10 @@ write_failed has_failed begins = record {
 -- what holds of the bytes that a prompt reader has left holds of those that its reader has left
 pub of_reader : {question : Question} {first last before after : Option (List ℕ)} {old new : SinkState} {result : Result Bool AskFault}
     → first ≡ before → last ≡ after → AnswersLines question first last old new result → AnswersLines question before after old new result
-of_reader is same holds = rw (sym is, sym same) holds
+of_reader first_is last_is holds = rw (sym first_is, sym last_is) holds
 
 -- while lines are underway, all whole lines are answered
 pub answered_so_far : {asking : Asking} {question : Question} {before now old new : Option (List ℕ)} {line : List ℕ} {all_read : Bool}
     → asking ≡ record { question = question; before = before; old = old } → IsAnsweredSoFar question before now old new line all_read
     → AreAnswered asking now new
-answered_so_far {now = now} {new = new} is u = rw is (cut_off u (Keeps-refl now) (Keeps-refl new))
+answered_so_far {now = now} {new = new} asking_is u = rw asking_is (cut_off u (Keeps-refl now) (Keeps-refl new))

@@ -14,7 +14,7 @@ use Rattle.kalah_jobs.specs.Files.JobList.{entries_of, entry_at, line_job, no_jo
 use Rattle.kalah_jobs.specs.Collecting.Refusals.{IsWanted, IsRefusedFor, AnswersInOneWay}
 use Rattle.kalah_jobs.specs.Collecting.Held.{IsOffered, HoldsOffered, AreInStep}
 use Rattle.std.proofs.lemmas.List.FromFn.{length-enumerate_from, get_or-enumerate_from}
-use Rattle.kalah_jobs.specs.Collecting.CollectorEvents.{Event, Offered, Took, Offers, Gives, offers, takes, with_taken, HasArrived, answered_line, answered_lines}
+use Rattle.kalah_jobs.specs.Collecting.CollectorEvents.{Event, Offered, Took, Offers, Gives, offered_in, taken_in, with_taken, HasArrived, answered_line, answered_lines}
 use Rattle.kalah_jobs.specs.Collecting.CollectorLaw.{Runs, KeepsItsLaw}
 use Rattle.kalah_jobs.specs.Collecting.AnyOrder.{AreJobsInSomeOrder, AcceptsEachJob, MakesEveryLineReady}
 use Rattle.kalah_jobs.proofs.ListLemmas.{count_by-cons, some_value}
@@ -290,14 +290,14 @@ module _ {jobs : List (List Entry)} {past : List Job} {files after : List Arriva
 -- any list of events
 runs_keep : (jobs : List (List Entry)) (past : List Job) (events : List Event) (files after : List ArrivalsState)
     → Runs jobs files events after → AreInStep jobs past files →
-    AreInStep jobs (past ++ offers events) after × WereTaken jobs files (λ f. takes f events) after
+    AreInStep jobs (past ++ offered_in events) after × WereTaken jobs files (λ f. taken_in f events) after
 runs_keep jobs past [] files after run kept =
     rw (← run, append-nil) (kept, λ f. append-nil (take (state_of files f).taken (answered_lines_of jobs f)))
 runs_keep jobs past (Offered o gave ∷ events) files after run kept =
     let now = kept_by_offer kept o gave run.1 in
     let rest = runs_keep jobs (past ++ o ∷ []) events run.0 after run.2 now.0 in (
-      rw (append_assoc past (o ∷ []) (offers events)) at rest.0,
-      λ f. ap (λ n. take n (answered_lines_of jobs f) ++ takes f events) (sym (now.1 f)) ∙ rest.1 f,
+      rw (append_assoc past (o ∷ []) (offered_in events)) at rest.0,
+      λ f. ap (λ n. take n (answered_lines_of jobs f) ++ taken_in f events) (sym (now.1 f)) ∙ rest.1 f,
     )
 runs_keep jobs past (Took g None ∷ events) files after run kept =
     let step = run.1 in
@@ -340,7 +340,7 @@ new_files_are_in_step jobs = record {
 
 -- after these events the offers have come
 offers_held : (jobs : List (List Entry)) (events : List Event) (files : List ArrivalsState) → Runs jobs (new_files jobs) events files
-    → HoldsOffered jobs (offers events) files
+    → HoldsOffered jobs (offered_in events) files
 offers_held jobs events files run = (runs_keep jobs [] events (new_files jobs) files run (new_files_are_in_step jobs)).0.offered
 
 pub keeps_its_law : KeepsItsLaw
@@ -362,7 +362,7 @@ keeps_its_law jobs events files run =
         below = λ k low. only f k (front_came (state_of files f).arrived k None low);
         greatest = λ m low all. front_least (state_of files f).arrived m (λ k k_low. came f k (all k k_low));
       };
-      taken = λ f. ap (λ n. take n (answered_lines_of jobs f) ++ takes f events) (sym (new_taken jobs f)) ∙ all.1 f;
+      taken = λ f. ap (λ n. take n (answered_lines_of jobs f) ++ taken_in f events) (sym (new_taken jobs f)) ∙ all.1 f;
       taken_within = all.0.within;
     }
 
@@ -427,4 +427,4 @@ accepts_each_job jobs past o rest files after gave each_once run step =
     each_accepted o rest each_once (offers_held jobs past files run) after gave step
 
 pub makes_every_line_ready : MakesEveryLineReady
-makes_every_line_ready jobs events files each_once run = fronts_full jobs (offers events) files each_once (offers_held jobs events files run)
+makes_every_line_ready jobs events files each_once run = fronts_full jobs (offered_in events) files each_once (offers_held jobs events files run)

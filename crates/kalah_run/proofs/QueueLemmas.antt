@@ -53,10 +53,10 @@ no_pair_beyond_workers workers w (t ∷ ts) below le =
     other_pair w t (sent_by_worker w ts) (λ e. omega arith) ∙ no_pair_beyond_workers workers w ts (λ k d lt. below (suc k) d (omega arith)) le
 
 -- of pairs that are all of workers, the one that comes next is
-next_below : (workers : ℕ) (taken : List (ℕ × Job)) (t : ℕ × Job) (rest : List (ℕ × Job))
-    → All (λ (u : ℕ × Job). u.0 < workers) (taken ++ t ∷ rest) → t.0 < workers
-next_below workers taken t rest below =
-    rw (get_or_at taken t rest t _ refl) at (below (length taken) t (omega (arith, length-append taken (t ∷ rest))))
+next_below : (workers : ℕ) (got : List (ℕ × Job)) (t : ℕ × Job) (rest : List (ℕ × Job))
+    → All (λ (u : ℕ × Job). u.0 < workers) (got ++ t ∷ rest) → t.0 < workers
+next_below workers got t rest below =
+    rw (get_or_at got t rest t _ refl) at (below (length got) t (omega (arith, length-append got (t ∷ rest))))
 
 -- if lists are known as they are given, so they are with the next one at the end
 known_more : (known : List (List Job)) (s : List Job) (given : ℕ → List Job)
@@ -103,7 +103,7 @@ accounts_known workers known pairs sent sent_is accounts =
 
 -- what the workers whose passes were reclaimed had sent
 abbrev pub known_in : QueueView → List (List Job)
-known_in (Getting made got known) = known
+known_in (Getting workers got known) = known
 known_in _ = []
 
 -- one pass more, of the next worker
@@ -122,8 +122,8 @@ all_are_of id n (x ∷ xs) from (suc k) d lt = all_are_of id (suc n) xs from.2 k
 
 pub new_queue_is_lawful : IsLawful [] (first_view ∷ [])
 new_queue_is_lawful = record {
-  made = 0;
-  taken = [];
+  workers = 0;
+  got = [];
   known = [];
   inside = [];
   getter = refl;
@@ -148,11 +148,11 @@ oldest x items (p ∷ ps) held =
 module _ {items : List Job} {views : List QueueView} (kept : IsLawful items views) where
   -- the pairs that were taken out, followed by those inside
   abbrev pairs : List (ℕ × Job)
-  pairs = kept.taken ++ kept.inside
+  pairs = kept.got ++ kept.inside
 
-  -- the pass to get stands first, and knows the truth
-  getter_is_first : (place : ℕ) {v : QueueView} {made : ℕ} {got : List (ℕ × Job)} {known : List (List Job)} → v ≡ Getting made got known
-      → get_elem? views place ≡ some v → (place ≡ 0) × (v ≡ Getting kept.made kept.taken kept.known)
+  -- the pass to get stands first, and knows what the rule states
+  getter_is_first : (place : ℕ) {v : QueueView} {workers : ℕ} {got : List (ℕ × Job)} {known : List (List Job)} → v ≡ Getting workers got known
+      → get_elem? views place ≡ some v → (place ≡ 0) × (v ≡ Getting kept.workers kept.got kept.known)
   getter_is_first place getting has_view =
       let first : place ≡ 0 = kept.fits place _ (has_view ∙ ap some getting) in
       (first, some-injective _ _ (sym has_view ∙ ap (get_elem? views) first ∙ kept.getter))
@@ -164,7 +164,7 @@ module _ {items : List Job} {views : List QueueView} (kept : IsLawful items view
       let fit : FitsPut pairs (length kept.known) j number sent = kept.fits j _ has_view in
       let another : x.0 ≢ number = (λ q. apart (fit.place_is ∙ (ap suc (sym q) ∙ sym place_is))) in
       record { place_is = fit.place_is; running = fit.running; all_sent = fit.all_sent ∙ sym (other_pair_changes_nothing number pairs x another) }
-  fits_more x place_is j (Getting made got known) apart has_view = kept.fits j _ has_view
+  fits_more x place_is j (Getting workers got known) apart has_view = kept.fits j _ has_view
   fits_more x place_is j Ended apart has_view = tt
 
   -- the view of another pass fits if one worker more has ended
@@ -174,7 +174,7 @@ module _ {items : List Job} {views : List QueueView} (kept : IsLawful items view
       let fit : FitsPut pairs (length kept.known) j number sent = kept.fits j _ has_view in
       let another : number ≢ length kept.known = (λ q. apart (fit.place_is ∙ (ap suc q ∙ sym ended_is))) in
       record { place_is = fit.place_is; running = omega arith; all_sent = fit.all_sent }
-  fits_ended ended_is j (Getting made got known) apart has_view = kept.fits j _ has_view
+  fits_ended ended_is j (Getting workers got known) apart has_view = kept.fits j _ has_view
   fits_ended ended_is j Ended apart has_view = tt
 
   -- the pass of a worker that has not ended puts an outcome
@@ -190,79 +190,80 @@ module _ {items : List Job} {views : List QueueView} (kept : IsLawful items view
         all_sent = ap (◌++ (x ∷ [])) fit.all_sent ∙ sym (own_pair_goes_last number pairs pair refl);
       } in
       record {
-        made = kept.made;
-        taken = kept.taken;
+        workers = kept.workers;
+        got = kept.got;
         known = kept.known;
         inside = kept.inside ++ pair ∷ [];
         getter = set_else views place 0 after (λ q. omega (arith, q, fit.place_is)) ∙ kept.getter;
         count = length-set views place after ∙ kept.count;
         held = map-append (λ (p : ℕ × Job). p.1) kept.inside (pair ∷ []) ∙ ap (◌++ (x ∷ [])) kept.held;
-        accounts = rw (← append_assoc kept.taken kept.inside (pair ∷ [])) (accounts_pair kept.made kept.known pairs pair
+        accounts = rw (← append_assoc kept.got kept.inside (pair ∷ [])) (accounts_pair kept.workers kept.known pairs pair
             (omega (arith, fit.place_is, kept.count, in_views views place has_view)) fit.running kept.accounts);
-        fits = rw (← append_assoc kept.taken kept.inside (pair ∷ []))
+        fits = rw (← append_assoc kept.got kept.inside (pair ∷ []))
             (each_set (Fits (pairs ++ pair ∷ []) (length kept.known)) views place after fits (fits_more pair fit.place_is));
       }
 
   -- a pass is made for the next worker, before any has ended
   lawful_with_pass : kept.known ≡ []
-      → IsLawful items (set views 0 (Getting (kept.made + 1) kept.taken kept.known) ++ Putting kept.made [] ∷ [])
+      → IsLawful items (set views 0 (Getting (kept.workers + 1) kept.got kept.known) ++ Putting kept.workers [] ∷ [])
   lawful_with_pass none =
-      let getter : QueueView = Getting (kept.made + 1) kept.taken kept.known in
+      let getter : QueueView = Getting (kept.workers + 1) kept.got kept.known in
       let after : List QueueView = set views 0 getter in
       let same : length after ≡ length views = length-set views 0 getter in
-      let fresh : FitsPut pairs (length kept.known) (length after) kept.made [] = record {
+      let fresh : FitsPut pairs (length kept.known) (length after) kept.workers [] = record {
         place_is = same ∙ kept.count;
         running = omega (arith, ap length none);
-        all_sent = sym (no_pair_beyond_workers kept.made kept.made _ kept.accounts.below (omega arith));
+        all_sent = sym (no_pair_beyond_workers kept.workers kept.workers _ kept.accounts.below (omega arith));
       } in
       record {
-        made = kept.made + 1;
-        taken = kept.taken;
+        workers = kept.workers + 1;
+        got = kept.got;
         known = kept.known;
         inside = kept.inside;
-        getter = at_longer after (Putting kept.made [] ∷ []) 0 _ (set_here views 0 getter (in_views views 0 kept.getter));
-        count = omega (arith, length_push after (Putting kept.made []), same, kept.count);
+        getter = at_longer after (Putting kept.workers [] ∷ []) 0 _ (set_here views 0 getter (in_views views 0 kept.getter));
+        count = omega (arith, length_push after (Putting kept.workers []), same, kept.count);
         held = kept.held;
-        accounts = accounts_worker kept.made kept.known pairs kept.accounts;
-        fits = each_more (Fits pairs (length kept.known)) after (Putting kept.made [])
+        accounts = accounts_worker kept.workers kept.known pairs kept.accounts;
+        fits = each_more (Fits pairs (length kept.known)) after (Putting kept.workers [])
             (each_set (Fits pairs (length kept.known)) views 0 getter refl (λ j u apart has_view. kept.fits j u has_view)) fresh;
       }
 
   -- the pass of the next worker to end is reclaimed
   lawful_with_end : (other : ℕ) {sent : List Job} → other ≢ 0 → get_elem? views other ≡ some (Putting (length kept.known) sent)
-      → IsLawful items (set (set views 0 (Getting kept.made kept.taken (kept.known ++ sent ∷ []))) other Ended)
+      → IsLawful items (set (set views 0 (Getting kept.workers kept.got (kept.known ++ sent ∷ []))) other Ended)
   lawful_with_end other {sent} apart has_view =
-      let getter : QueueView = Getting kept.made kept.taken (kept.known ++ sent ∷ []) in
+      let getter : QueueView = Getting kept.workers kept.got (kept.known ++ sent ∷ []) in
       let between : List QueueView = set views 0 getter in
       let fit : FitsPut pairs (length kept.known) other (length kept.known) sent = kept.fits other _ has_view in
       let F : ℕ → QueueView → Type 0 = Fits pairs (length kept.known + 1) in
-      let others = each_set (λ j u. j ≢ other → F j u) views 0 getter (λ _. refl) (λ j u elsewhere has_view apart. fits_ended fit.place_is j u apart has_view) in
+      let others = each_set (λ j u. j ≢ other → F j u) views 0 getter (λ _. refl)
+      (λ j u elsewhere has_view apart. fits_ended fit.place_is j u apart has_view) in
       record {
-        made = kept.made;
-        taken = kept.taken;
+        workers = kept.workers;
+        got = kept.got;
         known = kept.known ++ sent ∷ [];
         inside = kept.inside;
         getter = set_else between other 0 Ended (λ q. apart (sym q)) ∙ set_here views 0 getter (in_views views 0 kept.getter);
         count = length-set between other Ended ∙ length-set views 0 getter ∙ kept.count;
         held = kept.held;
-        accounts = accounts_known kept.made kept.known pairs sent fit.all_sent kept.accounts;
+        accounts = accounts_known kept.workers kept.known pairs sent fit.all_sent kept.accounts;
         fits = rw (length_push kept.known sent) (each_set F between other Ended tt (λ j u elsewhere has_view. others j u has_view elsewhere));
       }
 
 -- the oldest outcome is got, which is of one of the workers
 lawful_with_get : {x : Job} {items : List Job} {views : List QueueView} (kept : IsLawful (x ∷ items) views)
-    → (worker : ℕ) × (worker < kept.made) × IsLawful items (set views 0 (Getting kept.made (kept.taken ++ (worker, x) ∷ []) kept.known))
+    → (worker : ℕ) × (worker < kept.workers) × IsLawful items (set views 0 (Getting kept.workers (kept.got ++ (worker, x) ∷ []) kept.known))
 lawful_with_get {x} {items} {views} kept =
     let first = oldest x items kept.inside kept.held in
     let pair : ℕ × Job = (first.worker, x) in
-    let getter : QueueView = Getting kept.made (kept.taken ++ pair ∷ []) kept.known in
-    let same : (kept.taken ++ pair ∷ []) ++ first.rest ≡ pairs kept =
-    append_assoc kept.taken (pair ∷ []) first.rest ∙ ap (kept.taken ++◌) (sym first.first) in (
+    let getter : QueueView = Getting kept.workers (kept.got ++ pair ∷ []) kept.known in
+    let same : (kept.got ++ pair ∷ []) ++ first.rest ≡ pairs kept =
+    append_assoc kept.got (pair ∷ []) first.rest ∙ ap (kept.got ++◌) (sym first.first) in (
       first.worker,
-      next_below kept.made kept.taken pair first.rest (rw first.first at kept.accounts.below),
+      next_below kept.workers kept.got pair first.rest (rw first.first at kept.accounts.below),
       record {
-        made = kept.made;
-        taken = kept.taken ++ pair ∷ [];
+        workers = kept.workers;
+        got = kept.got ++ pair ∷ [];
         known = kept.known;
         inside = first.rest;
         getter = set_here views 0 getter (in_views views 0 kept.getter);
@@ -279,21 +280,21 @@ pub put_is_lawful : (n place : ℕ) {v : QueueView} (x : Job) {number : ℕ} {se
     → Pushes IsLawful n place v x (λ w. w ≡ after_put v x)
 put_is_lawful n place x putting = rw putting (λ items views room kept has_view. (_, lawful_with_put kept place x has_view, refl))
 
-pub get_is_lawful : (place : ℕ) {v : QueueView} {made : ℕ} {got : List (ℕ × Job)} {known : List (List Job)} → v ≡ Getting made got known
+pub get_is_lawful : (place : ℕ) {v : QueueView} {workers : ℕ} {got : List (ℕ × Job)} {known : List (List Job)} → v ≡ Getting workers got known
     → Pops IsLawful place v (IsGot v)
 get_is_lawful place getting = λ x items views kept has_view.
     let getter = getter_is_first kept place getting has_view in
     let now = lawful_with_get kept in
     rw (getter.0, getter.1) (_, now.2, (now.0, now.1, refl))
 
-pub new_pass_is_lawful : (place : ℕ) {v : QueueView} {made : ℕ} {got : List (ℕ × Job)} → v ≡ Getting made got []
+pub new_pass_is_lawful : (place : ℕ) {v : QueueView} {workers : ℕ} {got : List (ℕ × Job)} → v ≡ Getting workers got []
     → Forks IsLawful place v (after_making_one v) (one_made v)
 new_pass_is_lawful place getting = λ items views kept has_view.
     let getter = getter_is_first kept place getting has_view in
     rw (getter.0, getter.1) (lawful_with_pass kept (ap known_in (sym getter.1 ∙ getting)))
 
-pub reclaim_is_lawful : (place other : ℕ) {v u : QueueView} {made : ℕ} {got : List (ℕ × Job)} {known : List (List Job)} {number : ℕ}
-    {sent : List Job} → v ≡ Getting made got known → u ≡ Putting number sent → number ≡ length known
+pub reclaim_is_lawful : (place other : ℕ) {v u : QueueView} {workers : ℕ} {got : List (ℕ × Job)} {known : List (List Job)} {number : ℕ}
+    {sent : List Job} → v ≡ Getting workers got known → u ≡ Putting number sent → number ≡ length known
     → Merges IsLawful place v other u (after_reclaiming_sent v u) Ended
 reclaim_is_lawful place other {sent = sent} getting putting next = λ items views kept has_view apart has_other.
     let getter = getter_is_first kept place getting has_view in
@@ -302,25 +303,25 @@ reclaim_is_lawful place other {sent = sent} getting putting next = λ items view
     rw (getter.0, getter.1, putting) (lawful_with_end kept other (λ q. apart (q ∙ sym getter.0)) here)
 
 -- what the pass to get learns of the queue
-pub getter_knows_sent : (place : ℕ) {v : QueueView} {made : ℕ} {got : List (ℕ × Job)} {known : List (List Job)} → v ≡ Getting made got known
+pub getter_knows_sent : (place : ℕ) {v : QueueView} {workers : ℕ} {got : List (ℕ × Job)} {known : List (List Job)} → v ≡ Getting workers got known
     → Learns IsLawful place v (KnowsSent v)
 getter_knows_sent place getting = λ items views kept has_view. rw (getter_is_first kept place getting has_view).1 (kept.inside, kept.held, kept.accounts)
 
 -- ==== What the pass to get knows once it has reclaimed the others
 
 -- the pass to get has reclaimed one pass more
-pub reclaimed : {v u after : QueueView} {made : ℕ} {got : List (ℕ × Job)} {known : List (List Job)} {number : ℕ} {sent : List Job}
-    → v ≡ Getting made got known → u ≡ Putting number sent → after ≡ after_reclaiming_sent v u
-    → after ≡ Getting made got (known ++ sent ∷ [])
+pub reclaimed : {v u after : QueueView} {workers : ℕ} {got : List (ℕ × Job)} {known : List (List Job)} {number : ℕ} {sent : List Job}
+    → v ≡ Getting workers got known → u ≡ Putting number sent → after ≡ after_reclaiming_sent v u
+    → after ≡ Getting workers got (known ++ sent ∷ [])
 reclaimed getting putting after_is = after_is ∙ λ i. after_reclaiming_sent (getting i) (putting i)
 
 -- once it has reclaimed all, it learns what all workers have sent
-pub whole_when_reclaimed : {v : QueueView} {made left : ℕ} {got : List (ℕ × Job)} {known all : List (List Job)} (rest : List (List Job))
-    → v ≡ Getting made got known → length rest ≡ 0 → known ++ rest ≡ all → Held left (KnowsSent v)
-    → (inside : List (ℕ × Job)) × (length inside ≡ left) × Accounts made all (got ++ inside)
+pub whole_when_reclaimed : {v : QueueView} {workers left : ℕ} {got : List (ℕ × Job)} {known all : List (List Job)} (rest : List (List Job))
+    → v ≡ Getting workers got known → length rest ≡ 0 → known ++ rest ≡ all → Held left (KnowsSent v)
+    → (inside : List (ℕ × Job)) × (length inside ≡ left) × Accounts workers all (got ++ inside)
 whole_when_reclaimed (x ∷ xs) getting none whole held = absurd (omega arith)
-whole_when_reclaimed {made = made} {got = got} {known} [] getting none whole held =
-    let told : KnowsSent (Getting made got known) held.0 = rw getting at held.2 in (
+whole_when_reclaimed {workers = workers} {got = got} {known} [] getting none whole held =
+    let told : KnowsSent (Getting workers got known) held.0 = rw getting at held.2 in (
       told.0,
       sym (length-map told.0 (λ (p : ℕ × Job). p.1)) ∙ ap length told.1 ∙ held.1,
       rw (sym (append-nil known) ∙ whole) at told.2,
@@ -330,13 +331,13 @@ whole_when_reclaimed {made = made} {got = got} {known} [] getting none whole hel
 
 pub queue_is_lawful : (items : List Job) (views : List QueueView) → IsLawful items views → IsWholeAndInOrder items views
 queue_is_lawful items views kept = record {
-  workers = kept.made;
-  got = kept.taken;
+  workers = kept.workers;
+  got = kept.got;
   inside = kept.inside;
   ended = kept.known;
   held = kept.held;
   gets = kept.getter;
-  no_other_gets = λ place others taken lists has_view. kept.fits place (Getting others taken lists) has_view;
+  no_other_gets = λ place others got lists has_view. kept.fits place (Getting others got lists) has_view;
   below = kept.accounts.below;
   running = λ place worker sent has_view.
       let fit : FitsPut (pairs kept) (length kept.known) place worker sent = kept.fits place (Putting worker sent) has_view in

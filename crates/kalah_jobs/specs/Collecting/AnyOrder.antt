@@ -3,7 +3,7 @@ use Rattle.std.specs.Prelude.{◌≡◌, ℕ, List, ◌∷◌, ◌++◌, length,
 use Rattle.kalah_jobs.specs.Types.{Entry, Refusal, Job}
 use Rattle.kalah_jobs.specs.Files.JobList.{no_job, job_list}
 use Rattle.kalah_jobs.specs.Collecting.CollectorState.{ArrivalsState, state_of, HasEnded, new_files}
-use Rattle.kalah_jobs.specs.Collecting.CollectorEvents.{Event, offers, Offers}
+use Rattle.kalah_jobs.specs.Collecting.CollectorEvents.{Event, offered_in, Offers}
 use Rattle.kalah_jobs.specs.Collecting.CollectorLaw.{Runs}
 use Rattle.kalah_jobs.specs.Collecting.Shares.{AreShared}
 
@@ -25,10 +25,10 @@ GetsEachJobOnce = (jobs : List (List Entry)) (rows : List (List ℕ)) (got rest 
 abbrev pub AcceptsEachJob : Type 0
 AcceptsEachJob = (jobs : List (List Entry)) (past : List Event) (o : Job) (rest : List Job) (files after : List ArrivalsState)
     (gave : Result ℕ Refusal)
-    → AreJobsInSomeOrder jobs (offers past ++ o ∷ rest) → Runs jobs (new_files jobs) past files → Offers jobs files o gave after
+    → AreJobsInSomeOrder jobs (offered_in past ++ o ∷ rest) → Runs jobs (new_files jobs) past files → Offers jobs files o gave after
     → IsOk gave
 
 -- And in the end every line of every file is ready.
 abbrev pub MakesEveryLineReady : Type 0
-MakesEveryLineReady = (jobs : List (List Entry)) (events : List Event) (files : List ArrivalsState) → AreJobsInSomeOrder jobs (offers events)
+MakesEveryLineReady = (jobs : List (List Entry)) (events : List Event) (files : List ArrivalsState) → AreJobsInSomeOrder jobs (offered_in events)
     → Runs jobs (new_files jobs) events files → (f : ℕ) → HasEnded (state_of files f)

@@ -44,10 +44,10 @@ pub data Event : Type 0 where
   Took : ℕ → Option Taken → Event
 
 -- what was offered, in order, accepted or refused
-abbrev pub offers : List Event → List Job
-offers [] = []
-offers (Offered o gave ∷ events) = o ∷ offers events
-offers (Took f gave ∷ events) = offers events
+abbrev pub offered_in : List Event → List Job
+offered_in [] = []
+offered_in (Offered o gave ∷ events) = o ∷ offered_in events
+offered_in (Took f gave ∷ events) = offered_in events
 
 -- the result of a take of file g, put before `rest` if the file is f
 abbrev pub with_taken : ℕ → ℕ → Option Taken → List Taken → List Taken
@@ -55,14 +55,14 @@ with_taken f g None rest = rest
 with_taken f g (Some t) rest = if g == f then t ∷ rest else rest
 
 -- the results of the takes of file f, in order
-abbrev pub takes : ℕ → List Event → List Taken
-takes f [] = []
-takes f (Offered o gave ∷ events) = takes f events
-takes f (Took g gave ∷ events) = with_taken f g gave (takes f events)
+abbrev pub taken_in : ℕ → List Event → List Taken
+taken_in f [] = []
+taken_in f (Offered o gave ∷ events) = taken_in f events
+taken_in f (Took g gave ∷ events) = with_taken f g gave (taken_in f events)
 
 -- line k of file f was offered with its entry
 abbrev pub HasArrived : List (List Entry) → List Event → ℕ → ℕ → Type 0
-HasArrived jobs events f k = IsSomeAnd (entry_at jobs f k) (λ e. Contains (offers events) (line_job f k e))
+HasArrived jobs events f k = IsSomeAnd (entry_at jobs f k) (λ e. Contains (offered_in events) (line_job f k e))
 
 -- n is the greatest number, at most the count of lines of file f, with all lines below it come
 pub record IsFront (jobs : List (List Entry)) (events : List Event) (f n : ℕ) : Type 0 where

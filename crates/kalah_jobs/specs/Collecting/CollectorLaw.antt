@@ -3,7 +3,7 @@ use Rattle.std.specs.Prelude.{◌≡◌, ℕ, ◌≤◌, ◌↔◌, List, [], �
 use Rattle.kalah_jobs.specs.Types.{Entry}
 use Rattle.kalah_jobs.specs.Files.JobList.{entries_of}
 use Rattle.kalah_jobs.specs.Collecting.CollectorState.{ArrivalsState, state_of, new_files, front, arrived_for, HasLinesOf}
-use Rattle.kalah_jobs.specs.Collecting.CollectorEvents.{Event, Offered, Took, Offers, Takes, takes, HasArrived, IsFront, answered_lines}
+use Rattle.kalah_jobs.specs.Collecting.CollectorEvents.{Event, Offered, Took, Offers, Takes, taken_in, HasArrived, IsFront, answered_lines}
 
 -- the files after an event
 abbrev pub Happens : List (List Entry) → List ArrivalsState → Event → List ArrivalsState → Type 0
@@ -21,7 +21,7 @@ pub record Meets (jobs : List (List Entry)) (events : List Event) (files : List 
   pub counts : HasLinesOf jobs files
   pub came : (f k : ℕ) → IsSome (arrived_for (state_of files f) k) ↔ HasArrived jobs events f k
   pub furthest : (f : ℕ) → IsFront jobs events f (front (state_of files f))
-  pub taken : (f : ℕ) → takes f events ≡ take (state_of files f).taken (answered_lines (entries_of jobs f))
+  pub taken : (f : ℕ) → taken_in f events ≡ take (state_of files f).taken (answered_lines (entries_of jobs f))
   pub taken_within : (f : ℕ) → (state_of files f).taken ≤ front (state_of files f)
 
 -- the law, over every list of offers and takes

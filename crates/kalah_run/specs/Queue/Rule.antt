@@ -17,21 +17,21 @@ pub record FitsPut (pairs : List (ℕ × Job)) (ended place number : ℕ) (sent 
 -- the view of the pass at this place fits all pairs, if the first `ended` workers have ended
 abbrev pub Fits : List (ℕ × Job) → ℕ → ℕ → QueueView → Type 0
 Fits pairs ended place (Putting number sent) = FitsPut pairs ended place number sent
-Fits pairs ended place (Getting made got known) = place ≡ 0
+Fits pairs ended place (Getting workers got known) = place ≡ 0
 Fits pairs ended place Ended = Unit {0}
 
--- Each pass knows the truth. The one pass to get stands first, and knows how many passes to put were made, which pairs were taken out, and
--- what the workers sent that have ended. The pairs inside have the outcomes that the queue holds, and each view fits all pairs.
+-- The one pass to get stands first, and knows how many workers have a pass to put, which pairs were got, and what the workers sent that
+-- have ended. The pairs inside have the outcomes that the queue holds, and each view fits all pairs.
 pub record IsLawful (items : List Job) (views : List QueueView) : Type 0 where
-  pub made : ℕ
-  pub taken : List (ℕ × Job)
+  pub workers : ℕ
+  pub got : List (ℕ × Job)
   pub known : List (List Job)
   pub inside : List (ℕ × Job)
-  pub getter : get_elem? views 0 ≡ some (Getting made taken known)
-  pub count : length views ≡ suc made
+  pub getter : get_elem? views 0 ≡ some (Getting workers got known)
+  pub count : length views ≡ suc workers
   pub held : outcomes_in inside ≡ items
-  pub accounts : Accounts made known (taken ++ inside)
-  pub fits : (place : ℕ) (v : QueueView) → get_elem? views place ≡ some v → Fits (taken ++ inside) (length known) place v
+  pub accounts : Accounts workers known (got ++ inside)
+  pub fits : (place : ℕ) (v : QueueView) → get_elem? views place ≡ some v → Fits (got ++ inside) (length known) place v
 
 -- ==== How each step changes what a pass knows
 
@@ -49,24 +49,24 @@ abbrev pub sent_in : QueueView → List Job
 sent_in (Putting number sent) = sent
 sent_in _ = []
 
--- the number of passes to put that were made
-abbrev pub made_in : QueueView → ℕ
-made_in (Getting made got known) = made
-made_in _ = 0
+-- the number of workers for whom a pass was made
+abbrev pub workers_in : QueueView → ℕ
+workers_in (Getting workers got known) = workers
+workers_in _ = 0
 
 -- what was got through the pass
 abbrev pub got_in : QueueView → List (ℕ × Job)
-got_in (Getting made got known) = got
+got_in (Getting workers got known) = got
 got_in _ = []
 
 -- one pass more was made
 abbrev pub after_making_one : QueueView → QueueView
-after_making_one (Getting made got known) = Getting (made + 1) got known
+after_making_one (Getting workers got known) = Getting (workers + 1) got known
 after_making_one view = view
 
 -- the pass that was made: it has sent nothing
 abbrev pub one_made : QueueView → QueueView
-one_made (Getting made got known) = Putting made []
+one_made (Getting workers got known) = Putting workers []
 one_made _ = Ended
 
 -- the outcome is put after what was sent
@@ -76,21 +76,21 @@ after_put view outcome = view
 
 -- the pair stands after what was got
 abbrev pub after_get : QueueView → ℕ × Job → QueueView
-after_get (Getting made got known) pair = Getting made (got ++ pair ∷ []) known
+after_get (Getting workers got known) pair = Getting workers (got ++ pair ∷ []) known
 after_get view pair = view
 
 -- the outcome is got: it is of a worker for whom a pass was made
 abbrev pub IsGot : QueueView → Job → QueueView → Type 0
-IsGot before outcome after = (worker : ℕ) × (worker < made_in before) × (after ≡ after_get before (worker, outcome))
+IsGot before outcome after = (worker : ℕ) × (worker < workers_in before) × (after ≡ after_get before (worker, outcome))
 
 -- what the reclaimed pass has sent is known
 abbrev pub after_reclaiming_sent : QueueView → QueueView → QueueView
-after_reclaiming_sent (Getting made got known) other = Getting made got (known ++ sent_in other ∷ [])
+after_reclaiming_sent (Getting workers got known) other = Getting workers got (known ++ sent_in other ∷ [])
 after_reclaiming_sent view other = view
 
 -- what was got, followed by what the queue holds, is all that is known
 abbrev pub KnowsSent : QueueView → List Job → Type 0
-KnowsSent (Getting made got known) items = (inside : List (ℕ × Job)) × (outcomes_in inside ≡ items) × Accounts made known (got ++ inside)
+KnowsSent (Getting workers got known) items = (inside : List (ℕ × Job)) × (outcomes_in inside ≡ items) × Accounts workers known (got ++ inside)
 KnowsSent _ items = Unit {0}
 
 -- ==== The rule of the results queue, in plain words

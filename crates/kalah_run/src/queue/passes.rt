@@ -35,11 +35,11 @@ impl Model for GetPass {
     ghost use Rattle.crossbeam_queue.specs.Passes.{view as view_of};
     ghost use Rattle.kalah_run.specs.declared.queue.rule.QueueView.TheVariants.{Getting};
     ghost use Rattle.kalah_run.specs.Queue.States.{GetPassState};
-    ghost use Rattle.kalah_run.specs.Queue.Rule.{got_in, made_in};
+    ghost use Rattle.kalah_run.specs.Queue.Rule.{got_in, workers_in};
 
     ghost Value = { GetPassState };
 
-    ghost view = { λ p. record { queue = p.ruled.table_id; workers = made_in (view_of p.ruled); got = got_in (view_of p.ruled) } };
+    ghost view = { λ p. record { queue = p.ruled.table_id; workers = workers_in (view_of p.ruled); got = got_in (view_of p.ruled) } };
 
-    ghost invariant = { λ p. (p.ruled.me.1 ≡ []) × (view_of p.ruled ≡ Getting (made_in (view_of p.ruled)) (got_in (view_of p.ruled)) []) };
+    ghost invariant = { λ p. (p.ruled.me.1 ≡ []) × (view_of p.ruled ≡ Getting (workers_in (view_of p.ruled)) (got_in (view_of p.ruled)) []) };
 }
