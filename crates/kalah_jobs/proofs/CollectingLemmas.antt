@@ -331,7 +331,7 @@ new_files_are_in_step jobs = record {
   offered = record {
     counts = new_lines jobs;
     came = λ f k e entry_is offered. absurd (omega (arith, offered.1));
-    only = λ f k a came. absurd (let none_came : None ≡ Some a = sym (none_came_at_first jobs f k) ∙ came in cc);
+    only = λ f k a came. absurd (let none_came : None ≡ Some a = sym (none_came_at_first jobs f k) ∙ came in cc none_came);
   };
   within = λ f. omega (arith, new_taken jobs f);
 }

@@ -99,7 +99,7 @@ empty_is_no_line p line = absurd (cc (line_is_read [] p line))
 one_position : (text : List ℕ) (p q : Position) → IsLineOf text p → IsLineOf text q → p ≡ q
 one_position text p q first second =
     let same : ◌≡◌ {A = Option Position} (Some p) (Some q) = sym (line_is_read text p first) ∙ line_is_read text q second in
-    cc
+    cc same
 
 -- ==== A line is read as a position, or it has its first fault
 
@@ -169,7 +169,7 @@ nothing_is_read line (byte ∷ text) text_is none unwritten =
       holds = λ p form.
           let read : ◌≡◌ {A = Option Position} None (Some p) =
           sym unwritten ∙ ap position_of_text (sym text_is) ∙ line_is_read (without_cr line) p form in
-          cc;
+          cc read;
       first = nor_this Empty none some;
     }
 

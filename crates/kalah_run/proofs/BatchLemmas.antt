@@ -39,7 +39,7 @@ use Rattle.kalah_run.proofs.WorkerLemmas.{puts_after, run_passes}
 -- what holds unless the rest is left holds if it is to be solved, and if the output has not failed
 pub unless_left : {rest : Rest} {failed : Bool} {A : Type 0} → A ⊎ IsAbandoned rest failed → (rest ≡ Solve) ⊎ (failed ≡ false) → A
 unless_left (inl a) sound = a
-unless_left (inr left) (inl solve) = absurd (let both : Leave ≡ Solve = sym left.0 ∙ solve in cc)
+unless_left (inr left) (inl solve) = absurd (let both : Leave ≡ Solve = sym left.0 ∙ solve in cc both)
 unless_left (inr left) (inr still) = absurd (both_ways _ still left.1)
 
 -- a failure isn't undone
@@ -91,8 +91,8 @@ as_many_left : (before after : Option PassState) → rest_by_pass after ≡ rest
     → length (pass_list after) ≡ length (pass_list before)
 as_many_left None None same = refl
 as_many_left (Some p) (Some q) same = refl
-as_many_left None (Some q) same = absurd (let both : Leave ≡ Solve = same in cc)
-as_many_left (Some p) None same = absurd (let both : Solve ≡ Leave = same in cc)
+as_many_left None (Some q) same = absurd (let both : Leave ≡ Solve = same in cc both)
+as_many_left (Some p) None same = absurd (let both : Solve ≡ Leave = same in cc both)
 
 -- after the run, when the passes of the workers and that of the calling thread come back
 module _ {G : Type 0} {knows : G → ℕ → Bool} {shared : SharedWork G} {before after : List Worker} (run : HaveRun knows shared before after) where

@@ -102,13 +102,14 @@ has_all [] seat rows has_view whole = absurd (some-ne-none (Closing rows) (sym h
 has_all (x ∷ xs) zero rows has_view whole =
     let x_is : x ≡ Closing rows = some-injective x (Closing rows) has_view in
     let part : passes_in x ≡ length rows = ap passes_in x_is in
-    let rest : all_rows xs ≡ [] = nil_from_length (all_rows xs) (omega (arith, rows_within_passes xs, sum_by-cons passes_in x xs)) in
+    let rest : all_rows xs ≡ [] =
+    nil_from_length (all_rows xs) (omega (arith, part, whole, rows_within_passes xs, sum_by-cons passes_in x xs)) in
     ap (λ u. rows_in u ++ all_rows xs) x_is ∙ ap (rows ++◌) rest ∙ append-nil rows
 has_all (x ∷ xs) (suc seat) rows has_view whole =
     let mine : length rows ≤ sum_by passes_in xs = sum_at passes_in xs seat (Closing rows) has_view in
-    let no_pass : passes_in x ≡ 0 = omega (arith, sum_by-cons passes_in x xs) in
-    let short : rows_in x ≡ [] = nil_from_length (rows_in x) (omega (arith, rows_within_one x)) in
-    ap (◌++ all_rows xs) short ∙ has_all xs seat rows has_view (omega (arith, sum_by-cons passes_in x xs))
+    let no_pass : passes_in x ≡ 0 = omega (arith, mine, whole, sum_by-cons passes_in x xs) in
+    let short : rows_in x ≡ [] = nil_from_length (rows_in x) (omega (arith, no_pass, rows_within_one x)) in
+    ap (◌++ all_rows xs) short ∙ has_all xs seat rows has_view (omega (arith, no_pass, whole, sum_by-cons passes_in x xs))
 
 -- the numbers of the row ascend
 abbrev Ascends : DrawnRow → Type 0
@@ -181,7 +182,8 @@ module _ {S : Type 0} {plan : DeskPlan} {s : State S DeskView} (seat : ℕ) {tot
       let here : cond (x == x) 1 0 ≤ count_by (λ y. y == x) numbers = get_or-le-sum_by (λ y. cond (y == x) 1 0) numbers k d within in
       let mine : sum_by (times_in_row x) (drawn_row numbers false ∷ []) ≤ sum_by (times_in_row x) (all_rows s.views) =
       rows_at (times_in_row x) s.views seat (unspent_view total number numbers) has_view in
-      below x kept.drawn (count_by (λ y. y == x) numbers) here (omega (arith, times_rows x (all_rows s.views), kept.deals.each_once x))
+      below x kept.drawn (count_by (λ y. y == x) numbers) here
+      (omega (arith, mine, times_rows x (all_rows s.views), kept.deals.each_once x))
     where
       below : (x c n : ℕ) → cond (x == x) 1 0 ≤ n → n ≤ (if nat_lt x c then 1 else 0) → x < c
       below x c n here few = grind (arith, nat_tests)
@@ -478,13 +480,13 @@ last_word {total} {word = word} {rows = rows} counts found =
     let counted : word ≡ counts.drawn + spent_in rows =
     some-injective _ _ (sym found ∙ ap (λ (l : List ℕ). get_elem? l 0) counts.word) in
     let drawn : min word total ≡ counts.drawn =
-    elim (none_or_all counts.deals) [ inl unspent ↦ omega (arith, counted) | inr full ↦ omega (arith, counted) ] in
+    elim (none_or_all counts.deals) [ inl unspent ↦ omega (arith, counted, unspent, within) | inr full ↦ omega (arith, counted, full) ] in
     record {
       deals = rw drawn counts.deals;
       spent = (
-        (λ high. let above : total < word = grind (arith, nat_tests) in omega (arith, counted)),
+        (λ high. let above : total < word = grind (arith, nat_tests, high) in omega (arith, above, counted, within)),
         (λ some_spent. let full = counts.deals.spent some_spent in
-            let high : total < word = omega (arith, counted) in grind (arith, nat_tests)),
+            let high : total < word = omega (arith, full, some_spent, counted) in grind (arith, nat_tests, high)),
       );
     }
 

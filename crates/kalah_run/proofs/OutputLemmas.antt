@@ -167,7 +167,7 @@ module _ {text : ℕ → Taken → List ℕ} {jobs : List (List Entry)} {past : 
   wrote_file low ended all =
       let up : (state_of files f).taken ≤ front (state_of files f) = progress.kept.within f in
       let counts = progress.kept.offered.counts in
-      let whole : (state_of files f).taken ≡ length (entries_of jobs f) = omega (arith, lines_are jobs files counts f) in
+      let whole : (state_of files f).taken ≡ length (entries_of jobs f) = omega (arith, up, all, ended, lines_are jobs files counts f) in
       let jobs_low : f < length jobs = omega (arith, low, files_many jobs files counts) in
       let none : (state_of files (f + 1)).taken ≡ 0 = progress.later (f + 1) (omega arith) in
       let text_is : written_upto text jobs f (state_of files f).taken ≡ written_upto text jobs (f + 1) (state_of files (f + 1)).taken =
@@ -216,8 +216,7 @@ module _ {text : ℕ → Taken → List ℕ} {jobs : List (List Entry)} {past : 
     pub progress_end : WasGivenSince begun out (text_of_jobs text jobs)
     progress_end =
         let many : length files ≡ length jobs = files_many jobs files progress.kept.offered.counts in
-        let high : length files ≤ f = past_all in
-        subst (WasGivenSince begun out) (written_all text jobs f (state_of files f).taken (omega arith))
+        subst (WasGivenSince begun out) (written_all text jobs f (state_of files f).taken (omega (arith, many, past_all)))
         progress.written
 
 -- ==== What an output writes, line by line

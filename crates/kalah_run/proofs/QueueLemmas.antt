@@ -50,7 +50,7 @@ no_pair_beyond_workers : (workers w : ℕ) (xs : List (ℕ × Job)) → All (λ 
 no_pair_beyond_workers workers w [] below le = refl
 no_pair_beyond_workers workers w (t ∷ ts) below le =
     let first : t.0 < workers = below 0 t (omega arith) in
-    other_pair w t (sent_by_worker w ts) (λ e. omega arith) ∙ no_pair_beyond_workers workers w ts (λ k d lt. below (suc k) d (omega arith)) le
+    other_pair w t (sent_by_worker w ts) (λ e. omega (arith, e, first, le)) ∙ no_pair_beyond_workers workers w ts (λ k d lt. below (suc k) d (omega arith)) le
 
 -- of pairs that are all of workers, the one that comes next is
 next_below : (workers : ℕ) (got : List (ℕ × Job)) (t : ℕ × Job) (rest : List (ℕ × Job))
@@ -173,7 +173,7 @@ module _ {items : List Job} {views : List QueueView} (kept : IsLawful items view
   fits_ended ended_is j (Putting number sent) apart has_view =
       let fit : FitsPut pairs (length kept.known) j number sent = kept.fits j _ has_view in
       let another : number ≢ length kept.known = (λ q. apart (fit.place_is ∙ (ap suc q ∙ sym ended_is))) in
-      record { place_is = fit.place_is; running = omega arith; all_sent = fit.all_sent }
+      record { place_is = fit.place_is; running = omega (arith, fit.running, another); all_sent = fit.all_sent }
   fits_ended ended_is j (Getting workers got known) apart has_view = kept.fits j _ has_view
   fits_ended ended_is j Ended apart has_view = tt
 

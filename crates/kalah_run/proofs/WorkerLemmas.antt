@@ -242,7 +242,7 @@ each_job_known {knows = knows} {shared} {before} {after} {drawn} run some deals 
     let spent = λ (k : ℕ) (w : Worker) (within : k < length after).
     (run.each k w (omega (arith, run.as_many))).spent in
     let all : drawn ≡ job_count shared.jobs.now = deals.spent (some_spent after (omega (arith, run.as_many)) spent) in
-    let once = deals.each_once job ∙ ap {B = ℕ} (λ (b : Bool). if b then 1 else 0) (lt-ltb job drawn (omega arith)) in
+    let once = deals.each_once job ∙ ap {B = ℕ} (λ (b : Bool). if b then 1 else 0) (lt-ltb job drawn (omega (arith, all, low))) in
     All-at_dealt Known job (drawn_rows (passes_of after)) (omega (arith, once))
     (All-map (λ (r : DrawnRow). All Known r.numbers) (λ (p : PassState). p.row) (passes_of after)
     (All-map (λ (p : PassState). All Known p.row.numbers) (λ (w : Worker). w.pass) after

@@ -45,7 +45,6 @@ loop-preserved g c =
 -- the last outcome was got, or the rest is left
 pub returns-clause-collected : goal.returns-clause-collected
 returns-clause-collected g c =
-    let State = g.W.Sink.state in
     let flushed = c.flush_to_wait.ensures.flushed in
     let so_far = c.loop.invariant in
     elim c.loop-test.branch [
