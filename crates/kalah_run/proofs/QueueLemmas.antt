@@ -50,7 +50,8 @@ no_pair_beyond_workers : (workers w : ℕ) (xs : List (ℕ × Job)) → All (λ 
 no_pair_beyond_workers workers w [] below le = refl
 no_pair_beyond_workers workers w (t ∷ ts) below le =
     let first : t.0 < workers = below 0 t (omega arith) in
-    other_pair w t (sent_by_worker w ts) (λ e. omega (arith, e, first, le)) ∙ no_pair_beyond_workers workers w ts (λ k d lt. below (suc k) d (omega arith)) le
+    other_pair w t (sent_by_worker w ts) (λ e. omega (arith, e, first, le))
+    ∙ no_pair_beyond_workers workers w ts (λ k d lt. below (suc k) d (omega arith)) le
 
 -- of pairs that are all of workers, the one that comes next is
 next_below : (workers : ℕ) (got : List (ℕ × Job)) (t : ℕ × Job) (rest : List (ℕ × Job))
