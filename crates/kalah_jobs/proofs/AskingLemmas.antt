@@ -1,6 +1,6 @@
 -- Lines that come as a stream: what is answered of them, and how far.
 use Rattle.kalah_rules.specs.Position as position
-use Rattle.std.proofs.Common.{◌≡◌, ◌≢◌, ◌∙◌, ℕ, zero, suc, ◌+◌, ◌≤◌, Bool, true, false, List, [], ◌∷◌, ◌++◌, length, take, inl, inr, refl, sym, ap, ap₂, arith, append-nil, append_assoc, Err, not, ◌||◌, ◌&&◌, subst, length-take-le, take_all, Result, Ok, Option}
+use Rattle.std.proofs.Common.{◌≡◌, ◌≢◌, ◌∙◌, ℕ, zero, suc, ◌+◌, ◌≤◌, Bool, true, false, List, [], ◌∷◌, ◌++◌, length, take, inl, inr, refl, sym, ap, ap₂, arith, append-nil, append_assoc, Err, not, ◌||◌, ◌&&◌, subst, length-take-le, take_all, Result, Ok, Option, IsErrOf}
 use Rattle.std.specs.List.{flat_map, enumerate_from}
 use Rattle.std.proofs.lemmas.Bool.{cases_lt, cond_both}
 use Rattle.std.proofs.Math.Bool.{and-true}
@@ -9,7 +9,7 @@ use Rattle.std.proofs.lemmas.List.Folds.{list_any-append}
 use Rattle.kalah_rules.specs.Position.{is_over}
 use Rattle.kalah_jobs.specs.Types.{AskFault, Question, LineFault}
 use Rattle.kalah_jobs.specs.declared.files.question.Question.TheVariants.{BestMove, Values, Steps}
-use Rattle.kalah_jobs.specs.declared.asking.ask_fault.AskFault.TheVariants.{Write}
+use Rattle.kalah_jobs.specs.declared.asking.ask_fault.AskFault.TheVariants.{Read, Write}
 use Rattle.kalah_jobs.specs.Asking.{kept_bytes, reply, last_reply, is_last_read, answers_to, are_all_read, AnswersAreThoseOfAFile, AnswersLines, AreAnswered, Asking, IsAnswered, IsBegun, IsCutOff}
 use Rattle.kalah_jobs.specs.Files.Entry.{entry_of_reading, entry_to}
 use Rattle.kalah_jobs.specs.declared.files.entry.Entry.TheVariants.{Bad}
@@ -332,6 +332,14 @@ module _ {question : Question} {before now old new : Option (List ℕ)} {line : 
         (more_written _ _ _ keeps (subst (Appends kept more) reply_part answered));
     status = ap₂ (λ a b. a && b) u.status (read ∙ ap is_last_read u.kept) ∙ sym (last_read u.lines u.part u.ended u.unended);
   }
+
+-- a failed write is no failed read
+pub no_read_failed : {result : Result Bool AskFault} → result ≡ Err Write → IsErrOf result Read → ⊥
+no_read_failed is failed = cc
+
+-- an answer is no failure
+pub no_failure : {all_read : Bool} {fault : AskFault} → IsErrOf (Ok all_read) fault → ⊥
+no_failure failed = cc
 
 -- what holds if a write failed
 pub write_failed : {question : Question} {before after : Option (List ℕ)} {old new : SinkState} → new.has_failed ≡ true →

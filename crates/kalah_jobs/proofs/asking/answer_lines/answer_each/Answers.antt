@@ -1,5 +1,5 @@
 use Rattle.std.proofs.Common.{rules, ◌∙◌, refl, sym}
-use Rattle.kalah_jobs.proofs.AskingLemmas.{all_answered, begun_last, begun_line, begun_so_far, byte_read, cut_off, line_read, nothing_read, write_failed}
+use Rattle.kalah_jobs.proofs.AskingLemmas.{all_answered, begun_last, begun_line, begun_so_far, byte_read, cut_off, line_read, no_failure, no_read_failed, nothing_read, write_failed}
 use Rattle.kalah_jobs.proofs.asking.answer_lines.answer_each.Goals as goal
 
 pub loop-byte-init : goal.loop-byte-init
@@ -46,7 +46,7 @@ returns-then-failed g c =
       same_reference = c.in_ok-byte.ensures.same_reference ∙ c.loop-byte.invariant.3;
       lines = write_failed has_failed
           (begun_line c.loop-byte.invariant.0 _ taken c.in_ok-byte.ensures.keeps c.write_reply-all_read.ensures.given.start);
-      none_left = λ is. absurd cc;
+      none_left = λ failed. absurd (no_read_failed refl failed);
     }
 
 pub returns-then-failed-2 : goal.returns-then-failed-2
@@ -57,7 +57,7 @@ returns-then-failed-2 g c =
       same_reference = c.in_ok-byte.ensures.same_reference ∙ c.loop-byte.invariant.3;
       lines = write_failed has_failed
           (begun_last c.loop-byte.invariant.0 _ taken c.in_ok-byte.ensures.keeps c.write_last_reply-all_read.ensures.given.start);
-      none_left = λ is. absurd cc;
+      none_left = λ failed. absurd (no_read_failed refl failed);
     }
 
 pub returns-clause-lines : goal.returns-clause-lines
@@ -68,7 +68,7 @@ returns-clause-lines g c =
     record {
       answered = all_answered c.loop-byte.invariant.0 _ taken (c.in_ok-byte.ensures.end c.in_default.is) c.in_ok-byte.ensures.keeps
           (given.whole sound).1 c.write_last_reply-all_read.ensures.read;
-      cut_off = λ is. absurd cc;
+      cut_off = λ failed. absurd (no_failure failed);
       begins = begun_last c.loop-byte.invariant.0 _ taken c.in_ok-byte.ensures.keeps given.start;
       failed = search rules;
       all_flushed = c.write_last_reply-all_read.ensures.all_flushed;
