@@ -12,7 +12,6 @@ use crate::writing::answer_line::write_joined_text;
 use crate::writing::sink::{Sink, flush_unless_failed};
 
 // Writes the answer to a line, and a line feed, and returns whether the line was read.
-#[tactic(auto, using(crate::proofs::FilesLemmas::asked_fault))]
 pub(crate) fn write_reply<O: Sink>(
     line: &LineHead,
     question: Question,

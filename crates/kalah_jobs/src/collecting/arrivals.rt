@@ -72,7 +72,6 @@ impl Arrivals {
     }
 
     // Keeps the answer of a line, and returns how many lines became ready.
-    #[tactic(auto, using(crate::proofs::CollectingLemmas::fronts))]
     pub(crate) fn accept(&mut self, line: u32, answer: Answer) -> u32
         requires within { line < line_count self.old }
         requires first { arrived_for self.old line ≡ None }

@@ -13,7 +13,6 @@ const STRIDE: usize = 8;
 
 // Returns the index of the first line feed of `bytes[from..from + count]`, if there is one.
 #[inline(always)]
-#[tactic(auto)]
 fn feed_among(bytes: &[u8], from: usize, count: usize) -> Option<usize>
     requires before { HasNoLineFeed (take from bytes.now) }
     requires range { from + count ≤ length bytes.now }
@@ -65,7 +64,6 @@ fn count_feeds_in_block(block: &[u8]) -> u8
 }
 
 // Returns the number of lines.
-#[tactic(auto, using(crate::proofs::FilesLemmas::line_numbers))]
 pub(crate) fn count_lines(bytes: &[u8]) -> usize
     ensures { result ≡ length (lines_of bytes.now) }
 {

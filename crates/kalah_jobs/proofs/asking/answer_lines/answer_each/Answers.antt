@@ -1,4 +1,5 @@
-use Rattle.std.proofs.Common.{rules, ◌∙◌, refl, sym}
+use Rattle.std.proofs.lemmas.Grind.{common_steps}
+use Rattle.std.proofs.Common.{rules, ◌∙◌, refl, sym, arith}
 use Rattle.kalah_jobs.proofs.AskingLemmas.{all_answered, begun_last, begun_line, begun_so_far, byte_read, cut_off, line_read, no_failure, no_read_failed, nothing_read, write_failed}
 use Rattle.kalah_jobs.proofs.asking.answer_lines.answer_each.Goals as goal
 
@@ -73,3 +74,9 @@ returns-clause-lines g c =
       failed = search rules;
       all_flushed = c.write_last_reply-all_read.ensures.all_flushed;
     }
+
+pub loop-byte-smaller : goal.loop-byte-smaller
+loop-byte-smaller g c = grind (arith, common_steps)
+
+pub returns-clause-none_left : goal.returns-clause-none_left
+returns-clause-none_left g c = grind (arith, common_steps)

@@ -15,3 +15,12 @@ invariant_of-self c =
 pub returns-clause-more_ready : goal.returns-clause-more_ready
 returns-clause-more_ready c =
     omega (arith, (invariant_of-self c).0, c.loop-self.invariant.low, c.self.invariant.0, ap front c.self.view_is)
+
+pub loop-self-init : goal.loop-self-init
+loop-self-init c = grind (arith, front_set)
+
+pub overflow_cast-self-inside : goal.overflow_cast-self-inside
+overflow_cast-self-inside c = grind (arith, front_within)
+
+pub loop-self-preserved : goal.loop-self-preserved
+loop-self-preserved c = grind (arith, common_steps, front_more)

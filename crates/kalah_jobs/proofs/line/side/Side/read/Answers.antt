@@ -24,3 +24,6 @@ loop-seeds-preserved c =
     let after = c.in_ok-seeds.after.now in
     let comma_next : after ≡ comma ∷ take (length after - 1) (drop 1 after) = grind (arith, common_steps) in
     house_follows so_far c.in_ok-seeds.ensures.read comma_next (c.push.ensures.houses so_far.houses so_far.are_kept) c.push.ensures.one
+
+pub returns-in_err-store-in-47-clause-none : goal.returns-in_err-store-in-47-clause-none
+returns-in_err-store-in-47-clause-none c = grind (arith, common_steps)
