@@ -88,7 +88,6 @@ fn choices() -> [u32; CHOICES]
 }
 
 // Returns cell `i` of the pairs, from the choices.
-#[tactic(auto, using(crate::proofs::TableLemmas::choice_small))]
 fn pair_cell(choices: &[u32; CHOICES], i: usize) -> u32
     requires inside { i < PAIRS }
     requires choices { AreChoices CHOICES choices.now }

@@ -1,4 +1,4 @@
-use Rattle.kalah_jobs.proofs.SinkLemmas.{left_prefix, prefix_kept_all, prefix_none}
+use Rattle.kalah_jobs.proofs.SinkLemmas.{left_part, left_prefix, prefix_kept_all, prefix_none}
 use Rattle.kalah_jobs.proofs.writing.stream.write_rest.Goals as goal
 
 pub returns-then-is_empty-clause-start : goal.returns-then-is_empty-clause-start
@@ -9,3 +9,6 @@ returns-in_err-taken-clause-start g c = left_prefix _ c.loop.invariant (prefix_k
 
 pub returns-clause-start : goal.returns-clause-start
 returns-clause-start g c = left_prefix _ c.loop.invariant (prefix_none _ _)
+
+pub loop-preserved : goal.loop-preserved
+loop-preserved g c = left_part _ c.loop.invariant c.in_ok-taken.taken c.in_ok-taken.ensures.adds

@@ -1,3 +1,4 @@
+use Rattle.std.proofs.lemmas.Grind.{common_steps}
 use Rattle.std.proofs.Common.{arith, rules, refl, sym, ◌≡◌, ◌+◌, ◌-◌, ◌%◌, subst, length, max}
 use Rattle.std.proofs.lemmas.List.Sums.{sum_by-set}
 use Rattle.kalah_rules.specs.HousesStep.{houses_step}
@@ -266,3 +267,12 @@ bound_by_moves-loop-priority-init g t c =
       untried = untried;
       next = next_waits c.seeds-seeds.ensures.limits untried c.highest-priority.ensures.found;
     }
+
+pub bound_by_search-learn-requires : goal.bound_by_search-learn-requires
+bound_by_search-learn-requires g c = grind (arith, common_steps)
+
+pub try_remaining-loop-untried-smaller-then-seeds-self : goal.try_remaining-loop-untried-smaller-then-seeds-self
+try_remaining-loop-untried-smaller-then-seeds-self g c = grind (arith, common_steps)
+
+pub try_remaining-listed : goal.try_remaining-listed
+try_remaining-listed g c = grind (arith, common_steps)

@@ -1,3 +1,4 @@
+use Rattle.std.proofs.lemmas.Grind.{common_steps}
 use Rattle.std.proofs.Common.{◌≡◌, ℕ, ◌<◌, ◌≤◌, ◌-◌, ◌+◌, List, ◌∷◌, arith, length, subst, sym, map, drop, get_or, Contains, refl}
 use Rattle.std.proofs.lemmas.List.{drop_more}
 use Rattle.std.proofs.lemmas.List.Elements.{Contains-get_or}
@@ -43,3 +44,9 @@ returns-clause-best_play g c =
     let none : c.loop-i.i ≡ 0 = omega arith in
     let is = rw (none, c.legal-moves.ensures.moves) at c.loop-i.invariant.done in
     subst (StateValues c.args.board.now) (sym is) (values_state (board_equal_sides _ c.legal-moves.ensures.limits))
+
+pub prepend-requires-clause-room : goal.prepend-requires-clause-room
+prepend-requires-clause-room g c = grind (arith, common_steps)
+
+pub loop-i-init : goal.loop-i-init
+loop-i-init g c = grind (arith, common_steps)
