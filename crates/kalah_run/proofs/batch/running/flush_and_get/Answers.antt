@@ -1,3 +1,5 @@
+use Rattle.std.proofs.Common.{arith}
+use Rattle.std.proofs.lemmas.Grind.{common_steps}
 use Rattle.kalah_run.proofs.batch.running.flush_and_get.Goals as goal
 
 pub returns : goal.returns
@@ -8,3 +10,9 @@ returns g c = record {
   ended = tt;
   flushed = c.flush_to_wait.ensures.flushed;
 }
+
+pub returns-then-leave_after : goal.returns-then-leave_after
+returns-then-leave_after g c = grind (arith, common_steps)
+
+pub get_last-requires-clause-spent : goal.get_last-requires-clause-spent
+get_last-requires-clause-spent g c = grind (arith, common_steps)

@@ -22,3 +22,6 @@ returns g c = record {
 
 pub spawn_with-started-requires-clause-keeps : goal.spawn_with-started-requires-clause-keeps
 spawn_with-started-requires-clause-keeps g c κs within = grind (arith, common_steps)
+
+pub returns-in_default : goal.returns-in_default
+returns-in_default g c = grind (arith, common_steps)
