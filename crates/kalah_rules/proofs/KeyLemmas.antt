@@ -1,6 +1,6 @@
 -- Rows as numbers, and what a key determines of its houses.
 use Rattle.std.proofs.Common.{zero, suc, ◌≡◌, ℕ, ◌+◌, ◌-◌, ◌*◌, ◌/◌, ◌%◌, ◌^◌, ◌<◌, ◌≤◌, inl, inr, List, [], ◌∷◌, ◌++◌, length, get_or, arith, ap, sym, ◌∙◌, refl, add-one, take, drop, replicate, rules, Option, Some, None, length-take-le, length-append, slice_set, sum, nat_lt, if◌then◌else◌, ◌==◌, nat_eq, All, IsSome, IfSome, ◌↔◌, length-set}
-use Rattle.std.proofs.lemmas.Nat.{pow-add}
+use Rattle.std.proofs.lemmas.Nat.{pow-add, mul-le}
 use Rattle.std.proofs.Math.Nat.{pow-succ', mul_assoc, div-div-eq-div-mul}
 use Rattle.std.proofs.lemmas.List.{map_push, length-drop, length-replicate, get_or-replicate, take-append-drop}
 use Rattle.std.proofs.lemmas.List.Sums.{sum_by-cons, sum_by-append}
@@ -18,6 +18,7 @@ use Rattle.std.proofs.lemmas.List.Elements.{All-replicate}
 use Rattle.kalah_rules.specs.declared.rule.Rule.{Rule}
 use Rattle.kalah_rules.specs.declared.rule.Rule.TheVariants.{Classic, EmptyCapture}
 use Rattle.kalah_rules.specs.Cells.{padded, houses_from, CanBeHouses}
+use Rattle.kalah_rules.specs.declared.houses.numbers.TheConstants.{MOST_LAPS, SIX_ONES}
 
 -- ==== Rows as numbers: houses read and written, and rows of seeds added
 
@@ -58,9 +59,9 @@ number_of-append (x ∷ xs) ys = omega (arith, number_of-append xs ys, times_pow
 
 -- a house is read off a row's number
 pub read_seeds : (xs : List ℕ) (k : ℕ) → k < length xs → sum xs ≤ 31 → number_of xs / 32 ^ k % 32 ≡ get_or xs k 0
-read_seeds [] k h few = omega arith
-read_seeds (x ∷ xs) zero h few = omega (arith, sum_by-cons)
-read_seeds (x ∷ xs) (suc k) h few =
+read_seeds [] k inside few = omega arith
+read_seeds (x ∷ xs) zero inside few = omega (arith, sum_by-cons)
+read_seeds (x ∷ xs) (suc k) inside few =
     let cons = sum_by-cons (λ (y : ℕ). y) x xs in
     let high : (x + 32 * number_of xs) / 32 ≡ number_of xs = omega arith in
     let past : (x + 32 * number_of xs) / 32 ^ suc k ≡ number_of xs / 32 ^ k =
@@ -70,9 +71,9 @@ read_seeds (x ∷ xs) (suc k) h few =
 -- a house is written into a row's number
 pub number_of-set : (xs : List ℕ) (k v : ℕ) → k < length xs
     → number_of (slice_set xs k v) + 32 ^ k * get_or xs k 0 ≡ number_of xs + 32 ^ k * v
-number_of-set [] k v h = omega arith
-number_of-set (x ∷ xs) zero v h = omega arith
-number_of-set (x ∷ xs) (suc k) v h = omega (arith, number_of-set xs k v (omega arith), times_power)
+number_of-set [] k v inside = omega arith
+number_of-set (x ∷ xs) zero v inside = omega arith
+number_of-set (x ∷ xs) (suc k) v inside = omega (arith, number_of-set xs k v (omega arith), times_power)
 
 -- ---- rows that are given house by house
 -- one house more at the end
@@ -99,12 +100,12 @@ number_of-same (suc n) q =
 
 -- one seed in each house, if x lies past them all
 pub number_of-all : (n x : ℕ) → n ≤ x → number_of (row_of n (up_to x)) ≡ ones n
-number_of-all n x h = grind (arith, row_of_same)
+number_of-all n x past = grind (arith, row_of_same)
 
 -- one seed in each house up to x
 pub number_of-up_to : (n x : ℕ) → x ≤ n → number_of (row_of n (up_to x)) ≡ ones x
-number_of-up_to zero x h = grind arith
-number_of-up_to (suc n) x h = elim (cases_eq x (suc n)) [
+number_of-up_to zero x within = grind arith
+number_of-up_to (suc n) x within = elim (cases_eq x (suc n)) [
   | inl all ↦ number_of-all (suc n) x (omega arith) ∙ ap (λ k. ones k) (sym all)
   | inr less ↦
       let past : up_to x (suc n) ≡ 0 = grind arith in
@@ -185,30 +186,30 @@ module _ (m h c : ℕ) (low : 1 ≤ h) (high : h ≤ m) where
 
 -- one seed in each of fewer houses is no larger number
 pub ones_le : (a b : ℕ) → a ≤ b → ones a ≤ ones b
-ones_le a zero h = grind arith
-ones_le a (suc b) h = elim (cases_eq a (suc b)) [
+ones_le a zero fewer = grind arith
+ones_le a (suc b) fewer = elim (cases_eq a (suc b)) [
   | inl same ↦ rw same (omega arith)
   | inr less ↦ let on = ones_le a b (omega arith) in omega (arith, number_of-suc)
 ]
 
 -- a row moved up by a few houses fits sixty-four bits
 pub moved_fits : (k x : ℕ) → k ≤ 5 → x < 2 ^ 30 → x * 32 ^ k % 2 ^ 64 ≡ 32 ^ k * x
-moved_fits k x h few = cases_to_five (λ k. x * 32 ^ k % 2 ^ 64 ≡ 32 ^ k * x) k h
+moved_fits k x place few = cases_to_five (λ k. x * 32 ^ k % 2 ^ 64 ≡ 32 ^ k * x) k place
     (omega arith) (omega arith) (omega arith) (omega arith) (omega arith) (omega arith)
 
 -- a few seeds moved past the own row fit sixty-four bits
 pub moved_across_fits : (k x : ℕ) → k ≤ 5 → x < 32 → x * (2 ^ 30 * 32 ^ k) % 2 ^ 64 ≡ 2 ^ 30 * (32 ^ k * x)
-moved_across_fits k x h few = cases_to_five (λ k. x * (2 ^ 30 * 32 ^ k) % 2 ^ 64 ≡ 2 ^ 30 * (32 ^ k * x)) k h
+moved_across_fits k x place few = cases_to_five (λ k. x * (2 ^ 30 * 32 ^ k) % 2 ^ 64 ≡ 2 ^ 30 * (32 ^ k * x)) k place
     (omega arith) (omega arith) (omega arith) (omega arith) (omega arith) (omega arith)
 
 -- the seeds of a house are few bits of its row
 pub placed_small : (k x : ℕ) → k ≤ 5 → x < 32 → 32 ^ k * x < 2 ^ 30
-placed_small k x h few = cases_to_five (λ k. 32 ^ k * x < 2 ^ 30) k h
+placed_small k x place few = cases_to_five (λ k. 32 ^ k * x < 2 ^ 30) k place
     (omega arith) (omega arith) (omega arith) (omega arith) (omega arith) (omega arith)
 
 -- a small multiple of a row with one seed in each house has few bits
-pub product_small : (x y : ℕ) → x ≤ 10 → y ≤ 34636833 → x * y ≤ 346368330
-product_small x y h k = grind arith
+pub product_small : (x y : ℕ) → x ≤ MOST_LAPS → y ≤ SIX_ONES → x * y ≤ MOST_LAPS * SIX_ONES
+product_small x y x_few y_few = mul-le x y _ _ x_few y_few
 
 -- what lies up to x holds what lies up to h
 pub up_to_past : (m h x : ℕ) → h ≤ m → h ≤ x → ones h ≤ number_of (row_of m (up_to x))
@@ -264,7 +265,7 @@ cells-number_of (suc n) (x ∷ xs) rest long few =
 
 -- a padded row has six cells
 pub length-padded : (xs : List ℕ) → length xs ≤ 6 → length (padded xs) ≡ 6
-length-padded xs h = rw (length-append, length-replicate) (omega arith)
+length-padded xs few = rw (length-append, length-replicate) (omega arith)
 
 -- a padded row has the seeds of the row
 pub sum-padded : (xs : List ℕ) → sum (padded xs) ≡ sum xs
@@ -302,11 +303,11 @@ rule_bit-small EmptyCapture = omega arith
 
 -- the key of houses holds them
 pub key_holds : {a : HousesState} {k : ℕ} → IsWithinHouses a → key_of a ≡ k → KeyHolds a k
-key_holds {a} {k} h e =
+key_holds {a} {k} limits key_is =
     let other_long : length a.other ≤ 6 = omega arith in
     let own_few : sum a.own ≤ 31 = omega arith in
     let other_few : sum a.other ≤ 31 = omega arith in
-    let own_small = number_of-small _ _ h.at_most_six own_few in
+    let own_small = number_of-small _ _ limits.at_most_six own_few in
     let other_small = number_of-small _ _ other_long other_few in
     let own_same = number_of-append_zeros a.own (6 - length a.own) in
     let other_same = number_of-append_zeros a.other (6 - length a.other) in
@@ -314,7 +315,7 @@ key_holds {a} {k} h e =
     omega arith in
     let other_number : k / 2 ^ 30 ≡ number_of (padded a.other) + 32 ^ 6 * (length a.own + 8 * rule_bit a.rule) = omega arith in
     record {
-      own_cells = rw own_number (cells-number_of _ _ _ (length-padded _ h.at_most_six) (omega (arith, sum-padded)));
+      own_cells = rw own_number (cells-number_of _ _ _ (length-padded _ limits.at_most_six) (omega (arith, sum-padded)));
       other_cells =
           rw other_number (cells-number_of _ _ _ (length-padded _ other_long) (omega (arith, sum-padded)));
       side = omega arith;
@@ -323,22 +324,22 @@ key_holds {a} {k} h e =
 
 -- the key of houses within the limits is a key
 pub key_is_key : {a : HousesState} {k : ℕ} → IsWithinHouses a → key_of a ≡ k → IsKey k
-key_is_key {a} h e =
-    let held = key_holds h e in
+key_is_key {a} limits key_is =
+    let held = key_holds limits key_is in
     rw (held.side, held.own_cells, held.other_cells) (record {
-      some_house = h.some_house;
-      at_most_six = h.at_most_six;
+      some_house = limits.some_house;
+      at_most_six = limits.at_most_six;
       own_past = drop-padded a.own;
-      other_past = rw (sym h.same_side) (drop-padded a.other);
+      other_past = rw (sym limits.same_side) (drop-padded a.other);
       few_seeds = omega (arith, sum-padded);
     })
 
 -- rules with the same bit are equal
 rule_bit-same : (r s : Rule) → rule_bit r ≡ rule_bit s → r ≡ s
-rule_bit-same Classic Classic e = refl
-rule_bit-same Classic EmptyCapture e = cc
-rule_bit-same EmptyCapture Classic e = cc
-rule_bit-same EmptyCapture EmptyCapture e = refl
+rule_bit-same Classic Classic same = refl
+rule_bit-same Classic EmptyCapture same = cc
+rule_bit-same EmptyCapture Classic same = cc
+rule_bit-same EmptyCapture EmptyCapture same = refl
 
 -- houses with the same parts are the same
 pub same_houses_in : {a b : HousesState} → a.own ≡ b.own → a.other ≡ b.other → a.rule ≡ b.rule → a ≡ b
@@ -347,10 +348,10 @@ same_houses_in x y z = grind arith
 -- the houses that have a key, by its parts
 pub houses_of_key : (a : HousesState) (k : ℕ) (rule : Rule) → IsWithinHouses a → key_of a ≡ k → rule_bit rule ≡ k / 2 ^ 63 →
     houses_from (side_at k) (cells 6 k) (cells 6 (k / 2 ^ 30)) rule ≡ a
-houses_of_key a k rule h e bit =
-    let held = key_holds h e in
+houses_of_key a k rule limits key_is bit =
+    let held = key_holds limits key_is in
     let other_shown : take (side_at k) (cells 6 (k / 2 ^ 30)) ≡ a.other =
-    rw (held.side, held.other_cells, sym h.same_side) (take-padded _) in
+    rw (held.side, held.other_cells, sym limits.same_side) (take-padded _) in
     same_houses_in (rw (held.side, held.own_cells) (take-padded _)) other_shown (rule_bit-same _ _ (omega arith))
 
 -- the parts of a key make the key
@@ -365,32 +366,32 @@ key_from_parts rule own_is other_is own_padded other_padded long side_is bit = o
 -- the key of the houses that a key holds
 pub key_of_houses : {k : ℕ} (rule : Rule) → IsKey k → rule_bit rule ≡ k / 2 ^ 63 →
     key_of (houses_from (side_at k) (cells 6 k) (cells 6 (k / 2 ^ 30)) rule) ≡ k
-key_of_houses {k} rule h bit = search (rules, key_from_parts, number_of-cells, padded_from_zeros)
+key_of_houses {k} rule is_key bit = search (rules, key_from_parts, number_of-cells, padded_from_zeros)
 
 -- the rule that a key names has the key's bit
 rule_at-bit : (bit : ℕ) → bit ≤ 1 → rule_bit (if bit == 0 then Classic else EmptyCapture) ≡ bit
-rule_at-bit zero h = refl
-rule_at-bit (suc zero) h = refl
-rule_at-bit (suc (suc n)) h = omega arith
+rule_at-bit zero small = refl
+rule_at-bit (suc zero) small = refl
+rule_at-bit (suc (suc n)) small = omega arith
 
 -- the houses of a key are those whose key it is
 pub houses_at_key : {a : HousesState} → IsWithinHouses a → houses_at (key_of a) ≡ a
-houses_at_key {a} h =
-    let held = key_holds h refl in
+houses_at_key {a} limits =
+    let held = key_holds limits refl in
     let bit : key_of a / 2 ^ 63 ≤ 1 = omega (arith, rule_bit-small) in
-    houses_of_key a _ _ h refl (rule_at-bit _ bit)
+    houses_of_key a _ _ limits refl (rule_at-bit _ bit)
 
 -- a key fits sixty-four bits
 pub key_fits : (b : HousesState) → IsWithinHouses b → key_of b < 2 ^ 64
-key_fits b h = grind (arith, number_of-small)
+key_fits b limits = grind (arith, number_of-small)
 
 -- the parts of the key of houses, with their number of seeds, are those houses packed
 pub packed_as : (b : HousesState) (rows seeds variant : ℕ) → IsWithinHouses b → rows ≡ rows_number b
     → seeds ≡ seeds_in_houses (storeless b) →
     variant ≡ variant_of b → IsPacked rows seeds variant × (unpacked rows variant ≡ b)
-packed_as b rows seeds variant h rows_are seeds_are variant_is =
+packed_as b rows seeds variant limits rows_are seeds_are variant_is =
     let key_is : rows + 2 ^ 60 * variant ≡ key_of b = omega arith in
-    let same : unpacked rows variant ≡ b = ap houses_at key_is ∙ houses_at_key h in
+    let same : unpacked rows variant ≡ b = ap houses_at key_is ∙ houses_at_key limits in
     grind arith
 
 -- what the fields of packed houses determine of the houses
@@ -403,7 +404,7 @@ pub record IsPackOf (a : HousesState) (rows seeds variant : ℕ) : Type 0 where
 -- the fields of packed houses are those of their value
 pub pack_of : {a : HousesState} {rows seeds variant : ℕ} → IsPacked rows seeds variant → unpacked rows variant ≡ a
     → IsPackOf a rows seeds variant
-pack_of is e = grind arith
+pack_of packed view_is = grind arith
 
 -- both rows fit sixty bits, the own row thirty
 pub record AreRows (a : HousesState) (rows : ℕ) : Type 0 where
@@ -413,20 +414,20 @@ pub record AreRows (a : HousesState) (rows : ℕ) : Type 0 where
 
 -- both rows are read off the packed rows
 pub rows_of_pack : {a : HousesState} {rows seeds variant : ℕ} → IsPackOf a rows seeds variant → AreRows a rows
-rows_of_pack {a} is =
-    let own_small = number_of-small 6 a.own is.limits.at_most_six (omega (arith, is.limits.few_seeds)) in
-    let other_small = number_of-small 6 a.other (omega (arith, is.limits.same_side)) (omega (arith, is.limits.few_seeds)) in
-    omega (arith, is.rows_are)
+rows_of_pack {a} pack =
+    let own_small = number_of-small 6 a.own pack.limits.at_most_six (omega (arith, pack.limits.few_seeds)) in
+    let other_small = number_of-small 6 a.other (omega (arith, pack.limits.same_side)) (omega (arith, pack.limits.few_seeds)) in
+    omega (arith, pack.rows_are)
 
 -- a row with the number 0 has no seeds
 pub sum-zero : (xs : List ℕ) → number_of xs ≡ 0 → sum xs ≡ 0
-sum-zero [] e = refl
-sum-zero (x ∷ xs) e = let rest = sum-zero xs (omega arith) in let cons = sum_by-cons (λ (y : ℕ). y) x xs in omega arith
+sum-zero [] none = refl
+sum-zero (x ∷ xs) none = let rest = sum-zero xs (omega arith) in let cons = sum_by-cons (λ (y : ℕ). y) x xs in omega arith
 
 -- a row without seeds has the number 0
 pub number_of-zero : (xs : List ℕ) → sum xs ≡ 0 → number_of xs ≡ 0
-number_of-zero [] e = refl
-number_of-zero (x ∷ xs) e = let cons = sum_by-cons (λ (y : ℕ). y) x xs in let rest = number_of-zero xs (omega arith) in omega arith
+number_of-zero [] none = refl
+number_of-zero (x ∷ xs) none = let cons = sum_by-cons (λ (y : ℕ). y) x xs in let rest = number_of-zero xs (omega arith) in omega arith
 
 -- a row's number is 0 exactly when it has no seeds
 pub number_of-is_zero : (xs : List ℕ) → nat_eq (number_of xs) 0 ≡ nat_eq (sum xs) 0
@@ -448,26 +449,26 @@ module _ (k : ℕ) (rule : Rule) (bit : rule_bit rule ≡ k / 2 ^ 63) where
   pub of_key_found : (o : Option HousesState) → (IsSome o ↔ IsKey k) → IfSome o (λ a. a ≡ parts) → (a : HousesState)
       → IsWithinHouses a →
       key_of a ≡ k → o ≡ Some a
-  of_key_found None valid value a h e = grind (arith, key_is_key)
-  of_key_found (Some b) valid value a h e = ap Some (value ∙ houses_of_key _ _ _ h e bit)
+  of_key_found None valid value a limits key_is = grind (arith, key_is_key)
+  of_key_found (Some b) valid value a limits key_is = ap Some (value ∙ houses_of_key _ _ _ limits key_is bit)
 
 -- two values of houses with one key are one
 pub same_key : (a b : HousesState) → IsWithinHouses a → IsWithinHouses b → key_of a ≡ key_of b → a ≡ b
-same_key a b ha hb e =
-    let bit = sym (key_holds ha e).rule in
-    sym (houses_of_key _ _ _ ha e bit) ∙ houses_of_key _ _ _ hb refl bit
+same_key a b limits_a limits_b same =
+    let bit = sym (key_holds limits_a same).rule in
+    sym (houses_of_key _ _ _ limits_a same bit) ∙ houses_of_key _ _ _ limits_b refl bit
 
 -- without seeds only the variant is left
 pub without_seeds_packed : {a : HousesState} {rows seeds variant : ℕ} → IsPackOf a rows seeds variant →
     IsPacked 0 0 variant × (unpacked 0 variant ≡ without_seeds a)
-without_seeds_packed {a} is =
+without_seeds_packed {a} pack =
     let side = length-replicate {A = ℕ} (length a.own) 0 in
     let none = sum-zeros (length a.own) in
     packed_as _ 0 0 _
     (omega arith)
     (omega (arith, number_of-zeros))
     (omega arith)
-    (omega (arith, is.variant_is))
+    (omega (arith, pack.variant_is))
 
 -- ==== The houses of one side in one number
 
@@ -509,7 +510,7 @@ pub packed_rows : {own other : List ℕ} {rule : Rule} {own_number other_number 
     → seeds ≡ sum own + sum other →
     IsPacked (own_number + 2 ^ 30 * other_number) seeds variant
     × (unpacked (own_number + 2 ^ 30 * other_number) variant ≡ record { own = own; other = other; rule = rule })
-packed_rows within own_is other_is m_is variant_is seeds_are = packed_as _ _ _ _ within (omega arith) seeds_are (omega arith)
+packed_rows limits own_is other_is m_is variant_is seeds_are = packed_as _ _ _ _ limits (omega arith) seeds_are (omega arith)
 
 -- ==== Houses from six cells a row
 

@@ -16,7 +16,7 @@ use Rattle.kalah_rules.specs.Packed.{IsPackedPosition, ones, unpacked, IsPacked}
 use Rattle.kalah_rules.specs.declared.houses.play.RowNumbers.{RowNumbers}
 use Rattle.kalah_rules.specs.declared.rule.Rule.{Rule}
 use Rattle.kalah_rules.specs.declared.houses.sowings.Sowing.{Sowing}
-use Rattle.kalah_rules.specs.Sowings.{own_gains, other_gains, store_gains, last_place, IsLastHouse, IsSowing, IsSowingCell, AreSowings}
+use Rattle.kalah_rules.specs.Sowings.{own_gains, other_gains, store_gains, last_place, IsLastHouse, IsNoHouse, IsSowing, IsSowingCell, AreSowings}
 use Rattle.kalah_rules.proofs.KeyLemmas.{number_of-small, pow_five, pow_other, own_house_of_rows, moved_across_fits, placed_small, number_of-set, number_of-all, number_of-up_to, read_seeds, own_sown, other_sown, own_gain, other_gain, ones_le, IsPackOf, pack_of, rows_of_pack, packed_as, sum-zero, number_of-zero}
 use Rattle.std.proofs.lemmas.List.{length-replicate, get_or-set_same, get_or-set_other}
 use Rattle.kalah_rules.specs.Play.{legal_houses, step_to, step_of}
@@ -47,15 +47,16 @@ left_of_rows : (rows x y : ℕ) {own other own_new other_new : ℕ} → rows % 2
     own_new + x ≡ own → other_new + y ≡ other → AreLeft rows (x + 2 ^ 30 * y) own_new other_new
 left_of_rows rows x y own_is other_is less other_less = omega arith
 
--- the last seed and the seeds across, where they stand in both rows
-abbrev pub seeds_to_capture : RowNumbers → ℕ → ℕ → ℕ
-seeds_to_capture r seed across = seed + r.rows / 2 ^ across % 32 * 2 ^ across % 2 ^ 64
+-- the seeds across from the last house of a sowing
+abbrev pub seeds_across : RowNumbers → Sowing → ℕ
+seeds_across r s = r.rows / 2 ^ s.across_bit % 32
 
--- what is captured of rows: the last seed, if it is alone in its house, and the seeds across, as the rule says
-abbrev pub HasCaptured : Rule → RowNumbers → ℕ → ℕ → ℕ → ℕ → ℕ → Type 0
-HasCaptured rule r house seed across seeds count =
-    MatchBool ((bit_and r.rows house == seed) && captures rule (r.rows / 2 ^ across % 32))
-    ((seeds ≡ seeds_to_capture r seed across) × (count ≡ 1 + r.rows / 2 ^ across % 32)) ((seeds ≡ 0) × (count ≡ 0))
+-- what is captured of the rows after a sowing: the last seed, if it is alone in its house, and the seeds across, as the rule says. They are
+-- taken where they stand in both rows
+abbrev pub HasCaptured : Rule → RowNumbers → Sowing → ℕ → ℕ → Type 0
+HasCaptured rule r s taken count =
+    MatchBool ((bit_and r.rows s.last_mask == s.last_seed) && captures rule (seeds_across r s))
+    ((taken ≡ s.last_seed + seeds_across r s * 2 ^ s.across_bit % 2 ^ 64) × (count ≡ 1 + seeds_across r s)) ((taken ≡ 0) × (count ≡ 0))
 
 -- the rows that are left show this position
 pub record LeavesRows (r : RowNumbers) (seeds count : ℕ) (p : Position) : Type 0 where
@@ -97,7 +98,12 @@ gains_into_store : (m h c : ℕ) → 1 ≤ h → h ≤ m → c + h ≡ m + 1 →
 gains_into_store m h c low high ends =
     grind (arith, div-eq_of_lt, mod-eq_of_lt, number_of-all, number_of-up_to, own_gain, other_gain)
 
-module _ (a : HousesState) (h : ℕ) (w : IsWithinHouses a) (holds : HoldsSeeds (storeless a) h) where
+-- a house of houses within their limits that holds seeds
+pub record CanSow (a : HousesState) (h : ℕ) : Type 0 where
+  pub limits : IsWithinHouses a
+  pub holds : HoldsSeeds (storeless a) h
+
+module _ {a : HousesState} {h : ℕ} (can : CanSow a h) where
   -- the position after the sowing
   abbrev after_sowing : Position
   after_sowing = sown (storeless a) h
@@ -107,24 +113,24 @@ module _ (a : HousesState) (h : ℕ) (w : IsWithinHouses a) (holds : HoldsSeeds 
   unfolding sow
   sown_keeps =
       let side = sow_side (storeless a) h (seeds a.own h) in
-      let keeps = sow_keeps (storeless a) h holds.first holds.last w.same_side (seeds a.own h) in
+      let keeps = sow_keeps (storeless a) h can.holds.first can.holds.last can.limits.same_side (seeds a.own h) in
       record {
         play = omega arith;
         other_store = refl;
         side = side.0;
-        other_side = side.1 ∙ sym w.same_side;
+        other_side = side.1 ∙ sym can.limits.same_side;
         rule = refl;
       }
 
   -- the own row after the sowing
   pub own_is : number_of after_sowing.own + 32 ^ (h - 1) * seeds a.own h ≡ number_of a.own + own_gains (length a.own) h (seeds a.own h)
   unfolding sow
-  own_is = own_sown _ _ _ holds.first holds.last
+  own_is = own_sown _ _ _ can.holds.first can.holds.last
 
   -- the other row
   pub other_is : number_of after_sowing.other ≡ number_of a.other + other_gains (length a.own) h (seeds a.own h)
   unfolding sow
-  other_is = rw w.same_side at (other_sown a.other h (seeds a.own h))
+  other_is = rw can.limits.same_side at (other_sown a.other h (seeds a.own h))
 
   -- what comes to the store
   pub store_is : after_sowing.own_store ≡ store_gains (length a.own) h (seeds a.own h)
@@ -145,7 +151,7 @@ module _ (a : HousesState) (h : ℕ) (w : IsWithinHouses a) (holds : HoldsSeeds 
 
   -- the other row has a small number
   other_small : number_of after_sowing.other < 2 ^ 30
-  other_small = number_of-small 6 after_sowing.other (omega (arith, sown_keeps.other_side, w.same_side)) (omega (arith, few))
+  other_small = number_of-small 6 after_sowing.other (omega (arith, sown_keeps.other_side, can.limits.same_side)) (omega (arith, few))
 
   -- both rows without the house's seeds, and with what they gain
   pub sown_rows : (rows house gains : ℕ) → rows ≡ number_of a.own + 2 ^ 30 * number_of a.other
@@ -172,71 +178,80 @@ module _ (a : HousesState) (h : ℕ) (w : IsWithinHouses a) (holds : HoldsSeeds 
       house ≡ 32 ^ (h - 1) * seeds a.own h → own_more + ones h ≡ ones (length a.own)
       → IsPackedPosition (record { rows = rows - house + own_more; store = 1 }) after_sowing
   into_store rows house own_more ends rows_are house_is own_more_is =
-      let gains = gains_into_store _ _ _ holds.first holds.last ends in
+      let gains = gains_into_store _ _ _ can.holds.first can.holds.last ends in
       rows_show _ 1 (sown_rows _ house _ rows_are house_is (omega arith)) (omega arith)
 
   -- a house read off the numbers
   pub read_own : (r : RowNumbers) (i bit : ℕ) → IsPackedPosition r after_sowing → 1 ≤ i → i ≤ length a.own → bit ≡ 5 * (i - 1) →
       r.rows / 2 ^ bit % 32 ≡ seeds after_sowing.own i
-  read_own r i bit shows low high at =
+  read_own r i bit shows low high bit_is =
       let near : i - 1 ≤ 5 = omega arith in
-      rw (at, pow_five) (own_house_of_rows _ _ near ∙ ap (λ n. n / 32 ^ (i - 1) % 32) shows.own
+      rw (bit_is, pow_five) (own_house_of_rows _ _ near ∙ ap (λ n. n / 32 ^ (i - 1) % 32) shows.own
       ∙ read_seeds _ _ (omega (arith, sown_keeps.side)) (omega (arith, few)))
 
   -- the house across
   pub read_across : (r : RowNumbers) (i bit : ℕ) → IsPackedPosition r after_sowing → 1 ≤ i → i ≤ length a.own
       → bit ≡ 30 + 5 * (opposite after_sowing i - 1) →
       r.rows / 2 ^ bit % 32 ≡ seeds after_sowing.other (opposite after_sowing i)
-  read_across r i bit shows low high at =
+  read_across r i bit shows low high bit_is =
       let side = sown_keeps.side in
       let other_side = sown_keeps.other_side in
-      rw (at, pow_other) (ap (λ n. n % 32) (sym (div-div-eq-div-mul _ (2 ^ 30) _))
+      rw (bit_is, pow_other) (ap (λ n. n % 32) (sym (div-div-eq-div-mul _ (2 ^ 30) _))
       ∙ ap (λ n. n / 32 ^ (opposite after_sowing i - 1) % 32) shows.other
       ∙ read_seeds _ _ (omega arith) (omega (arith, few)))
 
-  -- all that a capture does to the rows, read and written by bits
-  capture_shows : {r : RowNumbers} {i house seed across captured_seeds count : ℕ} → IsPackedPosition r after_sowing → 1 ≤ i
-      → i ≤ length a.own →
-      IsLastHouse (length a.own) i house seed across → HasCaptured a.rule r house seed across captured_seeds count →
-      LeavesRows r captured_seeds count (captured after_sowing (Some i))
-  capture_shows {r} {i} {house} {seed} {across} {captured_seeds} {count} shows low high at taken =
-      let j = opposite after_sowing i in
-      let side = sown_keeps.side in
-      let other_side = sown_keeps.other_side in
-      let far : j - 1 ≤ 5 = omega (arith, w.at_most_six) in
-      let opposite_is : across ≡ 30 + 5 * (j - 1) = omega arith in
-      let there = read_across r i across shows low high opposite_is in
-      let alone : (bit_and r.rows house == seed) ≡ (seeds after_sowing.own i == 1) =
-      rw (at.house, at.seed, ← read_own r i (5 * (i - 1)) shows low high refl, pow_five (i - 1)) (one_seed_at r.rows (i - 1)) in
-      let has_captured : MatchBool (can_capture after_sowing i)
-      ((captured_seeds ≡ seed + seeds after_sowing.other j * 2 ^ across % 2 ^ 64) × (count ≡ 1 + seeds after_sowing.other j))
-      ((captured_seeds ≡ 0) × (count ≡ 0)) =
-      rw sown_keeps.rule (rw (alone, there) at taken) in
-      elim (cases_Bool (can_capture after_sowing i)) [
-        | inr kept ↦
-            let none : (captured_seeds ≡ 0) × (count ≡ 0) = rw kept at has_captured in
-            record {
-              within = omega (arith, none.0);
-              shows = rw (kept, none.0, none.1) (omega arith);
-            }
-        | inl some ↦
-            let both : (captured_seeds ≡ seed + seeds after_sowing.other j * 2 ^ across % 2 ^ 64) × (count ≡ 1 + seeds after_sowing.other j) =
-            rw some at has_captured in
-            let one : seeds after_sowing.own i ≡ 1 = eqb-true (seeds after_sowing.own i) 1 (and_parts _ _ some).0 in
-            let own_set = number_of-set after_sowing.own (i - 1) 0 (omega arith) in
-            let other_set = number_of-set after_sowing.other (j - 1) 0 (omega (arith, w.same_side)) in
-            let one_at : 32 ^ (i - 1) * seeds after_sowing.own i ≡ 32 ^ (i - 1) * 1 = ap (λ n. 32 ^ (i - 1) * n) one in
-            let stands : seeds after_sowing.other j * 2 ^ across % 2 ^ 64 ≡ 2 ^ 30 * (32 ^ (j - 1) * seeds after_sowing.other j) =
-            rw (opposite_is, pow_other (j - 1)) (moved_across_fits _ _ far (omega arith)) in
-            let is : captured_seeds ≡ 32 ^ (i - 1) + 2 ^ 30 * (32 ^ (j - 1) * seeds after_sowing.other j) = both.0 ∙ omega (arith, stands, at.seed) in
-            let left : AreLeft r.rows (32 ^ (i - 1) + 2 ^ 30 * (32 ^ (j - 1) * seeds after_sowing.other j))
-            (number_of (slice_set after_sowing.own (i - 1) 0)) (number_of (slice_set after_sowing.other (j - 1) 0)) =
-            left_of_rows r.rows _ _ shows.own shows.other (omega arith) (omega arith) in
-            record {
-              within = rw is left.within;
-              shows = rw (is, some) (record { own = left.own_is; other = left.other_is; store = omega (arith, both.1) });
-            }
-      ]
+  -- what a capture does to the rows, read and written by bits: the last seed falls into own house i
+  module _ (r : RowNumbers) (s : Sowing) (i taken count : ℕ) (shows : IsPackedPosition r after_sowing) (first : 1 ≤ i)
+      (last : i ≤ length a.own) (house : IsLastHouse (length a.own) i s.last_mask s.last_seed s.across_bit)
+      (by_rule : HasCaptured a.rule r s taken count) where
+    -- the house across
+    abbrev across : ℕ
+    across = opposite after_sowing i
+
+    -- where it begins
+    across_at : s.across_bit ≡ 30 + 5 * (across - 1)
+    across_at = omega (arith, house.across, sown_keeps.side)
+
+    -- the seeds are taken if and only if the rule lets the last seed capture
+    taken_by_rule : MatchBool (can_capture after_sowing i)
+        ((taken ≡ s.last_seed + seeds after_sowing.other across * 2 ^ s.across_bit % 2 ^ 64)
+        × (count ≡ 1 + seeds after_sowing.other across))
+        ((taken ≡ 0) × (count ≡ 0))
+    taken_by_rule =
+        let single : (bit_and r.rows s.last_mask == s.last_seed) ≡ (seeds after_sowing.own i == 1) =
+        rw (house.house, house.seed, ← read_own r i (5 * (i - 1)) shows first last refl, pow_five (i - 1)) (one_seed_at r.rows (i - 1)) in
+        rw sown_keeps.rule (rw (single, read_across r i s.across_bit shows first last across_at) at by_rule)
+
+    -- without a capture the rows stay
+    rows_if_kept : can_capture after_sowing i ≡ false → LeavesRows r taken count (captured after_sowing (Some i))
+    rows_if_kept kept =
+        let none = rw kept at taken_by_rule in
+        record { within = omega (arith, none.0); shows = rw (kept, none.0, none.1) (omega arith) }
+
+    -- by a capture both houses are emptied
+    rows_if_captured : can_capture after_sowing i ≡ true → LeavesRows r taken count (captured after_sowing (Some i))
+    rows_if_captured alone =
+        let both = rw alone at taken_by_rule in
+        let one : seeds after_sowing.own i ≡ 1 = eqb-true (seeds after_sowing.own i) 1 (and_parts _ _ alone).0 in
+        let one_at : 32 ^ (i - 1) * seeds after_sowing.own i ≡ 32 ^ (i - 1) * 1 = ap (λ n. 32 ^ (i - 1) * n) one in
+        let own_set = number_of-set after_sowing.own (i - 1) 0 (omega (arith, sown_keeps.side)) in
+        let other_set = number_of-set after_sowing.other (across - 1) 0 (omega (arith, sown_keeps.side, sown_keeps.other_side, can.limits.same_side)) in
+        let far : across - 1 ≤ 5 = omega (arith, sown_keeps.side, can.limits.at_most_six) in
+        let stands : seeds after_sowing.other across * 2 ^ s.across_bit % 2 ^ 64 ≡ 2 ^ 30 * (32 ^ (across - 1) * seeds after_sowing.other across) =
+        rw (across_at, pow_other (across - 1)) (moved_across_fits _ _ far (omega (arith, read_across r i s.across_bit shows first last across_at))) in
+        let taken_are : taken ≡ 32 ^ (i - 1) + 2 ^ 30 * (32 ^ (across - 1) * seeds after_sowing.other across) =
+        both.0 ∙ omega (arith, stands, house.seed) in
+        let left : AreLeft r.rows (32 ^ (i - 1) + 2 ^ 30 * (32 ^ (across - 1) * seeds after_sowing.other across))
+        (number_of (slice_set after_sowing.own (i - 1) 0)) (number_of (slice_set after_sowing.other (across - 1) 0)) =
+        left_of_rows r.rows _ _ shows.own shows.other (omega arith) (omega arith) in
+        record {
+          within = rw taken_are left.within;
+          shows = rw (taken_are, alone) (record { own = left.own_is; other = left.other_is; store = omega (arith, both.1) });
+        }
+
+    -- so the rows that are left show the position after the capture
+    pub capture_shows : LeavesRows r taken count (captured after_sowing (Some i))
+    capture_shows = elim (cases_Bool (can_capture after_sowing i)) [ inl alone ↦ rows_if_captured alone | inr kept ↦ rows_if_kept kept ]
 
 -- ---- the whole move
 -- a capture keeps what a sowing keeps
@@ -248,7 +263,7 @@ captured_keeps {p} {q} (Some i) k = grind (arith, cases_Bool, sum-set_zero, leng
 pub after_keeps : (a : HousesState) (h : ℕ) → IsWithinHouses a → HoldsSeeds (storeless a) h
     → KeepsSeeds (storeless a) (after (storeless a) h)
 unfolding after
-after_keeps a h w holds = captured_keeps _ (sown_keeps a h w holds)
+after_keeps a h limits holds = captured_keeps _ (sown_keeps (record { limits = limits; holds = holds }))
 
 -- where the last seed falls, by its place
 module _ (p : Position) (h : ℕ) (holds : HoldsSeeds p h) where
@@ -313,10 +328,11 @@ module _ (p : Position) (h : ℕ) (holds : HoldsSeeds p h) where
   again_at = grind (arith, cases_eq, place_past, eq-eqb, place_near)
 
 -- where no house has one seed, nothing is captured
-none_captured : (rule : Rule) (r : RowNumbers) (seeds count : ℕ) {p : Position} → HasCaptured rule r 0 1 0 seeds count
-    → IsPackedPosition r p →
-    LeavesRows r seeds count p
-none_captured rule r seeds count taken shows = grind (arith, and_le_r)
+none_captured : (rule : Rule) (r : RowNumbers) (s : Sowing) {taken count : ℕ} {p : Position} → IsNoHouse s.last_mask s.last_seed s.across_bit →
+    HasCaptured rule r s taken count → IsPackedPosition r p → LeavesRows r taken count p
+none_captured rule r s elsewhere has_captured shows =
+    let nothing = rw (elsewhere.house, elsewhere.seed) at has_captured in
+    grind (arith, and_le_r)
 
 -- the bit across lies within a key
 pub across_within : {m : ℕ} (h c : ℕ) (s : Sowing) → IsSowing m h c s → m ≤ 6 → s.across_bit < 64
@@ -327,22 +343,18 @@ abbrev pub rows_sown : ℕ → Sowing → RowNumbers
 rows_sown rows s = record { rows = (rows + (2 ^ 64 - s.loses)) % 2 ^ 64; store = s.store }
 
 -- the rows after the move are those of the sowing, less what is captured
-pub move_leaves : {a : HousesState} {h rows seeds variant : ℕ} {s : Sowing} {rule : Rule} {captured_seeds count : ℕ}
+pub move_leaves : {a : HousesState} {h rows seeds variant : ℕ} {s : Sowing} {rule : Rule} {taken count : ℕ}
     → IsPackOf a rows seeds variant → HoldsSeeds (storeless a) h → IsSowing (length a.own) h (position.seeds a.own h) s → s.loses < 2 ^ 64
-    → rule ≡ a.rule → HasCaptured rule (rows_sown rows s) s.last_mask s.last_seed s.across_bit captured_seeds count →
-    LeavesRows (rows_sown rows s) captured_seeds count (after (storeless a) h)
-move_leaves {a} {h} {rows} {s = s} {captured_seeds = captured_seeds} {count} pack holds sowing fits same has_captured =
+    → rule ≡ a.rule → HasCaptured rule (rows_sown rows s) s taken count → LeavesRows (rows_sown rows s) taken count (after (storeless a) h)
+move_leaves {a} {h} {rows} {s = s} pack holds sowing fits same has_captured =
     let r = rows_sown rows s in
-    let w = pack.limits in
-    let shows = rows_show a h w holds _ _ (sown_less a h w holds _ _ pack.rows_are fits sowing.loses) sowing.store in
-    let place = last_place _ h _ in
-    let taken = rw same at has_captured in
-    elim (cases_lt _ place) [
-      | inl past ↦
-          let no = sowing.elsewhere past in
-          none_captured a.rule r captured_seeds count (rw (no.house, no.seed, no.across) at taken) (after_past _ h holds r past shows)
+    let can : CanSow a h = record { limits = pack.limits; holds = holds } in
+    let shows = rows_show can _ _ (sown_less can _ _ pack.rows_are fits sowing.loses) sowing.store in
+    let by_rule = rw same at has_captured in
+    elim (cases_lt _ (last_place _ h _)) [
+      | inl past ↦ none_captured a.rule r s (sowing.elsewhere past) by_rule (after_past _ h holds r past shows)
       | inr own ↦
-          let leaves = capture_shows a h w holds shows (omega arith) own (sowing.own own) taken in
+          let leaves = capture_shows can r s _ _ _ shows (omega arith) own (sowing.own own) by_rule in
           record { within = leaves.within; shows = after_own _ h holds _ own leaves.shows }
     ]
 
@@ -386,36 +398,36 @@ is_over-swapped q = or_comm (sum q.other == 0) (sum q.own == 0)
 
 -- the houses of a board are within their limits
 pub houses_within : (p : Position) → IsWithinLimits p → IsWithinHouses (houses_in p)
-houses_within p l = omega arith
+houses_within p limits = omega arith
 
 -- a move keeps the houses within the limits
 pub after_within : (a : HousesState) (h : ℕ) → IsWithinHouses a → HoldsSeeds (storeless a) h
     → IsWithinHouses (houses_in (after (storeless a) h))
-after_within a h w holds = grind (arith, after_keeps)
+after_within a h limits holds = grind (arith, after_keeps)
 
 -- also as the other player sees them
 pub swapped_within : (q : Position) → IsWithinHouses (houses_in q) → IsWithinHouses (houses_in (swapped q))
-swapped_within q w = omega arith
+swapped_within q limits = omega arith
 
 -- ---- what `play` computes
 -- the move of house h leads to this step with the houses that are packed so
 pub record IsStepTo (a : HousesState) (h rows seeds variant : ℕ) (step : HousesState → HousesStep) : Type 0 where
   pub packed : IsPacked rows seeds variant
-  pub is : step (unpacked rows variant) ≡ houses_step a h
+  pub step_is : step (unpacked rows variant) ≡ houses_step a h
 
 -- a move brings at most 31 seeds to the store
 pub store_small : {a : HousesState} {h : ℕ} {r : RowNumbers} → IsWithinHouses a → Contains (legal_houses (storeless a)) h
     → IsPackedPosition r (after (storeless a) h) →
     r.store ≤ 31
-store_small {a} {h} {r} w has shows =
-    let keeps = after_keeps _ _ w (legal_holds _ _ has) in
+store_small {a} {h} {r} limits legal shows =
+    let keeps = after_keeps _ _ limits (legal_holds _ _ legal) in
     omega (arith, keeps.play)
 
-module _ {a : HousesState} {h rows seeds variant : ℕ} {r : RowNumbers} (packed : IsPacked rows seeds variant) (view : unpacked rows variant ≡ a)
-    (has : Contains (legal_houses (storeless a)) h) (shows : IsPackedPosition r (after (storeless a) h)) where
+module _ {a : HousesState} {h rows seeds variant : ℕ} {r : RowNumbers} (packed : IsPacked rows seeds variant) (view_is : unpacked rows variant ≡ a)
+    (legal : Contains (legal_houses (storeless a)) h) (shows : IsPackedPosition r (after (storeless a) h)) where
   -- the meaning of the fields
   packed_houses : IsPackOf a rows seeds variant
-  packed_houses = pack_of packed view
+  packed_houses = pack_of packed view_is
 
   -- the position after the move
   abbrev moved : Position
@@ -423,11 +435,11 @@ module _ {a : HousesState} {h rows seeds variant : ℕ} {r : RowNumbers} (packed
 
   -- the move loses no seed
   move_keeps : KeepsSeeds (storeless a) moved
-  move_keeps = after_keeps _ _ packed_houses.limits (legal_holds _ _ has)
+  move_keeps = after_keeps _ _ packed_houses.limits (legal_holds _ _ legal)
 
   -- the position after the move keeps the limits
   moved_within : IsWithinHouses (houses_in moved)
-  moved_within = after_within _ _ packed_houses.limits (legal_holds _ _ has)
+  moved_within = after_within _ _ packed_houses.limits (legal_holds _ _ legal)
 
   -- what came is among the seeds
   pub store_within : r.store ≤ seeds
@@ -463,7 +475,7 @@ module _ {a : HousesState} {h rows seeds variant : ℕ} {r : RowNumbers} (packed
         (omega (arith, shows.own, shows.other))
         (omega (arith, move_keeps.play, packed_houses.seeds_are))
         (omega (arith, packed_houses.variant_is, move_keeps.side)) in
-        record { packed = there.0; is = rw (shows.store, there.1) (sym (step_again _ _ moved_going more)) }
+        record { packed = there.0; step_is = rw (shows.store, there.1) (sym (step_again _ _ moved_going more)) }
 
     -- if the turn passes, they change places
     pub turn_packed : is_again (storeless a) h ≡ false →
@@ -475,7 +487,7 @@ module _ {a : HousesState} {h rows seeds variant : ℕ} {r : RowNumbers} (packed
         (omega (arith, shows.own, shows.other))
         (omega (arith, move_keeps.play, packed_houses.seeds_are))
         (omega (arith, packed_houses.variant_is, move_keeps.other_side, packed_houses.limits.same_side)) in
-        record { packed = there.0; is = rw (shows.store, there.1) (sym (step_turn moved _ moved_going passed)) }
+        record { packed = there.0; step_is = rw (shows.store, there.1) (sym (step_turn moved _ moved_going passed)) }
 
 -- ---- a step on houses, applied to a position
 -- the step of a position whose houses make this one
@@ -494,28 +506,28 @@ IsStepWithin p (Turn gained b) = IsWithinLimits (with_stores b p.other_store (p.
 step_with_to : (p q : Position) (over again : Bool) → side_length q ≡ side_length p → q.rule ≡ p.rule → q.other_store ≡ 0
     → is_over q ≡ over →
     step_with p (houses_step_to q again) ≡ step_to (with_store_seeds p.own_store p.other_store q) again
-step_with_to p q true again side rule none is = grind arith
-step_with_to p q false true side rule none is = grind arith
-step_with_to p q false false side rule none is = grind arith
+step_with_to p q true again side rule none over_is = grind arith
+step_with_to p q false true side rule none over_is = grind arith
+step_with_to p q false false side rule none over_is = grind arith
 
 -- the step of a board is that of its houses
-pub step_is : (p : Position) (h : ℕ) → IsWithinHouses (houses_in p) → HoldsSeeds (storeless (houses_in p)) h →
+pub step_of_houses : (p : Position) (h : ℕ) → IsWithinHouses (houses_in p) → HoldsSeeds (storeless (houses_in p)) h →
     step_with p (houses_step (houses_in p) h) ≡ step_of p h
-step_is p h w holds =
+step_of_houses p h limits holds =
     let q = after _ h in
-    let keeps = after_keeps _ _ w holds in
+    let keeps = after_keeps _ _ limits holds in
     step_with_to p q (is_over q) _ keeps.side keeps.rule keeps.other_store refl
     ∙ ap (λ x. step_to x (is_again p h)) (sym (after_of_houses p h))
 
 -- the step of a board is within the limits
 pub step_within : {p : Position} (h : ℕ) → IsWithinLimits p → HoldsSeeds (storeless (houses_in p)) h
     → IsStepWithin p (houses_step (houses_in p) h)
-step_within {p} h l holds =
+step_within {p} h limits holds =
     let a = houses_in p in
     let q = after _ h in
-    let w = houses_within p l in
-    let keeps = after_keeps a h w holds in
-    let on = after_within a h w holds in
+    let limits_of_houses = houses_within p limits in
+    let keeps = after_keeps a h limits_of_houses holds in
+    let on = after_within a h limits_of_houses holds in
     cond_both (is_over q) _ _ (IsStepWithin p)
     (λ over.
     let side = length-replicate {A = ℕ} (side_length p) 0 in
@@ -543,31 +555,26 @@ pub board_step : {b : HousesState} {own_store other_store h : ℕ} {p : Position
     → IsWithinLimits (with_stores b own_store other_store) →
     with_stores b own_store other_store ≡ p → Contains (legal_houses p) h → t ≡ s → t ≡ houses_step b h →
     IsStepOf (with_stores b own_store other_store) h s
-board_step {b} {own_store} {other_store} {h} l view has to is =
+board_step {b} {own_store} {other_store} {h} limits view_is legal same step_is =
     let p = with_stores b own_store _ in
-    let legal = subst (λ (x : Position). Contains (legal_houses x) h) (sym view) has in
-    let holds = legal_holds _ _ legal in
-    let w = houses_within _ l in
+    let holds = legal_holds _ _ (subst (λ (x : Position). Contains (legal_houses x) h) (sym view_is) legal) in
     record {
-      same = ap (step_with p) (sym to ∙ is) ∙ step_is _ _ w holds;
-      within = subst (IsStepWithin p) (sym is ∙ to) (step_within _ l holds);
+      same = ap (step_with p) (sym same ∙ step_is) ∙ step_of_houses _ _ (houses_within _ limits) holds;
+      within = subst (IsStepWithin p) (sym step_is ∙ same) (step_within _ limits holds);
       nearer = after_nearer _ _ (omega arith) (omega arith);
     }
 
 -- ==== Moves whose last seed falls into the store without a lap
 
-module _ {a : HousesState} {h rows seeds variant : ℕ} {r : RowNumbers} (packed : IsPacked rows seeds variant) (view : unpacked rows variant ≡ a)
-    (has : Contains (legal_houses (storeless a)) h)
+module _ {a : HousesState} {h rows seeds variant : ℕ} {r : RowNumbers} (packed : IsPacked rows seeds variant) (view_is : unpacked rows variant ≡ a)
+    (legal : Contains (legal_houses (storeless a)) h)
     (ends : position.seeds a.own h + h ≡ length a.own + 1) (shows : IsPackedPosition r (sown (storeless a) h)) where
-  limits : IsWithinHouses a
-  limits = (pack_of packed view).limits
-
-  house_holds : HoldsSeeds (storeless a) h
-  house_holds = legal_holds _ _ has
+  can_sow : CanSow a h
+  can_sow = record { limits = (pack_of packed view_is).limits; holds = legal_holds _ _ legal }
 
   -- the last seed falls as far as the house has seeds
   distance_is_seeds : last_distance (storeless a) h ≡ position.seeds a.own h
-  distance_is_seeds = short_distance _ h house_holds (omega arith)
+  distance_is_seeds = short_distance _ h can_sow.holds (omega arith)
 
   -- the mover moves again
   moves_again : is_again (storeless a) h ≡ true
@@ -575,19 +582,19 @@ module _ {a : HousesState} {h rows seeds variant : ℕ} {r : RowNumbers} (packed
 
   -- its place is that of the store
   ends_at_store : last_place (length a.own) h (position.seeds a.own h) ≡ length a.own + 1
-  ends_at_store = eqb-true _ _ (sym (again_at _ h house_holds) ∙ moves_again)
+  ends_at_store = eqb-true _ _ (sym (again_at _ h can_sow.holds) ∙ moves_again)
 
   -- nothing is captured
   pub store_shows : IsPackedPosition r (after (storeless a) h)
-  store_shows = after_past _ h house_holds r (omega (arith, ends_at_store)) shows
+  store_shows = after_past _ h can_sow.holds r (omega (arith, ends_at_store)) shows
 
   -- the other player has seeds as before
   other_some : r.rows / 2 ^ 30 ≢ 0
-  other_some none = grind (arith, legal_going, sum-zero, other_is, limits, house_holds)
+  other_some none = grind (arith, legal_going, sum-zero, other_is can_sow)
 
   -- the game goes on with the mover, if the mover has seeds left
   pub store_packed : 0 < r.rows % 2 ^ 30 → IsStepTo a h r.rows (seeds - r.store) variant (Again r.store)
-  store_packed some = again_packed packed view has store_shows (omega arith) other_some moves_again
+  store_packed some = again_packed packed view_is legal store_shows (omega arith) other_some moves_again
 
 -- what comes of a move, by the rows after it, if its last seed falls into the store without a lap
 pub record MovesIntoStore (a : HousesState) (h seeds variant now : ℕ) : Type 0 where
@@ -601,26 +608,25 @@ pub moves_into_store : {a : HousesState} {h rows seeds variant : ℕ} (more : �
     position.seeds a.own h + h ≡ length a.own + 1
     → (more + 32 ^ (h - 1) * (length a.own + 1 - h)) % 2 ^ 64 ≡ ones (length a.own) - ones h →
     MovesIntoStore a h seeds variant ((rows + more) % 2 ^ 64)
-moves_into_store {a} {h} {rows} {seeds} {variant} more packed view has ends more_is =
-    let pack = pack_of packed view in
-    let w = pack.limits in
-    let holds = legal_holds (storeless a) h has in
+moves_into_store {a} {h} {rows} {seeds} {variant} more packed view_is legal ends more_is =
+    let pack = pack_of packed view_is in
+    let can : CanSow a h = record { limits = pack.limits; holds = legal_holds (storeless a) h legal } in
     let house = 32 ^ (h - 1) * position.seeds a.own h in
     let later = ones (length a.own) - ones h in
     let few : length a.own + 1 - h ≡ position.seeds a.own h = omega arith in
-    let small : ones (length a.own) ≤ 34636833 = ones_le (length a.own) 6 w.at_most_six in
+    let small : ones (length a.own) ≤ ones 6 = ones_le (length a.own) 6 can.limits.at_most_six in
     let same : (rows + more) % 2 ^ 64 ≡ rows - house + later = omega (
       arith,
       rw few at more_is,
       small,
       pack.rows_are,
       (rows_of_pack pack).fit,
-      lifted_is a h w holds,
+      lifted_is can,
     ) in
-    let shows = into_store a h w holds _ house later ends pack.rows_are refl (omega (arith, ones_le h (length a.own) holds.last)) in
+    let shows = into_store can _ house later ends pack.rows_are refl (omega (arith, ones_le h (length a.own) can.holds.last)) in
     rw same (record {
-      goes_on = store_packed packed view has ends shows;
-      over = over_own packed view has (store_shows packed view has ends shows);
+      goes_on = store_packed packed view_is legal ends shows;
+      over = over_own packed view_is legal (store_shows packed view_is legal ends shows);
     })
 
 -- ==== The cells of the table of sowings
@@ -628,7 +634,7 @@ moves_into_store {a} {h} {rows} {seeds} {variant} more packed view has ends more
 -- one cell more
 pub sowings_more : (cells : List Sowing) (i : ℕ) (s : Sowing) → i < length cells → AreSowings i cells →
     ((m h c : ℕ) → IsSowingCell m h c i → IsSowing m h c s) → AreSowings (i + 1) (slice_set cells i s)
-sowings_more cells i s inside before is m h c k d cell below = elim (cases_eq k i) [
-  | inl same ↦ rw (same, get_or-set_same) (is m h c (rw same at cell))
+sowings_more cells i s inside before sown m h c k d cell below = elim (cases_eq k i) [
+  | inl same ↦ rw (same, get_or-set_same) (sown m h c (rw same at cell))
   | inr other ↦ rw (get_or-set_other cells i k s d other) (before m h c k d cell (omega arith))
 ]

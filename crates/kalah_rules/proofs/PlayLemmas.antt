@@ -182,7 +182,7 @@ module _ (p : Position) (h : ℕ) (low : 1 ≤ h) (high : h ≤ side_length p) w
   -- nothing sown yet
   pub sow_none : length p.other ≡ side_length p → sow p h 0 ≡ lifted p h
   unfolding sow
-  sow_none same = same_position
+  sow_none equal = same_position
       (sym (same_as_row _ _ _ (length-set p.own _ 0) (λ i i_low i_high.
       elim (cases_eq i h) [
         | inl here ↦
@@ -193,7 +193,7 @@ module _ (p : Position) (h : ℕ) (low : 1 ≤ h) (high : h ≤ side_length p) w
             grind arith
       ])))
       (omega (arith, gain_none))
-      (sym (same_as_row _ _ _ same (λ j j_low j_high.
+      (sym (same_as_row _ _ _ equal (λ j j_low j_high.
       omega (arith, gain_none))))
       refl refl
 
@@ -268,9 +268,9 @@ pub record AddsOne (p q : Position) : Type 0 where
 
 pub with_seed_adds : (p : Position) (cell : Cell) → length p.other ≡ side_length p → IsCellOf (side_length p) cell
     → AddsOne p (with_seed p cell)
-with_seed_adds p (Own i) same is_cell = omega (arith, sum-slice_set)
-with_seed_adds p Store same is_cell = omega arith
-with_seed_adds p (Other j) same is_cell = omega (arith, sum-slice_set)
+with_seed_adds p (Own i) equal is_cell = omega (arith, sum-slice_set)
+with_seed_adds p Store equal is_cell = omega arith
+with_seed_adds p (Other j) equal is_cell = omega (arith, sum-slice_set)
 
 -- the seeds of q, if k of the c lifted seeds of p were sown
 pub record HasSown (p : Position) (c k : ℕ) (q : Position) : Type 0 where
@@ -293,9 +293,9 @@ next_cell p h low high k = grind (arith, cell_at)
 -- sowing loses no seed
 pub sow_keeps : (p : Position) (h : ℕ) → 1 ≤ h → h ≤ side_length p → length p.other ≡ side_length p → (k : ℕ) →
     HasSown p (seeds p.own h) k (sow p h k)
-sow_keeps p h low high same zero = grind (arith, sum-slice_set, sow_none)
-sow_keeps p h low high same (suc k) =
-    let before = sow_keeps p h low high same k in
+sow_keeps p h low high equal zero = grind (arith, sum-slice_set, sow_none)
+sow_keeps p h low high equal (suc k) =
+    let before = sow_keeps p h low high equal k in
     let adds = sow_adds p h low high k (next_cell p h low high k) in
     let step : HasSown p (seeds p.own h) (k + 1) (sow p h (k + 1)) = omega arith in
     rw add-one at step
@@ -330,26 +330,26 @@ find_none f a (suc n) fails =
 -- the house in which the last seed falls
 pub last_house_own : {p : Position} {h i : ℕ} → HoldsSeeds p h → 1 ≤ i → i ≤ side_length p →
     own_distance (side_length p) h i ≡ last_distance p h → last_house p h ≡ Some i
-last_house_own {p} {h} {i} holds low high at = find_in_range _ 1 _ i low
+last_house_own {p} {h} {i} holds low high distance_is = find_in_range _ 1 _ i low
     (omega arith)
-    (eq-eqb _ _ at)
+    (eq-eqb _ _ distance_is)
     (λ j j_low j_high. ne_eqb _ _ (λ e.
-    own_distance_apart _ h holds.first holds.last j i j_low (omega arith) low high (omega arith) (e ∙ sym at)))
+    own_distance_apart _ h holds.first holds.last j i j_low (omega arith) low high (omega arith) (e ∙ sym distance_is)))
 
 -- there is no last house if the last seed falls into the store
 pub last_house_store : {p : Position} {h : ℕ} → HoldsSeeds p h → store_distance (side_length p) h ≡ last_distance p h
     → last_house p h ≡ None
-last_house_store {p} {h} holds at = grind (arith, find_none)
+last_house_store {p} {h} holds distance_is = grind (arith, find_none)
 
 -- there is none if it falls into a house of the other player
 pub last_house_other : {p : Position} {h : ℕ} (i : ℕ) → HoldsSeeds p h → 1 ≤ i → i ≤ side_length p →
     other_distance (side_length p) h i ≡ last_distance p h → last_house p h ≡ None
-last_house_other {p} {h} i holds low high at = grind (arith, find_none)
+last_house_other {p} {h} i holds low high distance_is = grind (arith, find_none)
 
 -- the position after the move, by the place of the last seed
 pub after_at : (p : Position) (h : ℕ) (o : Option ℕ) → last_house p h ≡ o → captured (sown p h) o ≡ after p h
 unfolding after
-after_at p h o e = cc
+after_at p h o last_is = cc
 
 -- a number of a range that passes is among those that pass
 contains_range : (f : ℕ → Bool) (a n i : ℕ) → a ≤ i → i < a + n → f i ≡ true → Contains (filter f (range_with_len a n)) i
@@ -367,12 +367,12 @@ all_range a n = omega (arith, length-range_with_len, get_or-range_with_len)
 
 -- a game with a legal house isn't over
 pub legal_going : (p : Position) (h : ℕ) → Contains (legal_houses p) h → is_over p ≡ false
-legal_going p h has = grind arith
+legal_going p h legal = grind arith
 
 -- a legal house holds seeds
 pub legal_holds : (p : Position) (h : ℕ) → Contains (legal_houses p) h → HoldsSeeds p h
-legal_holds p h has =
-    let kept = rw (legal_going p h has) at has in
+legal_holds p h legal =
+    let kept = rw (legal_going p h legal) at legal in
     let InSide : ℕ → Type 0 = λ i. 1 ≤ i × i < 1 + side_length p in
     let seeded : ℕ → _ = λ i. nat_lt 0 _ in
     let houses = range_with_len 1 _ in
@@ -389,7 +389,7 @@ holds_legal p h holds going = rw going
 -- one house more
 pub filter_range_more : (f : ℕ → Bool) (a n j : ℕ) → a + n ≡ j →
     filter f (range_with_len a (n + 1)) ≡ filter f (range_with_len a n) ++ cond (f j) (j ∷ []) []
-filter_range_more f a n j at = rw (range_more a n, at) (filter-append f _ _)
+filter_range_more f a n j end_is = rw (range_more a n, end_is) (filter-append f _ _)
 
 pub length-filter_range : (f : ℕ → Bool) (a n : ℕ) → length (filter f (range_with_len a n)) ≤ n
 length-filter_range f a n = omega (arith, length-filter, count_by-le-length, length-range_with_len)
@@ -492,7 +492,7 @@ captured_leaves_no_more q (Some i) = grind (arith, capture_leaves_fewer)
 
 -- a sowing brings the game nearer to its end
 sown_nearer : (p : Position) (h : ℕ) → HoldsSeeds p h → length p.other ≡ side_length p → IsNearerEnd (sown p h) p
-sown_nearer p h holds same = grind (arith, houses_fall, sow_keeps, distance_falls_all)
+sown_nearer p h holds equal = grind (arith, houses_fall, sow_keeps, distance_falls_all)
 
 -- a move brings the game nearer to its end
 pub after_nearer : (p : Position) (h : ℕ) → HoldsSeeds p h → HasEqualSides p → IsNearerEnd (after p h) p

@@ -40,9 +40,9 @@ sum_same f g xs same = grind arith
 step_with_more : (n a b : ℕ) (q : Position) (over again : Bool) → is_over q ≡ over →
     ((c d : ℕ) (p : Position) → ways n (with_store_seeds c d p) ≡ ways n p) →
     ways n (position_after (step_to (with_store_seeds a b q) again)) ≡ ways n (position_after (step_to q again))
-step_with_more n a b q true again is same = rw is (ap (ways n) (same_position refl (omega arith) refl (omega arith) refl) ∙ same a b _)
-step_with_more n a b q false true is same = rw is (same a b q)
-step_with_more n a b q false false is same = rw is (same b a _)
+step_with_more n a b q true again over_is same = rw over_is (ap (ways n) (same_position refl (omega arith) refl (omega arith) refl) ∙ same a b _)
+step_with_more n a b q false true over_is same = rw over_is (same a b q)
+step_with_more n a b q false false over_is same = rw over_is (same b a _)
 
 -- stores do not influence the ways
 ways_with_more : (n a b : ℕ) (p : Position) → ways n (with_store_seeds a b p) ≡ ways n p
@@ -77,14 +77,14 @@ ways_swept (suc n) q = grind (arith, sum-zeros, ways_suc)
 -- the ways after a step are those after the step of the houses
 ways_step_to : (n : ℕ) (q : Position) (over again : Bool) → is_over q ≡ over →
     ways n (position_after (step_to q again)) ≡ ways_from n (houses_step_to q again)
-ways_step_to n q true again is = rw is (ways_swept n q)
-ways_step_to n q false true is = rw is (ways_of_houses n q)
-ways_step_to n q false false is = rw is (ways_of_houses n _)
+ways_step_to n q true again over_is = rw over_is (ways_swept n q)
+ways_step_to n q false true over_is = rw over_is (ways_of_houses n q)
+ways_step_to n q false false over_is = rw over_is (ways_of_houses n _)
 
 -- the ways after a move are those after the step of the houses
 pub ways_by_step : (n : ℕ) (a : HousesState) (h : ℕ) (s t : HousesStep) → t ≡ houses_step a h → t ≡ s
     → ways_from n s ≡ ways_by n (storeless a) h
-ways_by_step n a h s t is to = grind (arith, ways_step_to)
+ways_by_step n a h s t step_is same = grind (arith, ways_step_to)
 
 -- the ways after a move of a position are those of its houses
 pub ways_by_of_houses : (n : ℕ) (p : Position) (h : ℕ) → ways_by n (storeless (houses_in p)) h ≡ ways_by n p h
@@ -102,7 +102,7 @@ legal_few p = grind (arith, length-filter_range)
 
 -- a last move is one way
 pub one_way : {depth : ℕ} (p : Position) (h : ℕ) → depth ≡ 1 → (1 ≡ ways_by (depth - 1) p h) × (1 ≤ most_houses ^ (depth - 1))
-one_way p h is = rw is (sym (ways_none _), omega arith)
+one_way p h depth_is = rw depth_is (sym (ways_none _), omega arith)
 
 -- ---- house by house
 -- the houses before house h that hold seeds
@@ -143,7 +143,7 @@ before_none n p = omega arith
 -- a house with seeds adds the ways after its move
 pub before_more : {n : ℕ} {p : Position} {h total : ℕ} (count : ℕ) → AreWaysBefore n p h total → 1 ≤ h → 0 < seeds p.own h →
     count ≡ ways_by n p h → count ≤ most_houses ^ n → AreWaysBefore n p (h + 1) (total + count)
-before_more {n} {p} {h} count before low some is few = grind (arith, sum_by_push, seeded_more, six_more)
+before_more {n} {p} {h} count before low some count_is few = grind (arith, sum_by_push, seeded_more, six_more)
 
 -- an empty house adds none
 pub before_same : {n : ℕ} {p : Position} {h total : ℕ} → AreWaysBefore n p h total → 1 ≤ h → seeds p.own h ≤ 0

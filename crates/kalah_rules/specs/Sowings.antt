@@ -46,7 +46,7 @@ pub record IsSowingCell (m h c k : ℕ) : Type 0 where
   pub last : h ≤ m
   pub side : m ≤ 6
   pub few : c < 32
-  pub is : k ≡ 32 * (m + 5 * (h - 1) - 1) + c
+  pub index : k ≡ 32 * (m + 5 * (h - 1) - 1) + c
 
 -- the first n cells hold the sowings
 abbrev pub AreSowings : ℕ → List Sowing → Type 0

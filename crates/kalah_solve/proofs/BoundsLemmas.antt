@@ -53,59 +53,59 @@ module _ (interval : Interval) (n least most : ℕ) (few : n ≤ most_seeds) (is
 -- a margin is that of a player who wins t of n seeds
 pub record IsWonOf (n : ℕ) (z : ℤ) (t : ℕ) : Type 0 where
   pub few : t ≤ n
-  pub is : z +ℤ pos n ≡ pos (t + t)
+  pub margin : z +ℤ pos n ≡ pos (t + t)
 
 -- some number is won by a step, if some is of the houses that it leads to
 some_won_by_step : (a : HousesState) (s : HousesStep) → LeadsOn a s →
     ((b : HousesState) (gained : ℕ) → LeadsTo a gained b → (t : ℕ) × IsWonOf (seeds_in_houses (storeless b)) (houses_worth b) t) →
     (t : ℕ) × IsWonOf (seeds_in_houses (storeless a)) (worth_of_step s) t
-some_won_by_step a (Over own other) leads each = (own, record { few = omega arith; is = omega (arith, ints) })
+some_won_by_step a (Over own other) leads each = (own, record { few = omega arith; margin = omega (arith, ints) })
 some_won_by_step a (Again gained b) leads each =
     let on = each b _ leads in
-    (gained + on.0, record { few = omega arith; is = omega (arith, ints) })
+    (gained + on.0, record { few = omega arith; margin = omega (arith, ints) })
 some_won_by_step a (Turn gained b) leads each =
     let on = each b _ leads in
-    (gained + seeds_in_houses (storeless b) - on.0, record { few = omega arith; is = omega (arith, ints) })
+    (gained + seeds_in_houses (storeless b) - on.0, record { few = omega arith; margin = omega (arith, ints) })
 
 -- what houses are worth is the margin of some number of their seeds, by the moves left
 some_won : (n : ℕ) (a : HousesState) → IsWithinHouses a → moves_left (storeless a) < n → (t : ℕ)
     × IsWonOf (seeds_in_houses (storeless a)) (houses_worth a) t
-some_won zero a w few = absurd (omega arith)
-some_won (suc n) a w few = elim (cases_Bool _) [
-  | inl over ↦ (sum a.own, rw (worth_of_over _ over) (record { few = omega arith; is = omega (arith, ints) }))
+some_won zero a limits few = absurd (omega arith)
+some_won (suc n) a limits few = elim (cases_Bool _) [
+  | inl over ↦ (sum a.own, rw (worth_of_over _ over) (record { few = omega arith; margin = omega (arith, ints) }))
   | inr going ↦
       let at = (worth_is_most (storeless a) (omega arith) going).reached in
-      rw (← at.2, value_is a at.0 w at.1) (some_won_by_step a _ (leads_on a at.0 w at.1)
+      rw (← at.2, value_is a at.0 limits at.1) (some_won_by_step a _ (leads_on a at.0 limits at.1)
       (λ b _ on. some_won n b on.limits (omega arith)))
 ]
 
 -- that number is the one that the definition names
 won_is_one : (n : ℕ) (z : ℤ) (t : ℕ) → IsWonOf n z t → nat_or_zero (z +ℤ pos n) / 2 ≡ t
-won_is_one n z t bounds = rw bounds.is (omega arith)
+won_is_one n z t bounds = rw bounds.margin (omega arith)
 
 -- the worth of houses is the margin of a mover who wins `won` seeds
 pub won_of_houses : {a : HousesState} → IsWithinHouses a → IsWonOf (seeds_in_houses (storeless a)) (houses_worth a) (won a)
 unfolding won
-won_of_houses {a} w =
-    let bounds = some_won (suc (moves_left (storeless a))) a w (omega arith) in
+won_of_houses {a} limits =
+    let bounds = some_won (suc (moves_left (storeless a))) a limits (omega arith) in
     rw (won_is_one _ _ _ bounds.1) bounds.1
 
 -- houses are worth what the mover wins less the others
 pub worth_of_won : (a : HousesState) → IsWithinHouses a
     → houses_worth a ≡ pos (won a + won a) -ℤ pos (seeds_in_houses (storeless a))
-worth_of_won a w = omega (arith, ints, (won_of_houses w).is)
+worth_of_won a limits = omega (arith, ints, (won_of_houses limits).margin)
 
 -- the worth of houses lies in the widest window
 pub worth_low : (a : HousesState) → IsWithinHouses a → least_margin ≤ℤ houses_worth a
-worth_low a w = omega (arith, ints, (won_of_houses w).few, (won_of_houses w).is)
+worth_low a limits = omega (arith, ints, (won_of_houses limits).few, (won_of_houses limits).margin)
 
 pub worth_high : (a : HousesState) → IsWithinHouses a → houses_worth a ≤ℤ most_margin
-worth_high a w = omega (arith, ints, (won_of_houses w).few, (won_of_houses w).is)
+worth_high a limits = omega (arith, ints, (won_of_houses limits).few, (won_of_houses limits).margin)
 
 -- the mover wins half of what the houses are worth and hold together
 pub half_is_won : (a : HousesState) (worth : ℤ) (half : ℕ) → IsWithinHouses a → worth ≡ houses_worth a →
     IsHalf (worth +ℤ pos (seeds_in_houses (storeless a))) half → half ≡ won a
-half_is_won a worth half w e is = grind (arith, won_of_houses)
+half_is_won a worth half limits worth_is half_is = grind (arith, won_of_houses)
 
 -- what is won by a step
 won_of_step : (a : HousesState) (s : HousesStep) → LeadsOn a s
@@ -113,29 +113,29 @@ won_of_step : (a : HousesState) (s : HousesStep) → LeadsOn a s
 won_of_step a (Over own other) leads = omega (arith, ints)
 won_of_step a (Again gained b) leads =
     let on = won_of_houses leads.limits in
-    record { few = omega arith; is = omega (arith, ints) }
+    record { few = omega arith; margin = omega (arith, ints) }
 won_of_step a (Turn gained b) leads =
     let on = won_of_houses leads.limits in
-    record { few = omega arith; is = omega (arith, ints) }
+    record { few = omega arith; margin = omega (arith, ints) }
 
-module _ (a : HousesState) (w : IsWithinHouses a) where
+module _ (a : HousesState) (limits : IsWithinHouses a) where
   -- what is won by the move of house h
   pub won_of_move : (h : ℕ) → Contains (legal_houses (storeless a)) h →
       IsWonOf (seeds_in_houses (storeless a)) (value_of_move (storeless a) h) (won_by_step (houses_step a h))
-  won_of_move h has = rw (value_is a h w has) (won_of_step a _ (leads_on a h w has))
+  won_of_move h legal = rw (value_is a h limits legal) (won_of_step a _ (leads_on a h limits legal))
 
   -- no move wins more than best play
   pub won_at_most : (h : ℕ) → Contains (legal_houses (storeless a)) h → won_by_step (houses_step a h) ≤ won a
-  won_at_most h has =
-      let most = (worth_is_most (storeless a) (omega arith) (legal_going (storeless a) h has)).most h has in
-      omega (arith, ints, (won_of_move h has).is, (won_of_houses w).is)
+  won_at_most h legal =
+      let most = (worth_is_most (storeless a) (omega arith) (legal_going (storeless a) h legal)).most h legal in
+      omega (arith, ints, (won_of_move h legal).margin, (won_of_houses limits).margin)
 
   -- some move wins what best play wins
   pub won_reached : is_over (storeless a) ≡ false → (h : ℕ) × Contains (legal_houses (storeless a)) h
       × (won_by_step (houses_step a h) ≡ won a)
   won_reached going =
       let at = (worth_is_most (storeless a) (omega arith) going).reached in
-      (at.0, at.1, omega (arith, ints, at.2, (won_of_move at.0 at.1).is, (won_of_houses w).is))
+      (at.0, at.1, omega (arith, ints, at.2, (won_of_move at.0 at.1).margin, (won_of_houses limits).margin))
 
 -- ==== The answer of the search in a window
 
@@ -155,11 +155,11 @@ pub worth_by_bounds : {a : HousesState} (lo hi : ℤ) (asked : SeedBounds) {m : 
     ((u : ℕ) → u ≤ n → clamped lo hi (pos (2 * max asked.least (min asked.most u)) -ℤ pos n) ≡ clamped lo hi
     (pos (2 * u) -ℤ pos n)) →
     t ≡ max asked.least (min asked.most (won a)) → m ≡ pos (2 * t) -ℤ pos n → clamped lo hi m ≡ clamped lo hi (houses_worth a)
-worth_by_bounds {a} lo hi asked {n = n} w all ordered apart is m_is =
-    let worth_is : pos (2 * won a) -ℤ pos n ≡ houses_worth a = omega (arith, ints, worth_of_won a w) in
-    rw (m_is, is) (apart _ (omega (arith, (won_of_houses w).few)) ∙ ap (clamped lo hi) worth_is)
+worth_by_bounds {a} lo hi asked {n = n} limits all ordered apart t_is m_is =
+    let worth_is : pos (2 * won a) -ℤ pos n ≡ houses_worth a = omega (arith, ints, worth_of_won a limits) in
+    rw (m_is, t_is) (apart _ (omega (arith, (won_of_houses limits).few)) ∙ ap (clamped lo hi) worth_is)
 
 -- the margin of what the mover wins is the worth of the houses
 pub margin_of_won_is_worth : {a : HousesState} {m : ℤ} {n t : ℕ} → IsWithinHouses a → n ≡ seeds_in_houses (storeless a) → t ≡ won a →
     m ≡ pos (2 * t) -ℤ pos n → m ≡ houses_worth a
-margin_of_won_is_worth {a} w all is m_is = omega (arith, ints, worth_of_won a w)
+margin_of_won_is_worth {a} limits all t_is m_is = omega (arith, ints, worth_of_won a limits)

@@ -100,10 +100,10 @@ below_twice_highest (suc q) n high single =
     omega arith
 
 -- without the last mark all other marks stay, and no mark is new
-module _ (marks h : ℕ) (is : IsLastMark marks h) where
+module _ (marks h : ℕ) (last : IsLastMark marks h) where
   -- the last mark is one
   pub last_marked : 0 < cell marks (h - 1)
-  last_marked = highest_cell_some _ _ is.low is.high
+  last_marked = highest_cell_some _ _ last.low last.high
 
   -- what is left was marked before
   pub marked_before : (i : ℕ) → 0 < cell (without_mark marks h) i → 0 < cell marks i
@@ -115,12 +115,12 @@ module _ (marks h : ℕ) (is : IsLastMark marks h) where
 
 -- without the last mark the number is lower
 pub without_last_less : {marks h : ℕ} → IsLastMark marks h → without_mark marks h < marks
-without_last_less {marks} {h} is = omega arith
+without_last_less {marks} {h} last = omega arith
 
 -- the last mark is found by the leading zeros
 pub last_mark_by_zeros : {marks : ℕ} (zeros : ℕ) → 0 < marks → marks < 2 ^ 30 → zeros ≡ count_leading_zeros 64 marks
     → IsLastMark marks ((63 - zeros) / 5 + 1)
-last_mark_by_zeros {marks} zeros some small is =
+last_mark_by_zeros {marks} zeros some small zeros_are =
     let top = leading_top 64 _ some (omega arith) in
     let q = (63 - zeros) / 5 in
     let at : q + 1 - 1 ≡ q = omega arith in
@@ -142,12 +142,12 @@ last_mark_by_zeros {marks} zeros some small is =
 -- the last mark's bit is where its house begins
 pub last_mark_begins_house : {marks : ℕ} (zeros : ℕ) → 0 < marks → AreMarks marks → zeros ≡ count_leading_zeros 64 marks
     → BeginsHouse (63 - zeros)
-last_mark_begins_house {marks} zeros some are is =
-    let top = leading_top 64 marks some (omega (arith, are.small)) in
+last_mark_begins_house {marks} zeros some marked zeros_are =
+    let top = leading_top 64 marks some (omega (arith, marked.small)) in
     let q = (63 - zeros) / 5 in
     let at : q + 1 - 1 ≡ q = omega arith in
-    let last = last_mark_by_zeros _ some are.small is in
-    let few = below_twice_highest _ _ (rw at at last.high) (are.single q) in
+    let last = last_mark_by_zeros _ some marked.small zeros_are in
+    let few = below_twice_highest _ _ (rw at at last.high) (marked.single q) in
     let place : 63 - zeros ≡ top.0 = omega arith in
     let whole : 5 * q ≡ 63 - zeros = elim (cases_lt (5 * q) (63 - zeros)) [
       | inl less ↦ absurd (let power : 2 ^ suc (5 * q) ≤ 2 ^ top.0 = pow_mono {i = suc (5 * q)} (omega arith) in
@@ -159,11 +159,11 @@ last_mark_begins_house {marks} zeros some are is =
 -- the last mark of a row is worth a power of 32
 pub last_mark_is_power : {marks bit : ℕ} → marks < 2 ^ 30 → IsLastMark marks (bit / 5 + 1) → BeginsHouse bit →
     1 * 2 ^ bit % 2 ^ 64 ≡ 32 ^ (bit / 5 + 1 - 1)
-last_mark_is_power {marks} {bit} small is begins = grind (arith, pow_five)
+last_mark_is_power {marks} {bit} small last begins = grind (arith, pow_five)
 
 -- the others are marks still
 pub without_last_marks : {marks h : ℕ} → AreMarks marks → IsLastMark marks h → AreMarks (without_mark marks h)
-without_last_marks {marks} {h} are is = grind (arith, cases_eq, highest_cell_falls, other_cells_kept)
+without_last_marks {marks} {h} marked last = grind (arith, cases_eq, highest_cell_falls, other_cells_kept)
 
 -- ==== Cells that hold something
 
@@ -267,7 +267,7 @@ unless_both a x n implied = (
   λ p. a.1 (x.1 p.0, λ m. p.1 (n.0 m).1),
 )
 
-module _ {a : HousesState} {row : ℕ} (w : IsWithinHouses a) (row_is : row ≡ number_of a.own) where
+module _ {a : HousesState} {row : ℕ} (limits : IsWithinHouses a) (row_is : row ≡ number_of a.own) where
   -- the cells of the mover's row
   own_cell : (i : ℕ) → cell row i ≡ slice_index a.own i
   own_cell i = rw row_is (cell_of_row a.own i (λ k. omega (arith, house_le_sum a.own k)))
@@ -336,7 +336,7 @@ module _ {a : HousesState} {row : ℕ} (w : IsWithinHouses a) (row_is : row ≡ 
 -- a house with seeds, counted from 0, may be moved while the game goes on
 pub seeded_is_legal : {a : HousesState} (i : ℕ) → IsWithinHouses a → is_over (storeless a) ≡ false → 0 < get_or a.own i 0 →
     Contains (legal_houses (storeless a)) (i + 1)
-seeded_is_legal {a} i w going some = elim (cases_lt i (length a.own)) [
+seeded_is_legal {a} i limits going some = elim (cases_lt i (length a.own)) [
   | inl inside ↦
       let at : i + 1 - 1 ≡ i = omega arith in
       holds_legal (storeless a) _ (record { first = omega arith; last = omega arith; some = rw at some }) going
@@ -347,7 +347,7 @@ seeded_is_legal {a} i w going some = elim (cases_lt i (length a.own)) [
 pub into_store_legal : {a : HousesState} (i : ℕ) → IsWithinHouses a → is_over (storeless a) ≡ false → i < length a.own
     → EndsInStore a (i + 1) →
     Contains (legal_houses (storeless a)) (i + 1)
-into_store_legal {a} i w going inside ends =
+into_store_legal {a} i limits going inside ends =
     holds_legal (storeless a) (i + 1) (record { first = omega arith; last = omega arith; some = omega arith }) going
 
 -- what holds of each marked house holds of those that stay marked
@@ -366,23 +366,23 @@ pub record AreMovable (a : HousesState) (marks : ℕ) : Type 0 where
 
 -- the last of them
 pub last_is_legal : {a : HousesState} {marks h : ℕ} → AreMovable a marks → IsLastMark marks h → Contains (legal_houses (storeless a)) h
-last_is_legal may last = each_at_last (Contains _) last may.legal
+last_is_legal movable last = each_at_last (Contains _) last movable.legal
 
 -- the houses before the last may be moved
 pub movable_before_last : {a : HousesState} {marks h : ℕ} → AreMovable a marks → IsLastMark marks h → AreMovable a (without_mark marks h)
-movable_before_last {a} {marks} {h} may last = record {
-  are = without_last_marks may.are last;
-  legal = each_before_last (Contains _) last may.legal;
+movable_before_last {a} {marks} {h} movable last = record {
+  are = without_last_marks movable.are last;
+  legal = each_before_last (Contains _) last movable.legal;
 }
 
 -- what holds of the last marked house, and of each other unmarked one that may be moved, holds of each that is unmarked without it
 pub each_unmarked_without_last : (a : HousesState) {marks h : ℕ} (P : ℕ → Type 0) → IsLastMark marks h → P h
     → ((i : ℕ) → Contains (legal_houses (storeless a)) i → i - 1 ≢ h - 1 → cell marks (i - 1) ≡ 0 → P i)
     → (i : ℕ) → Contains (legal_houses (storeless a)) i → cell (without_mark marks h) (i - 1) ≡ 0 → P i
-each_unmarked_without_last a {marks} {h} P last here each i may gone = elim (cases_eq i h) [
+each_unmarked_without_last a {marks} {h} P last here each i legal unmarked = elim (cases_eq i h) [
   | inl same ↦ subst P (sym same) here
   | inr other ↦
-      let first = (legal_holds (storeless a) i may).first in
+      let first = (legal_holds (storeless a) i legal).first in
       let place : i - 1 ≢ h - 1 = omega arith in
-      each i may place (unmarked_before marks h last (i - 1) place gone)
+      each i legal place (unmarked_before marks h last (i - 1) place unmarked)
 ]

@@ -54,7 +54,7 @@ values_in-positive n k some = grind arith
 -- the lowest digit of a packed number is that of a value, and the other digits are packed
 pub rest_packed : (n k : ℕ) → 0 < k → IsValuesNumber (suc n) k → (1 ≤ k % BASE) × IsValuesNumber n (k / BASE)
 rest_packed n k some packed =
-    let is : digit_of (value_at (k % BASE)) + BASE * values_number (values_in n (k / BASE)) ≡ k = rw (values_in-positive n k some) at packed in
+    let number_is : digit_of (value_at (k % BASE)) + BASE * values_number (values_in n (k / BASE)) ≡ k = rw (values_in-positive n k some) at packed in
     elim (cases_eq (k % BASE) 0) [
       | inl none ↦
           let one : digit_of (value_at (k % BASE)) ≡ 1 = rw none refl in
@@ -80,8 +80,7 @@ pub values_in-fewer_digits : (n k : ℕ) → length (values_in (suc n) k) ≤ n 
 values_in-fewer_digits zero k few = elim (cases_eq k 0) [
   | inl none ↦ rw none refl
   | inr other ↦
-      let is = values_in-positive 0 k (omega arith) in
-      absurd (omega (arith, ap length is))
+      absurd (omega (arith, ap length (values_in-positive 0 k (omega arith))))
 ]
 values_in-fewer_digits (suc n) k few = elim (cases_eq k 0) [
   | inl none ↦ rw none refl

@@ -27,17 +27,17 @@ below_if_test_fails r beta x says fails = grind arith
 
 -- a bound is at most the greater of `beta` and the number
 pub bound_le_max : {beta number bound : ℕ} → IsSoftBound beta number bound → bound ≤ max beta number
-bound_le_max {beta} {number} {bound} is = grind arith
+bound_le_max {beta} {number} {bound} bounded = grind arith
 
 -- the most of some bounds that fall short falls short too, unless it is 0
 pub short_stays : (beta most bound new : ℕ) → (beta ≤ most → most ≡ 0) → bound < beta → new ≡ max most bound → beta ≤ new
     → new ≡ 0
-short_stays beta most bound new low short is enough = omega arith
+short_stays beta most bound new low short new_is enough = omega arith
 
 -- what is left of all is bounded by what the bound of the other player leaves
 pub bound_of_rest : {beta number bound : ℕ} (all seeds gained : ℕ) → all ≡ gained + seeds → number ≤ seeds
     → IsSoftBound (all - beta + 1) number bound → IsSoftBound beta (gained + (seeds - number)) (all - bound)
-bound_of_rest {beta} {number} {bound} all seeds gained is few b = elim (cases_lt bound (all - beta + 1)) [
+bound_of_rest {beta} {number} {bound} all seeds gained all_is few b = elim (cases_lt bound (all - beta + 1)) [
   | inl short ↦ omega (arith, b.upper short)
   | inr enough ↦ omega (arith, b.lower enough)
 ]
@@ -45,50 +45,50 @@ bound_of_rest {beta} {number} {bound} all seeds gained is few b = elim (cases_lt
 -- a bound of a move that is enough is no more than best play wins
 pub enough_is_won : (a : HousesState) (beta h bound : ℕ) → IsWithinHouses a → Contains (legal_houses (storeless a)) h →
     IsSoftBound beta (won_by_step (houses_step a h)) bound → beta ≤ bound → bound ≤ won a
-enough_is_won a beta h bound w has is enough = omega (arith, won_at_most a w h has)
+enough_is_won a beta h bound limits legal bounded enough = omega (arith, won_at_most a limits h legal)
 
 -- if no legal move wins more than `most`, best play wins no more
 won_at_most_of_all : (a : HousesState) (most : ℕ) → IsWithinHouses a → is_over (storeless a) ≡ false →
     ((h : ℕ) → Contains (legal_houses (storeless a)) h → WinsAtMost a most h) → won a ≤ most
-won_at_most_of_all a most w going each = grind (arith, won_reached)
+won_at_most_of_all a most limits going each = grind (arith, won_reached)
 
 -- ==== Turns, and what the reply to one leaves
 
 -- a turn leads on to the houses that it leaves
 turn_leads : {a b : HousesState} {h priority : ℕ} → IsWithinHouses a → IsTurnOf a h priority b →
     LeadsTo a (seeds_in_houses (storeless a) - seeds_in_houses (storeless b)) b
-turn_leads w turn = leads_by _ _ w turn.legal (sym turn.step)
+turn_leads limits turn = leads_by _ _ limits turn.legal (sym turn.step)
 
 -- a turn that waited, of all `seeds`, by a bound of what the other player wins after it; `left` and one more were asked of that player
-module _ {a b : HousesState} {h priority bound seeds left : ℕ} (beta : ℕ) (w : IsWithinHouses a) (turn : IsTurnOf a h priority b)
-    (seeds_are : seeds ≡ seeds_in_houses (storeless a)) (left_is : left ≡ seeds - beta) (is : IsSoftBound (left + 1) (won b) bound) where
+module _ {a b : HousesState} {h priority bound seeds left : ℕ} (beta : ℕ) (limits : IsWithinHouses a) (turn : IsTurnOf a h priority b)
+    (seeds_are : seeds ≡ seeds_in_houses (storeless a)) (left_is : left ≡ seeds - beta) (bounded : IsSoftBound (left + 1) (won b) bound) where
   -- the other player wins at most what is in houses
   reply_few : won b ≤ seeds_in_houses (storeless b)
-  reply_few = (won_of_houses (turn_leads w turn).limits).few
+  reply_few = (won_of_houses (turn_leads limits turn).limits).few
 
   -- what the reply leaves is a bound of the turn
   pub reply_left : IsSoftBound beta (won_by_step (houses_step a h)) (seeds - bound)
-  reply_left = rw (turn.step, seeds_are) (bound_of_rest _ _ _ (omega (arith, (turn_leads w turn).kept)) reply_few (rw (left_is, seeds_are) at is))
+  reply_left = rw (turn.step, seeds_are) (bound_of_rest _ _ _ (omega (arith, (turn_leads limits turn).kept)) reply_few (rw (left_is, seeds_are) at bounded))
 
   -- the bound is at most all seeds
   pub reply_fits : bound ≤ seeds
   reply_fits = elim (cases_lt bound (left + 1)) [
     | inl short ↦ omega arith
-    | inr enough ↦ omega (arith, is.lower enough, reply_few, (turn_leads w turn).kept)
+    | inr enough ↦ omega (arith, bounded.lower enough, reply_few, (turn_leads limits turn).kept)
   ]
 
   -- what is left of them is no more than best play wins, if it is enough
   pub turn_enough : beta ≤ seeds - bound → seeds - bound ≤ won a
-  turn_enough = enough_is_won _ _ _ _ w turn.legal reply_left
+  turn_enough = enough_is_won _ _ _ _ limits turn.legal reply_left
 
 -- a legal house whose step is a turn, with a priority that names it, is a turn
 pub step_is_turn : {a : HousesState} {h priority gained : ℕ} {b : HousesState} → IsWithinHouses a
     → Contains (legal_houses (storeless a)) h →
     Turn gained b ≡ houses_step a h → priority % 8 + 1 ≡ h → IsTurnOf a h priority b
-step_is_turn {a} {h} {priority} {gained} {b} w has is house =
-    let on = leads_by _ _ w has is in
+step_is_turn {a} {h} {priority} {gained} {b} limits legal step_is house =
+    let on = leads_by _ _ limits legal step_is in
     let brought : gained ≡ seeds_in_houses (storeless a) - seeds_in_houses (storeless b) = omega arith in
-    record { legal = has; step = sym is ∙ ap (λ g. Turn g b) brought; house = house }
+    record { legal = legal; step = sym step_is ∙ ap (λ g. Turn g b) brought; house = house }
 
 -- ==== Turns that wait with a priority
 
@@ -101,20 +101,20 @@ pub record AreTurns (a : HousesState) (priorities : List ℕ) (turns : List Hous
 turns_with_one_more : {a b : HousesState} {h v : ℕ} {priorities : List ℕ} {turns : List HousesState} → AreTurns a priorities turns →
     length turns ≡ 6 → 1 ≤ h → h ≤ 6 → IsTurnOf a h v b →
     AreTurns a (slice_set priorities (h - 1) v) (slice_set turns (h - 1) b)
-turns_with_one_more are six_turns low last is =
+turns_with_one_more waiting six_turns low last turn =
     grind (arith, length-set, cases_eq, get_or-set_same, get_or-set_other)
 
 -- one that waits no more
 turns_without_one : {a : HousesState} {priorities : List ℕ} {turns : List HousesState} (at : ℕ) → AreTurns a priorities turns → at < 6 →
     AreTurns a (slice_set priorities at 0) turns
-turns_without_one {priorities = priorities} at are place = let inside : at < length priorities = omega arith in record {
-  cells = length-set _ at 0 ∙ are.cells;
+turns_without_one {priorities = priorities} at waiting place = let inside : at < length priorities = omega arith in record {
+  cells = length-set _ at 0 ∙ waiting.cells;
   each = λ k high. elim (cases_eq k at) [
     | inl same ↦
         let none : get_or (slice_set priorities at 0) k 0 ≡ 0 = rw same (get_or-set_same _ at 0 0 inside) in
         absurd (omega arith)
     | inr other ↦ λ d. rw (get_or-set_other priorities at k 0 0 other)
-        (are.each k (rw (get_or-set_other priorities at k 0 0 other) at high) d)
+        (waiting.each k (rw (get_or-set_other priorities at k 0 0 other) at high) d)
   ];
 }
 
@@ -127,7 +127,7 @@ pub record WaitsWith (a : HousesState) (priorities : List ℕ) (turns : List Hou
 -- the turn that is read there is that of the priority's house
 pub waits_there : {a : HousesState} {priorities : List ℕ} {turns : List HousesState} {priority : ℕ} {b : HousesState}
     → WaitsWith a priorities turns priority → b ≡ get_or turns (priority % 8) b → IsTurnOf a (priority % 8 + 1) priority b
-waits_there {a} {priority = priority} {b = b} waits is = subst (IsTurnOf a (priority % 8 + 1) priority) (sym is) (waits.turn b)
+waits_there {a} {priority = priority} {b = b} waits b_is = subst (IsTurnOf a (priority % 8 + 1) priority) (sym b_is) (waits.turn b)
 
 -- ==== The remaining moves, played one by one
 
@@ -140,28 +140,28 @@ pub record ArePlayed (a : HousesState) (most marks : ℕ) (priorities : List ℕ
       ¬ EndsInStore a i → WinsAtMost a most i
 
 -- the last marked house was played
-module _ {a : HousesState} {most marks h : ℕ} {priorities : List ℕ} {turns : List HousesState} (is : ArePlayed a most marks priorities turns)
+module _ {a : HousesState} {most marks h : ℕ} {priorities : List ℕ} {turns : List HousesState} (played : ArePlayed a most marks priorities turns)
     (last : IsLastMark marks h) where
   -- the last marked house was played, and waits with a priority
   pub played_and_waits : (v : ℕ) (b : HousesState) → 0 < v → IsTurnOf a h v b →
       ArePlayed a most (without_mark marks h) (slice_set priorities (h - 1) v) (slice_set turns (h - 1) b)
   played_and_waits v b some turn = let inside : h - 1 < length priorities = omega arith in record {
-    waiting = turns_with_one_more is.waiting is.six_turns last.first last.last turn;
-    six_turns = length-set turns _ b ∙ is.six_turns;
+    waiting = turns_with_one_more played.waiting played.six_turns last.first last.last turn;
+    six_turns = length-set turns _ b ∙ played.six_turns;
     others = each_unmarked_without_last a
         (λ i. get_or (slice_set priorities (h - 1) v) (i - 1) 0 ≡ 0 → ¬ EndsInStore a i → WinsAtMost a most i) last
         (λ none apart. absurd (omega (arith, get_or-set_same priorities (h - 1) v 0 inside, none)))
-        (λ i may place gone none apart. is.others i may gone (rw (get_or-set_other _ (h - 1) _ v 0 place) at none) apart);
+        (λ i legal place unmarked none apart. played.others i legal unmarked (rw (get_or-set_other _ (h - 1) _ v 0 place) at none) apart);
   }
 
   -- the last marked house was played, and wins at most `bound`
   pub played_and_bounded : (bound new : ℕ) → WinsAtMost a bound h → new ≡ max most bound
       → ArePlayed a new (without_mark marks h) priorities turns
-  played_and_bounded bound new takes new_is = record {
-    waiting = is.waiting;
-    six_turns = is.six_turns;
+  played_and_bounded bound new at_most new_is = record {
+    waiting = played.waiting;
+    six_turns = played.six_turns;
     others = each_unmarked_without_last a (λ i. get_or priorities (i - 1) 0 ≡ 0 → ¬ EndsInStore a i → WinsAtMost a new i) last
-        (λ none apart. omega arith) (λ i may place gone none apart. omega (arith, is.others i may gone none apart));
+        (λ none apart. omega arith) (λ i legal place unmarked none apart. omega (arith, played.others i legal unmarked none apart));
   }
 
 -- before any was played
@@ -172,8 +172,8 @@ pub played_at_start : {a : HousesState} {most marks : ℕ} {priorities : List �
 played_at_start {a} cells six_turns empty marked = record {
   waiting = record { cells = cells; each = λ k some. absurd (omega arith) };
   six_turns = six_turns;
-  others = λ i may gone none apart. absurd (
-      let holds = legal_holds (storeless a) i may in
+  others = λ i legal unmarked none apart. absurd (
+      let holds = legal_holds (storeless a) i legal in
       let at : i - 1 + 1 ≡ i = omega arith in
       let some = (marked _).1 (holds.some, λ ends. apart (subst (EndsInStore a) at ends)) in
       omega arith);
@@ -190,8 +190,8 @@ UnmarkedIntoStoreWinAtMost a most marks = (h : ℕ) → Contains (legal_houses (
 pub unmarked_at_start : (a : HousesState) (most marks : ℕ)
     → ((i : ℕ) → (0 < cell marks i) ↔ ((i < length a.own) × EndsInStore a (i + 1))) →
     UnmarkedIntoStoreWinAtMost a most marks
-unmarked_at_start a most marks marked h may ends gone = absurd (
-    let holds = legal_holds (storeless a) h may in
+unmarked_at_start a most marks marked h legal ends unmarked = absurd (
+    let holds = legal_holds (storeless a) h legal in
     let at : h ≡ h - 1 + 1 = omega arith in
     let some = (marked _).1 (omega arith, subst (EndsInStore a) at ends) in
     omega arith)
@@ -200,9 +200,9 @@ unmarked_at_start a most marks marked h may ends gone = absurd (
 pub unmarked_without_last : (a : HousesState) (most : ℕ) {marks h : ℕ} (bound : ℕ) {new : ℕ}
     → UnmarkedIntoStoreWinAtMost a most marks → IsLastMark marks h → WinsAtMost a bound h → new ≡ max most bound →
     UnmarkedIntoStoreWinAtMost a new (without_mark marks h)
-unmarked_without_last a most {marks} {h} bound {new} are last takes new_is i may ends gone =
+unmarked_without_last a most {marks} {h} bound {new} tried last at_most new_is i legal ends unmarked =
     each_unmarked_without_last a (λ i. EndsInStore a i → WinsAtMost a new i) last
-    (λ e. omega arith) (λ j may_j place gone_j e. omega (arith, are j may_j e gone_j)) i may gone ends
+    (λ e. omega arith) (λ j legal_j place unmarked_j e. omega (arith, tried j legal_j e unmarked_j)) i legal unmarked ends
 
 -- ==== The turns that waited, tried by their priority
 
@@ -214,12 +214,12 @@ pub record AreUntried (a : HousesState) (most : ℕ) (priorities : List ℕ) (tu
 -- the move with a given priority waits with its turn
 pub next_waits : {a : HousesState} {most : ℕ} {priorities : List ℕ} {turns : List HousesState} {priority : ℕ} → IsWithinHouses a →
     AreUntried a most priorities turns → Contains priorities priority → 0 < priority → WaitsWith a priorities turns priority
-next_waits {a} {most} {priorities} {turns} {priority} w untried found some =
-    let are = untried.waiting in
+next_waits {a} {most} {priorities} {turns} {priority} limits untried found some =
+    let waiting = untried.waiting in
     let k = found.0 in
     let here = get_or_default _ k 0 _ found.1 ∙ found.2 in
     let turn : (d : HousesState) → IsTurnOf a _ priority _ =
-    λ d. subst (λ r. IsTurnOf a (k + 1) r (get_or turns k d)) here (are.each k (omega arith) d) in
+    λ d. subst (λ r. IsTurnOf a (k + 1) r (get_or turns k d)) here (waiting.each k (omega arith) d) in
     let same : priority % 8 ≡ k = omega (arith, (turn a).house) in
     let holds = legal_holds (storeless a) _ (turn a).legal in
     record { place = omega arith; stands = rw same here; turn = rw same turn }
@@ -230,20 +230,20 @@ pub untried_at_start : {a : HousesState} {beta others new : ℕ} {priorities : L
     AreWaiting a beta others priorities turns → ((h : ℕ) → Contains (legal_houses (storeless a)) h → EndsInStore a h
     → WinsAtMost a again h) →
     others < beta → new ≡ max again others → AreUntried a new priorities turns
-untried_at_start again cells are ends short new_is = grind arith
+untried_at_start again cells waiting ends short new_is = grind arith
 
 -- one move more was tried
 pub untried_fewer : {a : HousesState} {most new : ℕ} {priorities : List ℕ} {turns : List HousesState} (at bound : ℕ)
     → AreUntried a most priorities turns →
     at < 6 → WinsAtMost a bound (at + 1) → new ≡ max most bound → AreUntried a new (slice_set priorities at 0) turns
-untried_fewer {a} {priorities = priorities} at bound is place takes new_is = record {
-  waiting = turns_without_one at is.waiting place;
-  tried = λ h has none. elim (cases_eq (h - 1) at) [
+untried_fewer {a} {priorities = priorities} at bound untried place at_most new_is = record {
+  waiting = turns_without_one at untried.waiting place;
+  tried = λ h legal none. elim (cases_eq (h - 1) at) [
     | inl same ↦
-        let first = (legal_holds (storeless a) h has).first in
+        let first = (legal_holds (storeless a) h legal).first in
         let house : at + 1 ≡ h = omega arith in
-        omega (arith, subst (WinsAtMost a bound) house takes)
-    | inr other ↦ omega (arith, is.tried h has (rw (get_or-set_other priorities at _ 0 0 other) at none))
+        omega (arith, subst (WinsAtMost a bound) house at_most)
+    | inr other ↦ omega (arith, untried.tried h legal (rw (get_or-set_other priorities at _ 0 0 other) at none))
   ];
 }
 
@@ -251,4 +251,4 @@ untried_fewer {a} {priorities = priorities} at bound is place takes new_is = rec
 pub none_untried : {a : HousesState} {most : ℕ} {priorities : List ℕ} {turns : List HousesState} (highest : ℕ) → IsWithinHouses a
     → is_over (storeless a) ≡ false →
     AreUntried a most priorities turns → ((k : ℕ) → get_or priorities k 0 ≤ highest) → highest ≡ 0 → won a ≤ most
-none_untried {a} {most} highest w going is above none = won_at_most_of_all a _ w going (omega arith)
+none_untried {a} {most} highest limits going untried above none = won_at_most_of_all a _ limits going (omega arith)

@@ -40,45 +40,45 @@ same_policy policy = grind arith
 
 -- who follows a strategy keeps to the rules
 pub strategy_within : {s : Strategy} → IsStrategy s → IsWithin (follow s) legal_houses
-strategy_within {s} ok = grind arith
+strategy_within {s} lawful = grind arith
 
 -- two strategies play a game to its end
 pub ends_within : (n : ℕ) (mine theirs : Strategy) → IsStrategy mine → IsStrategy theirs → (p : Position) → HasEqualSides p
     → moves_left p ≤ n →
     (houses : List ℕ) × (final : Position) × Game (follow mine) (follow theirs) p houses final
-ends_within zero mine theirs m t p equal few = ([], p, is_at_end (over_at_end p (omega arith)))
-ends_within (suc n) mine theirs m t p equal few = elim (cases_Bool _) [
+ends_within zero mine theirs mine_lawful theirs_lawful p equal few = ([], p, is_at_end (over_at_end p (omega arith)))
+ends_within (suc n) mine theirs mine_lawful theirs_lawful p equal few = elim (cases_Bool _) [
   | inl over ↦ ([], p, is_at_end over)
   | inr going ↦
-      let fewer = after_fewer p (mine p) (legal_holds p (mine p) (m.moves p equal going)) equal in
+      let fewer = after_fewer p (mine p) (legal_holds p (mine p) (mine_lawful.moves p equal going)) equal in
       let next_even = after_equal_sides p _ in
       elim (cases_Bool _) [
         | inl again ↦
-            let rest = ends_within n mine theirs m t _ next_even (omega arith) in
+            let rest = ends_within n mine theirs mine_lawful theirs_lawful _ next_even (omega arith) in
             (mine p ∷ rest.0, rest.1, moves_on going (Contains-head _ []) again rest.2)
         | inr turn ↦
             let turned = moves_left-swapped _ next_even in
-            let rest = ends_within n theirs mine t m _ (omega arith)
+            let rest = ends_within n theirs mine theirs_lawful mine_lawful _ (omega arith)
             (omega arith) in
             (mine p ∷ rest.0, swapped rest.1, passes_turn going (Contains-head _ []) turn rest.2)
       ]
 ]
 
 pub a_game_is_played : StrategiesPlayAGame
-a_game_is_played mine theirs m t p equal = ends_within (moves_left p) mine theirs m t p equal (omega arith)
+a_game_is_played mine theirs mine_lawful theirs_lawful p equal = ends_within (moves_left p) mine theirs mine_lawful theirs_lawful p equal (omega arith)
 
 -- each move leaves fewer, and the last position is over
 pub ends_in_time : {mine theirs : Policy} {p : Position} {houses : List ℕ} {final : Position} → IsWithin mine legal_houses
     → IsWithin theirs legal_houses → HasEqualSides p → Game mine theirs p houses final → EndsInTime p houses final
-ends_in_time m t equal (is_at_end over) = grind arith
-ends_in_time {mine} {theirs} {p} m t equal (moves_on {h = h} going has again rest) =
-    let fewer = after_fewer p h (legal_holds p h (m.widens p h equal going has)) equal in
-    let inner = ends_in_time m t (after_equal_sides p h) rest in
+ends_in_time mine_lawful theirs_lawful equal (is_at_end over) = grind arith
+ends_in_time {mine} {theirs} {p} mine_lawful theirs_lawful equal (moves_on {h = h} going chosen again rest) =
+    let fewer = after_fewer p h (legal_holds p h (mine_lawful.widens p h equal going chosen)) equal in
+    let inner = ends_in_time mine_lawful theirs_lawful (after_equal_sides p h) rest in
     record { over = inner.over; short = omega arith }
-ends_in_time {mine} {theirs} {p} m t equal (passes_turn {h = h} {final = final} going has turn rest) =
-    let fewer = after_fewer p h (legal_holds p h (m.widens p h equal going has)) equal in
+ends_in_time {mine} {theirs} {p} mine_lawful theirs_lawful equal (passes_turn {h = h} {final = final} going chosen turn rest) =
+    let fewer = after_fewer p h (legal_holds p h (mine_lawful.widens p h equal going chosen)) equal in
     let turned = moves_left-swapped _ (after_equal_sides p h) in
-    let inner = ends_in_time t m (swapped_equal_sides _ (after_equal_sides p h)) rest in
+    let inner = ends_in_time theirs_lawful mine_lawful (swapped_equal_sides _ (after_equal_sides p h)) rest in
     record { over = is_over-swapped final ∙ inner.over; short = omega arith }
 
 pub games_end : GamesEnd
@@ -96,26 +96,26 @@ follow_one s = grind arith
 pub game_is_one : {mine theirs : Policy} {p : Position} {houses others : List ℕ} {final other : Position} → HasNoChoice mine
     → HasNoChoice theirs →
     Game mine theirs p houses final → Game mine theirs p others other → (houses ≡ others) × (final ≡ other)
-game_is_one m t (is_at_end over) (is_at_end over') = (refl, refl)
-game_is_one m t (is_at_end over) (moves_on going has again rest) = cc
-game_is_one m t (is_at_end over) (passes_turn going has turn rest) = cc
-game_is_one m t (moves_on going has again rest) (is_at_end over) = cc
-game_is_one {mine} {theirs} {p} m t (moves_on {h = h} going has again rest)
-    (moves_on {h = k} {houses = houses} {final = final} going' has' again' rest') =
-    let e = m.one p k h has' has in
-    let same = game_is_one m t rest (subst (λ x. Game mine theirs (after p x) houses final) e rest') in
+game_is_one mine_forced theirs_forced (is_at_end over) (is_at_end over') = (refl, refl)
+game_is_one mine_forced theirs_forced (is_at_end over) (moves_on going chosen again rest) = cc
+game_is_one mine_forced theirs_forced (is_at_end over) (passes_turn going chosen turn rest) = cc
+game_is_one mine_forced theirs_forced (moves_on going chosen again rest) (is_at_end over) = cc
+game_is_one {mine} {theirs} {p} mine_forced theirs_forced (moves_on {h = h} going chosen again rest)
+    (moves_on {h = k} {houses = houses} {final = final} going' chosen' again' rest') =
+    let e = mine_forced.one p k h chosen' chosen in
+    let same = game_is_one mine_forced theirs_forced rest (subst (λ x. Game mine theirs (after p x) houses final) e rest') in
     (cc same.0, same.1)
-game_is_one {mine} {theirs} {p} m t (moves_on {h = h} going has again rest) (passes_turn {h = k} going' has' turn rest') =
-    let e = m.one p k h has' has in
+game_is_one {mine} {theirs} {p} mine_forced theirs_forced (moves_on {h = h} going chosen again rest) (passes_turn {h = k} going' chosen' turn rest') =
+    let e = mine_forced.one p k h chosen' chosen in
     absurd cc
-game_is_one m t (passes_turn going has turn rest) (is_at_end over) = cc
-game_is_one {mine} {theirs} {p} m t (passes_turn {h = h} going has turn rest) (moves_on {h = k} going' has' again rest') =
-    let e = m.one p k h has' has in
+game_is_one mine_forced theirs_forced (passes_turn going chosen turn rest) (is_at_end over) = cc
+game_is_one {mine} {theirs} {p} mine_forced theirs_forced (passes_turn {h = h} going chosen turn rest) (moves_on {h = k} going' chosen' again rest') =
+    let e = mine_forced.one p k h chosen' chosen in
     absurd (let differs = rw e at again in cc)
-game_is_one {mine} {theirs} {p} m t (passes_turn {h = h} going has turn rest)
-    (passes_turn {h = k} {houses = houses} {final = final} going' has' turn' rest') =
-    let e = m.one p k h has' has in
-    let same = game_is_one t m rest (subst (λ x. Game theirs mine (swapped (after p x)) houses final) e rest') in
+game_is_one {mine} {theirs} {p} mine_forced theirs_forced (passes_turn {h = h} going chosen turn rest)
+    (passes_turn {h = k} {houses = houses} {final = final} going' chosen' turn' rest') =
+    let e = mine_forced.one p k h chosen' chosen in
+    let same = game_is_one theirs_forced mine_forced rest (subst (λ x. Game theirs mine (swapped (after p x)) houses final) e rest') in
     (cc same.0, ap swapped same.1)
 
 pub one_game_is_played : StrategiesPlayOneGame
@@ -125,11 +125,11 @@ one_game_is_played mine theirs p houses others final other one two = game_is_one
 pub widened : {mine theirs mine' theirs' : Policy} {p : Position} {houses : List ℕ} {final : Position} → IsWithin mine mine' →
     IsWithin theirs theirs' → HasEqualSides p →
     Game mine theirs p houses final → Game mine' theirs' p houses final
-widened m t equal (is_at_end over) = is_at_end over
-widened {mine} {theirs} {mine'} {theirs'} {p} m t equal (moves_on {h = h} going has again rest) =
-    moves_on going (m.widens p h equal going has) again (widened m t (after_equal_sides p h) rest)
-widened {mine} {theirs} {mine'} {theirs'} {p} m t equal (passes_turn {h = h} going has turn rest) =
-    passes_turn going (m.widens p h equal going has) turn (widened t m (swapped_equal_sides _ (after_equal_sides p h)) rest)
+widened mine_wider theirs_wider equal (is_at_end over) = is_at_end over
+widened {mine} {theirs} {mine'} {theirs'} {p} mine_wider theirs_wider equal (moves_on {h = h} going chosen again rest) =
+    moves_on going (mine_wider.widens p h equal going chosen) again (widened mine_wider theirs_wider (after_equal_sides p h) rest)
+widened {mine} {theirs} {mine'} {theirs'} {p} mine_wider theirs_wider equal (passes_turn {h = h} going chosen turn rest) =
+    passes_turn going (mine_wider.widens p h equal going chosen) turn (widened theirs_wider mine_wider (swapped_equal_sides _ (after_equal_sides p h)) rest)
 
 -- ==== What players who play best secure
 
@@ -146,21 +146,21 @@ pub record IsBounded (mine theirs : Policy) (p : Position) (z : ℤ) : Type 0 wh
 -- a game by the rules ends on the right side of the worth for a player who plays best: by induction on its moves, for both players
 pub game_is_bounded : {mine theirs : Policy} {p : Position} {houses : List ℕ} {final : Position} → IsWithin mine legal_houses
     → IsWithin theirs legal_houses → HasEqualSides p → Game mine theirs p houses final → IsBounded mine theirs p (final_margin final)
-game_is_bounded {p = p} m t equal (is_at_end over) = grind (arith, worth_of_over)
-game_is_bounded {p = p} {final = final} m t equal (moves_on {h = h} going has again rest) =
-    let inner = game_is_bounded m t (after_equal_sides p h) rest in
+game_is_bounded {p = p} mine_lawful theirs_lawful equal (is_at_end over) = grind (arith, worth_of_over)
+game_is_bounded {p = p} {final = final} mine_lawful theirs_lawful equal (moves_on {h = h} going chosen again rest) =
+    let inner = game_is_bounded mine_lawful theirs_lawful (after_equal_sides p h) rest in
     let value = value_moving_again p h again in
-    let most = value_most p h equal going (m.widens p h equal going has) in
+    let most = value_most p h equal going (mine_lawful.widens p h equal going chosen) in
     record {
-      low = λ best. omega (arith, ints, best.attains p h equal going has);
+      low = λ best. omega (arith, ints, best.attains p h equal going chosen);
       high = λ best. omega (arith, ints);
     }
-game_is_bounded {p = p} m t equal (passes_turn {h = h} {final = final} going has turn rest) =
-    let inner = game_is_bounded t m (swapped_equal_sides _ (after_equal_sides p h)) rest in
+game_is_bounded {p = p} mine_lawful theirs_lawful equal (passes_turn {h = h} {final = final} going chosen turn rest) =
+    let inner = game_is_bounded theirs_lawful mine_lawful (swapped_equal_sides _ (after_equal_sides p h)) rest in
     let value = value_passing p h turn in
-    let most = value_most p h equal going (m.widens p h equal going has) in
+    let most = value_most p h equal going (mine_lawful.widens p h equal going chosen) in
     rw (← final_swapped _) (record {
-      low = λ best. omega (arith, ints, best.attains p h equal going has);
+      low = λ best. omega (arith, ints, best.attains p h equal going chosen);
       high = λ best. omega (arith, ints);
     })
 
@@ -187,31 +187,31 @@ pub worth_is_best_play : WorthIsBestPlay
 worth_is_best_play p equal = grind (arith, best_is_strategy, best_secures, best_holds)
 
 -- a game of two strategies is one of either against any play
-module _ (mine theirs : Strategy) (m : IsStrategy mine) (t : IsStrategy theirs) (p : Position) (equal : HasEqualSides p) (v : ℤ) where
+module _ (mine theirs : Strategy) (mine_lawful : IsStrategy mine) (theirs_lawful : IsStrategy theirs) (p : Position) (equal : HasEqualSides p) (v : ℤ) where
   -- what a strategy secures, the game brings
   pub ends_at_least : Secures mine p v → EndsWithAtLeast mine theirs p v
   ends_at_least secures =
-      let game = a_game_is_played mine _ m t p equal in
-      (game.0, game.1, game.2, secures _ game.1 (widened (same_policy _) (strategy_within t) equal game.2))
+      let game = a_game_is_played mine _ mine_lawful theirs_lawful p equal in
+      (game.0, game.1, game.2, secures _ game.1 (widened (same_policy _) (strategy_within theirs_lawful) equal game.2))
 
   -- what a strategy of the opponent allows is the most that the game brings
   pub ends_at_most : HoldsTo theirs p v → EndsWithAtMost mine theirs p v
   ends_at_most holds =
-      let game = a_game_is_played mine _ m t p equal in
-      (game.0, game.1, game.2, holds _ game.1 (widened (strategy_within m) (same_policy _) equal game.2))
+      let game = a_game_is_played mine _ mine_lawful theirs_lawful p equal in
+      (game.0, game.1, game.2, holds _ game.1 (widened (strategy_within mine_lawful) (same_policy _) equal game.2))
 
 pub best_against_strategies : BestPlayAgainstStrategies
 best_against_strategies = record {
   secured = λ p equal. (
     best_house,
     best_is_strategy,
-    λ theirs t. ends_at_least _ theirs best_is_strategy t p equal _
+    λ theirs theirs_lawful. ends_at_least _ theirs best_is_strategy theirs_lawful p equal _
         (best_secures _ equal),
   );
   held = λ p equal. (
     best_house,
     best_is_strategy,
-    λ mine m. ends_at_most mine _ m best_is_strategy p equal _
+    λ mine mine_lawful. ends_at_most mine _ mine_lawful best_is_strategy p equal _
         (best_holds _ equal),
   );
 }
@@ -252,11 +252,11 @@ move_worth_is_one {p} {h} {v} {w} a b = elim (cases_Bool _) [
 -- a legal house that attains the worth is a best move
 attaining_is_best : (p : Position) (h : ℕ) → HasEqualSides p → Contains (legal_houses p) h → value_of_move p h ≡ worth p →
     IsBestMove p h (worth p)
-attaining_is_best p h equal has attains = grind (arith, worth_is_best_play, worth, move_worth)
+attaining_is_best p h equal legal attains = grind (arith, worth_is_best_play, worth, move_worth)
 
 -- each best move attains the worth
 attains_if_best : (p : Position) (h : ℕ) → IsBestMove p h (worth p) → value_of_move p h ≡ worth p
-attains_if_best p h is = move_worth_is_one (move_worth p h) is.worth
+attains_if_best p h best = move_worth_is_one (move_worth p h) best.worth
 
 -- the best house is a best move
 pub best_move : (p : Position) → HasEqualSides p → is_over p ≡ false → IsBestMove p (best_house p) (worth p)
@@ -265,9 +265,9 @@ best_move p equal going = attaining_is_best _ _ equal (best_found _ equal going)
 -- the best house is the lowest legal house that attains the worth
 pub best_lowest : (p : Position) (h : ℕ) → is_over p ≡ false → Contains (legal_houses p) h → value_of_move p h ≡ worth p
     → best_house p ≤ h
-best_lowest p h going is_legal attains =
+best_lowest p h going legal attains =
     let lowest = find_lowest (λ k. int_eq (value_of_move p k) (worth p)) (λ i. nat_lt 0 (seeds p.own i)) 1 (side_length p) h
-    (rw going at is_legal) (int_eq-same _ _ attains) in
+    (rw going at legal) (int_eq-same _ _ attains) in
     rw going lowest
 
 pub best_is_lowest : BestHouseIsLowest
@@ -279,10 +279,10 @@ best_is_lowest p equal going = record {
 
 -- the best house is the lowest best move
 pub best_house_lowest : (p : Position) (h : ℕ) → is_over p ≡ false → IsBestMove p h (worth p) → best_house p ≤ h
-best_house_lowest p h going is = best_lowest _ _ going is.legal (attains_if_best _ _ is)
+best_house_lowest p h going best = best_lowest _ _ going best.legal (attains_if_best _ _ best)
 
 pub best_moves_attain : BestMovesAttain
-best_moves_attain p h equal going = (λ is. (is.legal, attains_if_best _ _ is), λ is. attaining_is_best _ _ equal is.0 is.1)
+best_moves_attain p h equal going = (λ best. (best.legal, attains_if_best _ _ best), λ legal. attaining_is_best _ _ equal legal.0 legal.1)
 
 -- ==== The verdict states best play, and no other does
 
@@ -293,23 +293,23 @@ verdict_of_going p margin house going margin_at house_at = cc
 
 -- the verdict of a position that is over
 pub verdict_of_over : (p : Position) (margin : ℤ) → is_over p ≡ true → margin ≡ final_margin p → Over margin ≡ verdict_of p
-verdict_of_over p margin over is = cc
+verdict_of_over p margin over margin_is = cc
 
 -- a legal house with a margin that a player can have
 pub small_best : (p : Position) (margin : ℤ) (house : ℕ) → IsWithinLimits p → Contains (legal_houses p) house
     → IsSmallMargin margin →
     IsSmallBest margin house
-small_best p margin house limits is_legal is_small =
-    let holds = legal_holds p _ is_legal in
+small_best p margin house limits legal is_small =
+    let holds = legal_holds p _ legal in
     record { small = is_small; first = holds.first; last = omega arith }
 
 -- the verdict states how best play ends
 pub verdict_states : (p : Position) (v : Verdict) → HasEqualSides p → v ≡ verdict_of p → StatesBestPlay p v
-verdict_states p v equal is =
+verdict_states p v equal v_is =
     let states = cond_both (is_over p) _ _ (StatesBestPlay p)
     (λ over. record { over = over; final = refl; best_play = rw (worth_of_over p over) at (worth_is_best_play p equal) })
-    (λ going. record { going = going; best = best_move p equal going; lowest = λ h is. best_house_lowest p h going is }) in
-    subst (λ u. StatesBestPlay p u) (sym is) states
+    (λ going. record { going = going; best = best_move p equal going; lowest = λ h best. best_house_lowest p h going best }) in
+    subst (λ u. StatesBestPlay p u) (sym v_is) states
 
 -- each verdict that states how best play ends is the verdict
 stated_is_verdict : (p : Position) (v : Verdict) → HasEqualSides p → StatesBestPlay p v → v ≡ verdict_of p
@@ -381,28 +381,28 @@ find_first p (x ∷ xs) (suc i) within fails here =
 -- in the whole window the answer is the worth
 pub whole_window : {a : HousesState} (found lo hi : ℤ) → IsWithinHouses a → lo ≡ least_margin → hi ≡ most_margin →
     found ≡ clamped lo hi (houses_worth a) → found ≡ houses_worth a
-whole_window {a} found lo hi limits lo_is hi_is e = omega (arith, ints, clamps, worth_low a limits, worth_high a limits)
+whole_window {a} found lo hi limits lo_is hi_is found_is = omega (arith, ints, clamps, worth_low a limits, worth_high a limits)
 
 -- the first i houses are worth less than the margin of best play
 abbrev pub FallShort : HousesState → ℕ → Type 0
 FallShort a i = (k : ℕ) → k < i → int_eq (value_of_move (storeless a) (get_or (legal_houses (storeless a)) k 0)) (houses_worth a) ≡ false
 
-module _ (a : HousesState) (w : IsWithinHouses a) where
+module _ (a : HousesState) (limits : IsWithinHouses a) where
   -- a house that wins as many seeds as best play is worth as much
   worth_if_enough : (h : ℕ) → Contains (legal_houses (storeless a)) h → won a ≤ won_by_step (houses_step a h)
       → value_of_move (storeless a) h ≡ houses_worth a
-  worth_if_enough h has enough = grind (arith, won_at_most, won_of_move, won_of_houses)
+  worth_if_enough h legal enough = grind (arith, won_at_most, won_of_move, won_of_houses)
 
   -- a house that wins fewer seeds than best play is worth less
   worth_less_if_short : (h : ℕ) → Contains (legal_houses (storeless a)) h → won_by_step (houses_step a h) < won a
       → value_of_move (storeless a) h <ℤ houses_worth a
-  worth_less_if_short h has less = grind (arith, won_of_move, won_of_houses)
+  worth_less_if_short h legal less = grind (arith, won_of_move, won_of_houses)
 
   -- the first house worth the margin is the best house
   first_is_best : (i : ℕ) → i < length (legal_houses (storeless a)) → FallShort a i →
       value_of_move (storeless a) (get_or (legal_houses (storeless a)) i 0) ≡ houses_worth a →
       get_or (legal_houses (storeless a)) i 0 ≡ best_house (storeless a)
-  first_is_best i inside short is = grind (arith, find_first)
+  first_is_best i inside short attains = grind (arith, find_first)
 
   -- a house that wins enough, if those before it fall short
   pub first_enough_is_best : (i : ℕ) → i < length (legal_houses (storeless a)) → FallShort a i →
@@ -424,10 +424,10 @@ module _ (a : HousesState) (w : IsWithinHouses a) where
       let inside = one.1.1 in
       let place = get_or_default (legal_houses (storeless a)) one.1.0 0 one.0 inside
       ∙ one.1.2 in
-      let is = ap (value_of_move (storeless a)) place ∙ one.2 ∙ sym (worth_of_going _ (record { same = w.same_side }) going) in
+      let attains = ap (value_of_move (storeless a)) place ∙ one.2 ∙ sym (worth_of_going _ (record { same = limits.same_side }) going) in
       elim (cases_eq one.1.0 n) [
-        | inl same ↦ first_is_best n (omega arith) short (rw same at is)
-        | inr other ↦ absurd (both_ways _ (short one.1.0 (omega arith)) (int_eq-same _ _ is))
+        | inl same ↦ first_is_best n (omega arith) short (rw same at attains)
+        | inr other ↦ absurd (both_ways _ (short one.1.0 (omega arith)) (int_eq-same _ _ attains))
       ]
 
 -- ---- with the stores
@@ -463,18 +463,18 @@ module _ (p : Position) {best : ℤ} {own other : ℕ} (limits : IsWithinLimits 
 
 -- the value of a move
 pub value_small : (p : Position) (h : ℕ) → IsWithinLimits p → Contains (legal_houses p) h → IsSmallMargin (value_of_move p h)
-value_small p h limits has =
-    let bounds = won_of_move (houses_in p) (houses_within p limits) h has in
+value_small p h limits legal =
+    let bounds = won_of_move (houses_in p) (houses_within p limits) h legal in
     record {
-      low = omega (arith, ints, value_of_houses p h, bounds.is);
-      high = omega (arith, ints, value_of_houses p h, bounds.few, bounds.is);
+      low = omega (arith, ints, value_of_houses p h, bounds.margin);
+      high = omega (arith, ints, value_of_houses p h, bounds.few, bounds.margin);
     }
 
 -- a legal house
 pub house_small : (p : Position) (h : ℕ) → IsWithinLimits p → Contains (legal_houses p) h → h ≤ most_houses
-house_small p h limits has = omega (arith, (legal_holds p h has).last)
+house_small p h limits legal = omega (arith, (legal_holds p h legal).last)
 
 -- a legal house with the value of its move
 pub move_value_small : (p : Position) (h : ℕ) → IsWithinLimits p → Contains (legal_houses p) h → IsMoveValue (move_value p h)
-move_value_small p h limits has =
-    record { first = (legal_holds p h has).first; last = house_small p h limits has; small = value_small p h limits has }
+move_value_small p h limits legal =
+    record { first = (legal_holds p h legal).first; last = house_small p h limits legal; small = value_small p h limits legal }

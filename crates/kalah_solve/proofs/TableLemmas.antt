@@ -176,7 +176,7 @@ rank_same (x ∷ xs) (y ∷ ys) long same =
 -- houses of one variant with one rank are the same
 pub same_houses : (a b : HousesState) → IsWithinHouses a → IsWithinHouses b → variant_of a ≡ variant_of b
     → rank_of_houses a ≡ rank_of_houses b → a ≡ b
-same_houses a b ha hb variant rank =
+same_houses a b limits_a limits_b variant rank =
     let side : length a.own ≡ length b.own = omega arith in
     let cells : length (a.own ++ a.other) ≡ length (b.own ++ b.other) =
     omega (arith, length-append a.own a.other, length-append b.own b.other) in
@@ -184,7 +184,7 @@ same_houses a b ha hb variant rank =
     let own = rw (take-append_seam a.own a.other, side, take-append_seam b.own b.other) at
     (ap (take (length a.own)) row) in
     let other = append_cancel_left a.own a.other b.other (rw (← own) at row) in
-    same_key a b ha hb (omega (arith, ap number_of own, ap number_of other))
+    same_key a b limits_a limits_b (omega (arith, ap number_of own, ap number_of other))
 
 -- a row's number determines its sums
 sums_by_number : (xs : List ℕ) → 31 * sums_number xs + sum xs ≡ 32 * number_of xs
@@ -200,8 +200,8 @@ pub record AreSums (row : List ℕ) (number seeds : ℕ) : Type 0 where
 pub sums_are : (row : List ℕ) (number seeds : ℕ) → 1 ≤ length row → number ≡ number_of row → seeds ≡ sum row
     → number < 2 ^ 60 →
     AreSums row number seeds
-sums_are [] number seeds some is all below = omega arith
-sums_are (x ∷ xs) number seeds some is all below =
+sums_are [] number seeds some number_is all below = omega arith
+sums_are (x ∷ xs) number seeds some number_is all below =
     let whole : number ≡ seeds + 31 * sums_number xs = omega (arith, sums_by_number, sum_by-cons) in
     record {
       few = omega arith;
@@ -214,7 +214,7 @@ pub both_rows : {a : HousesState} (own other m : ℕ) → IsWithinHouses a → o
     → own < 2 ^ 30 →
     other < 2 ^ 30 → m ≡ length a.own →
     (own + other * 2 ^ (5 * m) % 2 ^ 64 ≡ number_of (a.own ++ a.other)) × (own + other * 2 ^ (5 * m) % 2 ^ 64 < 2 ^ 60)
-both_rows {a} own other m within own_is other_is own_small other_small side =
+both_rows {a} own other m limits own_is other_is own_small other_small side =
     grind (arith, pow_mono, mul-le, length, number_of, pow_five, mul_comm, number_of-append)
 
 -- ---- the cells of a row, two at a time
@@ -235,7 +235,7 @@ two_sums x y ys few = omega (arith, sum_by-cons)
 
 -- two cells more of a row
 module _ (row : List ℕ) (few : sum row ≤ 9) (m passed sums added : ℕ) (long : length row ≡ 2 * m) (most : m ≤ 6) (more : passed < m)
-    (is : IsRanked row passed sums added) where
+    (ranked : IsRanked row passed sums added) where
   -- the next two cells, and those past them
   abbrev two_first : ℕ
   two_first = get_or row (2 * passed) 0
@@ -258,7 +258,7 @@ module _ (row : List ℕ) (few : sum row ≤ 9) (m passed sums added : ℕ) (lon
 
   -- their sums are read off the sums that are left
   two_are : AreTwo sums two_first two_second two_past
-  two_are = rw (is.left, two_more) (two_sums _ _ _ two_less)
+  two_are = rw (ranked.left, two_more) (two_sums _ _ _ two_less)
 
   -- the rank of two cells more
   pub rank_next : (c : ℕ) → c ≡ choose (sums % 1024 % 32 + 2 * (m - passed - 1) + 1) (2 * (m - passed - 1) + 2) + choose
@@ -291,7 +291,7 @@ module _ (row : List ℕ) (few : sum row ≤ 9) (m passed sums added : ℕ) (lon
 -- what is added so far is small
 pub ranked_small : (row : List ℕ) (passed sums added : ℕ) → sum row ≤ 9 → length row ≤ 12 → IsRanked row passed sums added
     → added < 2 ^ 21
-ranked_small row passed sums added few long is =
+ranked_small row passed sums added few long ranked =
     omega (arith, rank_below row, choose_small (sum row + length row) 21 (length row) (omega arith))
 
 -- a row without cells has the rank 0
@@ -302,7 +302,7 @@ rank_none (x ∷ xs) none = omega arith
 -- what is added is the rank once all cells are passed
 pub ranked_all : (row : List ℕ) (passed sums added : ℕ) → length row ≤ 2 * passed → IsRanked row passed sums added
     → added ≡ row_rank row
-ranked_all row passed sums added all is = grind (arith, rank_none, drop, length-drop)
+ranked_all row passed sums added all ranked = grind (arith, rank_none, drop, length-drop)
 
 -- ==== The choices, cell by cell
 
@@ -331,12 +331,12 @@ choice_small i few = choose_small _ 20 _ (omega arith)
 -- one cell more is right
 pub choices_more : (choices : List ℕ) (i v : ℕ) → i < length choices → AreChoices i choices → v ≡ choice_at i →
     AreChoices (i + 1) (slice_set choices i v)
-choices_more choices i v inside before is k below = grind (arith, cases_eq, get_or-set_same, get_or-set_other)
+choices_more choices i v inside before v_is k below = grind (arith, cases_eq, get_or-set_same, get_or-set_other)
 
 -- one pair more is right
 pub pairs_more : (pairs : List ℕ) (i v : ℕ) → i < length pairs → ArePairs i pairs → (i % 32 < 10 → v ≡ pair_at i) →
     ArePairs (i + 1) (slice_set pairs i v)
-pairs_more pairs i v inside before is k below few = grind (arith, cases_eq, get_or-set_same, get_or-set_other)
+pairs_more pairs i v inside before v_is k below few = grind (arith, cases_eq, get_or-set_same, get_or-set_other)
 
 -- ==== What words of endings state stays true
 
@@ -410,24 +410,24 @@ first_word_rises m n below most = grind arith
 -- an ending's word is one of its variant's
 pub word_is_of_variant : (a : HousesState) → IsWithinHouses a → IsEnding a
     → first_word (length a.own) + rank_of_houses a / 16 < first_word (suc (length a.own))
-word_is_of_variant a within few =
+word_is_of_variant a limits ending =
     let m = length a.own in
     let row = a.own ++ a.other in
     let cells : length row ≡ 2 * m = omega (arith, length-append a.own a.other) in
-    let seeds : sum row ≤ 9 = omega (arith, few, sum_by-append (λ x. x) a.own a.other) in
+    let seeds : sum row ≤ 9 = omega (arith, ending, sum_by-append (λ x. x) a.own a.other) in
     let all : rank_of_houses a < choose (9 + length row) (length row) =
     omega (arith, rank_below row, choose_rises (sum row + length row) (9 + length row) (length row) (omega arith)) in
     let below = rw cells at all in
-    omega (arith, enough_words m within.some_house within.at_most_six)
+    omega (arith, enough_words m limits.some_house limits.at_most_six)
 
 -- an ending's word is one of all
 pub word_inside : {a : HousesState} → IsWithinHouses a → IsEnding a → word_of a < 52054
-word_inside {a} within few = grind (arith, word_is_of_variant)
+word_inside {a} limits ending = grind (arith, word_is_of_variant)
 
 -- endings of one word and one place in it are the same: the word is of one variant, and with the place it has one rank there
 same_ending : (a b : HousesState) → IsWithinHouses a → IsWithinHouses b → IsEnding a → IsEnding b → word_of a ≡ word_of b →
     rank_of_houses a % 16 ≡ rank_of_houses b % 16 → a ≡ b
-same_ending a b ha hb few few_b word place =
+same_ending a b limits_a limits_b ending ending_b word place =
     grind (arith, word_is_of_variant, first_word_rises, lit≤, rule_bit-small, cases_lt, same_houses)
 
 -- ---- what the words state
@@ -435,21 +435,21 @@ same_ending a b ha hb few few_b word place =
 -- an empty word states nothing
 pub states_nothing : (i : ℕ) → HoldsWon i 0
 unfolding HoldsWon
-states_nothing i a within few is kept = omega arith
+states_nothing i a limits ending word_is stored = omega arith
 
 -- after one more ending is stored
 pub states_one_more : (word : ℕ) (a : HousesState) → HoldsWon (word_of a) word → IsWithinHouses a → IsEnding a →
     stored_at word (rank_of_houses a % 16) ≡ 0 → won a ≤ 9 →
     HoldsWon (word_of a) (word + suc (won a) * 2 ^ (4 * (rank_of_houses a % 16)))
 unfolding HoldsWon
-states_one_more word a before ha few none small b hb few_b one stored =
+states_one_more word a before limits ending none small b limits_b ending_b word_is stored =
     grind (arith, rank_of_houses, won, cases_eq, same_ending, put_digit_is_there, same_digits_elsewhere, stored)
 
 -- a stored ending is right
 pub stored_is_won : (word : ℕ) (a : HousesState) → HoldsWon (word_of a) word → IsWithinHouses a → IsEnding a →
     stored_at word (rank_of_houses a % 16) ≢ 0 → stored_at word (rank_of_houses a % 16) ≡ suc (won a)
 unfolding HoldsWon
-stored_is_won word a states within few some = states a within few refl some
+stored_is_won word a states limits ending some = states a limits ending refl some
 
 -- ---- the steps on them
 
@@ -479,29 +479,29 @@ pub record IsMostOfUnmarked (a : HousesState) (marks most : ℕ) : Type 0 where
 pub most_at_start : {a : HousesState} {marks : ℕ} → ((i : ℕ) → (0 < cell marks i) ↔ (0 < get_or a.own i 0)) → IsMostOfUnmarked a marks 0
 most_at_start {a} marked = record {
   reached = omega arith;
-  all = λ i has gone. absurd (let some = (marked _).1 (legal_holds (storeless a) i has).some in omega arith);
+  all = λ i legal unmarked. absurd (let some = (marked _).1 (legal_holds (storeless a) i legal).some in omega arith);
 }
 
 -- the last marked house was tried
 pub most_with_last : {a : HousesState} {marks most h : ℕ} (v new : ℕ) → IsWithinHouses a → IsMostOfUnmarked a marks most → IsLastMark marks h →
     Contains (legal_houses (storeless a)) h →
     v ≡ won_by_step (houses_step a h) → new ≡ max most v → IsMostOfUnmarked a (without_mark marks h) new
-most_with_last {a} {marks} {most} {h} v new w is last has v_is new_is = record {
-  reached = omega (arith, won_at_most a w h has);
+most_with_last {a} {marks} {most} {h} v new limits most_is last legal v_is new_is = record {
+  reached = omega (arith, won_at_most a limits h legal);
   all = each_unmarked_without_last a (λ i. won_by_step (houses_step a i) ≤ new) last (omega arith)
-      (λ i may place gone. omega (arith, is.all i may gone));
+      (λ i legal_i place unmarked. omega (arith, most_is.all i legal_i unmarked));
 }
 
 -- if all seeds are won, best play wins as many
 pub most_is_all : (a : HousesState) (marks most : ℕ) → IsWithinHouses a → IsMostOfUnmarked a marks most → seeds_in_houses (storeless a) ≤ most
     → most ≡ won a
-most_is_all a marks most w is full = omega (arith, (won_of_houses w).few)
+most_is_all a marks most limits most_is full = omega (arith, (won_of_houses limits).few)
 
 -- once no house is marked, best play wins the most of those tried
 pub won_is_most : (a : HousesState) (marks most : ℕ) → IsWithinHouses a → is_over (storeless a) ≡ false → IsMostOfUnmarked a marks most
     → marks ≡ 0
     → most ≡ won a
-won_is_most a marks most w going is none = grind (arith, won_reached, cell_of_zero)
+won_is_most a marks most limits going most_is none = grind (arith, won_reached, cell_of_zero)
 
 -- ==== What a table keeps, over the list of its entries
 
@@ -509,18 +509,18 @@ won_is_most a marks most w going is none = grind (arith, won_reached, cell_of_ze
 pub found_encloses_worth : (es : List (ℕ × Interval)) (a : HousesState) (k : ℕ) → AreTrue es → IsWithinHouses a → k ≡ key_of a →
     (o : Option Interval) → lookup (nat_eq k) es ≡ o
     → IfSome o (λ i. Encloses i (houses_worth a))
-found_encloses_worth es a k entries within key None h = tt
-found_encloses_worth es a k entries within key (Some i) h =
-    let at = Contains-lookup _ es i h in
+found_encloses_worth es a k entries limits key None found = tt
+found_encloses_worth es a k entries limits key (Some i) found =
+    let at = Contains-lookup _ es i found in
     let entry = entries _ at.1 in
-    let same = same_key _ a entry.1 within (entry.2 ∙ sym (eqb-true _ _ at.2) ∙ key) in
+    let same = same_key _ a entry.1 limits (entry.2 ∙ sym (eqb-true _ _ at.2) ∙ key) in
     subst (λ b. Encloses i (houses_worth b)) same entry.3
 
-module _ (c : LruCache ℕ Interval) (a : HousesState) (k : ℕ) (i : Interval) (entries : AreTrue c.entries) (within : IsWithinHouses a)
+module _ (c : LruCache ℕ Interval) (a : HousesState) (k : ℕ) (i : Interval) (entries : AreTrue c.entries) (limits : IsWithinHouses a)
     (key : k ≡ key_of a) (holds : Encloses i (houses_worth a)) where
   -- the new entry is true
   put_entry : (e : ℕ × Interval) → e.1 ≡ i → e.0 ≡ k → IsTrueEntry e
-  put_entry e value at = grind arith
+  put_entry e value key_is = grind arith
 
   -- all entries after a put are true
   pub put_keeps_true : AreTrue (put_entries nat_eq c k i)
@@ -602,7 +602,7 @@ slot_inside s n few small =
 same_slotted : (s : ℕ) (a b : HousesState) → s ≤ 54 → IsWithinHouses a → IsWithinHouses b →
     tag_of (mixed (key_of a)) ≡ tag_of (mixed (key_of b)) →
     slot_of s (mixed (key_of a)) ≡ slot_of s (mixed (key_of b)) → a ≡ b
-same_slotted s a b enough ha hb rest place = grind (arith, same_key, same_unmixed, key_fits, slot_same)
+same_slotted s a b enough limits_a limits_b rest place = grind (arith, same_key, same_unmixed, key_fits, slot_same)
 
 -- the greatest power of two of at least 1,024 has ten digits below its one
 pub ten_bits : (bits n : ℕ) → 1024 ≤ n → n < 2 * 2 ^ bits → 10 ≤ bits
@@ -617,10 +617,10 @@ pub bounds_more : (s : ℕ) (slots : List Slot) {a : HousesState} {number at : �
     number ≡ mixed (key_of a) → at ≡ slot_of s number → at < length slots
     → stored_tag p ≡ tag_of number →
     IsWithinSlot p (won a) → HoldBounds s (slice_set slots at p)
-bounds_more s slots enough before within is place inside rest known b number_b d within_b is_b inside_b rest_b =
+bounds_more s slots enough before limits number_is place inside rest known b number_b d limits_b number_b_is inside_b rest_b =
     grind (arith, length-set, cases_eq, get_or-set_same, same_slotted, get_or-set_other)
 
 -- slots that all hold what is known of all houses
 pub bounds_unknown : (s count : ℕ) (p : Slot) → stored_least p ≡ 0 → stored_most p ≡ most_seeds → HoldBounds s (replicate count p)
-bounds_unknown s count p none all a number d within is inside rest =
+bounds_unknown s count p none all a number d limits number_is inside rest =
     grind (arith, won_of_houses, get_or-replicate, length-replicate)

@@ -44,10 +44,10 @@ greatest_reached f (x ∷ xs) some = elim (fold-int_max_reached (f x) (map f xs)
 -- what a search finds is in the list, and passes
 pub find_passes : (t : ℕ → Bool) (xs : List ℕ) (k : ℕ) → Contains xs k → t k ≡ true →
     Contains xs (unwrap_or (find t xs) 0) × (t (unwrap_or (find t xs) 0) ≡ true)
-find_passes t [] k has passes = absurd (omega arith)
-find_passes t (x ∷ xs) k has passes = elim (cases_Bool (t x)) [
+find_passes t [] k member passes = absurd (omega arith)
+find_passes t (x ∷ xs) k member passes = elim (cases_Bool (t x)) [
   | inl here ↦ rw here (Contains-head x xs, here)
-  | inr later ↦ elim (Contains-cons x xs k has) [
+  | inr later ↦ elim (Contains-cons x xs k member) [
     | inl same ↦ cc
     | inr rest ↦
         let found = find_passes t xs k rest passes in
@@ -57,25 +57,25 @@ find_passes t (x ∷ xs) k has passes = elim (cases_Bool (t x)) [
 
 -- a number of a range that passes is no lower than its start
 pub filter_low : (g : ℕ → Bool) (a n h : ℕ) → Contains (filter g (range_with_len a n)) h → a ≤ h
-filter_low g a n h has =
+filter_low g a n h member =
     let InRange : ℕ → Type 0 = λ i. (a ≤ i) × (i < a + n) in
-    (All-contains InRange _ h (All-filter g InRange (range_with_len a n) (all_range a n)) has).0
+    (All-contains InRange _ h (All-filter g InRange (range_with_len a n) (all_range a n)) member).0
 
 -- what a search finds in ascending numbers is the lowest that passes
 pub find_lowest : (t g : ℕ → Bool) (a n h : ℕ) → Contains (filter g (range_with_len a n)) h → t h ≡ true →
     unwrap_or (find t (filter g (range_with_len a n))) 0 ≤ h
-find_lowest t g a zero h has passes = omega arith
-find_lowest t g a (suc n) h has passes = elim (cases_Bool (g a)) [
+find_lowest t g a zero h member passes = omega arith
+find_lowest t g a (suc n) h member passes = elim (cases_Bool (g a)) [
   | inl kept ↦
-      let has' = rw kept at has in
+      let member' = rw kept at member in
       elim (cases_Bool (t a)) [
-        | inl here ↦ rw (kept, here) (filter_low g a (suc n) h has)
-        | inr later ↦ elim (Contains-cons a _ h has') [
+        | inl here ↦ rw (kept, here) (filter_low g a (suc n) h member)
+        | inr later ↦ elim (Contains-cons a _ h member') [
           | inl same ↦ cc
           | inr rest ↦ rw (kept, later) (find_lowest t g (a + 1) n h rest passes)
         ]
       ]
-  | inr dropped ↦ rw dropped (find_lowest t g (a + 1) n h (rw dropped at has) passes)
+  | inr dropped ↦ rw dropped (find_lowest t g (a + 1) n h (rw dropped at member) passes)
 ]
 
 -- ==== The greatest of some values, and the test whether two numbers are equal
@@ -90,7 +90,7 @@ greatest_is_most f (x ∷ xs) (suc k) within =
 
 -- equal numbers pass the test
 pub int_eq-same : (a b : ℤ) → a ≡ b → int_eq a b ≡ true
-int_eq-same a b e = (Decides-int_eq a b).1 e
+int_eq-same a b same = (Decides-int_eq a b).1 same
 
 -- a lower number fails the test
 pub int_eq-lower : (a b : ℤ) → a <ℤ b → int_eq a b ≡ false
@@ -115,7 +115,7 @@ map_same : (f g : ℕ → ℤ) (xs : List ℕ) → ((h : ℕ) → Contains xs h 
 map_same f g [] same = refl
 map_same f g (x ∷ xs) same =
     let first = same x (Contains-append_left (x ∷ []) xs x (Contains-push [] x)) in
-    let rest = map_same f g xs (λ h has. same h (Contains-append_right (x ∷ []) xs h has)) in
+    let rest = map_same f g xs (λ h member. same h (Contains-append_right (x ∷ []) xs h member)) in
     cc rest
 
 -- a value depends only on the worth of what follows
@@ -194,41 +194,41 @@ StatesStep over again q (board.Again e) = (over ≡ false) × (again ≡ true) �
 StatesStep over again q (board.Turn e) = (over ≡ false) × (again ≡ false) × (e ≡ swapped q)
 
 pub step_states : (over again : Bool) (q : Position) (s : Step) → s ≡ step_by over again q → StatesStep over again q s
-step_states true again q s is = rw is (refl, refl)
-step_states false true q s is = rw is (refl, refl, refl)
-step_states false false q s is = rw is (refl, refl, refl)
+step_states true again q s step_is = rw step_is (refl, refl)
+step_states false true q s step_is = rw step_is (refl, refl, refl)
+step_states false false q s step_is = rw step_is (refl, refl, refl)
 
 -- a move that ends the game leaves it over
 pub over_ends : (p : Position) (h : ℕ) (e : Position) → board.Over e ≡ step_of p h → IsTrue (is_over e)
-over_ends p h e is = grind (arith, sum-zeros)
+over_ends p h e step_is = grind (arith, sum-zeros)
 
 -- the value of a move, by its step
 pub value_of_over : (p : Position) (h : ℕ) (e : Position) → board.Over e ≡ step_of p h → final_margin e ≡ value_of_move p h
-value_of_over p h e is = grind (arith, final_margin-swept)
+value_of_over p h e step_is = grind (arith, final_margin-swept)
 
 -- if the mover moves again
 pub value_of_again : (p : Position) (h : ℕ) (e : Position) → board.Again e ≡ step_of p h → worth e ≡ value_of_move p h
-value_of_again p h e is = grind arith
+value_of_again p h e step_is = grind arith
 
 -- if the turn passes
 pub value_of_turn : (p : Position) (h : ℕ) (e : Position) → board.Turn e ≡ step_of p h → neg_ℤ (worth e) ≡ value_of_move p h
-value_of_turn p h e is = grind arith
+value_of_turn p h e step_is = grind arith
 
 -- how many moves a move leaves, if the mover moves again
 pub again_fewer : (p : Position) (h : ℕ) (e : Position) → HasEqualSides p → Contains (legal_houses p) h
     → board.Again e ≡ step_of p h →
     moves_left e < moves_left p
-again_fewer p h e equal is_legal is =
-    let to = step_states (is_over (after p h)) (is_again p h) (after p h) (board.Again e) is in
-    rw to.2 (after_fewer p h (legal_holds p h is_legal) equal)
+again_fewer p h e equal legal step_is =
+    let to = step_states (is_over (after p h)) (is_again p h) (after p h) (board.Again e) step_is in
+    rw to.2 (after_fewer p h (legal_holds p h legal) equal)
 
 -- if the turn passes
 pub turn_fewer : (p : Position) (h : ℕ) (e : Position) → HasEqualSides p → Contains (legal_houses p) h
     → board.Turn e ≡ step_of p h →
     moves_left e < moves_left p
-turn_fewer p h e equal is_legal is =
-    let to = step_states (is_over (after p h)) (is_again p h) (after p h) (board.Turn e) is in
-    let fewer = after_fewer p h (legal_holds p h is_legal) equal in
+turn_fewer p h e equal legal step_is =
+    let to = step_states (is_over (after p h)) (is_again p h) (after p h) (board.Turn e) step_is in
+    let fewer = after_fewer p h (legal_holds p h legal) equal in
     rw to.2 (omega (arith, moves_left-swapped (after p h) (after_equal_sides p h)))
 
 -- without a legal house the own row of a game that goes on would be empty
@@ -237,7 +237,7 @@ row_empty p going none =
     let each = All-from_get_or (λ x. x ≤ 0) p.own 0 (λ i within. elim (cases_lt 0 _) [
       | inl some ↦
           let at : i + 1 - 1 ≡ i = omega arith in
-          let has = holds_legal p (i + 1) (record { first = omega arith; last = omega arith; some = rw at some }) going in
+          let legal = holds_legal p (i + 1) (record { first = omega arith; last = omega arith; some = rw at some }) going in
           absurd (omega arith)
       | inr empty ↦ empty
     ]) in
@@ -277,14 +277,14 @@ best_attains {p} equal going = grind (arith, best_found)
 -- no legal house gets more than the worth
 pub value_most : (p : Position) (h : ℕ) → HasEqualSides p → is_over p ≡ false → Contains (legal_houses p) h
     → value_of_move p h ≤ℤ worth p
-value_most p h equal going has =
-    let at = get_or_default _ has.0 0 h has.1 ∙ has.2 in
-    rw (worth_of_going p equal going) (rw at at (greatest_is_most (value_of_move p) _ has.0 has.1))
+value_most p h equal going legal =
+    let at = get_or_default _ legal.0 0 h legal.1 ∙ legal.2 in
+    rw (worth_of_going p equal going) (rw at at (greatest_is_most (value_of_move p) _ legal.0 legal.1))
 
 pub worth_is_most : WorthIsMostOfMoves
 worth_is_most p equal going = record {
   reached = (best_house p, (best_found _ equal going).0, best_attains equal going);
-  most = λ h has. value_most _ _ equal going has;
+  most = λ h legal. value_most _ _ equal going legal;
 }
 
 -- ==== Stores do not influence play
@@ -322,7 +322,7 @@ shift_either false d x' y' one two = two
 
 -- the other player's value is shifted the other way
 shift_turned : (a b : ℕ) (u' : ℤ) {u : ℤ} → u ≡ u' +ℤ (pos b -ℤ pos a) → neg_ℤ u ≡ neg_ℤ u' +ℤ (pos a -ℤ pos b)
-shift_turned a b u' is = omega (arith, ints)
+shift_turned a b u' u_is = omega (arith, ints)
 
 -- a value by a worth that stores shift is shifted
 value_with_more : (v w : Position → ℤ) (a b : ℕ) (p : Position) (h : ℕ) →
@@ -440,18 +440,18 @@ worth_by_step q again none = grind (arith, cases_Bool, worth_again, worth_turn)
 -- what a move is worth, by its step
 pub value_is : (a : HousesState) (h : ℕ) → IsWithinHouses a → Contains (legal_houses (storeless a)) h
     → value_of_move (storeless a) h ≡ worth_of_step (houses_step a h)
-value_is a h w has = worth_by_step (after _ h) _ (after_keeps a h w (legal_holds _ h has)).other_store
+value_is a h limits legal = worth_by_step (after _ h) _ (after_keeps a h limits (legal_holds _ h legal)).other_store
 
 -- ---- where it leads
 -- each step leads to houses of the same variant with fewer moves left
 pub leads_on : (a : HousesState) (h : ℕ) → IsWithinHouses a → Contains (legal_houses (storeless a)) h → LeadsOn a (houses_step a h)
-leads_on a h w has =
-    let holds = legal_holds _ h has in
+leads_on a h limits legal =
+    let holds = legal_holds _ h legal in
     let q = after _ h in
-    let keeps = after_keeps a h w holds in
-    let fewer = after_fewer (storeless a) h holds (record { same = w.same_side }) in
+    let keeps = after_keeps a h limits holds in
+    let fewer = after_fewer (storeless a) h holds (record { same = limits.same_side }) in
     let play = keeps.play in
-    let within = after_within a h w holds in
+    let within = after_within a h limits holds in
     let rule = ap rule_bit keeps.rule in
     cond_both (is_over q) _ _ (LeadsOn a) (omega arith) (λ going. cond_both (is_again (storeless a) h) _ _ (LeadsOn a)
     (λ again. record {
@@ -473,25 +473,25 @@ leads_on a h w has =
 pub leads_by : {a : HousesState} (h : ℕ) (s : HousesStep) → IsWithinHouses a → Contains (legal_houses (storeless a)) h
     → s ≡ houses_step a h
     → LeadsOn a s
-leads_by {a} h s w has e = grind (arith, leads_on)
+leads_by {a} h s limits legal step_is = grind (arith, leads_on)
 
 -- ---- what the search needs of a step
 -- houses that go on from a are of its variant, within the limits
 goes_on_to : {a b : HousesState} {variant gained : ℕ} → IsWithinHouses a → variant_of a ≡ variant → LeadsTo a gained b
     → GoesOnAt variant gained b
-goes_on_to w is leads = grind arith
+goes_on_to limits variant_is leads = grind arith
 
 goes_on_of : (a : HousesState) (variant : ℕ) (s : HousesStep) → IsWithinHouses a → variant_of a ≡ variant → LeadsOn a s
     → GoesOn variant s
-goes_on_of a variant (Over own other) w is leads = omega arith
-goes_on_of a variant (Again gained b) w is leads = goes_on_to w is leads
-goes_on_of a variant (Turn gained b) w is leads = goes_on_to w is leads
+goes_on_of a variant (Over own other) limits variant_is leads = omega arith
+goes_on_of a variant (Again gained b) limits variant_is leads = goes_on_to limits variant_is leads
+goes_on_of a variant (Turn gained b) limits variant_is leads = goes_on_to limits variant_is leads
 
 -- the step of a legal move goes on in the variant
 pub goes_on : (a : HousesState) (variant h : ℕ) (s : HousesStep) → variant_of a ≡ variant → IsWithinHouses a
     → Contains (legal_houses (storeless a)) h
     → s ≡ houses_step a h → GoesOn variant s
-goes_on a variant h s is w has e = goes_on_of _ _ _ w is (leads_by _ _ w has e)
+goes_on a variant h s variant_is limits legal step_is = goes_on_of _ _ _ limits variant_is (leads_by _ _ limits legal step_is)
 
 -- a step that leads on leaves fewer moves
 falls_if_leads_on : (a : HousesState) (s : HousesStep) → 0 < moves_left (storeless a) → LeadsOn a s → moves_after s < moves_left (storeless a)
@@ -503,6 +503,6 @@ falls_if_leads_on a (Turn gained b) some leads = leads.fewer
 pub step_falls : (a : HousesState) (h : ℕ) (s : HousesStep) → IsWithinHouses a → Contains (legal_houses (storeless a)) h
     → s ≡ houses_step a h →
     moves_after s < moves_left (storeless a)
-step_falls a h s w has e =
-    let fewer = after_fewer (storeless a) h (legal_holds (storeless a) h has) (record { same = w.same_side }) in
-    falls_if_leads_on a s (omega (arith, fewer)) (leads_by _ _ w has e)
+step_falls a h s limits legal step_is =
+    let fewer = after_fewer (storeless a) h (legal_holds (storeless a) h legal) (record { same = limits.same_side }) in
+    falls_if_leads_on a s (omega (arith, fewer)) (leads_by _ _ limits legal step_is)

@@ -2,6 +2,7 @@
 ghost use Rattle.std.specs.Prelude.{◌≡◌, ◌+◌, ◌-◌, ◌*◌, ◌/◌, ◌%◌, ◌^◌, ◌<◌, ◌≤◌};
 ghost use Rattle.kalah_rules.specs.Key.{cells, rule_bit};
 ghost use Rattle.kalah_rules.specs.Packed.{ones, ones_up_to};
+ghost use Rattle.kalah_rules.specs.declared.houses.numbers.TheConstants.{MOST_LAPS, SIX_ONES};
 
 use crate::houses::house::House;
 use crate::rule::Rule;
@@ -75,14 +76,20 @@ pub(super) fn row_with(house: House, seeds: u64) -> u64
     seeds << house.bit()
 }
 
+// One seed in each of six houses.
+const SIX_ONES: u64 = 0x210_8421;
+
+// The most laps of a sowing: 31 seeds on laps of three cells.
+const MOST_LAPS: u8 = 10;
+
 // One seed in each of the first n houses, by n.
-static ONES: [u64; 7] = [0, 1, 0x21, 0x421, 0x8421, 0x10_8421, 0x210_8421];
+static ONES: [u64; 7] = [0, 1, 0x21, 0x421, 0x8421, 0x10_8421, SIX_ONES];
 
 // Returns a row with one seed in each of the first `n` houses.
 pub(super) fn one_each(n: u8) -> u64
     requires { n ≤ 6 }
     ensures value { result ≡ ones n }
-    ensures small { result ≤ 34636833 }
+    ensures small { result ≤ SIX_ONES }
 {
     ONES[n as usize]
 }
@@ -128,7 +135,7 @@ pub(super) fn into_store(m: u8, house: House) -> u64
 pub(super) fn one_each_within(m: u8, x: u8) -> u64
     requires { m ≤ 6 }
     ensures value { result ≡ ones_up_to m x }
-    ensures small { result ≤ 34636833 }
+    ensures small { result ≤ SIX_ONES }
 {
     one_each(if x < m { x } else { m })
 }
@@ -137,9 +144,9 @@ pub(super) fn one_each_within(m: u8, x: u8) -> u64
 #[tactic(auto, using(crate::proofs::KeyLemmas::product_small))]
 pub(super) fn the_same_each(m: u8, seeds: u8) -> u64
     requires side { m ≤ 6 }
-    requires few { seeds ≤ 10 }
+    requires few { seeds ≤ MOST_LAPS }
     ensures value { result ≡ seeds * ones m }
-    ensures small { result ≤ 346368330 }
+    ensures small { result ≤ MOST_LAPS * SIX_ONES }
 {
     seeds as u64 * one_each(m)
 }
@@ -151,7 +158,7 @@ pub(super) fn own_gains(m: u8, h: u8, laps: u8, reach: u8) -> u64
     requires first { 1 ≤ h }
     requires last { h ≤ m }
     requires side { m ≤ 6 }
-    requires few { laps ≤ 10 }
+    requires few { laps ≤ MOST_LAPS }
     requires past { h ≤ reach }
     ensures value { result + ones h ≡ laps * ones m + ones_up_to m reach + ones_up_to m (reach - (2 * m + 1)) }
     ensures small { result < 2 ^ 30 }
@@ -163,7 +170,7 @@ pub(super) fn own_gains(m: u8, h: u8, laps: u8, reach: u8) -> u64
 // Returns what the other player's houses gain by the same sowing.
 pub(super) fn other_gains(m: u8, laps: u8, reach: u8) -> u64
     requires side { m ≤ 6 }
-    requires few { laps ≤ 10 }
+    requires few { laps ≤ MOST_LAPS }
     ensures value { result ≡ laps * ones m + ones_up_to m (reach - (m + 1)) }
     ensures small { result < 2 ^ 30 }
 {

@@ -47,7 +47,7 @@ HoldBounds shift slots = (a : HousesState) (number : ℕ) (d : Slot) → IsWithi
 -- how many slots a table of this capacity has: the greatest power of two that is no more, and never fewer than 1,024
 pub record AreSlotsFor (capacity count : ℕ) : Type 0 where
   pub power : ℕ
-  pub is : count ≡ 2 ^ power
+  pub count_is : count ≡ 2 ^ power
   pub most : count ≤ max LEAST_SLOTS capacity
   pub next : max LEAST_SLOTS capacity < 2 * count
 

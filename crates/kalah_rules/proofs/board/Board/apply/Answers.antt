@@ -8,7 +8,7 @@ use Rattle.kalah_rules.proofs.board.Board.apply.Goals.{After-play}
 -- the step of the houses is the board's
 stepped : (c : After-play) {s : HousesStep} → c.play.result ≡ s
     → IsStepOf (with_stores c.self.inside.houses c.self.inside.own_store c.self.inside.other_store) c.args.h s
-stepped c is = board_step c.self.invariant c.self.view_is c.requires is c.play.ensures.step
+stepped c result_is = board_step c.self.invariant c.self.view_is c.requires result_is c.play.ensures.step
 
 pub overflow_add-result : goal.overflow_add-result
 overflow_add-result c = omega (arith, (stepped c.before.before c.in-Over.is).within.own_store_low)
@@ -21,8 +21,8 @@ invariant_of-result c = rw c.without_seeds.ensures (stepped c.before.before c.in
 
 pub returns-in-Over : goal.returns-in-Over
 returns-in-Over c =
-    let is = stepped c.before.before c.in-Over.is in
-    rw (← c.self.view_is, c.without_seeds.ensures) (record { step = is.same; nearer_end = is.nearer; limits = c.self.invariant })
+    let step = stepped c.before.before c.in-Over.is in
+    rw (← c.self.view_is, c.without_seeds.ensures) (record { step = step.same; nearer_end = step.nearer; limits = c.self.invariant })
 
 pub overflow_add-result-in-Again : goal.overflow_add-result-in-Again
 overflow_add-result-in-Again c = omega (arith, (stepped c.before c.in-Again.is).within.own_store_low)
@@ -32,8 +32,8 @@ invariant_of-result-in-Again c = (stepped c.before c.in-Again.is).within
 
 pub returns-in-Again : goal.returns-in-Again
 returns-in-Again c =
-    let is = stepped c.before c.in-Again.is in
-    rw (← c.self.view_is) (record { step = is.same; nearer_end = is.nearer; limits = c.self.invariant })
+    let step = stepped c.before c.in-Again.is in
+    rw (← c.self.view_is) (record { step = step.same; nearer_end = step.nearer; limits = c.self.invariant })
 
 pub overflow_add-result-in-Turn : goal.overflow_add-result-in-Turn
 overflow_add-result-in-Turn c = omega (arith, (stepped c.before c.in-Turn.is).within.other_store_low)
@@ -43,5 +43,5 @@ invariant_of-result-in-Turn c = (stepped c.before c.in-Turn.is).within
 
 pub returns-in-Turn : goal.returns-in-Turn
 returns-in-Turn c =
-    let is = stepped c.before c.in-Turn.is in
-    rw (← c.self.view_is) (record { step = is.same; nearer_end = is.nearer; limits = c.self.invariant })
+    let step = stepped c.before c.in-Turn.is in
+    rw (← c.self.view_is) (record { step = step.same; nearer_end = step.nearer; limits = c.self.invariant })

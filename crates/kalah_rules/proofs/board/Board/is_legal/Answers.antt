@@ -7,13 +7,13 @@ use Rattle.kalah_rules.proofs.board.Board.is_legal.Goals.{then-h-lt1-via-then-h-
 pub returns-then-h-lt1 : goal.returns-then-h-lt1
 returns-then-h-lt1 c = (
   λ t. absurd (false≢true t),
-  λ has.
-      let holds = legal_holds c.args.self.now c.args.h has in
+  λ legal.
+      let holds = legal_holds c.args.self.now c.args.h legal in
       elim c.then-h-lt1.branch [
         | then-h-lt1-via-then-h-lt1 w ↦ absurd (omega arith)
         | then-h-lt1-via-else-h-lt1+then-h-m w ↦ absurd (omega arith)
         | then-h-lt1-via-else-h-lt1+else-h-m+then-is_over w ↦
-            sym (legal_going c.args.self.now c.args.h has) ∙ sym w.is_over.ensures.over ∙ w.if-is_over.true
+            sym (legal_going c.args.self.now c.args.h legal) ∙ sym w.is_over.ensures.over ∙ w.if-is_over.true
       ],
 )
 
@@ -22,5 +22,5 @@ returns c = (
   λ t. holds_legal c.args.self.now c.args.h
       (record { first = omega arith; last = omega arith; some = rw (← c.own.ensures) (ltb-true 0 _ t) })
       (sym c.is_over.ensures.over ∙ c.if-is_over.false),
-  λ has. lt-ltb 0 _ (rw c.own.ensures (legal_holds c.args.self.now c.args.h has).some),
+  λ legal. lt-ltb 0 _ (rw c.own.ensures (legal_holds c.args.self.now c.args.h legal).some),
 )

@@ -28,8 +28,8 @@ ways-ways_by-count-requires t c =
       last = omega arith;
       some = omega arith;
     } in
-    let has = holds_legal _ _ holds (sym c.is_over.ensures ∙ c.if-is_over.false) in
-    (omega arith, (has, omega arith))
+    let legal = holds_legal _ _ holds (sym c.is_over.ensures ∙ c.if-is_over.false) in
+    (omega arith, (legal, omega arith))
 
 pub ways-overflow_add-sum : goal.ways-overflow_add-sum
 ways-overflow_add-sum t c =

@@ -19,7 +19,7 @@ pub invariant_of-result : goal.invariant_of-result
 invariant_of-result c = ((moved c.before).goes_on c.if-rows-gt0.true).packed
 
 pub returns-then-rows-gt0 : goal.returns-then-rows-gt0
-returns-then-rows-gt0 c = ((moved c.before).goes_on c.if-rows-gt0.true).is
+returns-then-rows-gt0 c = ((moved c.before).goes_on c.if-rows-gt0.true).step_is
 
 pub returns : goal.returns
 returns c = (moved c.before.before).over (omega arith)

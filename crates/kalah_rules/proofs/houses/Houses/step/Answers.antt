@@ -30,7 +30,7 @@ pub invariant_of-result : goal.invariant_of-result
 invariant_of-result c = (again c).packed
 
 pub returns-then-again : goal.returns-then-again
-returns-then-again c = (again c).is
+returns-then-again c = (again c).step_is
 
 -- the step by which the turn passes
 turn : (c : Else-again) → IsStepTo c.args.self.now c.args.house
@@ -46,4 +46,4 @@ pub invariant_of-result-else-again : goal.invariant_of-result-else-again
 invariant_of-result-else-again c = (turn c).packed
 
 pub returns-else-again : goal.returns-else-again
-returns-else-again c = (turn c).is
+returns-else-again c = (turn c).step_is

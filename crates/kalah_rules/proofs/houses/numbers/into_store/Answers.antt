@@ -21,8 +21,8 @@ right m h side first last =
     let k = 6 * (m - 1) + (h - 1) in
     let at_m : k / 6 + 1 ≡ m = omega arith in
     let at_h : k % 6 + 1 ≡ h = omega arith in
-    let is : is_right (k / 6 + 1) (k % 6 + 1) ≡ true = grind (arith, nat_tests, right_at k (omega arith)) in
-    rw (at_m, at_h) at is
+    let right_there : is_right (k / 6 + 1) (k % 6 + 1) ≡ true = grind (arith, nat_tests, right_at k (omega arith)) in
+    rw (at_m, at_h) at right_there
 
 pub returns : goal.returns
 returns c = grind (arith, nat_tests, right c.args.m c.args.house c.requires.side c.bit.ensures.first c.requires.last)

@@ -7,10 +7,10 @@ use Rattle.kalah_rules.proofs.houses.play.captured_seeds.Goals as goal
 masked : (holds : Bool) (bit mask x y : ℕ) → bit ≡ cond holds 1 0 → mask ≡ (0 + (2 ^ 64 - bit)) % 2 ^ 64 → x < 2 ^ 64
     → y < 2 ^ 64 →
     MatchBool holds ((bit_and x mask ≡ x) × (bit_and y mask ≡ y)) ((bit_and x mask ≡ 0) × (bit_and y mask ≡ 0))
-masked true bit mask x y is mask_is x_fits y_fits =
+masked true bit mask x y bit_is mask_is x_fits y_fits =
     let all : mask ≡ 18446744073709551615 = omega arith in
     rw all (omega (arith, and_mask x 64, and_mask y 64))
-masked false bit mask x y is mask_is x_fits y_fits =
+masked false bit mask x y bit_is mask_is x_fits y_fits =
     let none : mask ≡ 0 = omega arith in
     rw none (omega (arith, and_le_r x 0, and_le_r y 0))
 

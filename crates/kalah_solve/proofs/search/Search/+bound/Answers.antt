@@ -98,7 +98,7 @@ bound_into_store-loop-untried-init g t c =
     let marks = c.houses_into_store-untried.ensures in
     record {
       short_or_zero = λ enough. refl;
-      may = record {
+      movable = record {
         are = marks.marks;
         legal = λ i some. let both = (marks.marked i).0 some in into_store_legal _ marks.limits c.requires.going both.0 both.1;
       };
@@ -107,7 +107,7 @@ bound_into_store-loop-untried-init g t c =
     }
 
 pub bound_into_store-play_into_store-requires-clause-legal : goal.bound_into_store-play_into_store-requires-clause-legal
-bound_into_store-play_into_store-requires-clause-legal g t c = last_is_legal c.loop-untried.invariant.may c.split_last-house.ensures.last
+bound_into_store-play_into_store-requires-clause-legal g t c = last_is_legal c.loop-untried.invariant.movable c.split_last-house.ensures.last
 
 pub bound_into_store-play_into_store-requires-clause-ends : goal.bound_into_store-play_into_store-requires-clause-ends
 bound_into_store-play_into_store-requires-clause-ends g t c =
@@ -118,15 +118,15 @@ bound_into_store-bound_step-bound-requires g t c κs within =
     let a = c.args.houses.now in
     let h = c.split_last-house.result.0 in
     let limits = c.houses_into_store-untried.ensures.limits in
-    let has = last_is_legal c.loop-untried.invariant.may c.split_last-house.ensures.last in (
-      omega (arith, step_falls a h c.play_into_store.result limits has c.play_into_store.ensures),
-      (within, (search rules, goes_on _ _ _ _ c.requires.variant limits has c.play_into_store.ensures)),
+    let legal = last_is_legal c.loop-untried.invariant.movable c.split_last-house.ensures.last in (
+      omega (arith, step_falls a h c.play_into_store.result limits legal c.play_into_store.ensures),
+      (within, (search rules, goes_on _ _ _ _ c.requires.variant limits legal c.play_into_store.ensures)),
     )
 
 pub bound_into_store-returns-then-beta-bound-clause-lower : goal.bound_into_store-returns-then-beta-bound-clause-lower
 bound_into_store-returns-then-beta-bound-clause-lower g t c =
-    let has = last_is_legal c.loop-untried.invariant.may c.split_last-house.ensures.last in
-    enough_is_won c.args.houses.now c.args.beta c.split_last-house.result.0 _ c.houses_into_store-untried.ensures.limits has
+    let legal = last_is_legal c.loop-untried.invariant.movable c.split_last-house.ensures.last in
+    enough_is_won c.args.houses.now c.args.beta c.split_last-house.result.0 _ c.houses_into_store-untried.ensures.limits legal
     (rw c.play_into_store.ensures at c.bound_step-bound.ensures)
 
 pub bound_into_store-loop-untried-preserved : goal.bound_into_store-loop-untried-preserved
@@ -139,7 +139,7 @@ bound_into_store-loop-untried-preserved g t c =
     (c.bound_step-bound.ensures.upper c.if-beta-bound.false) in
     rw c.split_last-house.ensures.rest (record {
       short_or_zero = short_stays _ _ _ _ before.short_or_zero c.if-beta-bound.false new_is;
-      may = movable_before_last before.may last;
+      movable = movable_before_last before.movable last;
       ends = each_before_last (EndsInStore a) last before.ends;
       tried = unmarked_without_last _ _ c.bound_step-bound.result before.tried last takes new_is;
     })
@@ -150,26 +150,26 @@ bound_into_store-loop-untried-smaller g t c =
     rw split.ensures.rest (without_last_less split.ensures.last)
 
 pub bound_into_store-returns-clause-upper : goal.bound_into_store-returns-clause-upper
-bound_into_store-returns-clause-upper g t c = λ short h has ends.
+bound_into_store-returns-clause-upper g t c = λ short h legal ends.
     let none : c.loop-untried.untried ≡ 0 = omega arith in
-    c.loop-untried.invariant.tried h has ends (rw none (cell_of_zero (h - 1)))
+    c.loop-untried.invariant.tried h legal ends (rw none (cell_of_zero (h - 1)))
 
 pub try_remaining-loop-untried-init : goal.try_remaining-loop-untried-init
 try_remaining-loop-untried-init g t c =
     let marks = c.remaining_houses-untried.ensures in
     record {
       short_or_zero = λ enough. refl;
-      may = record { are = marks.marks; legal = λ i some. seeded_is_legal _ marks.limits c.requires.going ((marks.marked i).0 some).0 };
+      movable = record { are = marks.marks; legal = λ i some. seeded_is_legal _ marks.limits c.requires.going ((marks.marked i).0 some).0 };
       played = played_at_start (search rules) (search rules) c.requires.none marks.marked;
     }
 
 pub try_remaining-play_by-step-requires : goal.try_remaining-play_by-step-requires
-try_remaining-play_by-step-requires g t c = last_is_legal c.loop-untried.invariant.may c.split_last-house.ensures.last
+try_remaining-play_by-step-requires g t c = last_is_legal c.loop-untried.invariant.movable c.split_last-house.ensures.last
 
 pub try_remaining-priority-priority-requires-clause-few : goal.try_remaining-priority-priority-requires-clause-few
 try_remaining-priority-priority-requires-clause-few g t c =
     let leads = leads_by _ _ c.remaining_houses-untried.ensures.limits
-    (last_is_legal c.loop-untried.invariant.may c.split_last-house.ensures.last) (rw c.in-Turn.is at c.play_by-step.ensures.step) in
+    (last_is_legal c.loop-untried.invariant.movable c.split_last-house.ensures.last) (rw c.in-Turn.is at c.play_by-step.ensures.step) in
     omega arith
 
 pub try_remaining-bound_step-bound-requires : goal.try_remaining-bound_step-bound-requires
@@ -177,9 +177,9 @@ try_remaining-bound_step-bound-requires g t c κs within =
     let a = c.args.houses.now in
     let h = c.split_last-house.result.0 in
     let limits = c.remaining_houses-untried.ensures.limits in
-    let has = last_is_legal c.loop-untried.invariant.may c.split_last-house.ensures.last in (
-      omega (arith, step_falls a h c.play_by-step.result limits has c.play_by-step.ensures.step),
-      (within, (search rules, goes_on _ _ _ _ c.requires.variant limits has c.play_by-step.ensures.step)),
+    let legal = last_is_legal c.loop-untried.invariant.movable c.split_last-house.ensures.last in (
+      omega (arith, step_falls a h c.play_by-step.result limits legal c.play_by-step.ensures.step),
+      (within, (search rules, goes_on _ _ _ _ c.requires.variant limits legal c.play_by-step.ensures.step)),
     )
 
 pub try_remaining-bound_turn-bound-requires : goal.try_remaining-bound_turn-bound-requires
@@ -187,10 +187,10 @@ try_remaining-bound_turn-bound-requires g t c κs within =
     let a = c.args.houses.now in
     let h = c.split_last-house.result.0 in
     let limits = c.remaining_houses-untried.ensures.limits in
-    let has = last_is_legal c.loop-untried.invariant.may c.split_last-house.ensures.last in
+    let legal = last_is_legal c.loop-untried.invariant.movable c.split_last-house.ensures.last in
     let is = rw c.in-Turn.is at c.play_by-step.ensures.step in (
-      omega (arith, step_falls a h (Turn c.in-Turn.gained c.in-Turn.next) limits has is),
-      (within, (search rules, goes_on _ _ _ _ c.requires.variant limits has is)),
+      omega (arith, step_falls a h (Turn c.in-Turn.gained c.in-Turn.next) limits legal is),
+      (within, (search rules, goes_on _ _ _ _ c.requires.variant limits legal is)),
     )
 
 pub try_remaining-returns-then-beta-bound : goal.try_remaining-returns-then-beta-bound
@@ -200,9 +200,9 @@ try_remaining-returns-then-beta-bound g t c =
       | try_remaining-in-Turn+else-gained-beta w ↦ rw (w.bound-is, ← c.play_by-step.ensures.step, w.in-Turn.is) w.bound_turn-bound.ensures
       | try_remaining-in_default w ↦ rw (w.bound-is, ← c.play_by-step.ensures.step) w.bound_step-bound.ensures
     ] in
-    let has = last_is_legal c.loop-untried.invariant.may c.split_last-house.ensures.last in
+    let legal = last_is_legal c.loop-untried.invariant.movable c.split_last-house.ensures.last in
     record {
-      lower = enough_is_won _ _ _ _ c.remaining_houses-untried.ensures.limits has
+      lower = enough_is_won _ _ _ _ c.remaining_houses-untried.ensures.limits legal
           is;
       waiting = c.loop-untried.invariant.played.waiting.each;
       others = λ short. absurd (omega arith);
@@ -222,7 +222,7 @@ try_remaining-loop-untried-preserved g t c =
     is.upper c.if-beta-bound.false in
     rw c.split_last-house.ensures.rest (record {
       short_or_zero = short_stays _ _ _ _ before.short_or_zero c.if-beta-bound.false new_is;
-      may = movable_before_last before.may last;
+      movable = movable_before_last before.movable last;
       played = played_and_bounded before.played last _ _ takes new_is;
     })
 
@@ -232,11 +232,11 @@ try_remaining-loop-untried-preserved-then-seeds-self g t c =
     let before = c.loop-untried.invariant in
     let priority = c.priority-priority in
     let place : priority.result % 8 ≡ c.split_last-house.result.0 - 1 = omega (arith, priority.ensures.house) in
-    let turn = step_is_turn c.remaining_houses-untried.ensures.limits (last_is_legal before.may last) (rw c.in-Turn.is at c.play_by-step.ensures.step)
+    let turn = step_is_turn c.remaining_houses-untried.ensures.limits (last_is_legal before.movable last) (rw c.in-Turn.is at c.play_by-step.ensures.step)
     priority.ensures.house in
     rw (c.split_last-house.ensures.rest, place) (record {
       short_or_zero = before.short_or_zero;
-      may = movable_before_last before.may last;
+      movable = movable_before_last before.movable last;
       played = played_and_waits before.played last priority.result c.in-Turn.next priority.ensures.some turn;
     })
 
@@ -251,7 +251,7 @@ try_remaining-returns g t c =
     record {
       lower = λ enough. omega (arith, c.loop-untried.invariant.short_or_zero enough);
       waiting = c.loop-untried.invariant.played.waiting.each;
-      others = λ short h has. c.loop-untried.invariant.played.others h has (rw none (cell_of_zero (h - 1)));
+      others = λ short h legal. c.loop-untried.invariant.played.others h legal (rw none (cell_of_zero (h - 1)));
     }
 
 pub bound_by_moves-loop-priority-init : goal.bound_by_moves-loop-priority-init

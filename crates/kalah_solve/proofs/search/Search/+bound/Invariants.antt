@@ -34,7 +34,7 @@ decreases-bound_turn g l = 9 * moves_left (storeless l.next) + 7
 abbrev pub invariant-bound_into_store-loop-untried : goal.invariant-bound_into_store-loop-untried
 invariant-bound_into_store-loop-untried g l = record {
   short_or_zero : l.beta ≤ l.most → l.most ≡ 0;
-  may : AreMovable l.houses l.untried;
+  movable : AreMovable l.houses l.untried;
   ends : (i : ℕ) → 0 < cell l.untried i → EndsInStore l.houses (i + 1);
   tried : UnmarkedIntoStoreWinAtMost l.houses l.most l.untried;
 }
@@ -45,7 +45,7 @@ decreases-bound_into_store-loop-untried g l = l.untried
 abbrev pub invariant-try_remaining-loop-untried : goal.invariant-try_remaining-loop-untried
 invariant-try_remaining-loop-untried g l = record {
   short_or_zero : l.beta ≤ l.most → l.most ≡ 0;
-  may : AreMovable l.houses l.untried;
+  movable : AreMovable l.houses l.untried;
   played : ArePlayed l.houses l.most l.untried l.priorities l.turns;
 }
 

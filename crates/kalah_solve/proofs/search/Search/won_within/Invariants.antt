@@ -8,7 +8,7 @@ invariant-loop-low g l = record {
   ordered : l.low ≤ l.high;
   most : l.high ≤ l.fn.asked.most;
   beta : l.beta ≤ 32;
-  is : max l.fn.asked.least (min l.fn.asked.most (won l.houses)) ≡ max l.low (min l.high (won l.houses));
+  same : max l.fn.asked.least (min l.fn.asked.most (won l.houses)) ≡ max l.low (min l.high (won l.houses));
 }
 
 abbrev pub decreases-loop-low : goal.decreases-loop-low

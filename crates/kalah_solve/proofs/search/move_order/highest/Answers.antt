@@ -6,7 +6,7 @@ use Rattle.kalah_solve.proofs.search.move_order.highest.Goals as goal
 -- the greater of a priority and the next one is a priority
 found_more : (xs : List ℕ) (most i new : ℕ) → Contains xs most → i < length xs → new ≡ max most (get_or xs i 0)
     → Contains xs new
-found_more xs most i new found inside is = elim (cases_lt most (get_or xs i 0)) [
+found_more xs most i new found inside new_is = elim (cases_lt most (get_or xs i 0)) [
   | inl less ↦ let at : new ≡ get_or xs i 0 = omega arith in rw at (Contains-get_or xs i 0 inside)
   | inr more ↦ let at : new ≡ most = omega arith in rw at found
 ]
@@ -15,7 +15,7 @@ found_more xs most i new found inside is = elim (cases_lt most (get_or xs i 0)) 
 highest_more : (xs : List ℕ) (most i new : ℕ) → ((k : ℕ) → k < i → get_or xs k 0 ≤ most)
     → new ≡ max most (get_or xs i 0) →
     (k : ℕ) → k < i + 1 → get_or xs k 0 ≤ new
-highest_more xs most i new highest is k below = grind arith
+highest_more xs most i new highest new_is k below = grind arith
 
 pub loop-i-preserved : goal.loop-i-preserved
 loop-i-preserved c = record {

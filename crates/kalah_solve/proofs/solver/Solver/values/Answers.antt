@@ -9,17 +9,17 @@ use Rattle.kalah_solve.proofs.SolverLemmas.{values_state, move_value_small}
 use Rattle.kalah_solve.proofs.WorthLemmas.{board_equal_sides}
 use Rattle.kalah_solve.proofs.solver.Solver.values.Goals as goal
 
-module _ (moves : List ℕ) (i h : ℕ) (some : 0 < i) (within : i ≤ length moves) (is : h ≡ get_or moves (i - 1) 0) where
+module _ (moves : List ℕ) (i h : ℕ) (some : 0 < i) (within : i ≤ length moves) (h_is : h ≡ get_or moves (i - 1) 0) where
   -- the move before place i is one of the houses
   at_place : (houses : List ℕ) → moves ≡ houses → Contains houses h
-  at_place houses same = rw (is, ← same) (Contains-get_or moves (i - 1) 0 (omega arith))
+  at_place houses same = rw (h_is, ← same) (Contains-get_or moves (i - 1) 0 (omega arith))
 
   -- the values of the moves from that place on
   one_more : (p : Position) (old new : List MoveValue) (v : MoveValue) → v ≡ move_value p h
       → old ≡ map (move_value p) (drop i moves) → new ≡ v ∷ old → new ≡ map (move_value p) (drop (i - 1) moves)
   one_more p old new v v_is old_is new_is =
       let next : i - 1 + 1 ≡ i = omega arith in
-      rw (new_is, old_is, v_is, is, drop_more moves (i - 1) 0 (omega arith), next) refl
+      rw (new_is, old_is, v_is, h_is, drop_more moves (i - 1) 0 (omega arith), next) refl
 
 pub move_value-requires : goal.move_value-requires
 move_value-requires g c =
@@ -28,9 +28,9 @@ move_value-requires g c =
 
 pub prepend-requires-clause-small : goal.prepend-requires-clause-small
 prepend-requires-clause-small g c =
-    let has = at_place c.legal-moves.result c.loop-i.i c.get.result c.loop-i-test.true c.loop-i.invariant.within c.get.ensures
+    let legal = at_place c.legal-moves.result c.loop-i.i c.get.result c.loop-i-test.true c.loop-i.invariant.within c.get.ensures
     _ c.legal-moves.ensures.moves in
-    subst IsMoveValue (sym c.move_value.ensures) (move_value_small _ _ c.legal-moves.ensures.limits has)
+    subst IsMoveValue (sym c.move_value.ensures) (move_value_small _ _ c.legal-moves.ensures.limits legal)
 
 pub loop-i-preserved : goal.loop-i-preserved
 loop-i-preserved g c = record {
@@ -42,8 +42,8 @@ loop-i-preserved g c = record {
 pub returns-clause-best_play : goal.returns-clause-best_play
 returns-clause-best_play g c =
     let none : c.loop-i.i ≡ 0 = omega arith in
-    let is = rw (none, c.legal-moves.ensures.moves) at c.loop-i.invariant.done in
-    subst (StateValues c.args.board.now) (sym is) (values_state (board_equal_sides _ c.legal-moves.ensures.limits))
+    let done = rw (none, c.legal-moves.ensures.moves) at c.loop-i.invariant.done in
+    subst (StateValues c.args.board.now) (sym done) (values_state (board_equal_sides _ c.legal-moves.ensures.limits))
 
 pub prepend-requires-clause-room : goal.prepend-requires-clause-room
 prepend-requires-clause-room g c = grind (arith, common_steps)

@@ -8,7 +8,7 @@ use Rattle.kalah_rules.proofs.houses.house_row.HouseRow.of_cells.Goals as goal
 
 -- the cells up to one hold no more than all
 sum-up_to : (i : ℕ) (cells : List ℕ) → i < length cells → sum (take i cells) + get_or cells i 0 ≤ sum cells
-sum-up_to i cells h = omega (arith, sum_by-take-drop (λ (y : ℕ). y) cells i, sum_by-drop_more (λ (y : ℕ). y) cells i 0 h)
+sum-up_to i cells inside = omega (arith, sum_by-take-drop (λ (y : ℕ). y) cells i, sum_by-drop_more (λ (y : ℕ). y) cells i 0 inside)
 
 -- the cells from m on hold nothing if each of them is 0, and only then
 none_past : (m : ℕ) (cells : List ℕ) → ((k : ℕ) → m ≤ k → k < length cells → get_or cells k 0 ≡ 0) ↔ All (λ x. x ≡ 0) (drop m cells)

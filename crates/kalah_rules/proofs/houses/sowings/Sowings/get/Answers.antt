@@ -9,6 +9,6 @@ returns c =
       last = c.requires.last;
       side = c.requires.side;
       few = c.requires.few;
-      is = omega arith;
+      index = omega arith;
     } in
     c.self.invariant _ _ _ _ _ cell (omega arith)

@@ -11,14 +11,14 @@ most_won-loop-untried-init g t c =
     let a = c.args.houses.now in
     let marks = c.filled_houses-untried.ensures in
     record {
-      may = record { are = marks.marks; legal = λ i some. seeded_is_legal _ marks.limits c.requires.going ((marks.marked i).0 some) };
-      is = most_at_start marks.marked;
+      movable = record { are = marks.marks; legal = λ i some. seeded_is_legal _ marks.limits c.requires.going ((marks.marked i).0 some) };
+      most_is = most_at_start marks.marked;
     }
 
 pub most_won-move_wins-requires : goal.most_won-move_wins-requires
 most_won-move_wins-requires g t c κs within =
-    let has = last_is_legal c.loop-untried.invariant.may c.split_last-house.ensures.last in
-    (omega arith, (within, (search rules, (has, (c.requires.variant, c.requires.few)))))
+    let legal = last_is_legal c.loop-untried.invariant.movable c.split_last-house.ensures.last in
+    (omega arith, (within, (search rules, (legal, (c.requires.variant, c.requires.few)))))
 
 pub most_won-returns-then-most-seeds : goal.most_won-returns-then-most-seeds
 most_won-returns-then-most-seeds g t c =
@@ -27,9 +27,9 @@ most_won-returns-then-most-seeds g t c =
     let last = c.split_last-house.ensures.last in
     let before = c.loop-untried.invariant in
     let limits = c.seeds-seeds.ensures.limits in
-    let has = last_is_legal before.may last in
+    let legal = last_is_legal before.movable last in
     most_is_all c.args.houses.now (without_mark marks h) c.max-most.result limits
-    (most_with_last _ _ limits before.is last has c.move_wins.ensures
+    (most_with_last _ _ limits before.most_is last legal c.move_wins.ensures
     (search (rules, c.max-most.ensures)))
     (omega arith)
 
@@ -39,11 +39,11 @@ most_won-loop-untried-preserved g t c =
     let h = c.split_last-house.result.0 in
     let last = c.split_last-house.ensures.last in
     let before = c.loop-untried.invariant in
-    let has = last_is_legal before.may last in
+    let legal = last_is_legal before.movable last in
     rw c.split_last-house.ensures.rest (record {
-      may = movable_before_last before.may last;
-      is = most_with_last _ _ c.seeds-seeds.ensures.limits
-          before.is last has
+      movable = movable_before_last before.movable last;
+      most_is = most_with_last _ _ c.seeds-seeds.ensures.limits
+          before.most_is last legal
           c.move_wins.ensures
           (search (rules, c.max-most.ensures));
     })
@@ -55,7 +55,7 @@ most_won-loop-untried-smaller g t c =
 
 pub most_won-returns : goal.most_won-returns
 most_won-returns g t c =
-    won_is_most c.args.houses.now c.loop-untried.untried c.loop-untried.most c.seeds-seeds.ensures.limits c.requires.going c.loop-untried.invariant.is
+    won_is_most c.args.houses.now c.loop-untried.untried c.loop-untried.most c.seeds-seeds.ensures.limits c.requires.going c.loop-untried.invariant.most_is
     (omega arith)
 
 pub move_wins-won-requires : goal.move_wins-won-requires

@@ -19,8 +19,8 @@ decreases-move_wins g l = 4 * moves_left (storeless l.houses.now)
 
 abbrev pub invariant-most_won-loop-untried : goal.invariant-most_won-loop-untried
 invariant-most_won-loop-untried g l = record {
-  may : AreMovable l.houses l.untried;
-  is : IsMostOfUnmarked l.houses l.untried l.most;
+  movable : AreMovable l.houses l.untried;
+  most_is : IsMostOfUnmarked l.houses l.untried l.most;
 }
 
 abbrev pub decreases-most_won-loop-untried : goal.decreases-most_won-loop-untried

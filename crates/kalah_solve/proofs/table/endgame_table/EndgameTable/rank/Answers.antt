@@ -12,16 +12,16 @@ few a less = omega (arith, sum_by-append (λ x. x) a.own a.other)
 
 -- they have the cells of both sides
 long : (a : HousesState) → IsWithinHouses a → length (a.own ++ a.other) ≡ 2 * length a.own
-long a within = omega (arith, length-append a.own a.other)
+long a limits = omega (arith, length-append a.own a.other)
 
 -- a step that passes two cells
-module _ {a : HousesState} {step sums rank : ℕ} (within : IsWithinHouses a) (less : seeds_in_houses (storeless a) ≤ 9) (low : step < 6)
-    (passes : 6 ≤ step + length a.own) (is : IsRanked (a.own ++ a.other) (step + length a.own - 6) sums rank) where
+module _ {a : HousesState} {step sums rank : ℕ} (limits : IsWithinHouses a) (few_seeds : seeds_in_houses (storeless a) ≤ 9) (low : step < 6)
+    (passes : 6 ≤ step + length a.own) (ranked : IsRanked (a.own ++ a.other) (step + length a.own - 6) sums rank) where
   -- both sums are below ten
   few_here : (sums % 1024 % 32 < 10) × (sums % 1024 / 32 < 10)
   few_here =
-      two_few (a.own ++ a.other) (few a less) (length a.own) (step + length a.own - 6) sums rank (long a within) within.at_most_six
-      (omega arith) is
+      two_few (a.own ++ a.other) (few a few_seeds) (length a.own) (step + length a.own - 6) sums rank (long a limits) limits.at_most_six
+      (omega arith) ranked
 
   -- what the two cells add
   ranked_here : (r : ℕ) →
@@ -31,9 +31,9 @@ module _ {a : HousesState} {step sums rank : ℕ} (within : IsWithinHouses a) (l
   ranked_here r r_is =
       let past : length a.own - (step + length a.own - 6) - 1 ≡ 5 - step = omega arith in
       let next : step + 1 + length a.own - 6 ≡ step + length a.own - 6 + 1 = omega arith in
-      rw next (rank_next (a.own ++ a.other) (few a less) (length a.own) (step + length a.own - 6) sums rank
-      (long a within) within.at_most_six
-      (omega arith) is r (rw past r_is))
+      rw next (rank_next (a.own ++ a.other) (few a few_seeds) (length a.own) (step + length a.own - 6) sums rank
+      (long a limits) limits.at_most_six
+      (omega arith) ranked r (rw past r_is))
 
 pub loop-step-init : goal.loop-step-init
 loop-step-init g c =
