@@ -2,7 +2,10 @@ pub mod WorthLemmas
 pub mod BoundsLemmas
 pub mod MarksLemmas
 pub mod SearchLemmas
-pub mod TableLemmas
+pub mod RankLemmas
+pub mod EndingLemmas
+pub mod EntryLemmas
+pub mod SlotLemmas
 pub mod Crossing
 pub mod SolverLemmas
 pub mod MoveValuesLemmas

@@ -92,7 +92,7 @@ fn mixed_key(houses: &Houses) -> u64
 }
 
 // Returns the slot of a mixed key: its bits from `shift` on.
-#[tactic(auto, using(crate::proofs::TableLemmas::slot_inside))]
+#[tactic(auto, using(crate::proofs::SlotLemmas::slot_inside))]
 fn slot_of(mixed: u64, shift: u32) -> usize
     requires { shift < 64 }
     ensures slot { result ≡ slot_of shift mixed }

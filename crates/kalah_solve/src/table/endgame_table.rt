@@ -60,7 +60,7 @@ impl<A: Allocator> Model for EndgameTable<A> {
 }
 
 // Returns cell `i` of the choices, from the cells before it.
-#[tactic(auto, using(crate::proofs::TableLemmas::choice_first, crate::proofs::TableLemmas::choice_next, crate::proofs::TableLemmas::choice_small))]
+#[tactic(auto, using(crate::proofs::RankLemmas::choice_first, crate::proofs::RankLemmas::choice_next, crate::proofs::RankLemmas::choice_small))]
 fn choice(choices: &[u32; CHOICES], i: usize) -> u32
     requires inside { i < CHOICES }
     requires before { AreChoices i choices.now }
@@ -76,7 +76,7 @@ fn choice(choices: &[u32; CHOICES], i: usize) -> u32
 }
 
 // Returns the table of choices.
-#[tactic(auto, using(crate::proofs::TableLemmas::choices_more))]
+#[tactic(auto, using(crate::proofs::RankLemmas::choices_more))]
 fn choices() -> [u32; CHOICES]
     ensures { AreChoices CHOICES result }
 {
@@ -103,7 +103,7 @@ fn pair_cell(choices: &[u32; CHOICES], i: usize) -> u32
 }
 
 // Returns the table of pairs.
-#[tactic(auto, using(crate::proofs::TableLemmas::pairs_more))]
+#[tactic(auto, using(crate::proofs::RankLemmas::pairs_more))]
 fn pairs() -> [u32; PAIRS]
     ensures { ArePairs PAIRS result }
 {

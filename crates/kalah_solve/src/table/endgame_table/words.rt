@@ -51,7 +51,7 @@ impl Play<(), ()> for Writes {
 }
 
 // Returns the index of the word for houses of this rank in their variant.
-#[tactic(auto, using(crate::proofs::TableLemmas::word_inside))]
+#[tactic(auto, using(crate::proofs::EndingLemmas::word_inside))]
 pub(super) fn word_of(houses: &Houses, rank: u32) -> usize
     requires rank { rank ≡ rank_of_houses houses.now }
     requires few { IsEnding houses.now }
@@ -86,7 +86,7 @@ pub(super) fn with_stored(word: u64, at: u32, stored: u64) -> u64
 }
 
 // Makes this many words, with no ending known. Fails only if memory was refused.
-#[tactic(auto, using(crate::proofs::TableLemmas::zeros_are_true))]
+#[tactic(auto, using(crate::proofs::EndingLemmas::zeros_are_true))]
 pub(super) fn empty_words<A: Allocator + Clone>(
     alloc: A,
     count: usize,

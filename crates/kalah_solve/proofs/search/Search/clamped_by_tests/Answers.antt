@@ -1,4 +1,5 @@
-use Rattle.std.proofs.Common.{refl, rules, ◌≡◌, ◌∙◌, w8, w32, to_z, of_z, SFits, to_z-of_z}
+use Rattle.std.proofs.Common.{refl, rules, ◌≡◌, ◌∙◌, w8, w32, to_z, of_z, SFits}
+use Rattle.std.proofs.lemmas.Int.{to_z-of_z}
 use Rattle.kalah_solve.specs.Bounds.Intervals.{clamped}
 use Rattle.kalah_solve.specs.Solver.Worth.{houses_worth}
 use Rattle.kalah_solve.proofs.BoundsLemmas.{worth_low, worth_high, clamped_within, worth_by_bounds}
@@ -7,24 +8,20 @@ use Rattle.kalah_solve.proofs.search.Search.clamped_by_tests.Goals as goal
 
 pub interval_of-requires-clause-least : goal.interval_of-requires-clause-least
 interval_of-requires-clause-least g c =
-    let fits : SFits w32 c.clamp-answer.result = search rules in
-    simp to_z-of_z (rw c.clamp-answer.ensures (clamped_within _ _ _ c.in-Some.narrow.ordered).0)
+    rw (to_z-of_z w32 c.clamp-answer.result (search rules), c.clamp-answer.ensures) ((clamped_within _ _ _ c.in-Some.narrow.ordered).0)
 
 pub interval_of-requires-clause-most : goal.interval_of-requires-clause-most
 interval_of-requires-clause-most g c =
-    let fits : SFits w32 c.clamp-answer.result = search rules in
-    simp to_z-of_z (rw c.clamp-answer.ensures (clamped_within _ _ _ c.in-Some.narrow.ordered).1)
+    rw (to_z-of_z w32 c.clamp-answer.result (search rules), c.clamp-answer.ensures) ((clamped_within _ _ _ c.in-Some.narrow.ordered).1)
 
 -- the answer is the worth in the window
 found : (g : Over) (c : goal.After-intersection g) →
     to_z w32 (of_z w32 c.clamp-answer.result) ≡ clamped c.in-Some.narrow.lo c.in-Some.narrow.hi (houses_worth c.args.houses.now)
 found g c =
     let seeds = c.seeds-seeds.ensures in
-    let fits : SFits w32 c.clamp-answer.result = search rules in
-    let margin_fits : SFits w32 c.margin_of.result = search rules in
-    simp to_z-of_z (simp to_z-of_z at c.clamp-answer.ensures
+    to_z-of_z w32 c.clamp-answer.result (search rules) ∙ rw (to_z-of_z w32 c.margin_of.result (search rules)) at c.clamp-answer.ensures
     ∙ worth_by_bounds _ _ c.of_window.result seeds.limits seeds.seeds c.of_window.ensures.ordered c.of_window.ensures.apart
-    c.won_within-won.ensures c.margin_of.ensures)
+    c.won_within-won.ensures c.margin_of.ensures
 
 pub learn_margins-requires : goal.learn_margins-requires
 learn_margins-requires g c =
@@ -38,7 +35,5 @@ returns g c = found g c.before ∙ c.in-Some.ensures.some (houses_worth c.args.h
 
 pub returns-in_default : goal.returns-in_default
 returns-in_default g c =
-    let fits : SFits w32 c.clamp.result = search rules in
-    let lo : SFits w8 c.known_margins-known.result.lo = search rules in
-    let lo_wide : SFits w32 c.known_margins-known.result.lo = search (rules, lo) in
-    simp to_z-of_z (simp to_z-of_z at c.clamp.ensures ∙ c.in_default.ensures.none refl _ c.known_margins-known.ensures)
+    let lo_fits : SFits w8 c.known_margins-known.result.lo = search rules in
+    to_z-of_z w32 c.clamp.result (search rules) ∙ simp (to_z-of_z w32 c.known_margins-known.result.lo (search (rules, lo_fits)), to_z-of_z w8 _ lo_fits) at c.clamp.ensures ∙ c.in_default.ensures.none refl _ c.known_margins-known.ensures

@@ -11,7 +11,7 @@ found_more xs most i new found inside new_is = elim (cases_lt most (get_or xs i 
   | inr more ↦ let at : new ≡ most = omega arith in rw at found
 ]
 
--- no priority up to the next one is digits_from_next_place
+-- no priority up to the next one is greater
 highest_more : (xs : List ℕ) (most i new : ℕ) → ((k : ℕ) → k < i → get_or xs k 0 ≤ most)
     → new ≡ max most (get_or xs i 0) →
     (k : ℕ) → k < i + 1 → get_or xs k 0 ≤ new

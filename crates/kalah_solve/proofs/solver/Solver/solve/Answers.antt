@@ -1,4 +1,4 @@
-use Rattle.std.proofs.Common.{arith, rules, sym, ap, ◌∙◌, ◌≡◌, w32, SFits}
+use Rattle.std.proofs.Common.{arith, rules, sym, ap, ◌∙◌, ◌≡◌, w32}
 use Rattle.std.proofs.lemmas.Int.{ints, to_z-of_z}
 use Rattle.kalah_rules.specs.Position.{HousesState, storeless}
 use Rattle.kalah_rules.proofs.PackedLemmas.{houses_within}
@@ -12,8 +12,7 @@ use Rattle.kalah_solve.proofs.solver.Solver.solve.Goals as goal
 
 pub returns-then-is_over-clause-best_play : goal.returns-then-is_over-clause-best_play
 returns-then-is_over-clause-best_play g c =
-    let fits : SFits w32 c.returns.result = search rules in
-    simp to_z-of_z (verdict_states c.args.board.now (Over c.returns.result) (board_equal_sides c.args.board.now c.is_over.ensures.limits)
+    rw (to_z-of_z w32 c.returns.result (search rules)) (verdict_states c.args.board.now (Over c.returns.result) (board_equal_sides c.args.board.now c.is_over.ensures.limits)
     (verdict_of_over c.args.board.now c.returns.result (sym c.if-is_over.ensures.over) c.returns.ensures.margin))
 
 -- ---- the game goes on
@@ -28,14 +27,12 @@ won_of-beta-requires g c =
 
 pub best_house-house-requires-clause-best : goal.best_house-house-requires-clause-best
 best_house-house-requires-clause-best g c =
-    let fits : SFits w32 c.houses_worth-best.result = search rules in
     half_is_won c.houses-houses.result _ _ c.seeds.ensures.limits c.houses_worth-best.ensures
-    (rw c.seeds.ensures.seeds at (simp to_z-of_z at c.won_of-beta.ensures))
+    (rw (c.seeds.ensures.seeds, to_z-of_z w32 c.houses_worth-best.result (search rules)) at c.won_of-beta.ensures)
 
 pub with_stores-margin-requires-clause-best : goal.with_stores-margin-requires-clause-best
 with_stores-margin-requires-clause-best g c =
-    let fits : SFits w32 c.houses_worth-best.result = search rules in
-    simp to_z-of_z (c.houses_worth-best.ensures ∙ ap houses_worth c.houses-houses.ensures)
+    to_z-of_z w32 c.houses_worth-best.result (search rules) ∙ c.houses_worth-best.ensures ∙ ap houses_worth c.houses-houses.ensures
 
 -- the house is the best one
 house_is : (g : given.Over) (c : goal.After-with_stores-margin g) → c.best_house-house.result ≡ best_house c.args.board.now
@@ -44,8 +41,7 @@ house_is g c = c.best_house-house.ensures ∙ ap (λ (a : HousesState). best_hou
 
 pub returns-clause-verdict : goal.returns-clause-verdict
 returns-clause-verdict g c =
-    let fits : SFits w32 c.with_stores-margin.result = search rules in
-    simp to_z-of_z
+    rw (to_z-of_z w32 c.with_stores-margin.result (search rules))
     (verdict_of_going c.args.board.now c.with_stores-margin.result c.best_house-house.result (sym c.if-is_over.ensures.over)
     c.with_stores-margin.ensures.worth (house_is g c))
 
@@ -57,6 +53,5 @@ pub returns-clause-small : goal.returns-clause-small
 returns-clause-small g c =
     let p = c.args.board.now in
     let limits = c.is_over.ensures.limits in
-    let fits : SFits w32 c.with_stores-margin.result = search rules in
-    simp to_z-of_z (small_best p c.with_stores-margin.result c.best_house-house.result limits
+    rw (to_z-of_z w32 c.with_stores-margin.result (search rules)) (small_best p c.with_stores-margin.result c.best_house-house.result limits
     (rw (house_is g c) (best_found p (board_equal_sides p limits) (sym c.if-is_over.ensures.over)).0) c.with_stores-margin.ensures.small)

@@ -1,4 +1,5 @@
-use Rattle.std.proofs.Common.{rules, sym, ap, ◌∙◌, w32, SFits, to_z-of_z}
+use Rattle.std.proofs.Common.{rules, sym, ap, ◌∙◌, w32}
+use Rattle.std.proofs.lemmas.Int.{to_z-of_z}
 use Rattle.kalah_rules.proofs.PackedLemmas.{houses_within}
 use Rattle.kalah_solve.specs.Solver.Worth.{houses_worth}
 use Rattle.kalah_solve.proofs.WorthLemmas.{worth_of_over}
@@ -6,13 +7,11 @@ use Rattle.kalah_solve.proofs.solver.Solver.worth.Goals as goal
 
 pub returns-then-is_over-clause-worth : goal.returns-then-is_over-clause-worth
 returns-then-is_over-clause-worth g c =
-    let fits : SFits w32 c.returns.result = search rules in
-    simp to_z-of_z (c.returns.ensures.margin ∙ sym (worth_of_over _ (sym c.if-is_over.ensures.over)))
+    to_z-of_z w32 c.returns.result (search rules) ∙ c.returns.ensures.margin ∙ sym (worth_of_over _ (sym c.if-is_over.ensures.over))
 
 pub houses_worth-best-requires-clause-limits : goal.houses_worth-best-requires-clause-limits
 houses_worth-best-requires-clause-limits g c = rw c.houses.ensures (houses_within _ c.is_over.ensures.limits)
 
 pub with_stores-requires-clause-best : goal.with_stores-requires-clause-best
 with_stores-requires-clause-best g c =
-    let fits : SFits w32 c.houses_worth-best.result = search rules in
-    simp to_z-of_z (c.houses_worth-best.ensures ∙ ap houses_worth c.houses.ensures)
+    to_z-of_z w32 c.houses_worth-best.result (search rules) ∙ c.houses_worth-best.ensures ∙ ap houses_worth c.houses.ensures

@@ -1,4 +1,4 @@
-use Rattle.kalah_solve.proofs.TableLemmas.{put_replaces, put_leaves, put_or_same, true_after_put}
+use Rattle.kalah_solve.proofs.EntryLemmas.{put_replaces, put_leaves, put_or_same, true_after_put}
 use Rattle.kalah_solve.proofs.table.Table.keep.Goals as goal
 
 pub invariant_of-self : goal.invariant_of-self

@@ -1,6 +1,6 @@
 use Rattle.std.proofs.Common.{◌∙◌, rules, sym}
 use Rattle.lru.proofs.CallerLemmas.{Contains-promoted}
-use Rattle.kalah_solve.proofs.TableLemmas.{found_encloses_worth}
+use Rattle.kalah_solve.proofs.EntryLemmas.{found_encloses_worth}
 use Rattle.kalah_solve.proofs.table.Table.look_up.Goals as goal
 
 pub invariant_of-self : goal.invariant_of-self

@@ -1,5 +1,5 @@
 use Rattle.std.proofs.Common.{arith, sym}
-use Rattle.kalah_solve.proofs.TableLemmas.{choose_none, choice_small}
+use Rattle.kalah_solve.proofs.RankLemmas.{choice_small, choose_none}
 use Rattle.kalah_solve.proofs.table.endgame_table.choice.Goals as goal
 
 pub returns-then-i-eq0 : goal.returns-then-i-eq0

@@ -1,4 +1,4 @@
-use Rattle.kalah_solve.proofs.TableLemmas.{choice_small}
+use Rattle.kalah_solve.proofs.RankLemmas.{choice_small}
 use Rattle.std.proofs.Common.{arith}
 use Rattle.kalah_solve.proofs.table.endgame_table.pair_cell.Goals as goal
 

@@ -1,6 +1,6 @@
 use Rattle.std.proofs.Common.{arith, ◌++◌, length-append}
 use Rattle.std.proofs.lemmas.List.Sums.{sum_by-append}
-use Rattle.kalah_solve.proofs.TableLemmas.{AreSums, sums_are}
+use Rattle.kalah_solve.proofs.RankLemmas.{AreSums, sums_are}
 use Rattle.kalah_solve.proofs.table.endgame_table.sums_of.Goals as goal
 
 are : (c : goal.After-joined_rows) → AreSums (c.args.houses.now.own ++ c.args.houses.now.other) c.joined_rows.result c.seeds-seeds.result

@@ -1,4 +1,4 @@
-use Rattle.std.proofs.Common.{arith, pos, ◌+ℤ◌, w32, SFits}
+use Rattle.std.proofs.Common.{arith, pos, ◌+ℤ◌, w32}
 use Rattle.std.proofs.lemmas.Int.{ints, to_z-of_z}
 use Rattle.kalah_solve.specs.Bounds.Intervals.{IsHalf}
 use Rattle.kalah_solve.proofs.BoundsLemmas.{bounds_ordered, bounds_high, bounds_apart}
@@ -6,13 +6,11 @@ use Rattle.kalah_solve.proofs.bounds.seed_bounds.SeedBounds.of_window.Goals as g
 
 module _ (c : goal.After-won_of-2) where
   low_half : IsHalf (c.args.window.lo +ℤ pos c.args.seeds) c.won_of.result
-  low_half = let fits : SFits w32 c.args.window.lo = omega (arith, ints) in simp to_z-of_z at c.won_of.ensures
+  low_half = rw (to_z-of_z w32 c.args.window.lo (omega (arith, ints))) at c.won_of.ensures
 
   high_half : IsHalf (c.args.window.hi +ℤ pos 1 +ℤ pos c.args.seeds) c.won_of-2.result
   high_half =
-      let fits : SFits w32 c.args.window.hi = omega (arith, ints) in
-      let more_fits : SFits w32 (c.args.window.hi +ℤ pos 1) = omega (arith, ints) in
-      simp to_z-of_z at c.won_of-2.ensures
+      rw (to_z-of_z w32 c.args.window.hi (omega (arith, ints)), to_z-of_z w32 (c.args.window.hi +ℤ pos 1) (omega (arith, ints))) at c.won_of-2.ensures
 
 pub returns-clause-ordered : goal.returns-clause-ordered
 returns-clause-ordered c = bounds_ordered c.args.window c.args.seeds _ _ (low_half c.before) (high_half c.before)

@@ -5,6 +5,7 @@ use Rattle.kalah_solve.proofs.bounds.window.Window.narrowed.Goals as goal
 
 pub returns-then-hi-lo-clause-none : goal.returns-then-hi-lo-clause-none
 returns-then-hi-lo-clause-none c = λ none z holds.
+    -- `simp` and `search` read that each number fits its width.
     let self_lo : SFits w32 c.args.self.lo = omega (arith, ints) in
     let self_hi : SFits w32 c.args.self.hi = omega (arith, ints) in
     let known_lo : SFits w8 c.args.known.lo = search rules in

@@ -1,7 +1,7 @@
 use Rattle.std.proofs.Common.{arith, ◌∙◌, length-set}
 use Rattle.kalah_solve.specs.Table.DirectTable.{IsWithinSlot}
 use Rattle.kalah_solve.specs.Bounds.Won.{won}
-use Rattle.kalah_solve.proofs.TableLemmas.{bounds_more}
+use Rattle.kalah_solve.proofs.SlotLemmas.{bounds_more}
 use Rattle.kalah_solve.proofs.table.direct_table.DirectTable.keep.Goals as goal
 
 pub invariant_of-self : goal.invariant_of-self

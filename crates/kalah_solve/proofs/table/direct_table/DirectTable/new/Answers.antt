@@ -1,6 +1,6 @@
 use Rattle.std.proofs.Common.{arith, refl, ◌≡◌, ◌-◌, ◌*◌, ◌%◌, ◌^◌}
 use Rattle.std.proofs.lemmas.List.{length-replicate}
-use Rattle.kalah_solve.proofs.TableLemmas.{bounds_unknown, ten_bits}
+use Rattle.kalah_solve.proofs.SlotLemmas.{bounds_unknown, ten_bits}
 use Rattle.kalah_solve.proofs.table.direct_table.DirectTable.new.Goals as goal
 
 pub invariant_of-result : goal.invariant_of-result

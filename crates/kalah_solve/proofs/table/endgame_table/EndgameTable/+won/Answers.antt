@@ -3,7 +3,7 @@ use Rattle.kalah_solve.proofs.BoundsLemmas.{won_of_houses}
 use Rattle.kalah_solve.proofs.WorthLemmas.{leads_by}
 use Rattle.kalah_solve.specs.Marks.{without_mark}
 use Rattle.kalah_solve.proofs.MarksLemmas.{without_last_less, seeded_is_legal, movable_before_last, last_is_legal}
-use Rattle.kalah_solve.proofs.TableLemmas.{most_at_start, most_with_last, most_is_all, won_is_most}
+use Rattle.kalah_solve.proofs.EndingLemmas.{most_at_start, most_with_last, most_is_all, won_is_most}
 use Rattle.kalah_solve.proofs.table.endgame_table.EndgameTable.+won.Goals as goal
 
 pub most_won-loop-untried-init : goal.most_won-loop-untried-init

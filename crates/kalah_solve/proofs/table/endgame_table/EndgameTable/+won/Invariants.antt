@@ -1,7 +1,7 @@
 use Rattle.std.proofs.Common.{◌+◌, ◌*◌}
 use Rattle.kalah_rules.specs.Position.{storeless}
 use Rattle.kalah_rules.specs.Measure.{moves_left}
-use Rattle.kalah_solve.proofs.TableLemmas.{IsMostOfUnmarked}
+use Rattle.kalah_solve.proofs.EndingLemmas.{IsMostOfUnmarked}
 use Rattle.kalah_solve.proofs.MarksLemmas.{AreMovable}
 use Rattle.kalah_solve.proofs.table.endgame_table.EndgameTable.+won.Given as goal
 

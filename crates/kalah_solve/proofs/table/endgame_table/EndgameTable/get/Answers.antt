@@ -1,7 +1,7 @@
 use Rattle.std.proofs.Common.{arith, ◌∙◌, ◌≡◌, ◌%◌, subst}
 use Rattle.kalah_solve.specs.Table.RowRank.{rank_of_houses}
 use Rattle.kalah_solve.specs.Table.EndgameTable.{HoldsWon, stored_at}
-use Rattle.kalah_solve.proofs.TableLemmas.{stored_is_won}
+use Rattle.kalah_solve.proofs.EndingLemmas.{stored_is_won}
 use Rattle.kalah_solve.proofs.table.endgame_table.EndgameTable.get.Goals as goal
 
 pub returns : goal.returns

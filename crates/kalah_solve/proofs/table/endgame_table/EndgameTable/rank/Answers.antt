@@ -1,26 +1,28 @@
 use Rattle.std.proofs.Common.{arith, ◌++◌, ◌+◌, ◌-◌, ◌<◌, ◌≤◌, ◌*◌, ◌%◌, ◌/◌, ◌≡◌, ℕ, length, length-append, sum}
 use Rattle.std.proofs.lemmas.List.Sums.{sum_by-append}
-use Rattle.kalah_rules.specs.Position.{HousesState, IsWithinHouses, storeless, seeds_in_houses}
+use Rattle.kalah_rules.specs.Position.{HousesState, IsWithinHouses}
 use Rattle.kalah_solve.specs.Table.RowRank.{choose}
-use Rattle.kalah_solve.proofs.TableLemmas.{IsRanked, two_few, rank_next, ranked_small, ranked_all}
+use Rattle.kalah_solve.specs.Table.EndgameTable.{IsEnding, most_ending_seeds}
+use Rattle.kalah_solve.specs.declared.table.endgame_table.TheConstants.{COUNTS}
+use Rattle.kalah_solve.proofs.RankLemmas.{IsRanked, two_few, rank_next, ranked_small, ranked_all}
 use Rattle.kalah_solve.proofs.table.endgame_table.EndgameTable.rank.Goals.{then-step-m-ge6, else-step-m-ge6}
 use Rattle.kalah_solve.proofs.table.endgame_table.EndgameTable.rank.Goals as goal
 
 -- the joined rows of an ending hold few seeds
-few : (a : HousesState) → seeds_in_houses (storeless a) ≤ 9 → sum (a.own ++ a.other) ≤ 9
-few a less = omega (arith, sum_by-append (λ x. x) a.own a.other)
+few : (a : HousesState) → IsEnding a → sum (a.own ++ a.other) ≤ most_ending_seeds
+few a ending = omega (arith, sum_by-append (λ x. x) a.own a.other)
 
 -- they have the cells of both sides
 long : (a : HousesState) → IsWithinHouses a → length (a.own ++ a.other) ≡ 2 * length a.own
 long a limits = omega (arith, length-append a.own a.other)
 
 -- a step that passes two cells
-module _ {a : HousesState} {step sums rank : ℕ} (limits : IsWithinHouses a) (few_seeds : seeds_in_houses (storeless a) ≤ 9) (low : step < 6)
+module _ {a : HousesState} {step sums rank : ℕ} (limits : IsWithinHouses a) (ending : IsEnding a) (low : step < 6)
     (passes : 6 ≤ step + length a.own) (ranked : IsRanked (a.own ++ a.other) (step + length a.own - 6) sums rank) where
-  -- both sums are below ten
-  few_here : (sums % 1024 % 32 < 10) × (sums % 1024 / 32 < 10)
+  -- both sums are numbers of seeds of an ending
+  few_here : (sums % 1024 % 32 < COUNTS) × (sums % 1024 / 32 < COUNTS)
   few_here =
-      two_few (a.own ++ a.other) (few a few_seeds) (length a.own) (step + length a.own - 6) sums rank (long a limits) limits.at_most_six
+      two_few (a.own ++ a.other) (few a ending) (length a.own) (step + length a.own - 6) sums rank (long a limits) limits.at_most_six
       (omega arith) ranked
 
   -- what the two cells add
@@ -31,7 +33,7 @@ module _ {a : HousesState} {step sums rank : ℕ} (limits : IsWithinHouses a) (f
   ranked_here r r_is =
       let past : length a.own - (step + length a.own - 6) - 1 ≡ 5 - step = omega arith in
       let next : step + 1 + length a.own - 6 ≡ step + length a.own - 6 + 1 = omega arith in
-      rw next (rank_next (a.own ++ a.other) (few a few_seeds) (length a.own) (step + length a.own - 6) sums rank
+      rw next (rank_next (a.own ++ a.other) (few a ending) (length a.own) (step + length a.own - 6) sums rank
       (long a limits) limits.at_most_six
       (omega arith) ranked r (rw past r_is))
 

@@ -1,5 +1,5 @@
 use Rattle.std.proofs.Common.{◌++◌, ◌+◌, ◌-◌, length}
-use Rattle.kalah_solve.proofs.TableLemmas.{IsRanked}
+use Rattle.kalah_solve.proofs.RankLemmas.{IsRanked}
 use Rattle.kalah_solve.proofs.table.endgame_table.EndgameTable.rank.Given as goal
 
 abbrev pub invariant-loop-step : goal.invariant-loop-step

@@ -1,5 +1,5 @@
 use Rattle.std.proofs.Common.{arith, ◌%◌, ◌*◌, ◌^◌, ◌≡◌, refl}
-use Rattle.kalah_solve.proofs.TableLemmas.{digit_fits, word_with_digit_fits}
+use Rattle.kalah_solve.proofs.EndingLemmas.{digit_fits, word_with_digit_fits}
 use Rattle.kalah_solve.proofs.table.endgame_table.words.with_stored.Goals as goal
 
 whole : (c : goal.Start) → c.args.stored * 2 ^ (4 * c.args.at) % 2 ^ 64 ≡ c.args.stored * 2 ^ (4 * c.args.at)

@@ -1,0 +1,235 @@
+-- What the words of endings state is what the mover wins, and stays so: each ending has digits of its own in its word.
+use Rattle.std.proofs.Common.{ℕ, ◌≡◌, ◌≢◌, zero, suc, ◌+◌, ◌*◌, ◌/◌, ◌%◌, ◌^◌, ◌-◌, ◌<◌, ◌≤◌, arith, refl, ap, List, [], ◌∷◌, ◌++◌, length, get_or, length-append, ◌∙◌, lit<, lit≤, pow_mono, sum, slice_set, slice_index, false, Contains, max, ◌↔◌}
+use Rattle.std.proofs.Math.Nat.{add-mul-div_right, div-div-eq-div-mul}
+use Rattle.std.proofs.lemmas.Nat.{pow_pos, pow-add, mul-le}
+use Rattle.std.proofs.lemmas.Bool.{cases_lt, cases_eq}
+use Rattle.std.proofs.lemmas.List.{get_or-set_same, get_or-set_other, get_or-replicate, get_or_past}
+use Rattle.std.proofs.Math.ListN.{replicate, length-replicate, length-set}
+use Rattle.std.proofs.lemmas.List.Sums.{sum_by-append}
+use Rattle.kalah_rules.specs.Position.{HousesState, IsWithinHouses, storeless, is_over, seeds_in_houses}
+use Rattle.kalah_rules.proofs.KeyLemmas.{rule_bit-small}
+use Rattle.kalah_solve.specs.Table.RowRank.{choose, rank_of_houses}
+use Rattle.kalah_solve.specs.Table.EndgameTable.{most_ending_seeds, IsEnding, HoldsWon, AreTrueWords, word_of, stored_at}
+use Rattle.atomic_table.specs.Table.{State, Arrives, keeps}
+use Rattle.kalah_solve.specs.declared.table.endgame_table.words.TheConstants.{FIRST_WORDS, WORDS}
+use Rattle.kalah_solve.specs.Bounds.Won.{won, won_by_step}
+use Rattle.kalah_rules.specs.Play.{legal_houses}
+use Rattle.kalah_rules.specs.HousesStep.{houses_step}
+use Rattle.kalah_rules.proofs.PlayLemmas.{legal_holds}
+use Rattle.kalah_solve.specs.Marks.{cell, IsLastMark, without_mark}
+use Rattle.kalah_solve.proofs.MarksLemmas.{cell_of_zero, each_unmarked_without_last}
+use Rattle.kalah_solve.proofs.BoundsLemmas.{won_at_most, won_reached, won_of_houses}
+use Rattle.kalah_solve.proofs.RankLemmas.{choose_rises, rank_below, same_houses}
+
+-- ==== The digits of a number, of four bits each
+
+-- a place more is worth sixteen times as much
+power_of_next_place : (k : ℕ) → 2 ^ (4 * suc k) ≡ 16 * 2 ^ (4 * k)
+power_of_next_place k = let more : 4 * suc k ≡ 4 + 4 * k = omega arith in rw (more, pow-add) refl
+
+-- what stands from the next place on stands so in a sixteenth
+digits_from_next_place : (n k : ℕ) → n / 2 ^ (4 * suc k) ≡ n / 16 / 2 ^ (4 * k)
+digits_from_next_place n k = simp (power_of_next_place, div-div-eq-div-mul)
+
+-- a digit put at an empty place leaves all from a later place on
+pub same_digits_past : (k e n d : ℕ) → k < e → stored_at n k ≡ 0 → d < 16 →
+    (n + d * 2 ^ (4 * k)) / 2 ^ (4 * e) ≡ n / 2 ^ (4 * e)
+same_digits_past k zero n d later none small = omega arith
+same_digits_past zero (suc e) n d later none small = grind (arith, digits_from_next_place)
+same_digits_past (suc k) (suc e) n d later none small =
+    let more : d * 2 ^ (4 * suc k) ≡ d * 2 ^ (4 * k) * 16 = rw (power_of_next_place k) (omega arith) in
+    let sixteenth : (n + d * 2 ^ (4 * k) * 16) / 16 ≡ n / 16 + d * 2 ^ (4 * k) = omega arith in
+    rw (more, digits_from_next_place (n + d * 2 ^ (4 * k) * 16) e, digits_from_next_place n e, sixteenth)
+    (same_digits_past k e (n / 16) d (omega arith) (rw (digits_from_next_place n k) at none) small)
+
+-- a digit put at an empty place is found there
+pub put_digit_is_there : (k n d : ℕ) → stored_at n k ≡ 0 → d < 16 → stored_at (n + d * 2 ^ (4 * k)) k ≡ d
+put_digit_is_there k n d none small = omega (arith, add-mul-div_right, pow_pos)
+
+-- what is put at a later place leaves all digits before it
+pub same_digits_before : (j k n d : ℕ) → j < k → stored_at (n + d * 2 ^ (4 * k)) j ≡ stored_at n j
+same_digits_before j k n d before =
+    let past = k - suc j in
+    let exponent : 4 * k ≡ 4 * suc past + 4 * j = omega arith in
+    let worth : 2 ^ (4 * k) ≡ 16 * 2 ^ (4 * past) * 2 ^ (4 * j) = rw (exponent, pow-add 2 (4 * suc past) (4 * j), power_of_next_place past) refl in
+    let all : d * 2 ^ (4 * k) ≡ d * (16 * 2 ^ (4 * past)) * 2 ^ (4 * j) =
+    rw worth (omega arith) in
+    rw (all, add-mul-div_right n (d * (16 * 2 ^ (4 * past))) (pow_pos (4 * j))) (omega arith)
+
+-- a digit put at an empty place leaves each other digit
+pub same_digits_elsewhere : (j k n d : ℕ) → j ≢ k → stored_at n k ≡ 0 → d < 16 →
+    stored_at (n + d * 2 ^ (4 * k)) j ≡ stored_at n j
+same_digits_elsewhere j k n d other none small = grind (arith, cases_lt, same_digits_before, same_digits_past)
+
+-- a digit of a word is no more than a word
+pub digit_fits : (k d : ℕ) → k < 16 → d < 16 → d * 2 ^ (4 * k) < 2 ^ 64
+digit_fits k d place small = omega (arith, mul-le d (2 ^ (4 * k)) 15 (2 ^ 60) (omega (arith, small)) (pow_mono {j = 60} (omega arith)))
+
+-- with a digit put at an empty place a word stays a word
+pub word_with_digit_fits : (k n d : ℕ) → k < 16 → stored_at n k ≡ 0 → d < 16 → n < 2 ^ 64 → n + d * 2 ^ (4 * k) < 2 ^ 64
+word_with_digit_fits k n d place none small fits = omega (arith, same_digits_past _ _ _ _ place none small)
+
+-- ==== What words of endings state stays true
+
+-- ---- the words of different variants are different
+
+-- `choose` adds up the same again and again, so these are rows of Pascal's triangle: the binomial coefficients of the next number, by those
+-- of this one
+abbrev next_binomials : ℕ → List ℕ → List ℕ
+next_binomials before [] = []
+next_binomials before (w ∷ ws) = (before + w) ∷ next_binomials w ws
+
+-- the ways to choose 0 to 12 of n things: binomial coefficients
+abbrev binomials : ℕ → List ℕ
+binomials zero = 1 ∷ 0 ∷ 0 ∷ 0 ∷ 0 ∷ 0 ∷ 0 ∷ 0 ∷ 0 ∷ 0 ∷ 0 ∷ 0 ∷ 0 ∷ []
+binomials (suc n) = next_binomials 0 (binomials n)
+
+-- there are equally many of the next number
+length-next_binomials : (before : ℕ) (ws : List ℕ) → length (next_binomials before ws) ≡ length ws
+length-next_binomials before [] = refl
+length-next_binomials before (w ∷ ws) = ap suc (length-next_binomials w ws)
+
+length-binomials : (n : ℕ) → length (binomials n) ≡ 13
+length-binomials zero = refl
+length-binomials (suc n) = length-next_binomials 0 _ ∙ length-binomials n
+
+-- each is a sum of two of this number
+next_binomials-suc : (before : ℕ) (ws : List ℕ) (k : ℕ) → suc k < length ws →
+    get_or (next_binomials before ws) (suc k) 0 ≡ get_or ws k 0 + get_or ws (suc k) 0
+next_binomials-suc before [] k inside = refl
+next_binomials-suc before (w ∷ []) k inside = omega arith
+next_binomials-suc before (w ∷ v ∷ ws) zero inside = refl
+next_binomials-suc before (w ∷ v ∷ ws) (suc k) inside = next_binomials-suc w (v ∷ ws) k (omega arith)
+
+binomials-none : (k : ℕ) → get_or (binomials zero) (suc k) 0 ≡ 0
+binomials-none k = grind arith
+
+next_binomials-zero : (before : ℕ) (ws : List ℕ) → 1 ≤ length ws → get_or (next_binomials before ws) 0 0 ≡ before + get_or ws 0 0
+next_binomials-zero before [] some = omega arith
+next_binomials-zero before (w ∷ ws) some = refl
+
+-- cell k has the ways to choose k of n
+binomials_are : (n k : ℕ) → k < 13 → get_or (binomials n) k 0 ≡ choose n k
+unfolding choose
+binomials_are zero zero few = refl
+binomials_are zero (suc k) few = binomials-none k
+binomials_are (suc n) zero few =
+    let some : 1 ≤ length (binomials n) = omega (arith, length-binomials n) in
+    omega (arith, next_binomials-zero, binomials_are n zero few)
+binomials_are (suc n) (suc k) few =
+    let inside : suc k < length (binomials n) = omega (arith, length-binomials n, few) in
+    omega (arith, next_binomials-suc, binomials_are n k (omega (arith, few)), binomials_are n (suc k) few)
+
+-- the first word of those variants of the classic rule that have m houses a side
+abbrev first_word : ℕ → ℕ
+first_word m = slice_index FIRST_WORDS m
+
+-- a variant has a word for each sixteen of its endings
+enough_words : (m : ℕ) → 1 ≤ m → m ≤ 6 → choose (most_ending_seeds + 2 * m) (2 * m) + 16 * first_word m ≤ 16 * first_word (suc m)
+enough_words zero some most = omega arith
+enough_words (suc zero) some most = omega (arith, binomials_are 11 2 (lit< tt))
+enough_words (suc (suc zero)) some most = omega (arith, binomials_are 13 4 (lit< tt))
+enough_words (suc (suc (suc zero))) some most = omega (arith, binomials_are 15 6 (lit< tt))
+enough_words (suc (suc (suc (suc zero)))) some most = omega (arith, binomials_are 17 8 (lit< tt))
+enough_words (suc (suc (suc (suc (suc zero))))) some most = omega (arith, binomials_are 19 10 (lit< tt))
+enough_words (suc (suc (suc (suc (suc (suc zero)))))) some most = omega (arith, binomials_are 21 12 (lit< tt))
+enough_words (suc (suc (suc (suc (suc (suc (suc m))))))) some most = omega arith
+
+first_word_rises : (m n : ℕ) → m ≤ n → n ≤ 7 → first_word m ≤ first_word n
+first_word_rises m n below most = grind arith
+
+-- an ending's word is one of its variant's
+pub word_is_of_variant : (a : HousesState) → IsWithinHouses a → IsEnding a
+    → first_word (length a.own) + rank_of_houses a / 16 < first_word (suc (length a.own))
+word_is_of_variant a limits ending =
+    let m = length a.own in
+    let row = a.own ++ a.other in
+    let cells : length row ≡ 2 * m = omega (arith, length-append a.own a.other) in
+    let seeds : sum row ≤ most_ending_seeds = omega (arith, ending, sum_by-append (λ x. x) a.own a.other) in
+    let all : rank_of_houses a < choose (most_ending_seeds + length row) (length row) =
+    omega (arith, rank_below row, choose_rises (sum row + length row) (most_ending_seeds + length row) (length row) (omega arith)) in
+    let below = rw cells at all in
+    omega (arith, enough_words m limits.some_house limits.at_most_six)
+
+-- an ending's word is one of all
+pub word_inside : {a : HousesState} → IsWithinHouses a → IsEnding a → word_of a < WORDS
+word_inside {a} limits ending = grind (arith, word_is_of_variant)
+
+-- endings of one word and one place in it are the same: the word is of one variant, and with the place it has one rank there
+same_ending : (a b : HousesState) → IsWithinHouses a → IsWithinHouses b → IsEnding a → IsEnding b → word_of a ≡ word_of b →
+    rank_of_houses a % 16 ≡ rank_of_houses b % 16 → a ≡ b
+same_ending a b limits_a limits_b ending ending_b word place =
+    grind (arith, word_is_of_variant, first_word_rises, lit≤, rule_bit-small, cases_lt, same_houses)
+
+-- ---- what the words state
+
+-- an empty word states nothing
+pub states_nothing : (i : ℕ) → HoldsWon i 0
+unfolding HoldsWon
+states_nothing i a limits ending word_is stored = omega arith
+
+-- after one more ending is stored
+pub states_one_more : (word : ℕ) (a : HousesState) → HoldsWon (word_of a) word → IsWithinHouses a → IsEnding a →
+    stored_at word (rank_of_houses a % 16) ≡ 0 → won a ≤ most_ending_seeds →
+    HoldsWon (word_of a) (word + suc (won a) * 2 ^ (4 * (rank_of_houses a % 16)))
+unfolding HoldsWon
+states_one_more word a before limits ending none small b limits_b ending_b word_is stored =
+    grind (arith, rank_of_houses, won, cases_eq, same_ending, put_digit_is_there, same_digits_elsewhere, stored)
+
+-- a stored ending is right
+pub stored_is_won : (word : ℕ) (a : HousesState) → HoldsWon (word_of a) word → IsWithinHouses a → IsEnding a →
+    stored_at word (rank_of_houses a % 16) ≢ 0 → stored_at word (rank_of_houses a % 16) ≡ suc (won a)
+unfolding HoldsWon
+stored_is_won word a states limits ending some = states a limits ending refl some
+
+-- ---- the steps on them
+
+-- words that are all empty are true
+pub zeros_are_true : (n : ℕ) → AreTrueWords (replicate n 0)
+zeros_are_true n i = grind (arith, cases_lt, get_or-replicate, states_nothing, get_or_past, length-replicate)
+
+-- words stay true if one states what is true
+words_stay_true : (words : List ℕ) (i word : ℕ) → HoldsWon i word → AreTrueWords words → AreTrueWords (slice_set words i word)
+words_stay_true words i word states holds j =
+    grind (arith, cases_lt, cases_eq, get_or-set_same, get_or-set_other, get_or_past, length-set, states_nothing)
+
+-- a new seat may write into each word what is true: the seat's view, an act that keeps all homes, that it may, the rule after the step, and
+-- nothing more to know
+pub word_may_be_written : (slots i word : ℕ) → HoldsWon i word →
+    Arrives (λ (s : State (Unit {0}) (Unit {0})). AreTrueWords s.words) slots i (λ n. word) (λ n me. Unit {0})
+word_may_be_written slots i word states s holds homes small = (tt, keeps, tt, words_stay_true s.words i word states holds, tt)
+
+-- ==== The most that a move wins
+
+-- best play wins at least `most`, and no legal move of an unmarked house wins more
+pub record IsMostOfUnmarked (a : HousesState) (marks most : ℕ) : Type 0 where
+  pub reached : most ≤ won a
+  pub all : (i : ℕ) → Contains (legal_houses (storeless a)) i → cell marks (i - 1) ≡ 0 → won_by_step (houses_step a i) ≤ most
+
+-- 0, while all houses with seeds are marked
+pub most_at_start : {a : HousesState} {marks : ℕ} → ((i : ℕ) → (0 < cell marks i) ↔ (0 < get_or a.own i 0)) → IsMostOfUnmarked a marks 0
+most_at_start {a} marked = record {
+  reached = omega arith;
+  all = λ i legal unmarked. absurd (let some = (marked _).1 (legal_holds (storeless a) i legal).some in omega arith);
+}
+
+-- the last marked house was tried
+pub most_with_last : {a : HousesState} {marks most h : ℕ} (v new : ℕ) → IsWithinHouses a → IsMostOfUnmarked a marks most → IsLastMark marks h →
+    Contains (legal_houses (storeless a)) h →
+    v ≡ won_by_step (houses_step a h) → new ≡ max most v → IsMostOfUnmarked a (without_mark marks h) new
+most_with_last {a} {marks} {most} {h} v new limits most_is last legal v_is new_is = record {
+  reached = omega (arith, won_at_most a limits h legal);
+  all = each_unmarked_without_last a (λ i. won_by_step (houses_step a i) ≤ new) last (omega arith)
+      (λ i legal_i place unmarked. omega (arith, most_is.all i legal_i unmarked));
+}
+
+-- if all seeds are won, best play wins as many
+pub most_is_all : (a : HousesState) (marks most : ℕ) → IsWithinHouses a → IsMostOfUnmarked a marks most → seeds_in_houses (storeless a) ≤ most
+    → most ≡ won a
+most_is_all a marks most limits most_is full = omega (arith, (won_of_houses limits).few)
+
+-- once no house is marked, best play wins the most of those tried
+pub won_is_most : (a : HousesState) (marks most : ℕ) → IsWithinHouses a → is_over (storeless a) ≡ false → IsMostOfUnmarked a marks most
+    → marks ≡ 0
+    → most ≡ won a
+won_is_most a marks most limits going most_is none = grind (arith, won_reached, cell_of_zero)

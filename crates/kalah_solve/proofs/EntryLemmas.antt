@@ -1,0 +1,72 @@
+-- What the entries of a table state of the worth of houses stays true.
+use Rattle.std.proofs.Common.{ℕ, ◌≡◌, inl, inr, arith, sym, ap, List, ◌∙◌, eqb-true, Option, Some, None, Result, Ok, Err, nat_eq, IfSome, IsSome, IsOk, OnOk, OnErr, ◌⊎◌, subst}
+use Rattle.kalah_rules.specs.Position.{HousesState, IsWithinHouses}
+use Rattle.kalah_rules.specs.Key.{key_of}
+use Rattle.kalah_rules.proofs.KeyLemmas.{same_key}
+use Rattle.std.specs.Map.{lookup}
+use Rattle.lru.specs.LruCache.{LruCache, lru_cache, put_entries}
+use Rattle.std.specs.Cmp.{nat_eq_equiv}
+use Rattle.lru.proofs.CallerLemmas.{lookup-put_entries, Contains-lookup, Contains-put_entries}
+use Rattle.kalah_solve.specs.declared.bounds.interval.Interval.{Interval}
+use Rattle.kalah_solve.specs.Solver.Worth.{houses_worth}
+use Rattle.kalah_solve.specs.Bounds.Intervals.{Encloses}
+use Rattle.kalah_solve.specs.Table.Entries.{TableState, IsTrueEntry, AreTrue}
+
+-- what a look-up finds encloses the worth of the houses
+pub found_encloses_worth : (es : List (ℕ × Interval)) (a : HousesState) (k : ℕ) → AreTrue es → IsWithinHouses a → k ≡ key_of a →
+    (o : Option Interval) → lookup (nat_eq k) es ≡ o
+    → IfSome o (λ i. Encloses i (houses_worth a))
+found_encloses_worth es a k entries limits key None found = tt
+found_encloses_worth es a k entries limits key (Some i) found =
+    let at = Contains-lookup _ es i found in
+    let entry = entries _ at.1 in
+    let same = same_key _ a entry.1 limits (entry.2 ∙ sym (eqb-true _ _ at.2) ∙ key) in
+    subst (λ b. Encloses i (houses_worth b)) same entry.3
+
+module _ (c : LruCache ℕ Interval) (a : HousesState) (k : ℕ) (i : Interval) (entries : AreTrue c.entries) (limits : IsWithinHouses a)
+    (key : k ≡ key_of a) (holds : Encloses i (houses_worth a)) where
+  -- the new entry is true
+  put_entry : (e : ℕ × Interval) → e.1 ≡ i → e.0 ≡ k → IsTrueEntry e
+  put_entry e value key_is = grind arith
+
+  -- all entries after a put are true
+  pub put_keeps_true : AreTrue (put_entries nat_eq c k i)
+  put_keeps_true = λ e h. elim (Contains-put_entries nat_eq c k i e h) [
+    | inl was ↦ entries e was
+    | inr put ↦ elim put.1 [
+      | inl at ↦ put_entry e put.0 at
+      | inr other ↦ put_entry e put.0 (sym (eqb-true _ _ other.2))
+    ]
+  ]
+
+  -- both outcomes of a put
+  pub true_after_put : {X E : Type 0} (r : Result X E) (new : LruCache ℕ Interval)
+      → OnOk r (new ≡ lru_cache (put_entries nat_eq c k i) c.cap) →
+      OnErr r (new ≡ c) → AreTrue new.entries
+  true_after_put (Ok x) new ok err = grind (arith, put_keeps_true)
+  true_after_put (Err x) new ok err = grind arith
+
+-- a put leaves the room for entries
+pub put_leaves : {X E : Type 0} (r : Result X E) (c new : LruCache ℕ Interval) (es : List (ℕ × Interval)) →
+    OnOk r (new ≡ lru_cache es c.cap) → OnErr r (new ≡ c) → new.cap ≡ c.cap
+put_leaves (Ok x) c new es ok err = ap (λ now. now.cap) ok
+put_leaves (Err x) c new es ok err = ap (λ now. now.cap) err
+
+-- a cache as its table is known
+abbrev pub state_of : LruCache ℕ Interval → TableState
+state_of c = record { entries = c.entries; capacity = c.cap }
+
+-- after a put the entry is there, or all is as before
+pub put_or_same : {X E : Type 0} (r : Result X E) (c new : LruCache ℕ Interval) (k : ℕ) (i : Interval) →
+    OnOk r (new ≡ lru_cache (put_entries nat_eq c k i) c.cap) → OnErr r (new ≡ c) →
+    (lookup (nat_eq k) new.entries ≡ Some i) ⊎ (state_of new ≡ state_of c)
+put_or_same (Ok x) c new k i ok err = inl (rw ok (lookup-put_entries nat_eq c k i nat_eq_equiv))
+put_or_same (Err x) c new k i ok err = inr (ap state_of err)
+
+-- if there was one, the put succeeds
+pub put_replaces : {X E : Type 0} (r : Result X E) (c new : LruCache ℕ Interval) (k : ℕ) (i : Interval) →
+    OnOk r (new ≡ lru_cache (put_entries nat_eq c k i) c.cap) → (IsSome (lookup (nat_eq k) c.entries) → IsOk r) →
+    IsSome (lookup (nat_eq k) c.entries) →
+    lookup (nat_eq k) new.entries ≡ Some i
+put_replaces (Ok x) c new k i ok succeeds some = rw ok (lookup-put_entries nat_eq c k i nat_eq_equiv)
+put_replaces (Err x) c new k i ok succeeds some = cc (succeeds some)
