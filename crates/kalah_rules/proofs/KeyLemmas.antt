@@ -9,7 +9,7 @@ use Rattle.kalah_rules.specs.Position.{seeds, HousesState, IsWithinHouses, seeds
 use Rattle.kalah_rules.specs.Sowing.{row_of, lap_length, gain, own_distance, other_distance}
 use Rattle.kalah_rules.proofs.PlayLemmas.{range_more, length-row_of, same_as_row, row_of_same, seeds-set_same, seeds-set_other, sum-zeros}
 use Rattle.kalah_rules.specs.Key.{number_of, cells, rule_bit, rows_number, key_of, variant_of, side_at, houses_at, IsKey}
-use Rattle.kalah_rules.specs.Packed.{ones, up_to, unpacked, IsPacked, IsPackedRow}
+use Rattle.kalah_rules.specs.Packed.{ones, up_to, unpacked, IsPackOf, IsPacked, IsPackedRow}
 use Rattle.kalah_rules.specs.Sowings.{own_gains, other_gains, store_gains}
 use Rattle.std.proofs.lemmas.Grind.{same_number_lists}
 use Rattle.std.proofs.Math.Seq.{take-append_seam, drop-append_seam}
@@ -394,17 +394,10 @@ packed_as b rows seeds variant limits rows_are seeds_are variant_is =
     let same : unpacked rows variant ≡ b = ap houses_at key_is ∙ houses_at_key limits in
     grind arith
 
--- what the fields of packed houses determine of the houses
-pub record IsPackOf (a : HousesState) (rows seeds variant : ℕ) : Type 0 where
-  pub limits : IsWithinHouses a
-  pub rows_are : rows ≡ rows_number a
-  pub seeds_are : seeds ≡ seeds_in_houses (storeless a)
-  pub variant_is : variant ≡ variant_of a
-
 -- the fields of packed houses are those of their value
 pub pack_of : {a : HousesState} {rows seeds variant : ℕ} → IsPacked rows seeds variant → unpacked rows variant ≡ a
     → IsPackOf a rows seeds variant
-pack_of packed view_is = grind arith
+pack_of packed view_is = rw view_is at packed
 
 -- both rows fit sixty bits, the own row thirty
 pub record AreRows (a : HousesState) (rows : ℕ) : Type 0 where

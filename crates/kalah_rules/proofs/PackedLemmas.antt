@@ -12,14 +12,14 @@ use Rattle.kalah_rules.specs.Lap.{HoldsSeeds, lifted}
 use Rattle.kalah_rules.specs.Sowing.{lap_length, own_distance, other_distance, store_distance, sow, sown, last_distance, is_again, captures, can_capture, captured, after}
 use Rattle.kalah_rules.proofs.PlayLemmas.{sum-set_zero, sow_side, sow_keeps, own_distance_past, own_distance_back, last_house_own, last_house_store, last_house_other, after_at, legal_holds, after_nearer, sum-zeros, with_store_seeds, after_of_houses, legal_going}
 use Rattle.kalah_rules.specs.Key.{number_of, rule_bit}
-use Rattle.kalah_rules.specs.Packed.{IsPackedPosition, ones, unpacked, IsPacked}
+use Rattle.kalah_rules.specs.Packed.{IsPackedPosition, ones, unpacked, IsPackOf, IsPacked}
 use Rattle.kalah_rules.specs.declared.houses.play.RowNumbers.{RowNumbers}
 use Rattle.kalah_rules.specs.declared.rule.Rule.{Rule}
 use Rattle.kalah_rules.specs.declared.houses.sowings.Sowing.{Sowing}
 use Rattle.kalah_rules.specs.Sowings.{own_gains, other_gains, store_gains, last_place, IsLastHouse, IsNoHouse, IsSowing, IsSowingCell, AreSowings}
-use Rattle.kalah_rules.proofs.KeyLemmas.{number_of-small, pow_five, pow_other, own_house_of_rows, moved_across_fits, placed_small, number_of-set, number_of-all, number_of-up_to, read_seeds, own_sown, other_sown, own_gain, other_gain, ones_le, IsPackOf, pack_of, rows_of_pack, packed_as, sum-zero, number_of-zero}
+use Rattle.kalah_rules.proofs.KeyLemmas.{number_of-small, pow_five, pow_other, own_house_of_rows, moved_across_fits, placed_small, number_of-set, number_of-all, number_of-up_to, read_seeds, own_sown, other_sown, own_gain, other_gain, ones_le, pack_of, rows_of_pack, packed_as, sum-zero, number_of-zero}
 use Rattle.std.proofs.lemmas.List.{length-replicate, get_or-set_same, get_or-set_other}
-use Rattle.kalah_rules.specs.Play.{legal_houses, step_to, step_of}
+use Rattle.kalah_rules.specs.Play.{legal_houses, step_to, step_of, position_after}
 use Rattle.kalah_rules.specs.Measure.{IsNearerEnd}
 use Rattle.kalah_rules.specs.HousesStep.{houses_step_to, houses_step}
 use Rattle.kalah_rules.specs.declared.step.Step.{Step}
@@ -349,7 +349,7 @@ pub move_leaves : {a : HousesState} {h rows seeds variant : ℕ} {s : Sowing} {r
 move_leaves {a} {h} {rows} {s = s} pack holds sowing fits same has_captured =
     let r = rows_sown rows s in
     let can : CanSow a h = record { limits = pack.limits; holds = holds } in
-    let shows = rows_show can _ _ (sown_less can _ _ pack.rows_are fits sowing.loses) sowing.store in
+    let shows = rows_show can _ _ (sown_less can _ _ (sym pack.rows_are) fits sowing.loses) sowing.store in
     let by_rule = rw same at has_captured in
     elim (cases_lt _ (last_place _ h _)) [
       | inl past ↦ none_captured a.rule r s (sowing.elsewhere past) by_rule (after_past _ h holds r past shows)
@@ -496,11 +496,9 @@ step_with p (Over own other) = step.Over (with_stores (without_seeds (houses_in 
 step_with p (Again gained b) = step.Again (with_stores b (p.own_store + gained) p.other_store)
 step_with p (Turn gained b) = step.Turn (with_stores b p.other_store (p.own_store + gained))
 
--- the same step, within the limits
+-- the position that it leads to is within the limits
 abbrev pub IsStepWithin : Position → HousesStep → Type 0
-IsStepWithin p (Over own other) = IsWithinLimits (with_stores (without_seeds (houses_in p)) (p.own_store + own) (p.other_store + other))
-IsStepWithin p (Again gained b) = IsWithinLimits (with_stores b (p.own_store + gained) p.other_store)
-IsStepWithin p (Turn gained b) = IsWithinLimits (with_stores b p.other_store (p.own_store + gained))
+IsStepWithin p s = IsWithinLimits (position_after (step_with p s))
 
 -- the step with the stores is that of the position with the stores
 step_with_to : (p q : Position) (over again : Bool) → side_length q ≡ side_length p → q.rule ≡ p.rule → q.other_store ≡ 0
@@ -623,7 +621,7 @@ moves_into_store {a} {h} {rows} {seeds} {variant} more packed view_is legal ends
       (rows_of_pack pack).fit,
       lifted_is can,
     ) in
-    let shows = into_store can _ house later ends pack.rows_are refl (omega (arith, ones_le h (length a.own) can.holds.last)) in
+    let shows = into_store can _ house later ends (sym pack.rows_are) refl (omega (arith, ones_le h (length a.own) can.holds.last)) in
     rw same (record {
       goes_on = store_packed packed view_is legal ends shows;
       over = over_own packed view_is legal (store_shows packed view_is legal ends shows);

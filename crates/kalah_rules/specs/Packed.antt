@@ -10,12 +10,16 @@ use Rattle.kalah_rules.specs.declared.houses.play.RowNumbers.{RowNumbers}
 abbrev pub unpacked : ℕ → ℕ → HousesState
 unpacked rows variant = houses_at (rows + 2 ^ 60 * variant)
 
--- both rows of houses, the number of seeds in them, and their variant
-pub record IsPacked (rows seeds variant : ℕ) : Type 0 where
-  pub limits : IsWithinHouses (unpacked rows variant)
-  pub rows_are : rows_number (unpacked rows variant) ≡ rows
-  pub seeds_are : seeds_in_houses (storeless (unpacked rows variant)) ≡ seeds
-  pub variant_is : variant_of (unpacked rows variant) ≡ variant
+-- houses in numbers: both rows, the number of seeds in them, and their variant
+pub record IsPackOf (a : HousesState) (rows seeds variant : ℕ) : Type 0 where
+  pub limits : IsWithinHouses a
+  pub rows_are : rows_number a ≡ rows
+  pub seeds_are : seeds_in_houses (storeless a) ≡ seeds
+  pub variant_is : variant_of a ≡ variant
+
+-- the numbers are those of some houses
+abbrev pub IsPacked : ℕ → ℕ → ℕ → Type 0
+IsPacked rows seeds variant = IsPackOf (unpacked rows variant) rows seeds variant
 
 -- the number of some houses of a side, with the number of seeds in them
 pub record IsPackedRow (count number seeds : ℕ) : Type 0 where

@@ -17,7 +17,7 @@ returns-then-own-eq0 c = over_own c.self.invariant c.self.view_is c.requires.leg
 pub returns-then-other-eq0 : goal.returns-then-other-eq0
 returns-then-other-eq0 c =
     let pack = pack_of c.self.invariant c.self.view_is in
-    rw (c.seeds.ensures.seeds, ← pack.seeds_are) (over_other c.self.invariant c.self.view_is c.requires.legal c.requires.rows
+    rw (c.seeds.ensures.seeds, pack.seeds_are) (over_other c.self.invariant c.self.view_is c.requires.legal c.requires.rows
     c.if-other-eq0.true)
 
 -- the step on which the mover moves again
