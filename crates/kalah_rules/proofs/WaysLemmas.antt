@@ -20,16 +20,13 @@ pub ways_none : (p : Position) → ways 0 p ≡ 1
 unfolding ways
 ways_none p = refl
 
-ways_suc : (n : ℕ) (p : Position) → ways (suc n) p ≡ sum_by (ways_by n p) (legal_houses p)
+ways-suc : (n : ℕ) (p : Position) → ways (suc n) p ≡ sum_by (ways_by n p) (legal_houses p)
 unfolding ways
-ways_suc n p = refl
-
-pub ways_more : (n : ℕ) (p : Position) → ways (n + 1) p ≡ sum_by (ways_by n p) (legal_houses p)
-ways_more n p = simp (add-one, ways_suc)
+ways-suc n p = refl
 
 -- a game that is over has no further way
 pub ways_over : (n : ℕ) (p : Position) → is_over p ≡ true → ways (n + 1) p ≡ 0
-ways_over n p over = ways_more n p ∙ rw over refl
+ways_over n p over = rw (add-one n) (ways-suc n p ∙ rw over refl)
 
 -- the same sum, of numbers that are the same
 sum_same : (f g : ℕ → ℕ) (xs : List ℕ) → ((x : ℕ) → f x ≡ g x) → sum_by f xs ≡ sum_by g xs
@@ -47,11 +44,11 @@ step_with_more n a b q false false over_is same = rw over_is (same b a _)
 -- stores do not influence the ways
 ways_with_more : (n a b : ℕ) (p : Position) → ways n (with_store_seeds a b p) ≡ ways n p
 ways_with_more zero a b p = simp (ways_none)
-ways_with_more (suc n) a b p = ways_suc n _
+ways_with_more (suc n) a b p = ways-suc n _
     ∙ sum_same _ _ (legal_houses p)
     (λ h. ap (λ (q : Position). ways n (position_after (step_to q (is_again p h)))) (after_with_more a b p h)
     ∙ step_with_more n a b (after p h) _ _ refl (ways_with_more n))
-    ∙ sym (ways_suc n p)
+    ∙ sym (ways-suc n p)
 
 -- the ways of a position are those of its houses
 pub ways_of_houses : (n : ℕ) (p : Position) → ways n p ≡ ways n (storeless (houses_in p))
@@ -72,7 +69,7 @@ one_if false = refl
 -- a swept position has one way of no move, and no other
 ways_swept : (n : ℕ) (q : Position) → ways n (swept q) ≡ (if n == 0 then 1 else 0)
 ways_swept zero q = ways_none _
-ways_swept (suc n) q = grind (arith, sum-zeros, ways_suc)
+ways_swept (suc n) q = grind (arith, sum-zeros, ways-suc)
 
 -- the ways after a step are those after the step of the houses
 ways_step_to : (n : ℕ) (q : Position) (over again : Bool) → is_over q ≡ over →
@@ -154,7 +151,7 @@ before_same {n} {p} {h} before low none = grind (arith, seeded_same)
 pub before_all : {n : ℕ} {p : Position} {h total : ℕ} → AreWaysBefore n p h total → is_over p ≡ false
     → h ≡ side_length p + 1 →
     total ≡ ways (n + 1) p
-before_all {n} {p} {h} before going end = grind (arith, ways_more)
+before_all {n} {p} {h} before going end = rw (add-one n) (grind (arith, ways-suc))
 
 -- a sum of at most six powers of six is at most the next one
 pub before_small : {n : ℕ} {p : Position} {h total : ℕ} → AreWaysBefore n p h total → h ≤ 7 → total ≤ most_houses ^ (n + 1)

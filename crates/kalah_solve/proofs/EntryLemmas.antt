@@ -10,10 +10,10 @@ use Rattle.lru.proofs.CallerLemmas.{lookup-put_entries, Contains-lookup, Contain
 use Rattle.kalah_solve.specs.declared.bounds.interval.Interval.{Interval}
 use Rattle.kalah_solve.specs.Solver.Worth.{houses_worth}
 use Rattle.kalah_solve.specs.Bounds.Intervals.{Encloses}
-use Rattle.kalah_solve.specs.Table.Entries.{TableState, IsTrueEntry, AreTrue}
+use Rattle.kalah_solve.specs.Table.Entries.{TableState, IsTrueEntry, AreTrueEntries}
 
 -- what a look-up finds encloses the worth of the houses
-pub found_encloses_worth : (es : List (ℕ × Interval)) (a : HousesState) (k : ℕ) → AreTrue es → IsWithinHouses a → k ≡ key_of a →
+pub found_encloses_worth : (es : List (ℕ × Interval)) (a : HousesState) (k : ℕ) → AreTrueEntries es → IsWithinHouses a → k ≡ key_of a →
     (o : Option Interval) → lookup (nat_eq k) es ≡ o
     → IfSome o (λ i. Encloses i (houses_worth a))
 found_encloses_worth es a k entries limits key None found = tt
@@ -23,14 +23,14 @@ found_encloses_worth es a k entries limits key (Some i) found =
     let same = same_key _ a entry.1 limits (entry.2 ∙ sym (eqb-true _ _ at.2) ∙ key) in
     subst (λ b. Encloses i (houses_worth b)) same entry.3
 
-module _ (c : LruCache ℕ Interval) (a : HousesState) (k : ℕ) (i : Interval) (entries : AreTrue c.entries) (limits : IsWithinHouses a)
+module _ (c : LruCache ℕ Interval) (a : HousesState) (k : ℕ) (i : Interval) (entries : AreTrueEntries c.entries) (limits : IsWithinHouses a)
     (key : k ≡ key_of a) (holds : Encloses i (houses_worth a)) where
   -- the new entry is true
   put_entry : (e : ℕ × Interval) → e.1 ≡ i → e.0 ≡ k → IsTrueEntry e
   put_entry e value key_is = grind arith
 
   -- all entries after a put are true
-  pub put_keeps_true : AreTrue (put_entries nat_eq c k i)
+  pub put_keeps_true : AreTrueEntries (put_entries nat_eq c k i)
   put_keeps_true = λ e h. elim (Contains-put_entries nat_eq c k i e h) [
     | inl was ↦ entries e was
     | inr put ↦ elim put.1 [
@@ -42,7 +42,7 @@ module _ (c : LruCache ℕ Interval) (a : HousesState) (k : ℕ) (i : Interval) 
   -- both outcomes of a put
   pub true_after_put : {X E : Type 0} (r : Result X E) (new : LruCache ℕ Interval)
       → OnOk r (new ≡ lru_cache (put_entries nat_eq c k i) c.cap) →
-      OnErr r (new ≡ c) → AreTrue new.entries
+      OnErr r (new ≡ c) → AreTrueEntries new.entries
   true_after_put (Ok x) new ok err = grind (arith, put_keeps_true)
   true_after_put (Err x) new ok err = grind arith
 

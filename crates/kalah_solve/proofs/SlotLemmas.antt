@@ -11,7 +11,7 @@ use Rattle.kalah_rules.proofs.KeyLemmas.{same_key, key_fits}
 use Rattle.kalah_solve.specs.Bounds.Won.{won}
 use Rattle.kalah_solve.proofs.BoundsLemmas.{won_of_houses}
 use Rattle.kalah_rules.specs.Limits.{most_seeds}
-use Rattle.kalah_solve.specs.Table.DirectTable.{mixed, slot_of, tag_of, stored_tag, stored_least, stored_most, IsWithinSlot, HoldBounds}
+use Rattle.kalah_solve.specs.Table.DirectTable.{mixed, slot_of, tag_of, stored_tag, stored_least, stored_most, IsWithinSlot, AreTrueSlots}
 use Rattle.kalah_solve.specs.declared.table.direct_table.Slot.{Slot}
 
 -- the inverse, modulo 2 ^ 64, of the number by which a key is mixed
@@ -60,15 +60,15 @@ ten_bits bits n some next = elim (cases_lt bits 10) [
 ]
 
 -- slots stay true once one more is stored
-pub bounds_more : (s : ℕ) (slots : List Slot) {a : HousesState} {number at : ℕ} {p : Slot} → s ≤ 54 → HoldBounds s slots
+pub bounds_more : (s : ℕ) (slots : List Slot) {a : HousesState} {number at : ℕ} {p : Slot} → s ≤ 54 → AreTrueSlots s slots
     → IsWithinHouses a →
     number ≡ mixed (key_of a) → at ≡ slot_of s number → at < length slots
     → stored_tag p ≡ tag_of number →
-    IsWithinSlot p (won a) → HoldBounds s (slice_set slots at p)
+    IsWithinSlot p (won a) → AreTrueSlots s (slice_set slots at p)
 bounds_more s slots enough before limits number_is place inside rest known b number_b d limits_b number_b_is inside_b rest_b =
     grind (arith, length-set, cases_eq, get_or-set_same, same_slotted, get_or-set_other)
 
 -- slots that all hold what is known of all houses
-pub bounds_unknown : (s count : ℕ) (p : Slot) → stored_least p ≡ 0 → stored_most p ≡ most_seeds → HoldBounds s (replicate count p)
+pub bounds_unknown : (s count : ℕ) (p : Slot) → stored_least p ≡ 0 → stored_most p ≡ most_seeds → AreTrueSlots s (replicate count p)
 bounds_unknown s count p none all a number d limits number_is inside rest =
     grind (arith, won_of_houses, get_or-replicate, length-replicate)

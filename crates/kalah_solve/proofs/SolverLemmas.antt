@@ -1,5 +1,5 @@
 -- Games, best play, and what a solver says of it.
-use Rattle.std.proofs.Common.{zero, suc, ◌≡◌, ℕ, ◌<◌, ◌≤◌, inl, inr, List, [], ◌∷◌, length, get_or, arith, ap, sym, subst, ◌∙◌, refl, ◌+◌, w32, to_z, of_z, FitsSigned, false, Contains, ℤ, ◌≤ℤ◌, Bool, nat_lt, neg_ℤ, true, map, pos, ◌<ℤ◌, All, find, option_map, Some, ◌+ℤ◌, ◌-ℤ◌, int_eq}
+use Rattle.std.proofs.Common.{zero, suc, ◌≡◌, ℕ, ◌<◌, ◌≤◌, inl, inr, List, [], ◌∷◌, length, get_or, arith, ap, sym, subst, ◌∙◌, refl, ◌+◌, w32, to_z, of_z, FitsSigned, false, Contains, ℤ, ◌≤ℤ◌, Bool, nat_lt, neg_ℤ, true, map, pos, ◌<ℤ◌, find, option_map, Some, ◌+ℤ◌, ◌-ℤ◌, int_eq}
 use Rattle.std.proofs.lemmas.Bool.{both_ways, cases_Bool, cases_eq, cond_both}
 use Rattle.kalah_rules.specs.Position.{Position, HasEqualSides, is_over, swapped, final_margin, side_length, seeds, IsWithinLimits, IsSmallMargin, HousesState, IsWithinHouses, houses_in, storeless}
 use Rattle.kalah_rules.specs.Sowing.{after}
@@ -338,20 +338,12 @@ worth_of_move_is_one p h v w equal going a b = move_worth_is_one a b
 houses_of : (p : Position) (xs : List ℕ) → map (λ v. v.house) (map (move_value p) xs) ≡ xs
 houses_of p xs = map-map (λ (v : MoveValue). v.house) (move_value p) xs ∙ map-id xs
 
--- no values state nothing
-no_values_state : (p : Position) → All (λ (v : MoveValue). IsWorthOfMove p v.house v.value) []
-no_values_state p = grind arith
-
 -- the values of the moves are what these secure; if the game is over there are none
-pub values_state : {p : Position} → HasEqualSides p → StateValues p (values_of p)
-values_state {p} equal = record {
+pub values_state : (p : Position) → StateValues p (values_of p)
+values_state p = record {
   houses = houses_of p _;
-  worth = elim (cases_Bool (is_over p)) [
-    | inl over ↦ rw over (no_values_state p)
-    | inr going ↦ All-map (λ (v : MoveValue). IsWorthOfMove p v.house v.value) (move_value p) _
-        (All-from_get_or (λ h. IsWorthOfMove p h (value_of_move p h)) _ 0
-        (λ i within. value_is_worth p _ equal going (Contains-get_or _ i 0 within)))
-  ];
+  worth = All-map (λ (v : MoveValue). IsWorthOfMove p v.house v.value) (move_value p) _
+      (All-from_get_or (λ h. IsWorthOfMove p h (value_of_move p h)) _ 0 (λ i within. move_worth p _));
 }
 
 -- the first house with a value

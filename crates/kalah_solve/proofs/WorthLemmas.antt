@@ -135,6 +135,15 @@ unfolding worth_within
 worth_within-over zero p over = refl
 worth_within-over (suc n) p over = cc
 
+-- two worths that agree on positions with fewer moves left give the moves the same values
+values_same : (v w : Position → ℤ) (p : Position) → HasEqualSides p →
+    ((q : Position) → HasEqualSides q → moves_left q < moves_left p → v q ≡ w q) →
+    map (value_by v p) (legal_houses p) ≡ map (value_by w p) (legal_houses p)
+values_same v w p equal agree = map_same _ _ (legal_houses p) (λ h legal.
+    let fewer = after_fewer p h (legal_holds p h legal) equal in
+    let next_equal = after_equal_sides p h in
+    value_same v w p h (agree _ next_equal fewer) (agree _ (swapped_equal_sides _ next_equal) (omega (arith, fewer, moves_left-swapped _ next_equal))))
+
 -- two counts that are high enough give the same worth
 pub worth_same : (n k : ℕ) (p : Position) → HasEqualSides p → moves_left p ≤ n → moves_left p ≤ k
     → worth_within n p ≡ worth_within k p
@@ -142,14 +151,8 @@ worth_same zero k p equal n_high k_high = grind (arith, over_at_end, worth_withi
 worth_same (suc n) zero p equal n_high k_high = grind (arith, over_at_end, worth_within-over)
 worth_same (suc n) (suc k) p equal n_high k_high = elim (cases_Bool _) [
   | inl over ↦ worth_within-over _ p over ∙ sym (worth_within-over _ p over)
-  | inr going ↦ worth_within-going n p going ∙ ap greatest (map_same _ (value_by (worth_within k) p)
-      _ (λ h is_legal.
-      let fewer = after_fewer p h (legal_holds p h is_legal) equal in
-      let next_even = after_equal_sides p h in
-      let turned = moves_left-swapped _ next_even in
-      value_same (worth_within n) (worth_within k) p h
-      (worth_same n k _ next_even (omega arith) (omega arith))
-      (worth_same n k _ (omega arith) (omega arith) (omega arith))))
+  | inr going ↦ worth_within-going n p going
+      ∙ ap greatest (values_same _ _ p equal (λ q even fewer. worth_same n k q even (omega arith) (omega arith)))
       ∙ sym (worth_within-going k p going)
 ]
 
@@ -169,15 +172,7 @@ unfolding worth
 worth_of_going p equal going =
     worth_same (moves_left p) (suc (moves_left p)) p equal (omega arith) (omega arith)
     ∙ worth_within-going _ _ going
-    ∙ ap greatest (map_same (value_by (worth_within (moves_left p)) p) (value_of_move p) (legal_houses p) (λ h is_legal.
-    let fewer = after_fewer p h (legal_holds p h is_legal) equal in
-    let next_even = after_equal_sides p h in
-    let turned = moves_left-swapped (after p h) next_even in
-    value_same (worth_within (moves_left p)) worth p h
-    (worth_same _ _ _ next_even (omega arith) (omega arith))
-    (worth_same _ _ _ (swapped_equal_sides _ next_even)
-    (omega arith)
-    (omega arith))))
+    ∙ ap greatest (values_same (worth_within (moves_left p)) worth p equal (λ q even fewer. worth_same _ _ q even (omega arith) (omega arith)))
 
 -- a sweep keeps the margin
 final_margin-swept : (q : Position) → final_margin (swept q) ≡ final_margin q

@@ -228,7 +228,7 @@ impl<A: Allocator + Clone> Search<A> {
         ensures { IsSoftBound beta (won houses.now) result }
     {
         let houses = houses.known_variant(VARIANT);
-        let known = self.known(&houses);
+        let known = self.known_seeds(&houses);
         if beta <= known.least {
             return known.least;
         }
@@ -249,7 +249,7 @@ impl<A: Allocator + Clone> Search<A> {
                 most: bound,
             }
         };
-        self.learn(&houses, learned, nodes);
+        self.learn_seeds(&houses, learned, nodes);
         bound
     }
 

@@ -47,18 +47,18 @@ pub struct Table<A: Allocator + Clone = Global> {
 
 impl<A: Allocator + Clone> Model for Table<A> {
     ghost use Rattle.kalah_solve.specs.Table.DirectTable.{AreSlots};
-    ghost use Rattle.kalah_solve.specs.Table.Entries.{TableState, AreTrue};
+    ghost use Rattle.kalah_solve.specs.Table.Entries.{TableState, AreTrueEntries};
 
     ghost Value = { TableState };
 
     ghost view = { λ t. record { entries = t.entries.entries; capacity = t.entries.cap } };
 
-    ghost invariant = { λ t. AreTrue t.entries.entries × AreSlots t.entries.cap t.slots };
+    ghost invariant = { λ t. AreTrueEntries t.entries.entries × AreSlots t.entries.cap t.slots };
 }
 
 impl<A: Allocator + Clone> Table<A> {
     ghost use Rattle.kalah_solve.specs.Bounds.Intervals.{Encloses};
-    ghost use Rattle.kalah_solve.specs.Table.Entries.{AreTrue};
+    ghost use Rattle.kalah_solve.specs.Table.Entries.{AreTrueEntries};
     ghost use Rattle.kalah_solve.specs.Bounds.Won.{won};
 
     /// Makes an empty table with room for `capacity` entries, 1 to 1,048,576.
@@ -132,7 +132,7 @@ impl<A: Allocator + Clone> Table<A> {
     pub(crate) fn won<const VARIANT: u8>(&self, houses: Houses) -> u8
         requires going { is_over (storeless houses) ≡ false }
         requires variant { variant_of houses ≡ VARIANT }
-        requires few { IsEnding houses }
+        requires ending { IsEnding houses }
         ensures { result ≡ won houses }
     {
         self.endings.won::<VARIANT>(houses)

@@ -38,8 +38,8 @@ pub record IsWithinSlot (p : Slot) (t : ℕ) : Type 0 where
   pub most : t ≤ stored_most p
 
 -- what a slot states is true of all houses that have it and its tag
-abbrev pub HoldBounds : ℕ → List Slot → Type 0
-HoldBounds shift slots = (a : HousesState) (number : ℕ) (d : Slot) → IsWithinHouses a → number ≡ mixed (key_of a) →
+abbrev pub AreTrueSlots : ℕ → List Slot → Type 0
+AreTrueSlots shift slots = (a : HousesState) (number : ℕ) (d : Slot) → IsWithinHouses a → number ≡ mixed (key_of a) →
     slot_of shift number < length slots →
     stored_tag (slice_index_or slots (slot_of shift number) d) ≡ tag_of number →
     IsWithinSlot (slice_index_or slots (slot_of shift number) d) (won a)

@@ -25,5 +25,5 @@ abbrev pub IsTrueEntry : ℕ × Interval → Type 0
 IsTrueEntry e = (a : HousesState) × IsWithinHouses a × (key_of a ≡ e.0) × Encloses e.1 (houses_worth a)
 
 -- each entry of the table is true of its key
-abbrev pub AreTrue : List (ℕ × Interval) → Type 0
-AreTrue es = (e : ℕ × Interval) → Contains es e → IsTrueEntry e
+abbrev pub AreTrueEntries : List (ℕ × Interval) → Type 0
+AreTrueEntries es = (e : ℕ × Interval) → Contains es e → IsTrueEntry e

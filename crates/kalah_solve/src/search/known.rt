@@ -24,7 +24,7 @@ impl<A: Allocator + Clone> Search<A> {
     }
 
     // Returns what is known of the seeds that the mover wins.
-    pub(super) fn known(&mut self, houses: &Houses) -> SeedBounds
+    pub(super) fn known_seeds(&mut self, houses: &Houses) -> SeedBounds
         ensures { IsWithinBounds result (won houses.now) }
     {
         if houses.seeds() <= self.most_slotted {
@@ -48,7 +48,7 @@ impl<A: Allocator + Clone> Search<A> {
 
     // Stores what was learned of the houses in this many nodes.
     #[tactic(auto, using(crate::proofs::BoundsLemmas::won_of_houses, crate::proofs::BoundsLemmas::worth_of_won))]
-    pub(super) fn learn(&mut self, houses: &Houses, bounds: SeedBounds, nodes: u64)
+    pub(super) fn learn_seeds(&mut self, houses: &Houses, bounds: SeedBounds, nodes: u64)
         requires { IsWithinBounds bounds (won houses.now) }
     {
         let seeds = houses.seeds();

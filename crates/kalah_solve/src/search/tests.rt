@@ -102,7 +102,7 @@ fn slots_are_laid_out_once(rt: HostRuntime) {
     search.table.grow();
     // The mover wins 10 of the 12 seeds.
     let _ = search.bound_by_search::<6>(&houses, 10);
-    assert!(rt; search.known(&houses).least == 10);
+    assert!(rt; search.known_seeds(&houses).least == 10);
     search.table.grow();
-    assert!(rt; search.known(&houses).least == 10);
+    assert!(rt; search.known_seeds(&houses).least == 10);
 }

@@ -73,13 +73,13 @@ pub(crate) struct DirectTable<A: Allocator = Global> {
 impl<A: Allocator> Model for DirectTable<A> {
     ghost use Rattle.std.specs.Prelude.{List, length};
     ghost use Rattle.kalah_solve.specs.declared.table.direct_table.Slot.{Slot};
-    ghost use Rattle.kalah_solve.specs.Table.DirectTable.{AreEnough, HoldBounds};
+    ghost use Rattle.kalah_solve.specs.Table.DirectTable.{AreEnough, AreTrueSlots};
 
     ghost Value = { List Slot };
 
     ghost view = { λ p. p.slots.items };
 
-    ghost invariant = { λ p. AreEnough p.shift (length p.slots.items) × HoldBounds p.shift p.slots.items };
+    ghost invariant = { λ p. AreEnough p.shift (length p.slots.items) × AreTrueSlots p.shift p.slots.items };
 }
 
 // Returns the mixed key of the houses.

@@ -178,7 +178,7 @@ impl<A: Allocator + Clone> EndgameTable<A> {
     // Returns how many seeds the mover wins, if it is known.
     fn get(&self, houses: &Houses, rank: u32) -> Option<u8>
         requires rank { rank ≡ rank_of_houses houses.now }
-        requires few { IsEnding houses.now }
+        requires ending { IsEnding houses.now }
         ensures { IfSome result (λ t. t ≡ won houses.now) }
     {
         let words = &self.words.shared;
@@ -194,7 +194,7 @@ impl<A: Allocator + Clone> EndgameTable<A> {
     fn keep(&self, houses: &Houses, rank: u32, known: u8)
         requires rank { rank ≡ rank_of_houses houses.now }
         requires known { known ≡ won houses.now }
-        requires few { IsEnding houses.now }
+        requires ending { IsEnding houses.now }
     {
         let words = &self.words.shared;
         let at = word_of(houses, rank);

@@ -20,7 +20,7 @@ impl<A: Allocator + Clone> EndgameTable<A> {
     pub(crate) fn won<const VARIANT: u8>(&self, houses: Houses) -> u8
         requires going { is_over (storeless houses) ≡ false }
         requires variant { variant_of houses ≡ VARIANT }
-        requires few { IsEnding houses }
+        requires ending { IsEnding houses }
         ensures { result ≡ won houses }
     {
         let houses = houses.known_variant(VARIANT);
@@ -37,7 +37,7 @@ impl<A: Allocator + Clone> EndgameTable<A> {
     fn won_by_moves<const VARIANT: u8>(&self, houses: Houses, rank: u32) -> u8
         requires going { is_over (storeless houses) ≡ false }
         requires variant { variant_of houses ≡ VARIANT }
-        requires few { IsEnding houses }
+        requires ending { IsEnding houses }
         requires rank { rank ≡ rank_of_houses houses }
         ensures { result ≡ won houses }
     {
@@ -52,7 +52,7 @@ impl<A: Allocator + Clone> EndgameTable<A> {
     fn most_won<const VARIANT: u8>(&self, houses: &Houses) -> u8
         requires going { is_over (storeless houses.now) ≡ false }
         requires variant { variant_of houses.now ≡ VARIANT }
-        requires few { IsEnding houses.now }
+        requires ending { IsEnding houses.now }
         ensures { result ≡ won houses.now }
     {
         let seeds = houses.seeds();
@@ -74,7 +74,7 @@ impl<A: Allocator + Clone> EndgameTable<A> {
     fn move_wins<const VARIANT: u8>(&self, houses: &Houses, house: House) -> u8
         requires legal { Contains (legal_houses (storeless houses.now)) house }
         requires variant { variant_of houses.now ≡ VARIANT }
-        requires few { IsEnding houses.now }
+        requires ending { IsEnding houses.now }
         ensures { result ≡ won_by_step (houses_step houses.now house) }
     {
         match houses.play_by(&self.sowings, house) {

@@ -54,7 +54,7 @@ impl Play<(), ()> for Writes {
 #[tactic(auto, using(crate::proofs::EndingLemmas::word_inside))]
 pub(super) fn word_of(houses: &Houses, rank: u32) -> usize
     requires rank { rank ≡ rank_of_houses houses.now }
-    requires few { IsEnding houses.now }
+    requires ending { IsEnding houses.now }
     ensures word { result ≡ word_of houses.now }
     ensures inside { result < WORDS }
     ensures limits { IsWithinHouses houses.now }

@@ -6,7 +6,6 @@ use Rattle.kalah_rules.specs.Position.{Position}
 use Rattle.kalah_solve.specs.Solver.MoveValues.{IsMoveValue, move_value, StateValues}
 use Rattle.kalah_solve.specs.declared.solver.move_values.MoveValue.{MoveValue}
 use Rattle.kalah_solve.proofs.SolverLemmas.{values_state, move_value_small}
-use Rattle.kalah_solve.proofs.WorthLemmas.{board_equal_sides}
 use Rattle.kalah_solve.proofs.solver.Solver.values.Goals as goal
 
 module _ (moves : List ℕ) (i h : ℕ) (some : 0 < i) (within : i ≤ length moves) (h_is : h ≡ get_or moves (i - 1) 0) where
@@ -43,7 +42,7 @@ pub returns-clause-best_play : goal.returns-clause-best_play
 returns-clause-best_play g c =
     let none : c.loop-i.i ≡ 0 = omega arith in
     let done = rw (none, c.legal-moves.ensures.moves) at c.loop-i.invariant.done in
-    subst (StateValues c.args.board.now) (sym done) (values_state (board_equal_sides _ c.legal-moves.ensures.limits))
+    subst (StateValues c.args.board.now) (sym done) (values_state _)
 
 pub prepend-requires-clause-room : goal.prepend-requires-clause-room
 prepend-requires-clause-room g c = grind (arith, common_steps)

@@ -18,7 +18,7 @@ most_won-loop-untried-init g t c =
 pub most_won-move_wins-requires : goal.most_won-move_wins-requires
 most_won-move_wins-requires g t c κs within =
     let legal = last_is_legal c.loop-untried.invariant.movable c.split_last-house.ensures.last in
-    (omega arith, (within, (search rules, (legal, (c.requires.variant, c.requires.few)))))
+    (omega arith, (within, (search rules, (legal, (c.requires.variant, c.requires.ending)))))
 
 pub most_won-returns-then-most-seeds : goal.most_won-returns-then-most-seeds
 most_won-returns-then-most-seeds g t c =

@@ -10,5 +10,5 @@ returns g c =
     let word = c.load_new_seat-word.result.0 in
     let at : c.stored_at-stored.result ≡ stored_at word (rank_of_houses a % 16) = rw (← c.requires.rank) c.stored_at-stored.ensures in
     let states = subst (λ i. HoldsWon i word) c.word_of.ensures.word c.load_new_seat-word.ensures.2 in
-    let right = stored_is_won _ _ states c.word_of.ensures.limits c.requires.few (λ none. c.if-stored-eq0.false (at ∙ none)) in
+    let right = stored_is_won _ _ states c.word_of.ensures.limits c.requires.ending (λ none. c.if-stored-eq0.false (at ∙ none)) in
     omega arith

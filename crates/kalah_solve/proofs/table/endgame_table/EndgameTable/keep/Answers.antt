@@ -21,5 +21,5 @@ swap_new_seat-requires g c =
     let few : won a ≤ most_ending_seeds = omega (arith, (won_of_houses at.limits).few) in
     let one_more : c.args.known + 1 ≡ suc (won a) = omega arith in
     let after : HoldsWon c.word_of-at.result c.with_stored-word.result =
-    rw (at.word, c.with_stored-word.ensures, one_more, c.requires.rank) (states_one_more _ _ before at.limits c.requires.few none few) in
+    rw (at.word, c.with_stored-word.ensures, one_more, c.requires.rank) (states_one_more _ _ before at.limits c.requires.ending none few) in
     (search rules, word_may_be_written _ _ _ after)
