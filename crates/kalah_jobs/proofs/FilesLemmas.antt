@@ -22,7 +22,7 @@ use Rattle.kalah_jobs.specs.Files.Jobs.{lines_in_all, lines_in, entries_to, jobs
 use Rattle.kalah_rules.specs.Position.{IsWithinLimits, houses_in}
 use Rattle.kalah_jobs.specs.Writing.Answer.{answer_of, is_faulty_entry}
 use Rattle.kalah_jobs.specs.Writing.Output.{is_faulty, is_faulty_job}
-use Rattle.kalah_rules.proofs.KeyLemmas.{same_key}
+use Rattle.kalah_rules.proofs.KeyLemmas.{key-injective}
 use Rattle.kalah_rules.proofs.PackedLemmas.{houses_within}
 use Rattle.kalah_rules.specs.contracts.board.BoardEq.TheImpl.Laws.{laws-law}
 use Rattle.kalah_jobs.proofs.ListLemmas.{count_map, count_flat, slice_get-append_left, slice_get-append_right}
@@ -401,7 +401,7 @@ same_board p q = (board_eq.ghosts).eq p q
 -- boards that are equal by `==` show the same position
 pub same_board_means : (p q : position.Position) → IsWithinLimits p → IsWithinLimits q → same_board p q ≡ true → p ≡ q
 same_board_means p q p_limits q_limits same =
-    let rows : houses_in p ≡ houses_in q = same_key (houses_in p) (houses_in q) (houses_within p p_limits) (houses_within q q_limits)
+    let rows : houses_in p ≡ houses_in q = key-injective (houses_in p) (houses_in q) (houses_within p p_limits) (houses_within q q_limits)
     (grind (arith, nat_tests)) in
     let own_store : p.own_store ≡ q.own_store = grind (arith, nat_tests) in
     let other_store : p.other_store ≡ q.other_store = grind (arith, nat_tests) in

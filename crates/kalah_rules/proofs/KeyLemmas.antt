@@ -7,7 +7,7 @@ use Rattle.std.proofs.lemmas.List.Sums.{sum_by-cons, sum_by-append}
 use Rattle.std.proofs.lemmas.Bool.{cases_eq}
 use Rattle.kalah_rules.specs.Position.{seeds, HousesState, IsWithinHouses, seeds_in_houses, storeless, without_seeds}
 use Rattle.kalah_rules.specs.Sowing.{row_of, lap_length, gain, own_distance, other_distance}
-use Rattle.kalah_rules.proofs.PlayLemmas.{range_more, length-row_of, same_as_row, row_of_same, seeds-set_same, seeds-set_other, sum-zeros}
+use Rattle.kalah_rules.proofs.PlayLemmas.{range-suc, length-row_of, same_as_row, row_of_same, seeds-set_same, seeds-set_other, sum-zeros}
 use Rattle.kalah_rules.specs.Key.{number_of, cells, rule_bit, rows_number, key_of, variant_of, side_at, houses_at, IsKey}
 use Rattle.kalah_rules.specs.Packed.{ones, up_to, unpacked, IsPackOf, IsPacked, IsPackedRow}
 use Rattle.kalah_rules.specs.Sowings.{own_gains, other_gains, store_gains}
@@ -80,7 +80,7 @@ number_of-set (x ∷ xs) (suc k) v inside = omega (arith, number_of-set xs k v (
 number_of-suc : (n : ℕ) (f : ℕ → ℕ) → number_of (row_of (suc n) f) ≡ number_of (row_of n f) + 32 ^ n * f (suc n)
 number_of-suc n f =
     let more : number_of (row_of (n + 1) f) ≡ number_of (row_of n f) + 32 ^ n * f (n + 1) =
-    grind (arith, range_more, map_push, number_of-append, length-row_of) in
+    grind (arith, range-suc, map_push, number_of-append, length-row_of) in
     rw add-one at more
 
 -- rows are added house by house
@@ -335,11 +335,11 @@ key_is_key {a} limits key_is =
     })
 
 -- rules with the same bit are equal
-rule_bit-same : (r s : Rule) → rule_bit r ≡ rule_bit s → r ≡ s
-rule_bit-same Classic Classic same = refl
-rule_bit-same Classic EmptyCapture same = cc
-rule_bit-same EmptyCapture Classic same = cc
-rule_bit-same EmptyCapture EmptyCapture same = refl
+rule_bit-injective : (r s : Rule) → rule_bit r ≡ rule_bit s → r ≡ s
+rule_bit-injective Classic Classic same = refl
+rule_bit-injective Classic EmptyCapture same = cc
+rule_bit-injective EmptyCapture Classic same = cc
+rule_bit-injective EmptyCapture EmptyCapture same = refl
 
 -- houses with the same parts are the same
 pub same_houses_in : {a b : HousesState} → a.own ≡ b.own → a.other ≡ b.other → a.rule ≡ b.rule → a ≡ b
@@ -352,7 +352,7 @@ houses_of_key a k rule limits key_is bit =
     let held = key_holds limits key_is in
     let other_shown : take (side_at k) (cells 6 (k / 2 ^ 30)) ≡ a.other =
     rw (held.side, held.other_cells, sym limits.same_side) (take-padded _) in
-    same_houses_in (rw (held.side, held.own_cells) (take-padded _)) other_shown (rule_bit-same _ _ (omega arith))
+    same_houses_in (rw (held.side, held.own_cells) (take-padded _)) other_shown (rule_bit-injective _ _ (omega arith))
 
 -- the parts of a key make the key
 key_from_parts : {k side : ℕ} {own other : List ℕ} (rule : Rule) → number_of own + 2 ^ 30 * (k / 2 ^ 30) ≡ k →
@@ -446,8 +446,8 @@ module _ (k : ℕ) (rule : Rule) (bit : rule_bit rule ≡ k / 2 ^ 63) where
   of_key_found (Some b) valid value a limits key_is = ap Some (value ∙ houses_of_key _ _ _ limits key_is bit)
 
 -- two values of houses with one key are one
-pub same_key : (a b : HousesState) → IsWithinHouses a → IsWithinHouses b → key_of a ≡ key_of b → a ≡ b
-same_key a b limits_a limits_b same =
+pub key-injective : (a b : HousesState) → IsWithinHouses a → IsWithinHouses b → key_of a ≡ key_of b → a ≡ b
+key-injective a b limits_a limits_b same =
     let bit = sym (key_holds limits_a same).rule in
     sym (houses_of_key _ _ _ limits_a same bit) ∙ houses_of_key _ _ _ limits_b refl bit
 

@@ -10,7 +10,7 @@ use Rattle.std.proofs.lemmas.Bool.Decides.{nat_tests}
 use Rattle.kalah_rules.specs.Position.{Position, HousesState, IsWithinHouses, side_length, seeds, opposite, seeds_in_houses, storeless, IsWithinLimits, is_over, swapped, houses_in, with_stores, without_seeds}
 use Rattle.kalah_rules.specs.Lap.{HoldsSeeds, lifted}
 use Rattle.kalah_rules.specs.Sowing.{lap_length, own_distance, other_distance, store_distance, sow, sown, last_distance, is_again, captures, can_capture, captured, after}
-use Rattle.kalah_rules.proofs.PlayLemmas.{sum-set_zero, sow_side, sow_keeps, own_distance_past, own_distance_back, last_house_own, last_house_store, last_house_other, after_at, legal_holds, after_nearer, sum-zeros, with_store_seeds, after_of_houses, legal_going}
+use Rattle.kalah_rules.proofs.PlayLemmas.{IsLegal, sum-set_zero, sow_side, sow_keeps, own_distance_past, own_distance_back, last_house_own, last_house_store, last_house_other, after_at, legal_holds, after_nearer, sum-zeros, with_store_seeds, after_of_houses, legal_going}
 use Rattle.kalah_rules.specs.Key.{number_of, rule_bit}
 use Rattle.kalah_rules.specs.Packed.{IsPackedPosition, ones, unpacked, IsPackOf, IsPacked}
 use Rattle.kalah_rules.specs.declared.houses.play.RowNumbers.{RowNumbers}
@@ -123,23 +123,23 @@ module _ {a : HousesState} {h : ℕ} (can : CanSow a h) where
       }
 
   -- the own row after the sowing
-  pub own_is : number_of after_sowing.own + 32 ^ (h - 1) * seeds a.own h ≡ number_of a.own + own_gains (length a.own) h (seeds a.own h)
+  pub number_of-sown_own : number_of after_sowing.own + 32 ^ (h - 1) * seeds a.own h ≡ number_of a.own + own_gains (length a.own) h (seeds a.own h)
   unfolding sow
-  own_is = own_sown _ _ _ can.holds.first can.holds.last
+  number_of-sown_own = own_sown _ _ _ can.holds.first can.holds.last
 
   -- the other row
-  pub other_is : number_of after_sowing.other ≡ number_of a.other + other_gains (length a.own) h (seeds a.own h)
+  pub number_of-sown_other : number_of after_sowing.other ≡ number_of a.other + other_gains (length a.own) h (seeds a.own h)
   unfolding sow
-  other_is = rw can.limits.same_side at (other_sown a.other h (seeds a.own h))
+  number_of-sown_other = rw can.limits.same_side at (other_sown a.other h (seeds a.own h))
 
   -- what comes to the store
-  pub store_is : after_sowing.own_store ≡ store_gains (length a.own) h (seeds a.own h)
+  pub sown_own_store : after_sowing.own_store ≡ store_gains (length a.own) h (seeds a.own h)
   unfolding sow
-  store_is = omega arith
+  sown_own_store = omega arith
 
   -- the row without the house's seeds
-  pub lifted_is : number_of (lifted (storeless a) h).own + 32 ^ (h - 1) * seeds a.own h ≡ number_of a.own
-  lifted_is = omega (arith, number_of-set)
+  pub number_of-lifted : number_of (lifted (storeless a) h).own + 32 ^ (h - 1) * seeds a.own h ≡ number_of a.own
+  number_of-lifted = omega (arith, number_of-set)
 
   -- the sowing leaves few seeds
   few : sum after_sowing.own + sum after_sowing.other ≤ 31
@@ -158,19 +158,19 @@ module _ {a : HousesState} {h : ℕ} (can : CanSow a h) where
       → house ≡ 32 ^ (h - 1) * seeds a.own h →
       gains ≡ own_gains (length a.own) h (seeds a.own h) + 2 ^ 30 * other_gains (length a.own) h (seeds a.own h) →
       rows - house + gains ≡ number_of after_sowing.own + 2 ^ 30 * number_of after_sowing.other
-  sown_rows rows house gains rows_are house_is gains_are = omega (arith, own_is, other_is, lifted_is)
+  sown_rows rows house gains rows_are house_is gains_are = omega (arith, number_of-sown_own, number_of-sown_other, number_of-lifted)
 
   -- after a sowing the rows are both rows, less what they lose
   pub sown_less : (rows loses : ℕ) → rows ≡ number_of a.own + 2 ^ 30 * number_of a.other → loses < 2 ^ 64 →
       (loses + (own_gains (length a.own) h (seeds a.own h) + 2 ^ 30 * other_gains (length a.own) h (seeds a.own h))) % 2 ^ 64
       ≡ 32 ^ (h - 1) * seeds a.own h →
       (rows + (2 ^ 64 - loses)) % 2 ^ 64 ≡ number_of after_sowing.own + 2 ^ 30 * number_of after_sowing.other
-  sown_less rows loses rows_are loses_small loses_is = omega (arith, own_is, other_is, own_small, other_small)
+  sown_less rows loses rows_are loses_small loses_is = omega (arith, number_of-sown_own, number_of-sown_other, own_small, other_small)
 
   -- rows and a store with what a sowing adds show the position after it
   pub rows_show : (rows store : ℕ) → rows ≡ number_of after_sowing.own + 2 ^ 30 * number_of after_sowing.other →
       store ≡ store_gains (length a.own) h (seeds a.own h) → IsPackedPosition (record { rows = rows; store = store }) after_sowing
-  rows_show rows store rows_are store_is' = omega (arith, own_small, store_is)
+  rows_show rows store rows_are store_is' = omega (arith, own_small, sown_own_store)
 
   -- a house whose last seed falls into the store without a lap
   pub into_store : (rows house own_more : ℕ) → seeds a.own h + h ≡ length a.own + 1
@@ -358,7 +358,7 @@ move_leaves {a} {h} {rows} {s = s} pack holds sowing fits same has_captured =
           record { within = leaves.within; shows = after_own _ h holds _ own leaves.shows }
     ]
 
--- where the last seed and the seeds across stand, is room in a number
+-- the last seed and the seeds across fit into 64 bits
 pub captured_fits : {m : ℕ} (h c x : ℕ) (s : Sowing) → IsSowing m h c s → m ≤ 6 → x < 32
     → s.last_seed + x * 2 ^ s.across_bit % 2 ^ 64 < 2 ^ 64
 captured_fits {m} h c x s sowing side small = elim (cases_lt m (last_place m h c)) [
@@ -411,12 +411,12 @@ swapped_within q limits = omega arith
 
 -- ---- what `play` computes
 -- the move of house h leads to this step with the houses that are packed so
-pub record IsStepTo (a : HousesState) (h rows seeds variant : ℕ) (step : HousesState → HousesStep) : Type 0 where
+pub record IsPackedStep (a : HousesState) (h rows seeds variant : ℕ) (step : HousesState → HousesStep) : Type 0 where
   pub packed : IsPacked rows seeds variant
   pub step_is : step (unpacked rows variant) ≡ houses_step a h
 
 -- a move brings at most 31 seeds to the store
-pub store_small : {a : HousesState} {h : ℕ} {r : RowNumbers} → IsWithinHouses a → Contains (legal_houses (storeless a)) h
+pub store_small : {a : HousesState} {h : ℕ} {r : RowNumbers} → IsWithinHouses a → IsLegal a h
     → IsPackedPosition r (after (storeless a) h) →
     r.store ≤ 31
 store_small {a} {h} {r} limits legal shows =
@@ -424,7 +424,7 @@ store_small {a} {h} {r} limits legal shows =
     omega (arith, keeps.play)
 
 module _ {a : HousesState} {h rows seeds variant : ℕ} {r : RowNumbers} (packed : IsPacked rows seeds variant) (view_is : unpacked rows variant ≡ a)
-    (legal : Contains (legal_houses (storeless a)) h) (shows : IsPackedPosition r (after (storeless a) h)) where
+    (legal : IsLegal a h) (shows : IsPackedPosition r (after (storeless a) h)) where
   -- the meaning of the fields
   packed_houses : IsPackOf a rows seeds variant
   packed_houses = pack_of packed view_is
@@ -468,7 +468,7 @@ module _ {a : HousesState} {h rows seeds variant : ℕ} {r : RowNumbers} (packed
     moved_going = grind (arith, number_of-zero)
 
     -- if the mover moves again, the rows stay in place
-    pub again_packed : is_again (storeless a) h ≡ true → IsStepTo a h r.rows (seeds - r.store) variant (Again r.store)
+    pub again_packed : is_again (storeless a) h ≡ true → IsPackedStep a h r.rows (seeds - r.store) variant (Again r.store)
     again_packed more =
         let rule = ap rule_bit move_keeps.rule in
         let there = packed_as _ _ _ variant moved_within
@@ -479,7 +479,7 @@ module _ {a : HousesState} {h rows seeds variant : ℕ} {r : RowNumbers} (packed
 
     -- if the turn passes, they change places
     pub turn_packed : is_again (storeless a) h ≡ false →
-        IsStepTo a h (r.rows / 2 ^ 30 + 2 ^ 30 * (r.rows % 2 ^ 30)) (seeds - r.store) variant (Turn r.store)
+        IsPackedStep a h (r.rows / 2 ^ 30 + 2 ^ 30 * (r.rows % 2 ^ 30)) (seeds - r.store) variant (Turn r.store)
     turn_packed passed =
         let rule = ap rule_bit move_keeps.rule in
         let there = packed_as (houses_in (swapped moved)) _ (seeds - _) variant
@@ -491,30 +491,30 @@ module _ {a : HousesState} {h rows seeds variant : ℕ} {r : RowNumbers} (packed
 
 -- ---- a step on houses, applied to a position
 -- the step of a position whose houses make this one
-abbrev pub step_with : Position → HousesStep → Step
-step_with p (Over own other) = step.Over (with_stores (without_seeds (houses_in p)) (p.own_store + own) (p.other_store + other))
-step_with p (Again gained b) = step.Again (with_stores b (p.own_store + gained) p.other_store)
-step_with p (Turn gained b) = step.Turn (with_stores b p.other_store (p.own_store + gained))
+abbrev pub with_board_stores : Position → HousesStep → Step
+with_board_stores p (Over own other) = step.Over (with_stores (without_seeds (houses_in p)) (p.own_store + own) (p.other_store + other))
+with_board_stores p (Again gained b) = step.Again (with_stores b (p.own_store + gained) p.other_store)
+with_board_stores p (Turn gained b) = step.Turn (with_stores b p.other_store (p.own_store + gained))
 
 -- the position that it leads to is within the limits
 abbrev pub IsStepWithin : Position → HousesStep → Type 0
-IsStepWithin p s = IsWithinLimits (position_after (step_with p s))
+IsStepWithin p s = IsWithinLimits (position_after (with_board_stores p s))
 
 -- the step with the stores is that of the position with the stores
-step_with_to : (p q : Position) (over again : Bool) → side_length q ≡ side_length p → q.rule ≡ p.rule → q.other_store ≡ 0
+with_board_stores-step_to : (p q : Position) (over again : Bool) → side_length q ≡ side_length p → q.rule ≡ p.rule → q.other_store ≡ 0
     → is_over q ≡ over →
-    step_with p (houses_step_to q again) ≡ step_to (with_store_seeds p.own_store p.other_store q) again
-step_with_to p q true again side rule none over_is = grind arith
-step_with_to p q false true side rule none over_is = grind arith
-step_with_to p q false false side rule none over_is = grind arith
+    with_board_stores p (houses_step_to q again) ≡ step_to (with_store_seeds p.own_store p.other_store q) again
+with_board_stores-step_to p q true again side rule none over_is = grind arith
+with_board_stores-step_to p q false true side rule none over_is = grind arith
+with_board_stores-step_to p q false false side rule none over_is = grind arith
 
 -- the step of a board is that of its houses
 pub step_of_houses : (p : Position) (h : ℕ) → IsWithinHouses (houses_in p) → HoldsSeeds (storeless (houses_in p)) h →
-    step_with p (houses_step (houses_in p) h) ≡ step_of p h
+    with_board_stores p (houses_step (houses_in p) h) ≡ step_of p h
 step_of_houses p h limits holds =
     let q = after _ h in
     let keeps = after_keeps _ _ limits holds in
-    step_with_to p q (is_over q) _ keeps.side keeps.rule keeps.other_store refl
+    with_board_stores-step_to p q (is_over q) _ keeps.side keeps.rule keeps.other_store refl
     ∙ ap (λ x. step_to x (is_again p h)) (sym (after_of_houses p h))
 
 -- the step of a board is within the limits
@@ -544,20 +544,20 @@ step_within {p} h limits holds =
 
 -- all that a board needs of a step of its houses
 pub record IsStepOf (p : Position) (h : ℕ) (s : HousesStep) : Type 0 where
-  pub same : step_with p s ≡ step_of p h
+  pub same : with_board_stores p s ≡ step_of p h
   pub within : IsStepWithin p s
   pub nearer : IsNearerEnd (after p h) p
 
 -- a step of a board's houses is the board's, within the limits
-pub board_step : {b : HousesState} {own_store other_store h : ℕ} {p : Position} {s t : HousesStep}
+pub step_of_board : {b : HousesState} {own_store other_store h : ℕ} {p : Position} {s t : HousesStep}
     → IsWithinLimits (with_stores b own_store other_store) →
     with_stores b own_store other_store ≡ p → Contains (legal_houses p) h → t ≡ s → t ≡ houses_step b h →
     IsStepOf (with_stores b own_store other_store) h s
-board_step {b} {own_store} {other_store} {h} limits view_is legal same step_is =
+step_of_board {b} {own_store} {other_store} {h} limits view_is legal same step_is =
     let p = with_stores b own_store _ in
     let holds = legal_holds _ _ (subst (λ (x : Position). Contains (legal_houses x) h) (sym view_is) legal) in
     record {
-      same = ap (step_with p) (sym same ∙ step_is) ∙ step_of_houses _ _ (houses_within _ limits) holds;
+      same = ap (with_board_stores p) (sym same ∙ step_is) ∙ step_of_houses _ _ (houses_within _ limits) holds;
       within = subst (IsStepWithin p) (sym step_is ∙ same) (step_within _ limits holds);
       nearer = after_nearer _ _ (omega arith) (omega arith);
     }
@@ -565,7 +565,7 @@ board_step {b} {own_store} {other_store} {h} limits view_is legal same step_is =
 -- ==== Moves whose last seed falls into the store without a lap
 
 module _ {a : HousesState} {h rows seeds variant : ℕ} {r : RowNumbers} (packed : IsPacked rows seeds variant) (view_is : unpacked rows variant ≡ a)
-    (legal : Contains (legal_houses (storeless a)) h)
+    (legal : IsLegal a h)
     (ends : position.seeds a.own h + h ≡ length a.own + 1) (shows : IsPackedPosition r (sown (storeless a) h)) where
   can_sow : CanSow a h
   can_sow = record { limits = (pack_of packed view_is).limits; holds = legal_holds _ _ legal }
@@ -588,21 +588,21 @@ module _ {a : HousesState} {h rows seeds variant : ℕ} {r : RowNumbers} (packed
 
   -- the other player has seeds as before
   other_some : r.rows / 2 ^ 30 ≢ 0
-  other_some none = grind (arith, legal_going, sum-zero, other_is can_sow)
+  other_some none = grind (arith, legal_going, sum-zero, number_of-sown_other can_sow)
 
   -- the game goes on with the mover, if the mover has seeds left
-  pub store_packed : 0 < r.rows % 2 ^ 30 → IsStepTo a h r.rows (seeds - r.store) variant (Again r.store)
+  pub store_packed : 0 < r.rows % 2 ^ 30 → IsPackedStep a h r.rows (seeds - r.store) variant (Again r.store)
   store_packed some = again_packed packed view_is legal store_shows (omega arith) other_some moves_again
 
 -- what comes of a move, by the rows after it, if its last seed falls into the store without a lap
 pub record MovesIntoStore (a : HousesState) (h seeds variant now : ℕ) : Type 0 where
-  pub goes_on : 0 < now % 2 ^ 30 → IsStepTo a h now (seeds - 1) variant (Again 1)
+  pub goes_on : 0 < now % 2 ^ 30 → IsPackedStep a h now (seeds - 1) variant (Again 1)
   pub over : now % 2 ^ 30 ≡ 0 → Over 1 (seeds - 1) ≡ houses_step a h
 
 -- it adds a seed in each later house, less the seeds of the house
 pub moves_into_store : {a : HousesState} {h rows seeds variant : ℕ} (more : ℕ) → IsPacked rows seeds variant
     → unpacked rows variant ≡ a
-    → Contains (legal_houses (storeless a)) h →
+    → IsLegal a h →
     position.seeds a.own h + h ≡ length a.own + 1
     → (more + 32 ^ (h - 1) * (length a.own + 1 - h)) % 2 ^ 64 ≡ ones (length a.own) - ones h →
     MovesIntoStore a h seeds variant ((rows + more) % 2 ^ 64)
@@ -619,7 +619,7 @@ moves_into_store {a} {h} {rows} {seeds} {variant} more packed view_is legal ends
       small,
       pack.rows_are,
       (rows_of_pack pack).fit,
-      lifted_is can,
+      number_of-lifted can,
     ) in
     let shows = into_store can _ house later ends (sym pack.rows_are) refl (omega (arith, ones_le h (length a.own) can.holds.last)) in
     rw same (record {

@@ -9,7 +9,7 @@ use Rattle.std.proofs.lemmas.List.Sums.{sum_by-set, sum_by-cons, length-filter, 
 use Rattle.kalah_rules.specs.Sowing.{own_distance, gain, row_of, lap_length, store_distance, other_distance, sow, last_distance, last_house, sown, after, captured, capture}
 use Rattle.std.proofs.lemmas.Grind.{same_number_lists}
 use Rattle.std.proofs.lemmas.List.FromFn.{length-map-range_with_len, get_or-map-range_with_len, length-range_with_len, get_or-range_with_len}
-use Rattle.kalah_rules.specs.Position.{Position, seeds, side_length, seeds_in_houses, is_over, houses_in, storeless, HasEqualSides, swapped}
+use Rattle.kalah_rules.specs.Position.{Position, HousesState, seeds, side_length, seeds_in_houses, is_over, houses_in, storeless, HasEqualSides, swapped}
 use Rattle.kalah_rules.specs.Lap.{Cell, Own, Store, Other, distance, IsCellOf, with_seed, lifted, HoldsSeeds}
 use Rattle.std.proofs.lemmas.List.Elements.{filter-append, filter_passes, All-filter, All-contains, Contains-append_left, Contains-append_right, Contains-push}
 use Rattle.kalah_rules.specs.Play.{legal_houses}
@@ -56,9 +56,9 @@ pub distance_step : (fx r n x s : ℕ) {t sxs : ℕ} → t ≡ fx + r → fx ≤
 distance_step fx r n x s whole first rest sum_is = rw sum_is (omega arith)
 
 -- past the first element an index counts in the rest
-pub slice_index_more : (x : ℕ) (xs : List ℕ) (a j : ℕ) → a + 1 ≤ j
+pub slice_index-cons : (x : ℕ) (xs : List ℕ) (a j : ℕ) → a + 1 ≤ j
     → slice_index (x ∷ xs) (j - a) ≡ slice_index xs (j - (a + 1))
-slice_index_more x xs a j low = grind arith
+slice_index-cons x xs a j low = grind arith
 
 -- numbers times weights of at most n add up to at most n times their sum
 pub distance_range_le : (row : List ℕ) (a n : ℕ) (w : ℕ → ℕ) → ((i : ℕ) → a ≤ i → w i ≤ n)
@@ -67,7 +67,7 @@ distance_range_le [] a n w near = zero-le
 distance_range_le (x ∷ xs) a n w near =
     let f : ℕ → ℕ = λ i. slice_index (x ∷ xs) (i - a) * w i in
     let start : a - a ≡ 0 = omega arith in
-    let rest = sum_range_same f _ _ (length xs) (λ j j_low. ap (λ k. k * w j) (slice_index_more _ _ _ _ j_low)) in
+    let rest = sum_range_same f _ _ (length xs) (λ j j_low. ap (λ k. k * w j) (slice_index-cons _ _ _ _ j_low)) in
     distance_step _ _ n x _ (sum_by-cons f a (range_with_len _ (length xs))) (rw start (mul-le x _ x n (omega arith) (omega arith)))
     (rw rest (distance_range_le xs _ n w (omega arith))) (sum_by-cons _ x xs)
 
@@ -207,11 +207,11 @@ module _ (p : Position) (h : ℕ) (low : 1 ≤ h) (high : h ≤ side_length p) w
   gain_kept k d next (Other j) is_cell ne = omega (arith, gain_same)
 
   -- one seed more goes to the cell at the next distance
-  pub sow_more : (k : ℕ) (cell : Cell) → IsCellOf (side_length p) cell
+  pub sow_suc : (k : ℕ) (cell : Cell) → IsCellOf (side_length p) cell
       → distance (side_length p) h cell ≡ k % lap_length (side_length p) + 1 →
       sow p h (k + 1) ≡ with_seed (sow p h k) cell
   unfolding sow
-  sow_more k (Own i) is_cell next = same_position
+  sow_suc k (Own i) is_cell next = same_position
       (row_of_more _ _ _ i is_cell.0 is_cell.1
       (omega (arith, gain_more))
       (λ j j_low j_high ne. omega
@@ -222,13 +222,13 @@ module _ (p : Position) (h : ℕ) (low : 1 ≤ h) (high : h ≤ side_length p) w
         gain_kept k _ next (Other j) (j_low, j_high) (λ e. own_from_other _ h low high i j is_cell.0 is_cell.1 j_low j_high (sym e)),
       )))
       refl refl
-  sow_more k Store is_cell next = same_position
+  sow_suc k Store is_cell next = same_position
       (row_of_same _ _ _ (λ j j_low j_high. omega
       (arith, gain_kept k _ next (Own j) (j_low, j_high) (own_from_store _ h low high j j_low j_high))))
       (omega (arith, gain_more))
       (row_of_same _ _ _ (λ j j_low j_high. omega (arith, gain_kept k _ next (Other j) (j_low, j_high) (omega arith))))
       refl refl
-  sow_more k (Other i) is_cell next = same_position
+  sow_suc k (Other i) is_cell next = same_position
       (row_of_same _ _ _ (λ j j_low j_high. omega
       (arith, gain_kept k _ next (Own j) (j_low, j_high) (own_from_other _ h low high j i j_low j_high is_cell.0 is_cell.1))))
       (omega (arith, gain_kept k _ next Store tt (omega arith)))
@@ -283,7 +283,7 @@ pub sow_adds : (p : Position) (h : ℕ) → 1 ≤ h → h ≤ side_length p → 
     AddsOne (sow p h k) (sow p h (k + 1))
 sow_adds p h low high k (cell, is_cell, next) =
     let side = sow_side p h k in
-    rw (sow_more p h low high k _ is_cell next) (with_seed_adds _ _ (omega arith) (rw side.0 is_cell))
+    rw (sow_suc p h low high k _ is_cell next) (with_seed_adds _ _ (omega arith) (rw side.0 is_cell))
 
 -- the cell of the next seed
 pub next_cell : (p : Position) (h : ℕ) → 1 ≤ h → h ≤ side_length p → (k : ℕ) →
@@ -303,10 +303,10 @@ sow_keeps p h low high equal (suc k) =
 -- ==== The list of legal moves, and where the last seed falls
 
 -- one number more at the end of a range
-pub range_more : (a n : ℕ) → range_with_len a (n + 1) ≡ range_with_len a n ++ (a + n) ∷ []
-range_more a zero = grind arith
-range_more a (suc n) = rw (add-one _)
-    (ap (λ xs. a ∷ xs) (rw (add-one n) at (range_more (a + 1) n) ∙ ap (λ x. range_with_len (a + 1) n ++ x ∷ []) (omega arith)))
+pub range-suc : (a n : ℕ) → range_with_len a (n + 1) ≡ range_with_len a n ++ (a + n) ∷ []
+range-suc a zero = grind arith
+range-suc a (suc n) = rw (add-one _)
+    (ap (λ xs. a ∷ xs) (rw (add-one n) at (range-suc (a + 1) n) ∙ ap (λ x. range_with_len (a + 1) n ++ x ∷ []) (omega arith)))
 
 -- the first number of a range that passes
 pub find_in_range : (f : ℕ → Bool) (a n i : ℕ) → a ≤ i → i < a + n → f i ≡ true →
@@ -365,6 +365,10 @@ contains_range f a (suc n) i low high here = elim (cases_eq a i) [
 pub all_range : (a n : ℕ) → All (λ i. (a ≤ i) × (i < a + n)) (range_with_len a n)
 all_range a n = omega (arith, length-range_with_len, get_or-range_with_len)
 
+-- house h of houses without stores may be moved
+abbrev pub IsLegal : HousesState → ℕ → Type 0
+IsLegal a h = Contains (legal_houses (storeless a)) h
+
 -- a game with a legal house isn't over
 pub legal_going : (p : Position) (h : ℕ) → Contains (legal_houses p) h → is_over p ≡ false
 legal_going p h legal = grind arith
@@ -387,9 +391,9 @@ holds_legal p h holds going = rw going
     (lt-ltb 0 _ holds.some))
 
 -- one house more
-pub filter_range_more : (f : ℕ → Bool) (a n j : ℕ) → a + n ≡ j →
+pub filter_range-suc : (f : ℕ → Bool) (a n j : ℕ) → a + n ≡ j →
     filter f (range_with_len a (n + 1)) ≡ filter f (range_with_len a n) ++ cond (f j) (j ∷ []) []
-filter_range_more f a n j end_is = rw (range_more a n, end_is) (filter-append f _ _)
+filter_range-suc f a n j end_is = rw (range-suc a n, end_is) (filter-append f _ _)
 
 pub length-filter_range : (f : ℕ → Bool) (a n : ℕ) → length (filter f (range_with_len a n)) ≤ n
 length-filter_range f a n = omega (arith, length-filter, count_by-le-length, length-range_with_len)
@@ -404,22 +408,22 @@ with_store_seeds a b p = record p {
 }
 
 -- sowing keeps what was added
-sow_with_more : (a b : ℕ) (p : Position) (h c : ℕ) → sow (with_store_seeds a b p) h c ≡ with_store_seeds a b (sow p h c)
+sow-store_seeds : (a b : ℕ) (p : Position) (h c : ℕ) → sow (with_store_seeds a b p) h c ≡ with_store_seeds a b (sow p h c)
 unfolding sow
-sow_with_more a b p h c = grind arith
+sow-store_seeds a b p h c = grind arith
 
 -- a move keeps what was added
-pub after_with_more : (a b : ℕ) (p : Position) (h : ℕ) → after (with_store_seeds a b p) h ≡ with_store_seeds a b (after p h)
+pub after-store_seeds : (a b : ℕ) (p : Position) (h : ℕ) → after (with_store_seeds a b p) h ≡ with_store_seeds a b (after p h)
 unfolding after
-after_with_more a b p h = grind (arith, sow_with_more)
+after-store_seeds a b p h = grind (arith, sow-store_seeds)
 
 -- a position is its houses, with what the stores hold added
-pub is_with_more : (p : Position) → p ≡ with_store_seeds p.own_store p.other_store (storeless (houses_in p))
-is_with_more p = grind arith
+pub storeless-store_seeds : (p : Position) → p ≡ with_store_seeds p.own_store p.other_store (storeless (houses_in p))
+storeless-store_seeds p = grind arith
 
 -- a move of a position is that of its houses
 pub after_of_houses : (p : Position) (h : ℕ) → after p h ≡ with_store_seeds p.own_store p.other_store (after (storeless (houses_in p)) h)
-after_of_houses p h = ap (λ q. after q h) (is_with_more p) ∙ after_with_more _ _ _ h
+after_of_houses p h = ap (λ q. after q h) (storeless-store_seeds p) ∙ after-store_seeds _ _ _ h
 
 -- ==== Every move brings the game nearer to its end
 
@@ -462,7 +466,7 @@ module _ (p : Position) (h : ℕ) (holds : HoldsSeeds p h) (same : length p.othe
       let low : 1 ≤ h + _ = omega arith in
       let high : h + _ ≤ side_length p = omega arith in
       let high' : h + _ ≤ length (sow p h k).own = omega arith in
-      ap distance_to_stores (sow_more p h holds.first holds.last k (Own _) (low, high) (next_house _ h k near))
+      ap distance_to_stores (sow_suc p h holds.first holds.last k (Own _) (low, high) (next_house _ h k near))
       ∙ distance-with_seed (sow p h k) _ low high'
       ∙ ap (λ x. distance_to_stores (sow p h k) + (x + 1 - (h + (k + 1)))) side
 

@@ -13,7 +13,7 @@ use Rattle.kalah_rules.specs.HousesStep.{houses_step, houses_step_to}
 use Rattle.kalah_rules.specs.declared.step.HousesStep.{HousesStep}
 use Rattle.kalah_rules.specs.declared.step.HousesStep.TheVariants.{Over, Again, Turn}
 use Rattle.kalah_rules.specs.Ways.{ways, ways_by}
-use Rattle.kalah_rules.proofs.PlayLemmas.{sum-zeros, same_position, filter_range_more, length-filter_range, with_store_seeds, after_with_more, is_with_more}
+use Rattle.kalah_rules.proofs.PlayLemmas.{sum-zeros, same_position, filter_range-suc, length-filter_range, with_store_seeds, after-store_seeds, storeless-store_seeds}
 
 -- ---- by their definition
 pub ways_none : (p : Position) → ways 0 p ≡ 1
@@ -34,25 +34,25 @@ sum_same f g xs same = grind arith
 
 -- ---- stores
 -- what was added stays after a step
-step_with_more : (n a b : ℕ) (q : Position) (over again : Bool) → is_over q ≡ over →
+step-store_seeds : (n a b : ℕ) (q : Position) (over again : Bool) → is_over q ≡ over →
     ((c d : ℕ) (p : Position) → ways n (with_store_seeds c d p) ≡ ways n p) →
     ways n (position_after (step_to (with_store_seeds a b q) again)) ≡ ways n (position_after (step_to q again))
-step_with_more n a b q true again over_is same = rw over_is (ap (ways n) (same_position refl (omega arith) refl (omega arith) refl) ∙ same a b _)
-step_with_more n a b q false true over_is same = rw over_is (same a b q)
-step_with_more n a b q false false over_is same = rw over_is (same b a _)
+step-store_seeds n a b q true again over_is same = rw over_is (ap (ways n) (same_position refl (omega arith) refl (omega arith) refl) ∙ same a b _)
+step-store_seeds n a b q false true over_is same = rw over_is (same a b q)
+step-store_seeds n a b q false false over_is same = rw over_is (same b a _)
 
 -- stores do not influence the ways
-ways_with_more : (n a b : ℕ) (p : Position) → ways n (with_store_seeds a b p) ≡ ways n p
-ways_with_more zero a b p = simp (ways_none)
-ways_with_more (suc n) a b p = ways-suc n _
+ways-store_seeds : (n a b : ℕ) (p : Position) → ways n (with_store_seeds a b p) ≡ ways n p
+ways-store_seeds zero a b p = simp (ways_none)
+ways-store_seeds (suc n) a b p = ways-suc n _
     ∙ sum_same _ _ (legal_houses p)
-    (λ h. ap (λ (q : Position). ways n (position_after (step_to q (is_again p h)))) (after_with_more a b p h)
-    ∙ step_with_more n a b (after p h) _ _ refl (ways_with_more n))
+    (λ h. ap (λ (q : Position). ways n (position_after (step_to q (is_again p h)))) (after-store_seeds a b p h)
+    ∙ step-store_seeds n a b (after p h) _ _ refl (ways-store_seeds n))
     ∙ sym (ways-suc n p)
 
 -- the ways of a position are those of its houses
 pub ways_of_houses : (n : ℕ) (p : Position) → ways n p ≡ ways n (storeless (houses_in p))
-ways_of_houses n p = ap (ways n) (is_with_more p) ∙ ways_with_more n _ _ _
+ways_of_houses n p = ap (ways n) (storeless-store_seeds p) ∙ ways-store_seeds n _ _ _
 
 -- ---- steps on houses
 -- the ways after a step
@@ -89,9 +89,9 @@ ways_by_of_houses n p h =
     let a = p.own_store in
     let b = p.other_store in
     let q = storeless _ in
-    sym (ap (λ (o : Position). ways_by n o h) (is_with_more p)
-    ∙ ap (λ (o : Position). ways n (position_after (step_to o (is_again q h)))) (after_with_more a b q h)
-    ∙ step_with_more n a b (after q h) _ _ refl (ways_with_more n))
+    sym (ap (λ (o : Position). ways_by n o h) (storeless-store_seeds p)
+    ∙ ap (λ (o : Position). ways n (position_after (step_to o (is_again q h)))) (after-store_seeds a b q h)
+    ∙ step-store_seeds n a b (after q h) _ _ refl (ways-store_seeds n))
 
 -- ---- how many there are
 pub legal_few : (p : Position) → length (legal_houses p) ≤ side_length p
@@ -113,12 +113,12 @@ seeded_next row h low = grind arith
 pub seeded_more : (row : List ℕ) (h : ℕ) → 1 ≤ h → 0 < seeds row h
     → seeded_before row (h + 1) ≡ seeded_before row h ++ h ∷ []
 seeded_more row h low some = seeded_next row h low
-    ∙ filter_range_more _ 1 (h - 1) h (omega arith)
+    ∙ filter_range-suc _ 1 (h - 1) h (omega arith)
     ∙ rw (lt-ltb _ _ some) refl
 
 pub seeded_same : (row : List ℕ) (h : ℕ) → 1 ≤ h → seeds row h ≤ 0 → seeded_before row (h + 1) ≡ seeded_before row h
 seeded_same row h low none = seeded_next row h low
-    ∙ filter_range_more _ 1 (h - 1) h (omega arith)
+    ∙ filter_range-suc _ 1 (h - 1) h (omega arith)
     ∙ rw (le-ltb _ _ none) (append-nil _)
 
 -- ---- one house more

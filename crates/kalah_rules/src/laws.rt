@@ -10,7 +10,7 @@ pub fn every_move_nears_end()
 
 /// The formula by which sowing is defined sows seed by seed. With no seed sown the house is empty, and each further seed goes to the next
 /// cell of the lap.
-#[tactic(auto, using(crate::proofs::PlayLemmas::sow_none, crate::proofs::PlayLemmas::sow_more))]
+#[tactic(auto, using(crate::proofs::PlayLemmas::sow_none, crate::proofs::PlayLemmas::sow_suc))]
 pub fn sowing_is_seed_by_seed()
     ensures { SowingIsSeedBySeed }
 {}

@@ -1,5 +1,5 @@
 -- How many seeds are won, and the margins and windows that they make.
-use Rattle.std.proofs.Common.{◌≡◌, ℕ, ◌+◌, ◌*◌, ◌≤◌, arith, zero, suc, ◌-◌, ◌/◌, ◌<◌, inl, inr, ◌∙◌, ap, max, min, ℤ, pos, ◌+ℤ◌, ◌-ℤ◌, ◌≤ℤ◌, false, sum, Contains, ◌<ℤ◌}
+use Rattle.std.proofs.Common.{◌≡◌, ℕ, ◌+◌, ◌*◌, ◌≤◌, arith, zero, suc, ◌-◌, ◌/◌, ◌<◌, inl, inr, ◌∙◌, ap, max, min, ℤ, pos, ◌+ℤ◌, ◌-ℤ◌, ◌≤ℤ◌, false, sum, ◌<ℤ◌}
 use Rattle.std.specs.Int.{int_max, int_min}
 use Rattle.std.proofs.lemmas.Int.{ints, clamps}
 use Rattle.kalah_rules.specs.Limits.{most_seeds}
@@ -8,9 +8,8 @@ use Rattle.kalah_solve.specs.Bounds.Intervals.{IsHalf, clamped, least_margin, mo
 use Rattle.std.proofs.lemmas.Bool.{cases_Bool}
 use Rattle.kalah_rules.specs.Position.{HousesState, IsWithinHouses, seeds_in_houses, is_over, storeless}
 use Rattle.kalah_rules.specs.Measure.{moves_left}
-use Rattle.kalah_rules.specs.Play.{legal_houses}
 use Rattle.kalah_rules.specs.HousesStep.{houses_step}
-use Rattle.kalah_rules.proofs.PlayLemmas.{legal_going}
+use Rattle.kalah_rules.proofs.PlayLemmas.{IsLegal, legal_going}
 use Rattle.kalah_rules.specs.declared.step.HousesStep.{HousesStep}
 use Rattle.kalah_rules.specs.declared.step.HousesStep.TheVariants.{Over, Again, Turn}
 use Rattle.kalah_solve.specs.Solver.Worth.{houses_worth, value_of_move}
@@ -120,18 +119,18 @@ won_of_step a (Turn gained b) leads =
 
 module _ (a : HousesState) (limits : IsWithinHouses a) where
   -- what is won by the move of house h
-  pub won_of_move : (h : ℕ) → Contains (legal_houses (storeless a)) h →
+  pub won_of_move : (h : ℕ) → IsLegal a h →
       IsWonOf (seeds_in_houses (storeless a)) (value_of_move (storeless a) h) (won_by_step (houses_step a h))
   won_of_move h legal = rw (value_is a h limits legal) (won_of_step a _ (leads_on a h limits legal))
 
   -- no move wins more than best play
-  pub won_at_most : (h : ℕ) → Contains (legal_houses (storeless a)) h → won_by_step (houses_step a h) ≤ won a
+  pub won_at_most : (h : ℕ) → IsLegal a h → won_by_step (houses_step a h) ≤ won a
   won_at_most h legal =
       let most = (worth_is_most (storeless a) (omega arith) (legal_going (storeless a) h legal)).most h legal in
       omega (arith, ints, (won_of_move h legal).margin, (won_of_houses limits).margin)
 
   -- some move wins what best play wins
-  pub won_reached : is_over (storeless a) ≡ false → (h : ℕ) × Contains (legal_houses (storeless a)) h
+  pub won_reached : is_over (storeless a) ≡ false → (h : ℕ) × IsLegal a h
       × (won_by_step (houses_step a h) ≡ won a)
   won_reached going =
       let at = (worth_is_most (storeless a) (omega arith) going).reached in

@@ -1,5 +1,5 @@
 -- What the words of endings state is what the mover wins, and stays so: each ending has digits of its own in its word.
-use Rattle.std.proofs.Common.{ℕ, ◌≡◌, ◌≢◌, zero, suc, ◌+◌, ◌*◌, ◌/◌, ◌%◌, ◌^◌, ◌-◌, ◌<◌, ◌≤◌, arith, refl, ap, List, [], ◌∷◌, ◌++◌, length, get_or, length-append, ◌∙◌, lit<, lit≤, pow_mono, sum, slice_set, slice_index, false, Contains, max, ◌↔◌}
+use Rattle.std.proofs.Common.{ℕ, ◌≡◌, ◌≢◌, zero, suc, ◌+◌, ◌*◌, ◌/◌, ◌%◌, ◌^◌, ◌-◌, ◌<◌, ◌≤◌, arith, refl, ap, List, [], ◌∷◌, ◌++◌, length, get_or, length-append, ◌∙◌, lit<, lit≤, pow_mono, sum, slice_set, slice_index, false, max, ◌↔◌}
 use Rattle.std.proofs.Math.Nat.{add-mul-div_right, div-div-eq-div-mul}
 use Rattle.std.proofs.lemmas.Nat.{pow_pos, pow-add, mul-le}
 use Rattle.std.proofs.lemmas.Bool.{cases_lt, cases_eq}
@@ -13,13 +13,12 @@ use Rattle.kalah_solve.specs.Table.EndgameTable.{most_ending_seeds, IsEnding, Ho
 use Rattle.atomic_table.specs.Table.{State, Arrives, keeps}
 use Rattle.kalah_solve.specs.declared.table.endgame_table.words.TheConstants.{FIRST_WORDS, WORDS}
 use Rattle.kalah_solve.specs.Bounds.Won.{won, won_by_step}
-use Rattle.kalah_rules.specs.Play.{legal_houses}
 use Rattle.kalah_rules.specs.HousesStep.{houses_step}
-use Rattle.kalah_rules.proofs.PlayLemmas.{legal_holds}
+use Rattle.kalah_rules.proofs.PlayLemmas.{IsLegal, legal_holds}
 use Rattle.kalah_solve.specs.Marks.{cell, IsLastMark, without_mark}
-use Rattle.kalah_solve.proofs.MarksLemmas.{cell_of_zero, each_unmarked_without_last}
+use Rattle.kalah_solve.proofs.MarksLemmas.{EachUnmarked, cell_of_zero, each_unmarked_without_last}
 use Rattle.kalah_solve.proofs.BoundsLemmas.{won_at_most, won_reached, won_of_houses}
-use Rattle.kalah_solve.proofs.RankLemmas.{choose_rises, rank_below, same_houses}
+use Rattle.kalah_solve.proofs.RankLemmas.{choose_rises, rank_below, houses_by_rank}
 
 -- ==== The digits of a number, of four bits each
 
@@ -156,10 +155,10 @@ pub word_inside : {a : HousesState} → IsWithinHouses a → IsEnding a → word
 word_inside {a} limits ending = grind (arith, word_is_of_variant)
 
 -- endings of one word and one place in it are the same: the word is of one variant, and with the place it has one rank there
-same_ending : (a b : HousesState) → IsWithinHouses a → IsWithinHouses b → IsEnding a → IsEnding b → word_of a ≡ word_of b →
+word_and_place-injective : (a b : HousesState) → IsWithinHouses a → IsWithinHouses b → IsEnding a → IsEnding b → word_of a ≡ word_of b →
     rank_of_houses a % 16 ≡ rank_of_houses b % 16 → a ≡ b
-same_ending a b limits_a limits_b ending ending_b word place =
-    grind (arith, word_is_of_variant, first_word_rises, lit≤, rule_bit-small, cases_lt, same_houses)
+word_and_place-injective a b limits_a limits_b ending ending_b word place =
+    grind (arith, word_is_of_variant, first_word_rises, lit≤, rule_bit-small, cases_lt, houses_by_rank)
 
 -- ---- what the words state
 
@@ -174,7 +173,7 @@ pub states_one_more : (word : ℕ) (a : HousesState) → HoldsWon (word_of a) wo
     HoldsWon (word_of a) (word + suc (won a) * 2 ^ (4 * (rank_of_houses a % 16)))
 unfolding HoldsWon
 states_one_more word a before limits ending none small b limits_b ending_b word_is stored =
-    grind (arith, rank_of_houses, won, cases_eq, same_ending, put_digit_is_there, same_digits_elsewhere, stored)
+    grind (arith, rank_of_houses, won, cases_eq, word_and_place-injective, put_digit_is_there, same_digits_elsewhere, stored)
 
 -- a stored ending is right
 pub stored_is_won : (word : ℕ) (a : HousesState) → HoldsWon (word_of a) word → IsWithinHouses a → IsEnding a →
@@ -204,7 +203,7 @@ word_may_be_written slots i word states s holds homes small = (tt, keeps, tt, wo
 -- best play wins at least `most`, and no legal move of an unmarked house wins more
 pub record IsMostOfUnmarked (a : HousesState) (marks most : ℕ) : Type 0 where
   pub reached : most ≤ won a
-  pub all : (i : ℕ) → Contains (legal_houses (storeless a)) i → cell marks (i - 1) ≡ 0 → won_by_step (houses_step a i) ≤ most
+  pub all : EachUnmarked a marks (λ i. won_by_step (houses_step a i) ≤ most)
 
 -- 0, while all houses with seeds are marked
 pub most_at_start : {a : HousesState} {marks : ℕ} → ((i : ℕ) → (0 < cell marks i) ↔ (0 < get_or a.own i 0)) → IsMostOfUnmarked a marks 0
@@ -215,7 +214,7 @@ most_at_start {a} marked = record {
 
 -- the last marked house was tried
 pub most_with_last : {a : HousesState} {marks most h : ℕ} (v new : ℕ) → IsWithinHouses a → IsMostOfUnmarked a marks most → IsLastMark marks h →
-    Contains (legal_houses (storeless a)) h →
+    IsLegal a h →
     v ≡ won_by_step (houses_step a h) → new ≡ max most v → IsMostOfUnmarked a (without_mark marks h) new
 most_with_last {a} {marks} {most} {h} v new limits most_is last legal v_is new_is = record {
   reached = omega (arith, won_at_most a limits h legal);

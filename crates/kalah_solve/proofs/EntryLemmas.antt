@@ -2,7 +2,7 @@
 use Rattle.std.proofs.Common.{ℕ, ◌≡◌, inl, inr, arith, sym, ap, List, ◌∙◌, eqb-true, Option, Some, None, Result, Ok, Err, nat_eq, IfSome, IsSome, IsOk, OnOk, OnErr, ◌⊎◌, subst}
 use Rattle.kalah_rules.specs.Position.{HousesState, IsWithinHouses}
 use Rattle.kalah_rules.specs.Key.{key_of}
-use Rattle.kalah_rules.proofs.KeyLemmas.{same_key}
+use Rattle.kalah_rules.proofs.KeyLemmas.{key-injective}
 use Rattle.std.specs.Map.{lookup}
 use Rattle.lru.specs.LruCache.{LruCache, lru_cache, put_entries}
 use Rattle.std.specs.Cmp.{nat_eq_equiv}
@@ -20,7 +20,7 @@ found_encloses_worth es a k entries limits key None found = tt
 found_encloses_worth es a k entries limits key (Some i) found =
     let at = Contains-lookup _ es i found in
     let entry = entries _ at.1 in
-    let same = same_key _ a entry.1 limits (entry.2 ∙ sym (eqb-true _ _ at.2) ∙ key) in
+    let same = key-injective _ a entry.1 limits (entry.2 ∙ sym (eqb-true _ _ at.2) ∙ key) in
     subst (λ b. Encloses i (houses_worth b)) same entry.3
 
 module _ (c : LruCache ℕ Interval) (a : HousesState) (k : ℕ) (i : Interval) (entries : AreTrueEntries c.entries) (limits : IsWithinHouses a)

@@ -14,8 +14,7 @@ use Rattle.std.proofs.lemmas.List.FromFn.{get_or-map-range_with_len}
 use Rattle.std.proofs.lemmas.List.{get_or_past}
 use Rattle.kalah_rules.specs.Position.{HousesState, IsWithinHouses, is_over, storeless}
 use Rattle.kalah_solve.specs.Search.{EndsInStore}
-use Rattle.kalah_rules.specs.Play.{legal_houses}
-use Rattle.kalah_rules.proofs.PlayLemmas.{holds_legal, legal_holds, length-row_of}
+use Rattle.kalah_rules.proofs.PlayLemmas.{IsLegal, holds_legal, legal_holds, length-row_of}
 
 -- ==== Cells of a number
 
@@ -335,7 +334,7 @@ module _ {a : HousesState} {row : ℕ} (limits : IsWithinHouses a) (row_is : row
 
 -- a house with seeds, counted from 0, may be moved while the game goes on
 pub seeded_is_legal : {a : HousesState} (i : ℕ) → IsWithinHouses a → is_over (storeless a) ≡ false → 0 < get_or a.own i 0 →
-    Contains (legal_houses (storeless a)) (i + 1)
+    IsLegal a (i + 1)
 seeded_is_legal {a} i limits going some = elim (cases_lt i (length a.own)) [
   | inl inside ↦
       let at : i + 1 - 1 ≡ i = omega arith in
@@ -346,7 +345,7 @@ seeded_is_legal {a} i limits going some = elim (cases_lt i (length a.own)) [
 -- each house that ends in the store may be moved
 pub into_store_legal : {a : HousesState} (i : ℕ) → IsWithinHouses a → is_over (storeless a) ≡ false → i < length a.own
     → EndsInStore a (i + 1) →
-    Contains (legal_houses (storeless a)) (i + 1)
+    IsLegal a (i + 1)
 into_store_legal {a} i limits going inside ends =
     holds_legal (storeless a) (i + 1) (record { first = omega arith; last = omega arith; some = omega arith }) going
 
@@ -362,10 +361,10 @@ each_at_last P {marks} {h} last each = grind (arith, last_marked)
 -- marked houses that may all be moved
 pub record AreMovable (a : HousesState) (marks : ℕ) : Type 0 where
   pub are : AreMarks marks
-  pub legal : (i : ℕ) → 0 < cell marks i → Contains (legal_houses (storeless a)) (i + 1)
+  pub legal : (i : ℕ) → 0 < cell marks i → IsLegal a (i + 1)
 
 -- the last of them
-pub last_is_legal : {a : HousesState} {marks h : ℕ} → AreMovable a marks → IsLastMark marks h → Contains (legal_houses (storeless a)) h
+pub last_is_legal : {a : HousesState} {marks h : ℕ} → AreMovable a marks → IsLastMark marks h → IsLegal a h
 last_is_legal movable last = each_at_last (Contains _) last movable.legal
 
 -- the houses before the last may be moved
@@ -375,10 +374,13 @@ movable_before_last {a} {marks} {h} movable last = record {
   legal = each_before_last (Contains _) last movable.legal;
 }
 
--- what holds of the last marked house, and of each other unmarked one that may be moved, holds of each that is unmarked without it
+-- each house that may be moved and is not marked has P
+abbrev pub EachUnmarked : HousesState → ℕ → (ℕ → Type 0) → Type 0
+EachUnmarked a marks P = (i : ℕ) → IsLegal a i → cell marks (i - 1) ≡ 0 → P i
+
+-- if the last marked house and each other unmarked one have P, each that is unmarked without it has P
 pub each_unmarked_without_last : (a : HousesState) {marks h : ℕ} (P : ℕ → Type 0) → IsLastMark marks h → P h
-    → ((i : ℕ) → Contains (legal_houses (storeless a)) i → i - 1 ≢ h - 1 → cell marks (i - 1) ≡ 0 → P i)
-    → (i : ℕ) → Contains (legal_houses (storeless a)) i → cell (without_mark marks h) (i - 1) ≡ 0 → P i
+    → ((i : ℕ) → IsLegal a i → i - 1 ≢ h - 1 → cell marks (i - 1) ≡ 0 → P i) → EachUnmarked a (without_mark marks h) P
 each_unmarked_without_last a {marks} {h} P last here each i legal unmarked = elim (cases_eq i h) [
   | inl same ↦ subst P (sym same) here
   | inr other ↦

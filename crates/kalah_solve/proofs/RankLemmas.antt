@@ -9,7 +9,7 @@ use Rattle.std.proofs.Math.ListN.{take}
 use Rattle.std.proofs.lemmas.List.Sums.{sum_by-cons, sum_by-take-drop}
 use Rattle.kalah_rules.specs.Position.{HousesState, IsWithinHouses}
 use Rattle.kalah_rules.specs.Key.{number_of, variant_of}
-use Rattle.kalah_rules.proofs.KeyLemmas.{same_key, number_of-append, pow_five}
+use Rattle.kalah_rules.proofs.KeyLemmas.{key-injective, number_of-append, pow_five}
 use Rattle.kalah_solve.specs.Table.RowRank.{choose, row_rank, sums_number, rank_of_houses}
 use Rattle.kalah_solve.specs.Table.EndgameTable.{most_ending_seeds, choice_at, AreChoices, pair_at, ArePairs}
 use Rattle.kalah_solve.specs.declared.table.endgame_table.TheConstants.{COUNTS, CHOICES, INVERSE_OF_31}
@@ -89,11 +89,11 @@ rank_seeds : (xs ys : List ℕ) → length xs ≡ length ys → row_rank xs ≡ 
 rank_seeds xs ys long same = grind (arith, rank_apart)
 
 -- rows with one rank are one row
-pub rank_same : (xs ys : List ℕ) → length xs ≡ length ys → row_rank xs ≡ row_rank ys → xs ≡ ys
-rank_same [] [] long same = refl
-rank_same [] (y ∷ ys) long same = absurd (omega arith)
-rank_same (x ∷ xs) [] long same = absurd (omega arith)
-rank_same (x ∷ xs) (y ∷ ys) long same =
+pub row_rank-injective : (xs ys : List ℕ) → length xs ≡ length ys → row_rank xs ≡ row_rank ys → xs ≡ ys
+row_rank-injective [] [] long same = refl
+row_rank-injective [] (y ∷ ys) long same = absurd (omega arith)
+row_rank-injective (x ∷ xs) [] long same = absurd (omega arith)
+row_rank-injective (x ∷ xs) (y ∷ ys) long same =
     let seeds = rank_seeds (x ∷ xs) (y ∷ ys) long same in
     let cons = sum_by-cons (λ (z : ℕ). z) x xs in
     let cons' = sum_by-cons (λ (z : ℕ). z) y ys in
@@ -101,22 +101,22 @@ rank_same (x ∷ xs) (y ∷ ys) long same =
     let total : x + sum xs + length xs ≡ y + sum ys + length ys = omega arith in
     let first : choose (x + sum xs + length xs) (suc (length xs)) ≡ choose (y + sum ys + length ys) (suc (length ys)) =
     rw (total, cells) refl in
-    let rest = rank_same xs ys cells (omega arith) in
+    let rest = row_rank-injective xs ys cells (omega arith) in
     let here : x ≡ y = omega (arith, ap sum rest) in
     rw (here, rest) refl
 
 -- houses of one variant with one rank are the same
-pub same_houses : (a b : HousesState) → IsWithinHouses a → IsWithinHouses b → variant_of a ≡ variant_of b
+pub houses_by_rank : (a b : HousesState) → IsWithinHouses a → IsWithinHouses b → variant_of a ≡ variant_of b
     → rank_of_houses a ≡ rank_of_houses b → a ≡ b
-same_houses a b limits_a limits_b variant rank =
+houses_by_rank a b limits_a limits_b variant rank =
     let side : length a.own ≡ length b.own = omega arith in
     let cells : length (a.own ++ a.other) ≡ length (b.own ++ b.other) =
     omega (arith, length-append a.own a.other, length-append b.own b.other) in
-    let row = rank_same _ _ cells rank in
+    let row = row_rank-injective _ _ cells rank in
     let own = rw (take-append_seam a.own a.other, side, take-append_seam b.own b.other) at
     (ap (take (length a.own)) row) in
     let other = append_cancel_left a.own a.other b.other (rw (← own) at row) in
-    same_key a b limits_a limits_b (omega (arith, ap number_of own, ap number_of other))
+    key-injective a b limits_a limits_b (omega (arith, ap number_of own, ap number_of other))
 
 -- a row's number determines its sums
 sums_by_number : (xs : List ℕ) → 31 * sums_number xs + sum xs ≡ 32 * number_of xs

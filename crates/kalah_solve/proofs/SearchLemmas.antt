@@ -7,14 +7,13 @@
 use Rattle.std.proofs.Common.{◌≡◌, ℕ, ◌+◌, ◌%◌, ◌-◌, ◌<◌, ◌≤◌, inl, inr, List, get_or, arith, sym, ap, ◌∙◌, length, subst, ◌↔◌, Bool, false, IsTrue, Contains, max, slice_set, length-set}
 use Rattle.std.proofs.lemmas.Bool.{cases_lt, cases_eq}
 use Rattle.kalah_solve.specs.Marks.{cell, IsLastMark, without_mark}
-use Rattle.kalah_solve.proofs.MarksLemmas.{each_unmarked_without_last}
+use Rattle.kalah_solve.proofs.MarksLemmas.{EachUnmarked, each_unmarked_without_last}
 use Rattle.std.proofs.lemmas.List.{get_or-set_same, get_or-set_other, get_or_default}
 use Rattle.kalah_rules.specs.Position.{HousesState, IsWithinHouses, seeds, seeds_in_houses, is_over, storeless}
 use Rattle.kalah_solve.specs.Search.{EndsInStore, IsSoftBound, WinsAtMost, IsTurnOf, AreWaiting}
-use Rattle.kalah_rules.specs.Play.{legal_houses}
 use Rattle.kalah_rules.specs.HousesStep.{houses_step}
 use Rattle.kalah_rules.specs.declared.step.HousesStep.TheVariants.{Turn}
-use Rattle.kalah_rules.proofs.PlayLemmas.{legal_holds}
+use Rattle.kalah_rules.proofs.PlayLemmas.{IsLegal, legal_holds}
 use Rattle.kalah_solve.specs.Bounds.Won.{won, won_by_step}
 use Rattle.kalah_solve.proofs.WorthLemmas.{LeadsTo, leads_by}
 use Rattle.kalah_solve.proofs.BoundsLemmas.{won_at_most, won_of_houses, won_reached}
@@ -43,13 +42,13 @@ bound_of_rest {beta} {number} {bound} all seeds gained all_is few b = elim (case
 ]
 
 -- a bound of a move that is enough is no more than best play wins
-pub enough_is_won : (a : HousesState) (beta h bound : ℕ) → IsWithinHouses a → Contains (legal_houses (storeless a)) h →
+pub enough_is_won : (a : HousesState) (beta h bound : ℕ) → IsWithinHouses a → IsLegal a h →
     IsSoftBound beta (won_by_step (houses_step a h)) bound → beta ≤ bound → bound ≤ won a
 enough_is_won a beta h bound limits legal bounded enough = omega (arith, won_at_most a limits h legal)
 
 -- if no legal move wins more than `most`, best play wins no more
 won_at_most_of_all : (a : HousesState) (most : ℕ) → IsWithinHouses a → is_over (storeless a) ≡ false →
-    ((h : ℕ) → Contains (legal_houses (storeless a)) h → WinsAtMost a most h) → won a ≤ most
+    ((h : ℕ) → IsLegal a h → WinsAtMost a most h) → won a ≤ most
 won_at_most_of_all a most limits going each = grind (arith, won_reached)
 
 -- ==== Turns, and what the reply to one leaves
@@ -83,7 +82,7 @@ module _ {a b : HousesState} {h priority bound seeds left : ℕ} (beta : ℕ) (l
 
 -- a legal house whose step is a turn, with a priority that names it, is a turn
 pub step_is_turn : {a : HousesState} {h priority gained : ℕ} {b : HousesState} → IsWithinHouses a
-    → Contains (legal_houses (storeless a)) h →
+    → IsLegal a h →
     Turn gained b ≡ houses_step a h → priority % 8 + 1 ≡ h → IsTurnOf a h priority b
 step_is_turn {a} {h} {priority} {gained} {b} limits legal step_is house =
     let on = leads_by _ _ limits legal step_is in
@@ -136,8 +135,7 @@ waits_there {a} {priority = priority} {b = b} waits b_is = subst (IsTurnOf a (pr
 pub record ArePlayed (a : HousesState) (most marks : ℕ) (priorities : List ℕ) (turns : List HousesState) : Type 0 where
   pub waiting : AreTurns a priorities turns
   pub six_turns : length turns ≡ 6
-  pub others : (i : ℕ) → Contains (legal_houses (storeless a)) i → cell marks (i - 1) ≡ 0 → get_or priorities (i - 1) 0 ≡ 0 →
-      ¬ EndsInStore a i → WinsAtMost a most i
+  pub others : EachUnmarked a marks (λ i. get_or priorities (i - 1) 0 ≡ 0 → ¬ EndsInStore a i → WinsAtMost a most i)
 
 -- the last marked house was played
 module _ {a : HousesState} {most marks h : ℕ} {priorities : List ℕ} {turns : List HousesState} (played : ArePlayed a most marks priorities turns)
@@ -183,14 +181,13 @@ played_at_start {a} cells six_turns empty marked = record {
 
 -- each house that ends in the store is still marked, or wins at most `most` seeds
 abbrev pub UnmarkedIntoStoreWinAtMost : HousesState → ℕ → ℕ → Type 0
-UnmarkedIntoStoreWinAtMost a most marks = (h : ℕ) → Contains (legal_houses (storeless a)) h → EndsInStore a h → cell marks (h - 1) ≡ 0
-    → WinsAtMost a most h
+UnmarkedIntoStoreWinAtMost a most marks = EachUnmarked a marks (λ h. EndsInStore a h → WinsAtMost a most h)
 
 -- as long as all of them are marked
 pub unmarked_at_start : (a : HousesState) (most marks : ℕ)
     → ((i : ℕ) → (0 < cell marks i) ↔ ((i < length a.own) × EndsInStore a (i + 1))) →
     UnmarkedIntoStoreWinAtMost a most marks
-unmarked_at_start a most marks marked h legal ends unmarked = absurd (
+unmarked_at_start a most marks marked h legal unmarked ends = absurd (
     let holds = legal_holds (storeless a) h legal in
     let at : h ≡ h - 1 + 1 = omega arith in
     let some = (marked _).1 (omega arith, subst (EndsInStore a) at ends) in
@@ -200,16 +197,16 @@ unmarked_at_start a most marks marked h legal ends unmarked = absurd (
 pub unmarked_without_last : (a : HousesState) (most : ℕ) {marks h : ℕ} (bound : ℕ) {new : ℕ}
     → UnmarkedIntoStoreWinAtMost a most marks → IsLastMark marks h → WinsAtMost a bound h → new ≡ max most bound →
     UnmarkedIntoStoreWinAtMost a new (without_mark marks h)
-unmarked_without_last a most {marks} {h} bound {new} tried last at_most new_is i legal ends unmarked =
-    each_unmarked_without_last a (λ i. EndsInStore a i → WinsAtMost a new i) last
-    (λ e. omega arith) (λ j legal_j place unmarked_j e. omega (arith, tried j legal_j e unmarked_j)) i legal unmarked ends
+unmarked_without_last a most {marks} {h} bound {new} tried last at_most new_is =
+    each_unmarked_without_last a (λ i. EndsInStore a i → WinsAtMost a new i) last (λ ends. omega arith)
+    (λ i legal place unmarked ends. omega (arith, tried i legal unmarked ends))
 
 -- ==== The turns that waited, tried by their priority
 
 -- the moves with a priority are still to be tried, and the others win at most `most` seeds
 pub record AreUntried (a : HousesState) (most : ℕ) (priorities : List ℕ) (turns : List HousesState) : Type 0 where
   pub waiting : AreTurns a priorities turns
-  pub tried : (h : ℕ) → Contains (legal_houses (storeless a)) h → get_or priorities (h - 1) 0 ≡ 0 → WinsAtMost a most h
+  pub tried : (h : ℕ) → IsLegal a h → get_or priorities (h - 1) 0 ≡ 0 → WinsAtMost a most h
 
 -- the move with a given priority waits with its turn
 pub next_waits : {a : HousesState} {most : ℕ} {priorities : List ℕ} {turns : List HousesState} {priority : ℕ} → IsWithinHouses a →
@@ -227,7 +224,7 @@ next_waits {a} {most} {priorities} {turns} {priority} limits untried found some 
 -- before any move with a priority was tried: all others were
 pub untried_at_start : {a : HousesState} {beta others new : ℕ} {priorities : List ℕ} {turns : List HousesState} (again : ℕ)
     → length priorities ≡ 8 →
-    AreWaiting a beta others priorities turns → ((h : ℕ) → Contains (legal_houses (storeless a)) h → EndsInStore a h
+    AreWaiting a beta others priorities turns → ((h : ℕ) → IsLegal a h → EndsInStore a h
     → WinsAtMost a again h) →
     others < beta → new ≡ max again others → AreUntried a new priorities turns
 untried_at_start again cells waiting ends short new_is = grind arith

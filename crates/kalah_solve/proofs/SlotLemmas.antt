@@ -7,7 +7,7 @@ use Rattle.std.proofs.lemmas.List.{get_or-set_same, get_or-set_other, get_or-rep
 use Rattle.std.proofs.Math.ListN.{replicate, length-replicate, length-set}
 use Rattle.kalah_rules.specs.Position.{HousesState, IsWithinHouses}
 use Rattle.kalah_rules.specs.Key.{key_of}
-use Rattle.kalah_rules.proofs.KeyLemmas.{same_key, key_fits}
+use Rattle.kalah_rules.proofs.KeyLemmas.{key-injective, key_fits}
 use Rattle.kalah_solve.specs.Bounds.Won.{won}
 use Rattle.kalah_solve.proofs.BoundsLemmas.{won_of_houses}
 use Rattle.kalah_rules.specs.Limits.{most_seeds}
@@ -24,8 +24,8 @@ unfolding mixed
 unmixed k small = omega arith
 
 -- different keys stay different when mixed
-same_unmixed : (k l : ℕ) → k < 2 ^ 64 → l < 2 ^ 64 → mixed k ≡ mixed l → k ≡ l
-same_unmixed k l hk hl same = sym (unmixed _ hk) ∙ ap (λ x. (x * inverse_of_mix) % 2 ^ 64) same ∙ unmixed _ hl
+mixed-injective : (k l : ℕ) → k < 2 ^ 64 → l < 2 ^ 64 → mixed k ≡ mixed l → k ≡ l
+mixed-injective k l hk hl same = sym (unmixed _ hk) ∙ ap (λ x. (x * inverse_of_mix) % 2 ^ 64) same ∙ unmixed _ hl
 
 -- bits from bit 54 on are among those from an earlier bit on
 bits_among : (s n : ℕ) → s ≤ 54 → n / 2 ^ 54 ≡ slot_of s n / 2 ^ (54 - s)
@@ -35,8 +35,8 @@ bits_among s n few =
     rw (div-div-eq-div-mul n (2 ^ s) (2 ^ (54 - s)), worth) refl
 
 -- so two numbers with one slot that leave the same open are one
-slot_same : (s x y : ℕ) → s ≤ 54 → tag_of x ≡ tag_of y → slot_of s x ≡ slot_of s y → x ≡ y
-slot_same s x y few rest same =
+slot_and_tag-injective : (s x y : ℕ) → s ≤ 54 → tag_of x ≡ tag_of y → slot_of s x ≡ slot_of s y → x ≡ y
+slot_and_tag-injective s x y few rest same =
     omega (arith, bits_among s x few, bits_among s y few, ap (λ slot. slot / 2 ^ (54 - s)) same)
 
 -- a number has a slot
@@ -47,10 +47,10 @@ slot_inside s n few small =
     (div-lt_iff_lt-mul (pow_pos s)).1 (rw worth small)
 
 -- houses with one slot and one tag are the same
-same_slotted : (s : ℕ) (a b : HousesState) → s ≤ 54 → IsWithinHouses a → IsWithinHouses b →
+houses_by_slot_and_tag : (s : ℕ) (a b : HousesState) → s ≤ 54 → IsWithinHouses a → IsWithinHouses b →
     tag_of (mixed (key_of a)) ≡ tag_of (mixed (key_of b)) →
     slot_of s (mixed (key_of a)) ≡ slot_of s (mixed (key_of b)) → a ≡ b
-same_slotted s a b enough limits_a limits_b rest place = grind (arith, same_key, same_unmixed, key_fits, slot_same)
+houses_by_slot_and_tag s a b enough limits_a limits_b rest place = grind (arith, key-injective, mixed-injective, key_fits, slot_and_tag-injective)
 
 -- the greatest power of two of at least 1,024 has ten digits below its one
 pub ten_bits : (bits n : ℕ) → 1024 ≤ n → n < 2 * 2 ^ bits → 10 ≤ bits
@@ -66,7 +66,7 @@ pub bounds_more : (s : ℕ) (slots : List Slot) {a : HousesState} {number at : �
     → stored_tag p ≡ tag_of number →
     IsWithinSlot p (won a) → AreTrueSlots s (slice_set slots at p)
 bounds_more s slots enough before limits number_is place inside rest known b number_b d limits_b number_b_is inside_b rest_b =
-    grind (arith, length-set, cases_eq, get_or-set_same, same_slotted, get_or-set_other)
+    grind (arith, length-set, cases_eq, get_or-set_same, houses_by_slot_and_tag, get_or-set_other)
 
 -- slots that all hold what is known of all houses
 pub bounds_unknown : (s count : ℕ) (p : Slot) → stored_least p ≡ 0 → stored_most p ≡ most_seeds → AreTrueSlots s (replicate count p)

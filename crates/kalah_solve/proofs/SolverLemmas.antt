@@ -5,7 +5,7 @@ use Rattle.kalah_rules.specs.Position.{Position, HasEqualSides, is_over, swapped
 use Rattle.kalah_rules.specs.Sowing.{after}
 use Rattle.kalah_rules.specs.Play.{legal_houses}
 use Rattle.kalah_rules.specs.Measure.{moves_left}
-use Rattle.kalah_rules.proofs.PlayLemmas.{legal_holds, after_equal_sides, after_fewer, moves_left-swapped}
+use Rattle.kalah_rules.proofs.PlayLemmas.{IsLegal, legal_holds, after_equal_sides, after_fewer, moves_left-swapped}
 use Rattle.kalah_solve.specs.Solver.BestPlay.{Strategy, IsStrategy, Policy, follow, Game, Secures, HoldsTo, IsBestPlay, IsBestMove, IsWorthOfMove}
 use Rattle.kalah_solve.specs.Solver.BestPlay.Game.{is_at_end, moves_on, passes_turn}
 use Rattle.kalah_solve.specs.Solver.Laws.{EndsInTime, StrategiesPlayAGame, StrategiesPlayOneGame, GamesEnd, WorthIsBestPlay, BestPlayIsOne, BestHouseIsBestPlay, EndsWithAtLeast, EndsWithAtMost, BestPlayAgainstStrategies, BestHouseIsLowest, BestMovesAttain, BestVerdictIsOne}
@@ -381,12 +381,12 @@ FallShort a i = (k : ℕ) → k < i → int_eq (value_of_move (storeless a) (get
 
 module _ (a : HousesState) (limits : IsWithinHouses a) where
   -- a house that wins as many seeds as best play is worth as much
-  worth_if_enough : (h : ℕ) → Contains (legal_houses (storeless a)) h → won a ≤ won_by_step (houses_step a h)
+  worth_if_enough : (h : ℕ) → IsLegal a h → won a ≤ won_by_step (houses_step a h)
       → value_of_move (storeless a) h ≡ houses_worth a
   worth_if_enough h legal enough = grind (arith, won_at_most, won_of_move, won_of_houses)
 
   -- a house that wins fewer seeds than best play is worth less
-  worth_less_if_short : (h : ℕ) → Contains (legal_houses (storeless a)) h → won_by_step (houses_step a h) < won a
+  worth_less_if_short : (h : ℕ) → IsLegal a h → won_by_step (houses_step a h) < won a
       → value_of_move (storeless a) h <ℤ houses_worth a
   worth_less_if_short h legal less = grind (arith, won_of_move, won_of_houses)
 

@@ -11,7 +11,7 @@ use Rattle.kalah_solve.specs.Solver.Worth.{greatest, worth, best_house, value_by
 use Rattle.std.proofs.lemmas.Bool.Decides.{Decides-int_eq}
 use Rattle.kalah_rules.specs.Position.{Position, IsWithinLimits, is_over, final_margin, HasEqualSides, seeds_in_houses, swapped, swept, houses_in, storeless, HousesState, IsWithinHouses}
 use Rattle.kalah_rules.specs.Play.{legal_houses, step_of}
-use Rattle.kalah_rules.proofs.PlayLemmas.{all_range, legal_holds, holds_legal, sum-zeros, after_equal_sides, after_fewer, moves_left-swapped, with_store_seeds, after_with_more, is_with_more}
+use Rattle.kalah_rules.proofs.PlayLemmas.{IsLegal, all_range, legal_holds, holds_legal, sum-zeros, after_equal_sides, after_fewer, moves_left-swapped, with_store_seeds, after-store_seeds, storeless-store_seeds}
 use Rattle.std.proofs.lemmas.List.Sums.{sum_by-le}
 use Rattle.kalah_rules.specs.Sowing.{after, is_again}
 use Rattle.kalah_rules.specs.Measure.{moves_left}
@@ -285,8 +285,8 @@ worth_is_most p equal going = record {
 -- ==== Stores do not influence play
 
 -- the final margin is shifted by what was added
-final_with_more : (a b : ℕ) (p : Position) → final_margin (with_store_seeds a b p) ≡ final_margin p +ℤ (pos a -ℤ pos b)
-final_with_more a b p = omega (arith, ints)
+final-store_seeds : (a b : ℕ) (p : Position) → final_margin (with_store_seeds a b p) ≡ final_margin p +ℤ (pos a -ℤ pos b)
+final-store_seeds a b p = omega (arith, ints)
 
 -- the greater of two shifted numbers
 max_shift : (d x y : ℤ) → int_max (x +ℤ d) (y +ℤ d) ≡ int_max x y +ℤ d
@@ -320,11 +320,11 @@ shift_turned : (a b : ℕ) (u' : ℤ) {u : ℤ} → u ≡ u' +ℤ (pos b -ℤ po
 shift_turned a b u' u_is = omega (arith, ints)
 
 -- a value by a worth that stores shift is shifted
-value_with_more : (v w : Position → ℤ) (a b : ℕ) (p : Position) (h : ℕ) →
+value-store_seeds : (v w : Position → ℤ) (a b : ℕ) (p : Position) (h : ℕ) →
     v (with_store_seeds a b (after p h)) ≡ w (after p h) +ℤ (pos a -ℤ pos b) →
     v (with_store_seeds b a (swapped (after p h))) ≡ w (swapped (after p h)) +ℤ (pos b -ℤ pos a) →
     value_by v (with_store_seeds a b p) h ≡ value_by w p h +ℤ (pos a -ℤ pos b)
-value_with_more v w a b p h again turn = grind (arith, after_with_more, shift_either, shift_turned, final_with_more)
+value-store_seeds v w a b p h again turn = grind (arith, after-store_seeds, shift_either, shift_turned, final-store_seeds)
 
 -- with no move left the worth is the final margin
 worth_zero : (p : Position) → worth_within zero p ≡ final_margin p
@@ -332,28 +332,28 @@ unfolding worth_within
 worth_zero p = refl
 
 -- the worth is shifted by what was added, for any count of moves
-worth_with_more : (n a b : ℕ) (p : Position) → worth_within n (with_store_seeds a b p) ≡ worth_within n p +ℤ (pos a -ℤ pos b)
-worth_with_more zero a b p = simp (worth_zero, final_with_more)
-worth_with_more (suc n) a b p = elim (cases_Bool _) [
-  | inl over ↦ worth_within-over (suc n) _ over ∙ final_with_more a b p
+worth-store_seeds : (n a b : ℕ) (p : Position) → worth_within n (with_store_seeds a b p) ≡ worth_within n p +ℤ (pos a -ℤ pos b)
+worth-store_seeds zero a b p = simp (worth_zero, final-store_seeds)
+worth-store_seeds (suc n) a b p = elim (cases_Bool _) [
+  | inl over ↦ worth_within-over (suc n) _ over ∙ final-store_seeds a b p
       ∙ ap (λ z. z +ℤ (pos a -ℤ pos b)) (sym (worth_within-over _ p over))
   | inr going ↦
       worth_within-going n _ going
       ∙ greatest_shift _ (value_by (worth_within n) p) _ (legal_houses p)
       (legal_some p going)
-      (λ h. value_with_more (worth_within n) (worth_within n) a b p h (worth_with_more n a b _)
-      (worth_with_more n b a _))
+      (λ h. value-store_seeds (worth_within n) (worth_within n) a b p h (worth-store_seeds n a b _)
+      (worth-store_seeds n b a _))
       ∙ ap (λ z. z +ℤ (pos a -ℤ pos b)) (sym (worth_within-going n p going))
 ]
 
 -- the worth is shifted by what was added
 worth_shift : (a b : ℕ) (p : Position) → worth (with_store_seeds a b p) ≡ worth p +ℤ (pos a -ℤ pos b)
 unfolding worth
-worth_shift a b p = worth_with_more _ a b p
+worth_shift a b p = worth-store_seeds _ a b p
 
 -- the margin of best play is that of the houses, moved by the stores
 pub worth_of_houses : (p : Position) → worth p ≡ houses_worth (houses_in p) +ℤ (pos p.own_store -ℤ pos p.other_store)
-worth_of_houses p = ap worth (is_with_more p) ∙ worth_shift _ p.other_store _
+worth_of_houses p = ap worth (storeless-store_seeds p) ∙ worth_shift _ p.other_store _
 
 pub worth_by_stores : (p : Position) → worth p ≡ pos p.own_store -ℤ pos p.other_store +ℤ houses_worth (houses_in p)
 worth_by_stores p = omega (arith, ints, worth_of_houses p)
@@ -367,14 +367,14 @@ int_eq_shift : (x y d : ℤ) → int_eq (x +ℤ d) (y +ℤ d) ≡ int_eq x y
 int_eq_shift x y d = grind (arith, ints)
 
 -- the best house is the same, for any stores added
-best_with_more : (a b : ℕ) (p : Position) → best_house (with_store_seeds a b p) ≡ best_house p
-best_with_more a b p = ap (λ o. unwrap_or o 0) (find_same _ _ (legal_houses p) (λ h.
-    let value = value_with_more worth worth a b p h (worth_shift a b _) (worth_shift b a _) in
+best-store_seeds : (a b : ℕ) (p : Position) → best_house (with_store_seeds a b p) ≡ best_house p
+best-store_seeds a b p = ap (λ o. unwrap_or o 0) (find_same _ _ (legal_houses p) (λ h.
+    let value = value-store_seeds worth worth a b p h (worth_shift a b _) (worth_shift b a _) in
     rw (value, worth_shift a b p) (int_eq_shift _ (worth p) _)))
 
 -- the best house is that of the houses
 pub best_of_houses : (p : Position) → best_house p ≡ best_house (storeless (houses_in p))
-best_of_houses p = ap best_house (is_with_more p) ∙ best_with_more p.own_store _ (storeless (houses_in p))
+best_of_houses p = ap best_house (storeless-store_seeds p) ∙ best-store_seeds p.own_store _ (storeless (houses_in p))
 
 -- the value of a move is that of the move of the houses, moved by the stores
 pub value_of_houses : (p : Position) (h : ℕ) → value_of_move p h ≡ value_of_move (storeless (houses_in p)) h +ℤ
@@ -383,8 +383,8 @@ value_of_houses p h =
     let a = p.own_store in
     let b = p.other_store in
     let q = after _ h in
-    ap (λ (o : Position). value_of_move o h) (is_with_more p)
-    ∙ value_with_more worth worth a b _ h (worth_shift a b q) (worth_shift b a _)
+    ap (λ (o : Position). value_of_move o h) (storeless-store_seeds p)
+    ∙ value-store_seeds worth worth a b _ h (worth_shift a b q) (worth_shift b a _)
 
 -- ==== What a step is worth, and where it leads
 
@@ -433,13 +433,13 @@ worth_by_step : (q : Position) (again : Bool) → q.other_store ≡ 0 →
 worth_by_step q again none = grind (arith, cases_Bool, worth_again, worth_turn)
 
 -- what a move is worth, by its step
-pub value_is : (a : HousesState) (h : ℕ) → IsWithinHouses a → Contains (legal_houses (storeless a)) h
+pub value_is : (a : HousesState) (h : ℕ) → IsWithinHouses a → IsLegal a h
     → value_of_move (storeless a) h ≡ worth_of_step (houses_step a h)
 value_is a h limits legal = worth_by_step (after _ h) _ (after_keeps a h limits (legal_holds _ h legal)).other_store
 
 -- ---- where it leads
 -- each step leads to houses of the same variant with fewer moves left
-pub leads_on : (a : HousesState) (h : ℕ) → IsWithinHouses a → Contains (legal_houses (storeless a)) h → LeadsOn a (houses_step a h)
+pub leads_on : (a : HousesState) (h : ℕ) → IsWithinHouses a → IsLegal a h → LeadsOn a (houses_step a h)
 leads_on a h limits legal =
     let holds = legal_holds _ h legal in
     let q = after _ h in
@@ -465,7 +465,7 @@ leads_on a h limits legal =
     }))
 
 -- a step that was played leads there
-pub leads_by : {a : HousesState} (h : ℕ) (s : HousesStep) → IsWithinHouses a → Contains (legal_houses (storeless a)) h
+pub leads_by : {a : HousesState} (h : ℕ) (s : HousesStep) → IsWithinHouses a → IsLegal a h
     → s ≡ houses_step a h
     → LeadsOn a s
 leads_by {a} h s limits legal step_is = grind (arith, leads_on)
@@ -484,7 +484,7 @@ goes_on_of a variant (Turn gained b) limits variant_is leads = goes_on_to limits
 
 -- the step of a legal move goes on in the variant
 pub goes_on : (a : HousesState) (variant h : ℕ) (s : HousesStep) → variant_of a ≡ variant → IsWithinHouses a
-    → Contains (legal_houses (storeless a)) h
+    → IsLegal a h
     → s ≡ houses_step a h → GoesOn variant s
 goes_on a variant h s variant_is limits legal step_is = goes_on_of _ _ _ limits variant_is (leads_by _ _ limits legal step_is)
 
@@ -495,7 +495,7 @@ falls_if_leads_on a (Again gained b) some leads = leads.fewer
 falls_if_leads_on a (Turn gained b) some leads = leads.fewer
 
 -- the step of a legal move leaves fewer moves
-pub step_falls : (a : HousesState) (h : ℕ) (s : HousesStep) → IsWithinHouses a → Contains (legal_houses (storeless a)) h
+pub step_falls : (a : HousesState) (h : ℕ) (s : HousesStep) → IsWithinHouses a → IsLegal a h
     → s ≡ houses_step a h →
     moves_after s < moves_left (storeless a)
 step_falls a h s limits legal step_is =

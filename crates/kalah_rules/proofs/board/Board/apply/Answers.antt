@@ -1,14 +1,14 @@
 use Rattle.std.proofs.Common.{◌≡◌, arith}
 use Rattle.kalah_rules.specs.Position.{with_stores}
 use Rattle.kalah_rules.specs.declared.step.HousesStep.{HousesStep}
-use Rattle.kalah_rules.proofs.PackedLemmas.{IsStepOf, board_step}
+use Rattle.kalah_rules.proofs.PackedLemmas.{IsStepOf, step_of_board}
 use Rattle.kalah_rules.proofs.board.Board.apply.Goals as goal
 use Rattle.kalah_rules.proofs.board.Board.apply.Goals.{After-play}
 
 -- the step of the houses is the board's
 stepped : (c : After-play) {s : HousesStep} → c.play.result ≡ s
     → IsStepOf (with_stores c.self.inside.houses c.self.inside.own_store c.self.inside.other_store) c.args.h s
-stepped c result_is = board_step c.self.invariant c.self.view_is c.requires result_is c.play.ensures.step
+stepped c result_is = step_of_board c.self.invariant c.self.view_is c.requires result_is c.play.ensures.step
 
 pub overflow_add-result : goal.overflow_add-result
 overflow_add-result c = omega (arith, (stepped c.before.before c.in-Over.is).within.own_store_low)

@@ -1,6 +1,6 @@
 use Rattle.std.proofs.Common.{◌≡◌, ◌+◌, ◌-◌, sym, arith, refl, lt-ltb, append-nil, nat_lt, true, false, le-ltb}
 use Rattle.kalah_rules.specs.Position.{seeds}
-use Rattle.kalah_rules.proofs.PlayLemmas.{filter_range_more, length-filter_range}
+use Rattle.kalah_rules.proofs.PlayLemmas.{filter_range-suc, length-filter_range}
 use Rattle.kalah_rules.proofs.houses.Houses.legal.Goals as goal
 use Rattle.kalah_rules.proofs.houses.Houses.legal.Goals.{then-own-gt0, else-own-gt0}
 
@@ -12,7 +12,7 @@ push-requires c =
 pub loop-h-preserved : goal.loop-h-preserved
 loop-h-preserved c =
     let at : c.loop-h.h + 1 - 1 ≡ c.loop-h.h - 1 + 1 = omega arith in
-    let more = filter_range_more (λ i. nat_lt 0 (seeds c.args.self.now.own i)) 1 (c.loop-h.h - 1) c.loop-h.h (omega arith) in
+    let more = filter_range-suc (λ i. nat_lt 0 (seeds c.args.self.now.own i)) 1 (c.loop-h.h - 1) c.loop-h.h (omega arith) in
     elim c.if-own-gt0.branch [
       | then-own-gt0 w ↦
           let some : nat_lt 0 (seeds c.args.self.now.own c.loop-h.h) ≡ true =

@@ -1,7 +1,7 @@
 use Rattle.std.proofs.Common.{arith, sym, refl, ◌∙◌, ◌+◌, ◌-◌, ◌*◌, ◌/◌, ◌%◌, ◌^◌}
 use Rattle.kalah_rules.specs.declared.step.HousesStep.TheVariants.{Again, Turn}
 use Rattle.kalah_rules.proofs.KeyLemmas.{pack_of, rows_of_pack}
-use Rattle.kalah_rules.proofs.PackedLemmas.{IsStepTo, store_within, store_small, over_own, over_other, again_packed, turn_packed}
+use Rattle.kalah_rules.proofs.PackedLemmas.{IsPackedStep, store_within, store_small, over_own, over_other, again_packed, turn_packed}
 use Rattle.kalah_rules.proofs.houses.Houses.step.Goals as goal
 use Rattle.kalah_rules.proofs.houses.Houses.step.Goals.{Then-again, Else-again}
 
@@ -21,7 +21,7 @@ returns-then-other-eq0 c =
     c.if-other-eq0.true)
 
 -- the step on which the mover moves again
-again : (c : Then-again) → IsStepTo c.args.self.now c.args.house c.args.rows.rows (c.self.inside.seeds - c.args.rows.store)
+again : (c : Then-again) → IsPackedStep c.args.self.now c.args.house c.args.rows.rows (c.self.inside.seeds - c.args.rows.store)
     c.self.inside.variant (Again c.args.rows.store)
 again c = again_packed c.self.invariant c.self.view_is c.requires.legal c.requires.rows c.if-own-eq0.false c.if-other-eq0.false
     (sym c.requires.again ∙ c.if-again.true)
@@ -33,7 +33,7 @@ pub returns-then-again : goal.returns-then-again
 returns-then-again c = (again c).step_is
 
 -- the step by which the turn passes
-turn : (c : Else-again) → IsStepTo c.args.self.now c.args.house
+turn : (c : Else-again) → IsPackedStep c.args.self.now c.args.house
     (c.args.rows.rows / 2 ^ 30 + 2 ^ 30 * (c.args.rows.rows % 2 ^ 30)) (c.self.inside.seeds - c.args.rows.store) c.self.inside.variant
     (Turn c.args.rows.store)
 turn c = turn_packed c.self.invariant c.self.view_is c.requires.legal c.requires.rows c.if-own-eq0.false c.if-other-eq0.false

@@ -152,7 +152,7 @@ bound_into_store-loop-untried-smaller g t c =
 pub bound_into_store-returns-clause-upper : goal.bound_into_store-returns-clause-upper
 bound_into_store-returns-clause-upper g t c = λ short h legal ends.
     let none : c.loop-untried.untried ≡ 0 = omega arith in
-    c.loop-untried.invariant.tried h legal ends (rw none (cell_of_zero (h - 1)))
+    c.loop-untried.invariant.tried h legal (rw none (cell_of_zero (h - 1))) ends
 
 pub try_remaining-loop-untried-init : goal.try_remaining-loop-untried-init
 try_remaining-loop-untried-init g t c =
