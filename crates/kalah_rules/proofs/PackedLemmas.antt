@@ -235,10 +235,13 @@ module _ {a : HousesState} {h : ℕ} (can : CanSow a h) where
         let one : seeds after_sowing.own i ≡ 1 = eqb-true (seeds after_sowing.own i) 1 (and_parts _ _ alone).0 in
         let one_at : 32 ^ (i - 1) * seeds after_sowing.own i ≡ 32 ^ (i - 1) * 1 = ap (λ n. 32 ^ (i - 1) * n) one in
         let own_set = number_of-set after_sowing.own (i - 1) 0 (omega (arith, sown_keeps.side)) in
-        let other_set = number_of-set after_sowing.other (across - 1) 0 (omega (arith, sown_keeps.side, sown_keeps.other_side, can.limits.same_side)) in
+        let other_set = number_of-set after_sowing.other (across - 1) 0
+        (omega (arith, sown_keeps.side, sown_keeps.other_side, can.limits.same_side)) in
         let far : across - 1 ≤ 5 = omega (arith, sown_keeps.side, can.limits.at_most_six) in
-        let stands : seeds after_sowing.other across * 2 ^ s.across_bit % 2 ^ 64 ≡ 2 ^ 30 * (32 ^ (across - 1) * seeds after_sowing.other across) =
-        rw (across_at, pow_other (across - 1)) (moved_across_fits _ _ far (omega (arith, read_across r i s.across_bit shows first last across_at))) in
+        let stands : seeds after_sowing.other across * 2 ^ s.across_bit % 2 ^ 64
+        ≡ 2 ^ 30 * (32 ^ (across - 1) * seeds after_sowing.other across) =
+        rw (across_at, pow_other (across - 1))
+        (moved_across_fits _ _ far (omega (arith, read_across r i s.across_bit shows first last across_at))) in
         let taken_are : taken ≡ 32 ^ (i - 1) + 2 ^ 30 * (32 ^ (across - 1) * seeds after_sowing.other across) =
         both.0 ∙ omega (arith, stands, house.seed) in
         let left : AreLeft r.rows (32 ^ (i - 1) + 2 ^ 30 * (32 ^ (across - 1) * seeds after_sowing.other across))

@@ -36,4 +36,6 @@ returns g c = found g c.before ∙ c.in-Some.ensures.some (houses_worth c.args.h
 pub returns-in_default : goal.returns-in_default
 returns-in_default g c =
     let lo_fits : SFits w8 c.known_margins-known.result.lo = search rules in
-    to_z-of_z w32 c.clamp.result (search rules) ∙ simp (to_z-of_z w32 c.known_margins-known.result.lo (search (rules, lo_fits)), to_z-of_z w8 _ lo_fits) at c.clamp.ensures ∙ c.in_default.ensures.none refl _ c.known_margins-known.ensures
+    to_z-of_z w32 c.clamp.result (search rules)
+    ∙ simp (to_z-of_z w32 c.known_margins-known.result.lo (search (rules, lo_fits)), to_z-of_z w8 _ lo_fits) at c.clamp.ensures
+    ∙ c.in_default.ensures.none refl _ c.known_margins-known.ensures

@@ -12,7 +12,8 @@ use Rattle.kalah_solve.proofs.solver.Solver.solve.Goals as goal
 
 pub returns-then-is_over-clause-best_play : goal.returns-then-is_over-clause-best_play
 returns-then-is_over-clause-best_play g c =
-    rw (to_z-of_z w32 c.returns.result (search rules)) (verdict_states c.args.board.now (Over c.returns.result) (board_equal_sides c.args.board.now c.is_over.ensures.limits)
+    rw (to_z-of_z w32 c.returns.result (search rules))
+    (verdict_states c.args.board.now (Over c.returns.result) (board_equal_sides c.args.board.now c.is_over.ensures.limits)
     (verdict_of_over c.args.board.now c.returns.result (sym c.if-is_over.ensures.over) c.returns.ensures.margin))
 
 -- ---- the game goes on

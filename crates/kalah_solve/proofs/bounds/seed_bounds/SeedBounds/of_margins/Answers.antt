@@ -8,7 +8,11 @@ module _ (c : goal.After-result-1) where
   least_half : IsHalf (c.args.interval.lo +ℤ pos 1 +ℤ pos c.args.seeds) c.won_of.result
   least_half =
       let fits : SFits w8 c.args.interval.lo = search rules in
-      simp (to_z-of_z w8 _ fits, to_z-of_z w32 c.args.interval.lo (search (rules, fits)), to_z-of_z w32 (c.args.interval.lo +ℤ pos 1) (omega (arith, ints, fits))) at c.won_of.ensures
+      simp (
+        to_z-of_z w8 _ fits,
+        to_z-of_z w32 c.args.interval.lo (search (rules, fits)),
+        to_z-of_z w32 (c.args.interval.lo +ℤ pos 1) (omega (arith, ints, fits)),
+      ) at c.won_of.ensures
 
   most_half : IsHalf (c.args.interval.hi +ℤ pos c.args.seeds) c.won_of-2.result
   most_half =
