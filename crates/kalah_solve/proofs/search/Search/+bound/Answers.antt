@@ -268,8 +268,8 @@ bound_by_moves-loop-priority-init g t c =
       next = next_waits c.seeds-seeds.ensures.limits untried c.highest-priority.ensures.found;
     }
 
-pub bound_by_search-learn-requires : goal.bound_by_search-learn-requires
-bound_by_search-learn-requires g c = grind (arith, common_steps)
+pub bound_by_search-learn_seeds-requires : goal.bound_by_search-learn-requires
+bound_by_search-learn_seeds-requires g c = grind (arith, common_steps)
 
 pub try_remaining-loop-untried-smaller-then-seeds-self : goal.try_remaining-loop-untried-smaller-then-seeds-self
 try_remaining-loop-untried-smaller-then-seeds-self g c = grind (arith, common_steps)
