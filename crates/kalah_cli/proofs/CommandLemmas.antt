@@ -27,13 +27,13 @@ stays_plain app [] plain = plain
 stays_plain app (a ∷ rest) plain = stays_plain (with_rule app (argument_rule a)) rest plain
 
 -- one subcommand more
-pub subcommand_added : {X : Type 0} (of : X → Subcommand) (start : App) (xs : List X) (i : ℕ) (x : X) {made old new : Command}
-    → i < length xs → app_of made ≡ subcommand_app (of (get_or xs i x))
-    → app_of old ≡ fold (λ app x. with_subcommand app (subcommand_app (of x)).top) start (take i xs) → AddsSubcommand old made new
-    → app_of new ≡ fold (λ app x. with_subcommand app (subcommand_app (of x)).top) start (take (i + 1) xs)
-subcommand_added of start xs i x {made} within is so_far adds =
-    let s = of (get_or xs i x) in
-    let plain = ap (λ a. a.top.is_plain) is ∙ stays_plain (new_app s.name.now) s.arguments.now refl in
+pub subcommand_added : {X : Type 0} (described : X → Subcommand) (start : App) (xs : List X) (i : ℕ) (x : X) {made old new : Command}
+    → i < length xs → app_of made ≡ subcommand_app (described (get_or xs i x))
+    → app_of old ≡ fold (λ app x. with_subcommand app (subcommand_app (described x)).top) start (take i xs) → AddsSubcommand old made new
+    → app_of new ≡ fold (λ app x. with_subcommand app (subcommand_app (described x)).top) start (take (i + 1) xs)
+subcommand_added described start xs i x {made} within made_is so_far adds =
+    let s = described (get_or xs i x) in
+    let plain = ap (λ a. a.top.is_plain) made_is ∙ stays_plain (new_app s.name.now) s.arguments.now refl in
     adds.shape (plain_fields made plain).globals
-    ∙ (λ j. with_subcommand (so_far j) (is j).top)
-    ∙ sym (fold_more (λ app x. with_subcommand app (subcommand_app (of x)).top) start xs i x within)
+    ∙ (λ j. with_subcommand (so_far j) (made_is j).top)
+    ∙ sym (fold_more (λ app x. with_subcommand app (subcommand_app (described x)).top) start xs i x within)

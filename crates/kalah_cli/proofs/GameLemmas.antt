@@ -1,5 +1,5 @@
 -- The game of best play, move by move.
-use Rattle.std.proofs.Common.{◌⊎◌, ◌<◌, ◌≤◌, ◌-◌, ◌≡◌, ℕ, zero, suc, List, [], ◌∷◌, ◌++◌, Bool, true, false, inl, inr, of_z, refl, sym, subst, to_z, w32, ap, append_assoc, ◌∙◌, arith}
+use Rattle.std.proofs.Common.{◌⊎◌, ◌<◌, ◌≤◌, ◌-◌, ◌≡◌, ℕ, zero, suc, List, [], ◌∷◌, ◌++◌, Bool, true, false, inl, inr, of_z, refl, sym, subst, to_z, w32, ap, ◌∙◌, arith}
 use Rattle.std.specs.Prelude.{Contains, ℤ, None, Option, Some, if◌then◌else◌, unwrap_or}
 use Rattle.std.proofs.lemmas.Bool.{both_ways, cases_Bool}
 use Rattle.std.proofs.lemmas.Int.{ints, to_z-of_z}
@@ -19,18 +19,9 @@ use Rattle.std.proofs.lemmas.List.Elements.{Contains-push}
 use Rattle.kalah_solve.proofs.SolverLemmas.{best_is_strategy, best_plays, game_is_bounded, strategy_within, widened}
 use Rattle.kalah_rules.proofs.PackedLemmas.{is_over-swapped}
 use Rattle.kalah_solve.proofs.WorthLemmas.{final_swapped, value_moving_again, value_of_again, value_of_turn, value_passing, worth_of_over, again_fewer, over_at_end, over_ends, step_states, swapped_equal_sides, turn_fewer}
-use Rattle.kalah_jobs.specs.Writing.Sink.{SinkState, WasGiven}
-use Rattle.kalah_jobs.specs.Writing.Shown.{shown_of}
-use Rattle.kalah_jobs.specs.Writing.Variation.{variation_start}
-use Rattle.kalah_jobs.proofs.SinkLemmas.{given_then_flush, given_then}
-use Rattle.kalah_solve.specs.declared.solver.move_values.MoveValue.{MoveValue}
 use Rattle.kalah_cli.specs.Game.{IsNextMove, PlaysBestGames, VariationsEndWithTheirValue, best_game, best_moves, game_played, game_text, move_text, value_shown}
 use Rattle.kalah_cli.specs.Play.{MayBegin}
-use Rattle.kalah_cli.specs.Moves.{board_lines}
-use Rattle.kalah_cli.specs.Solver.{Begins, GameStart, IsOfVariations, IsShown}
 use Rattle.kalah_cli.specs.declared.game.Form.{Form}
-use Rattle.kalah_cli.specs.declared.game.Form.TheVariants.{Houses, Lines}
-use Rattle.kalah_cli.specs.Solver.IsShown.{begins, moves}
 
 -- both players always move the lowest best house
 abbrev pub BestGame : Position → List ℕ → Position → Type 0
@@ -39,10 +30,10 @@ BestGame p houses final = Game (follow best_house) (follow best_house) p houses 
 -- the solver's verdict has the worth and the best house, if the game goes on
 best_of_verdict : (p : Position) (margin : ℤ) (house : ℕ) → is_over p ≡ false → Best margin house ≡ verdict_of p
     → (margin ≡ worth p) × (house ≡ best_house p)
-best_of_verdict p margin house going is =
+best_of_verdict p margin house going verdict =
     let both : Best margin house ≡ Best (worth p) (best_house p) =
-    is ∙ ap (λ b. if b then Over (final_margin p) else Best (worth p) (best_house p)) going in
-    (cc, cc)
+    verdict ∙ ap (λ b. if b then Over (final_margin p) else Best (worth p) (best_house p)) going in
+    (cc both, cc both)
 
 -- the position after a step, in each case
 pub after_step : (s : Step) (p : Position) → (s ≡ step.Again p) ⊎ ((s ≡ step.Turn p) ⊎ (s ≡ step.Over p))
@@ -65,7 +56,7 @@ equal_after p h = go (is_over (after p h)) (is_again p h)
 
 -- a move that ends the game leaves none
 none_after : (p : Position) (h : ℕ) (e : Position) → step.Over e ≡ step_of p h → moves_left e ≡ 0
-none_after p h e is = grind (arith, sum-zeros, row_distance_le)
+none_after p h e step_is = grind (arith, sum-zeros, row_distance_le)
 
 -- if the game goes on, one is left
 some_left : (p : Position) → is_over p ≡ false → 0 < moves_left p
@@ -74,9 +65,9 @@ some_left p going = grind (arith, over_at_end)
 -- after a move fewer are left
 pub fewer_left : {p : Position} {h : ℕ} (s : Step) → HasEqualSides p → Contains (legal_houses p) h → s ≡ step_of p h
     → moves_left (position_after s) < moves_left p
-fewer_left {p} {h} (step.Again q) equal legal is = again_fewer p h q equal legal is
-fewer_left {p} {h} (step.Turn q) equal legal is = turn_fewer p h q equal legal is
-fewer_left {p} {h} (step.Over q) equal legal is = omega (arith, none_after p h q is, some_left p (legal_going p h legal))
+fewer_left {p} {h} (step.Again q) equal legal step_is = again_fewer p h q equal legal step_is
+fewer_left {p} {h} (step.Turn q) equal legal step_is = turn_fewer p h q equal legal step_is
+fewer_left {p} {h} (step.Over q) equal legal step_is = omega (arith, none_after p h q step_is, some_left p (legal_going p h legal))
 
 -- A move in front of a game from the position after it, by a policy that both players share. If that game ends with the worth of its
 -- position, the longer one ends with the value of the move
@@ -84,35 +75,43 @@ game_before : {policy : Policy} {p : Position} {h : ℕ} {houses : List ℕ} {fi
     → Contains (policy p) h → s ≡ step_of p h → Game policy policy (position_after s) houses final
     → (end : Position) × Game policy policy p (h ∷ houses) end
     × (final_margin final ≡ worth (position_after s) → final_margin end ≡ value_of_move p h)
-game_before {policy} {p} {h} {houses} {final} (step.Again q) going may is game =
-    let to = step_states (is_over (after p h)) (is_again p h) (after p h) (step.Again q) is in (
+game_before {policy} {p} {h} {houses} {final} (step.Again q) going allowed step_is game =
+    let states = step_states (is_over (after p h)) (is_again p h) (after p h) (step.Again q) step_is in (
       final,
-      moves_on going may to.1 (subst (λ r. Game policy policy r houses final) to.2 game),
-      λ margin. margin ∙ value_of_again p h q is,
+      moves_on going allowed states.1 (subst (λ r. Game policy policy r houses final) states.2 game),
+      λ margin. margin ∙ value_of_again p h q step_is,
     )
-game_before {policy} {p} {h} {houses} {final} (step.Turn q) going may is game =
-    let to = step_states (is_over (after p h)) (is_again p h) (after p h) (step.Turn q) is in (
+game_before {policy} {p} {h} {houses} {final} (step.Turn q) going allowed step_is game =
+    let states = step_states (is_over (after p h)) (is_again p h) (after p h) (step.Turn q) step_is in (
       swapped final,
-      passes_turn going may to.1 (subst (λ r. Game policy policy r houses final) to.2 game),
-      λ margin. omega (arith, ints, final_swapped final, margin, value_of_turn p h q is),
+      passes_turn going allowed states.1 (subst (λ r. Game policy policy r houses final) states.2 game),
+      λ margin. omega (arith, ints, final_swapped final, margin, value_of_turn p h q step_is),
     )
-game_before {p = p} {h = h} (step.Over q) going may is (is_at_end _) =
-    let over = (step_states (is_over (after p h)) (is_again p h) (after p h) (step.Over q) is).0 in
-    let other = is_over-swapped (after p h) ∙ over in
+game_before {p = p} {h = h} (step.Over q) going allowed step_is (is_at_end _) =
+    let over = (step_states (is_over (after p h)) (is_again p h) (after p h) (step.Over q) step_is).0 in
+    let over_swapped = is_over-swapped (after p h) ∙ over in
     elim (cases_Bool (is_again p h)) [
       | inl again ↦ (
         after p h,
-        moves_on going may again (is_at_end over),
+        moves_on going allowed again (is_at_end over),
         λ _. sym (value_moving_again p h again ∙ worth_of_over (after p h) over),
       )
       | inr turn ↦ (
         swapped (swapped (after p h)),
-        passes_turn going may turn (is_at_end other),
-        λ _. omega (arith, ints, final_swapped (swapped (after p h)), value_passing p h turn, worth_of_over (swapped (after p h)) other),
+        passes_turn going allowed turn (is_at_end over_swapped),
+        λ _. omega (
+          arith,
+          ints,
+          final_swapped (swapped (after p h)),
+          value_passing p h turn,
+          worth_of_over (swapped (after p h)) over_swapped,
+        ),
       )
     ]
-game_before {p = p} {h = h} (step.Over q) going may is (moves_on on has again rest) = absurd (let over = over_ends p h q is in cc)
-game_before {p = p} {h = h} (step.Over q) going may is (passes_turn on has turn rest) = absurd (let over = over_ends p h q is in cc)
+game_before {p = p} {h = h} (step.Over q) going allowed step_is (moves_on goes_on chosen again rest) =
+    absurd (let over = over_ends p h q step_is in cc)
+game_before {p = p} {h = h} (step.Over q) going allowed step_is (passes_turn goes_on chosen turn rest) =
+    absurd (let over = over_ends p h q step_is in cc)
 
 -- ---- the moves of the game
 
@@ -155,50 +154,52 @@ game_goes_on : (p : Position) → HasEqualSides p → is_over p ≡ false
     → best_game p ≡ best_house p ∷ best_game (position_after (step_of p (best_house p)))
 game_goes_on p equal going =
     let n = moves_left p - 1 in
-    let more : moves_left p ≡ suc n = omega (arith, some_left p going) in
+    let left : moves_left p ≡ suc n = omega (arith, some_left p going) in
     let next = same_moves n _ _ (equal_after p (best_house p)) (omega (arith, fewer_next p equal going)) (omega arith) in
-    ap (λ k. best_moves k p) more ∙ best_move_first n p going ∙ ap (λ moves. best_house p ∷ moves) next
+    ap (λ k. best_moves k p) left ∙ best_move_first n p going ∙ ap (λ moves. best_house p ∷ moves) next
 
 -- the moves of a game that may begin with a house that is asked for are its first one, and those of best play after it
 played_next : (first : Option ℕ) (p : Position) (h : ℕ) → HasEqualSides p → is_over p ≡ false → h ≡ unwrap_or first (best_house p)
     → game_played first p ≡ h ∷ best_game (position_after (step_of p h))
-played_next first p h equal going is = first_of first ∙ ap (λ k. k ∷ best_game (position_after (step_of p k))) (sym is)
+played_next first p h equal going house_is = first_of first ∙ ap (λ k. k ∷ best_game (position_after (step_of p k))) (sym house_is)
   where
-    first_of : (f : Option ℕ) → game_played f p ≡ unwrap_or f (best_house p) ∷ best_game (position_after (step_of p (unwrap_or f (best_house p))))
+    first_of : (f : Option ℕ)
+        → game_played f p ≡ unwrap_or f (best_house p) ∷ best_game (position_after (step_of p (unwrap_or f (best_house p))))
     first_of None = game_goes_on p equal going
     first_of (Some f) = refl
 
 module _ {form : Form} {first : Option ℕ} {p : Position} {value : Option ℤ} {h : ℕ} {s : Step} (next : IsNextMove form first p value h)
-    (is : s ≡ step_of p h) where
+    (step_is : s ≡ step_of p h) where
   -- its text has the value of best play, if values are shown
   pub next_text : move_text form value h s ≡ move_text form (value_shown form (worth p)) h (step_of p h)
-  next_text = ap (λ v. move_text form v h s) next.shown ∙ ap (move_text form (value_shown form (worth p)) h) is
+  next_text = ap (λ v. move_text form v h s) next.shown ∙ ap (move_text form (value_shown form (worth p)) h) step_is
 
   -- the text of a game is that of its next move, and the text from the position after it
   pub text_goes_on : HasEqualSides p → game_text form p (game_played first p)
       ≡ move_text form value h s ++ game_text form (position_after s) (best_game (position_after s))
   text_goes_on equal = ap (game_text form p) (played_next first p h equal (legal_going p h next.legal) next.house)
-      ∙ ap (λ s. move_text form (value_shown form (worth p)) h s ++ game_text form (position_after s) (best_game (position_after s))) (sym is)
+      ∙ ap (λ s. move_text form (value_shown form (worth p)) h s ++ game_text form (position_after s) (best_game (position_after s)))
+      (sym step_is)
       ∙ ap (λ v. move_text form v h s ++ game_text form (position_after s) (best_game (position_after s))) (sym next.shown)
 
 -- if it is over, it has none
 pub no_text : (form : Form) (first : Option ℕ) (p : Position) → MayBegin first p → is_over p ≡ true
     → game_text form p (game_played first p) ≡ []
-no_text form None p may over = ap (game_text form p) (no_best_moves (moves_left p) p over)
-no_text form (Some h) p may over = absurd (both_ways _ (legal_going p h may) over)
+no_text form None p may_begin over = ap (game_text form p) (no_best_moves (moves_left p) p over)
+no_text form (Some h) p may_begin over = absurd (both_ways _ (legal_going p h may_begin) over)
 
 -- the verdict determines the next move, by a margin of thirty-two bits
 pub next_of_verdict : (form : Form) (first : Option ℕ) (p : Position) {margin : ℤ} {house : ℕ} → MayBegin first p → IsSmallBest margin house
     → StatesBestMove p margin house → Best margin house ≡ verdict_of p
     → IsNextMove form first p (value_shown form (to_z w32 (of_z w32 margin))) (unwrap_or first house)
-next_of_verdict form first p {margin} {house} may small states is =
-    let best = best_of_verdict p margin house states.going is in
-    let kept = to_z-of_z w32 margin (omega (arith, ints, small.small.low, small.small.high)) in
-    record { legal = legal first may; house = ap (unwrap_or first) best.1; shown = ap (value_shown form) (kept ∙ best.0) }
+next_of_verdict form first p {margin} {house} may_begin small states verdict =
+    let best = best_of_verdict p margin house states.going verdict in
+    let unwrapped = to_z-of_z w32 margin (omega (arith, ints, small.small.low, small.small.high)) in
+    record { legal = legal first may_begin; house = ap (unwrap_or first) best.1; shown = ap (value_shown form) (unwrapped ∙ best.0) }
   where
     legal : (f : Option ℕ) → MayBegin f p → Contains (legal_houses p) (unwrap_or f house)
-    legal None may = states.best.legal
-    legal (Some h) may = may
+    legal None may_begin = states.best.legal
+    legal (Some h) may_begin = may_begin
 
 -- ---- the law on it
 
@@ -234,66 +235,3 @@ variations_end p h equal legal =
     let by_rules = widened (strategy_within best_is_strategy) (strategy_within best_is_strategy) (equal_after p h) best.1.game in
     let game = game_before (step_of p h) (legal_going p h legal) legal refl by_rules in
     (game.0, record { game = game.1; margin = game.2 best.1.margin })
-
--- ---- the positions that are shown
-
-module _ {O : Type 0} (state : O → SinkState) where
-  -- the first one, once it was given
-  pub shown_first : {game : GameStart O} {boards values : Bool} {p : Position} {old new : O}
-      → game ≡ record { form = Lines boards values; first = p; sink = old } → WasGiven state old new (board_lines boards p)
-      → IsShown state game new p
-  shown_first {p = p} {new = new} begun given = subst (λ game. IsShown state game new p) (sym begun) (begins (refl, given))
-
-  -- the one after the first move of a variation, once its line began
-  pub shown_after : {game now : GameStart O} {p q : Position} {between new : O} (v : MoveValue)
-      → IsOfVariations state game p between → WasGiven state between new (variation_start v)
-      → q ≡ position_after (step_of p v.house) → now ≡ game → IsShown state now new q
-  shown_after {game} {now} {p} {q} {between} {new} v below given next same =
-      subst (λ game. IsShown state game new q) (sym same)
-      (begins (subst (λ f. Begins state game f new q) (sym below.form) (record {
-        between = between;
-        move = v;
-        below = subst (λ r. IsOfVariations state game r between) (sym below.first) below;
-        line = given;
-        after = next ∙ ap (λ r. position_after (step_of r v.house)) (sym below.first);
-      })))
-
-  -- more of the variations was given
-  pub variations_go_on : {game now : GameStart O} {p : Position} {between new : O} (text : List ℕ) → now ≡ game
-      → IsOfVariations state game p between → WasGiven state between new text
-      → IsOfVariations state now p new
-  variations_go_on {game} {now} {p} {between} {new} text same below given = rw same (record {
-    form = below.form;
-    first = below.first;
-    more = below.more ++ text;
-    shown = subst (WasGiven state game.sink new) (append_assoc (shown_of p) below.more text)
-        (given_then state game.sink between new (shown_of p ++ below.more) text below.shown given);
-  })
-
-  -- how a game began, after a flush
-  begins_flushed : (game : GameStart O) (form : Form) (p : Position) (between new : O) → Begins state game form between p
-      → WasGiven state between new [] → Begins state game form new p
-  begins_flushed game (Lines boards values) p between new (is, given) flushed =
-      (is, given_then_flush state _ _ _ _ given flushed)
-  begins_flushed game Houses p between new begun flushed = record {
-    between = begun.between;
-    move = begun.move;
-    below = begun.below;
-    line = given_then_flush state _ _ _ _ begun.line flushed;
-    after = begun.after;
-  }
-
-  module _ {game : GameStart O} {p : Position} {between new : O} (shown : IsShown state game between p) where
-    -- one that was shown, after a flush
-    pub shown_flushed : WasGiven state between new [] → IsShown state game new p
-    shown_flushed flushed = by shown flushed where
-      by : {q : Position} {o : O} → IsShown state game o q → WasGiven state o new [] → IsShown state game new q
-      by (begins begun) flushed = begins (begins_flushed game game.form _ _ _ begun flushed)
-      by (moves o q h shown given) flushed = moves o q h shown (given_then_flush state _ _ _ _ given flushed)
-
-    -- the next one, once its move was given
-    pub shown_next : {now : GameStart O} {form : Form} {s : Step} {q : Position} (h : ℕ) → game.form ≡ form → s ≡ step_of p h
-        → q ≡ position_after s → now ≡ game → WasGiven state between new (move_text form (value_shown form (worth p)) h (step_of p h))
-        → IsShown state now new q
-    shown_next h written_in step next same given = rw (same, next, step)
-        (moves between p h shown (subst (λ f. WasGiven state between new (move_text f (value_shown f (worth p)) h (step_of p h))) (sym written_in) given))

@@ -18,35 +18,37 @@ use Rattle.kalah_cli.specs.declared.status.ExitStatus.TheVariants.{Clean, Failed
 
 -- a standard input that may be left is the one that is known
 known_left : (typed : List ℕ) (unread : Option (List ℕ)) → MayBeLeft (λ bytes. bytes ≡ typed) unread → unread ≡ Some typed
-known_left typed None may =
-    let longer : 0 ∷ typed ≡ typed = may (0 ∷ typed) in
+known_left typed None possible =
+    let longer : 0 ∷ typed ≡ typed = possible (0 ∷ typed) in
     absurd (let same : suc (length typed) ≡ length typed = ap length longer in omega (arith, same))
-known_left typed (Some bytes) may = ap (λ l. Some l) may
+known_left typed (Some bytes) possible = ap (λ l. Some l) possible
 
 module _ {O : Type 0} (state : O → SinkState) (old new : O) (status : ExitStatus)
-    (disk : List NamedBytes) (typed output : List ℕ) (before : (state old).written ≡ Some []) (after : (state new).written ≡ Some output) where
+    (disk : List NamedBytes) (typed output : List ℕ)
+    (before : (state old).written ≡ Some []) (after : (state new).written ≡ Some output) where
   -- what was added is all that was written
   all_written : (text : List ℕ) → Appends (state old).written (state new).written text → output ≡ text
-  all_written text adds = subst (λ o. Appends o (Some output) text) before (subst (λ o. Appends (state old).written o text) after adds)
+  all_written text adds =
+      subst (λ o. Appends o (Some output) text) before (subst (λ o. Appends (state old).written o text) after adds)
 
   files_known : (question : Question) (names : List Text) → status ≢ Failed
       → AnswersFiles state old new status (known_bytes disk typed) question names
       → (files : List NamedBytes) × (AreOn disk names files × IsAnswerTo status output question files)
-  files_known question names went does = (
-    does.files,
+  files_known question names not_failed answered = (
+    answered.files,
     (
-      record { named = does.named; bytes = elim does.given [ inl fails ↦ absurd (went fails.0) | inr given ↦ given ] },
-      (all_written _ (does.printed.whole went), does.clean went),
+      record { named = answered.named; bytes = elim answered.given [ inl fails ↦ absurd (not_failed fails.0) | inr given ↦ given ] },
+      (all_written _ (answered.printed.whole not_failed), answered.clean not_failed),
     ),
   )
 
   lines_known : (question : Question) (unread : Option (List ℕ)) → status ≢ Failed → unread ≡ Some typed
       → AnswersInput state old new status question unread
       → IsAnswerToLines status output question typed
-  lines_known question unread went is does =
-      let asked = does.asked went in
-      let all : asked.0.read ≡ typed = subst (λ u. IfSome u (λ bytes. asked.0.read ≡ bytes)) is asked.0.all in
-      let read = subst (λ bytes. does.all_read ≡ are_all_read bytes) all asked.0.status in (
+  lines_known question unread not_failed known answered =
+      let asked = answered.asked not_failed in
+      let all : asked.0.read ≡ typed = subst (λ u. IfSome u (λ bytes. asked.0.read ≡ bytes)) known asked.0.all in
+      let read = subst (λ bytes. answered.all_read ≡ are_all_read bytes) all asked.0.status in (
         all_written (answers_to question typed)
             (subst (λ bytes. Appends (state old).written (state new).written (answers_to question bytes)) all asked.0.written),
         subst (λ b. status ≡ Clean ↔ b ≡ true) read asked.1,
@@ -56,13 +58,13 @@ module _ {O : Type 0} (state : O → SinkState) (old new : O) (status : ExitStat
   pub answers_what_is_known : (words : List Text) → DoesWhatIsAsked state old new status (known_bytes disk typed) words
       → AnswersWhatIsKnown status output disk typed words
   answers_what_is_known words accepted = record {
-    files = λ question workers table progress names taken went.
-        elim (accepted (answers question workers table progress names) taken) [
-          | inl does ↦ files_known question names went does
-          | inr fails ↦ absurd (went fails.0)
+    files = λ question workers table progress names accepted_as not_failed.
+        elim (accepted (answers question workers table progress names) accepted_as) [
+          | inl does ↦ files_known question names not_failed does
+          | inr fails ↦ absurd (not_failed fails.0)
         ];
-    lines = λ question table taken went. elim (accepted (ask question table) taken) [
-      | inl does ↦ lines_known question does.0 went (known_left typed does.0 does.1.0) does.1.1
-      | inr fails ↦ absurd (went fails.0)
+    lines = λ question table accepted_as not_failed. elim (accepted (ask question table) accepted_as) [
+      | inl does ↦ lines_known question does.0 not_failed (known_left typed does.0 does.1.0) does.1.1
+      | inr fails ↦ absurd (not_failed fails.0)
     ];
   }

@@ -1,7 +1,10 @@
+pub mod ClapWalkLemmas
 pub mod ClapLemmas
 pub mod CommandLemmas
 pub mod RequestLemmas
+pub mod EndsLemmas
+pub mod InputLemmas
 pub mod RunLemmas
 pub mod GameLemmas
+pub mod SolverLemmas
 pub mod KnownLemmas
-pub mod ShowLemmas

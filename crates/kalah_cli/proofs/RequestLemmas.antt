@@ -2,7 +2,7 @@
 use Rattle.std.proofs.Common.{is_some, ◌≡◌, ◌⊎◌, ◌≤◌, ℕ, true, refl, ap, subst, inl, inr, List, Some, codes, arith, ◌∙◌, ◌<◌, ◌^◌, Bool, false, Option, None, map, sym, [], ◌∷◌}
 use Rattle.std.specs.List.{AllByRecursion as AllOf}
 use Rattle.std.specs.Prelude.{IfSome, option_map, unwrap_or}
-use Rattle.std.proofs.lemmas.Option.{IfSome_then}
+use Rattle.std.proofs.lemmas.Option.{IfSome_then, same_Some}
 use Rattle.clap.specs.Facts.{parser_of_value}
 use Rattle.clap.specs.Words.{Accepts, Row, Rule, Text, reading_of, IsUnsignedIn, ReadsOne, all_of, matched_of, one_of, one_text, raw_values, rows_of, App, HasKind, fault_of, is_simple, is_simple_and_free, subcommand_of}
 use Rattle.clap.specs.Simple.{Shape, built, filled, with_index}
@@ -14,7 +14,7 @@ use Rattle.kalah_cli.specs.Command.{file_rule, kalah_app, table_rule, workers_ru
 use Rattle.kalah_cli.specs.Request.{AreMatches, MayHaveNumber, name_of_question, number_written, is_set, number_given, Asked, IsAcceptedAs, about_line}
 use Rattle.kalah_cli.specs.Runs.{IsPlainWord}
 use Rattle.kalah_cli.specs.declared.request.LineCommand.TheVariants.{Moves}
-use Rattle.kalah_cli.proofs.ClapLemmas.{Given, HasOf, IsUsableIn, accepted_in, arg_in, given_in, row_by_id, taken_has, cases_Option}
+use Rattle.kalah_cli.proofs.ClapLemmas.{Given, IsUsableIn, SatisfyAll, accepted_satisfies, arg_in, required_is_given, row_by_id, text_is_accepted}
 use Rattle.std.specs.Str.{bytes_eq}
 use Rattle.std.proofs.lemmas.Bool.{and_parts, false_from_ne_true, ne_eqb}
 use Rattle.std.proofs.lemmas.Slice.Eq.{bytes_eq-Decides}
@@ -40,9 +40,10 @@ pub usable : AllOf (IsUsableIn subs) subs
 unfolding clap_on_literals
 usable = assumption
 
--- the matches of a subcommand have what its arguments promise
-has_of : (name : Text) (rows : List Row) → AreMatches name rows → HasOf subs name rows
-has_of name rows m = subst (λ o. IfSome o (λ e. HasOf subs e.0 e.1)) m.2 (taken_has kalah_app m.0 usable refl m.1).1
+-- the matches of a subcommand satisfy its arguments
+rows_satisfy : (name : Text) (rows : List Row) → AreMatches name rows → SatisfyAll subs name rows
+rows_satisfy name rows matches =
+    subst (λ o. IfSome o (λ e. SatisfyAll subs e.0 e.1)) matches.2 (accepted_satisfies kalah_app matches.0 usable refl matches.1).1
 
 -- the argument of the id, of the subcommand of the name
 abbrev pub Takes : Text → Text → Rule → Type 0
@@ -52,16 +53,17 @@ Takes name id a = arg_in subs name id ≡ Some a
 pub may_have_number : {name : Text} {rows : List Row} (id : Text) {a : Rule} {low high : ℕ} (least most : ℕ) → AreMatches name rows
     → Takes name id a
     → a.parser ≡ Some (Unsigned low high) → least ≤ low → high ≤ most → MayHaveNumber id least most rows
-may_have_number {name} {rows} id {a} least most m takes parser lower higher =
-    let written = ap (λ p. reading_of (parser_of_value p)) parser in
-    let read = subst (λ p. IfSome (one_of id rows) (Accepts a.ignore_case (parser_of_value p))) parser
-    (accepted_in a (row_by_id id rows) (has_of name rows m id a takes) written) in
-    IfSome_then (one_of id rows) read (λ t range. (range.0, range.1, omega (arith, range.2, lower), omega (arith, range.3, higher)))
+may_have_number {name} {rows} id {a} least most matches takes parser lower higher =
+    let as_written = ap (λ p. reading_of (parser_of_value p)) parser in
+    let accepted = subst (λ p. IfSome (one_of id rows) (Accepts a.ignore_case (parser_of_value p))) parser
+    (text_is_accepted a (row_by_id id rows) (rows_satisfy name rows matches id a takes) as_written) in
+    IfSome_then (one_of id rows) accepted (λ t range. (range.0, range.1, omega (arith, range.2, lower), omega (arith, range.3, higher)))
 
 -- an argument that is required has a value
-pub given : {name : Text} {rows : List Row} (id : Text) {a : Rule} → AreMatches name rows → Takes name id a → a.required ≡ true
+pub value_given : {name : Text} {rows : List Row} (id : Text) {a : Rule} → AreMatches name rows → Takes name id a → a.required ≡ true
     → Given a (row_by_id id rows)
-given {name} {rows} id {a} m takes required = given_in a (row_by_id id rows) (has_of name rows m id a takes) required
+value_given {name} {rows} id {a} matches takes required =
+    required_is_given a (row_by_id id rows) (rows_satisfy name rows matches id a takes) required
 
 -- an argument of a subcommand with files, as it is built
 abbrev pub built_rule : Rule → Rule
@@ -82,23 +84,28 @@ takes_table Steps searches = elim searches [ inl best ↦ cc | inr values ↦ cc
 
 -- ---- what the getters of matches return, by the rows of the matches
 
+-- an option has no value, or this one
+cases_Option : {X : Type 0} (o : Option X) → (o ≡ None) ⊎ ((x : X) × (o ≡ Some x))
+cases_Option None = inl refl
+cases_Option (Some x) = inr (x, refl)
+
 -- an option of pairs, by what a getter returns of the first and of the second parts
 pub pair_got : {S A B R : Type 0} (n : S → A) (r : S → B) (s : Option S) (f : R → A) (g : R → B) (o : Option R) (p : R)
     → option_map f o ≡ option_map n s
     → option_map g o ≡ option_map (λ (p : A × B). p.1) (option_map {U = A × B} (λ b. (n b, r b)) s)
     → o ≡ Some p → option_map {U = A × B} (λ b. (n b, r b)) s ≡ Some (f p, g p)
-pair_got n r None f g o p first second is = let bad : Some (f p) ≡ None = rw is at first in cc
-pair_got n r (Some b) f g o p first second is =
-    let one : Some (f p) ≡ Some (n b) = rw is at first in
-    let other : Some (g p) ≡ Some (r b) = rw is at second in
+pair_got n r None f g o p first second found = let none : Some (f p) ≡ None = rw found at first in cc
+pair_got n r (Some b) f g o p first second found =
+    let first_same : Some (f p) ≡ Some (n b) = rw found at first in
+    let second_same : Some (g p) ≡ Some (r b) = rw found at second in
     cc
 
 -- what was copied from the getter of values are all values under the name
 pub values_are : (f : Found) (id : Text) (o : Option (Bor (List (Bor Text)))) (s : Bor (List (Bor Text))) (copied : List (Bor Text))
     → option_map (λ s. map (λ v. v.now) s.now) o ≡ option_map raw_values (matched_of f id) → o ≡ Some s → copied ≡ s.now
     → all_of id (rows_of f) ≡ Some (map (λ v. v.now) copied)
-values_are f id o s copied read is same =
-    sym (raw_values-rows f id) ∙ sym read ∙ ap (option_map (λ s. map (λ v. v.now) s.now)) is
+values_are f id o s copied read found same =
+    sym (raw_values-rows f id) ∙ sym read ∙ ap (option_map (λ s. map (λ v. v.now) s.now)) found
     ∙ ap (λ vs. Some (map (λ v. v.now) vs)) (sym same)
 
 -- the getter of a type of numbers of this width returns the number under the name
@@ -107,9 +114,9 @@ pub number_read : (width low high : ℕ) (f : Found) (id : Text) (r : Option ℕ
     → ((t : Text) → one_text f id ≡ Some t
     → ReadsOne (λ t x. ParsesUnsigned width 10 t x × ExplainsUnsignedError 10 t x × HasUnsignedDigitsIfOk t x) t r)
     → high < 2 ^ width → MayHaveNumber id low high (rows_of f) → r ≡ number_given id (rows_of f)
-number_read width low high f id r absent value fits may = elim (cases_Option (one_of id (rows_of f))) [
+number_read width low high f id r absent value fits ranged = elim (cases_Option (one_of id (rows_of f))) [
   | inl none ↦ rw none (absent (one_text-rows f id ∙ none))
-  | inr some ↦ rw some.1 (go r some.0 (rw some.1 at may) (value some.0 (one_text-rows f id ∙ some.1)))
+  | inr given ↦ rw given.1 (go r given.0 (rw given.1 at ranged) (value given.0 (one_text-rows f id ∙ given.1)))
 ]
   where
     go : (r : Option ℕ) (t : Text) → IsUnsignedIn low high t
@@ -121,39 +128,36 @@ number_read width low high f id r absent value fits may = elim (cases_Option (on
 -- a number that is there is in the range
 pub in_range : (low high : ℕ) (o : Option Text) → IfSome o (IsUnsignedIn low high)
     → IfSome (option_map number_written o) (λ n. (low ≤ n) × (n ≤ high))
-in_range low high None may = tt
-in_range low high (Some t) may = (may.2, may.3)
+in_range low high None ranged = tt
+in_range low high (Some t) ranged = (ranged.2, ranged.3)
 
 -- what holds of a number that is there and of the default holds of either
 pub or_default : (P : ℕ → Type 0) (o : Option ℕ) (default : ℕ) → IfSome o P → P default → P (unwrap_or o default)
-or_default P None default some none = none
-or_default P (Some n) default some none = some
+or_default P None default of_number of_default = of_default
+or_default P (Some n) default of_number of_default = of_number
 
 -- the getter of a flag returns whether it is set
 pub flag_read : (E : Type 0) (f : Found) (id : Text) (r : Option Bool) → (one_text f id ≡ None → r ≡ None)
     → ((t : Text) → one_text f id ≡ Some t → ReadsOne {E = E} ParsesBool t r) → unwrap_or r false ≡ is_set id (rows_of f)
 flag_read E f id r absent value = elim (cases_Option (one_of id (rows_of f))) [
   | inl none ↦ rw (none, absent (one_text-rows f id ∙ none)) refl
-  | inr some ↦ rw some.1 (go r some.0 (value some.0 (one_text-rows f id ∙ some.1)))
+  | inr given ↦ rw given.1 (go r given.0 (value given.0 (one_text-rows f id ∙ given.1)))
 ]
   where
     go : (r : Option Bool) (t : Text) → ReadsOne {E = E} ParsesBool t r → unwrap_or r false ≡ bytes_eq t (codes "true")
     go (Some true) t read = sym ((bytes_eq-Decides t (codes "true")).1 read)
     go (Some false) t read = rw read refl
-    go None t read = sym (false_from_ne_true _ (λ is. read.1.0 ((bytes_eq-Decides t (codes "true")).0 is)))
+    go None t read = sym (false_from_ne_true _ (λ equal. read.1.0 ((bytes_eq-Decides t (codes "true")).0 equal)))
 
 -- ---- how the command line reads arguments, as laws over the definitions
 
 -- equal arguments ask for the same
 pub accepted_at : {words given : List Text} {a : Asked} → words ≡ given → IsAcceptedAs given a → IsAcceptedAs words a
-accepted_at {a = a} same taken = subst (λ ws. IsAcceptedAs ws a) (sym same) taken
+accepted_at {a = a} same accepted = subst (λ ws. IsAcceptedAs ws a) (sym same) accepted
 
 -- arguments are accepted as one request
 pub accepted_once : (words : List Text) (a b : Asked) → IsAcceptedAs words a → IsAcceptedAs words b → a ≡ b
-accepted_once words a b p q =
-    let x = p.1 in
-    let y = q.1 in
-    cc
+accepted_once words a b one other = same_Some a b (sym one.1 ∙ other.1)
 
 -- `moves` and a plain argument are accepted as the moves of that line, with no boards
 pub moves_accepted : (name line : Text) → IsPlainWord line
@@ -173,24 +177,28 @@ app_is_simple = refl
 
 -- what is known of a parse that succeeds: the arguments have no fault, the matches are theirs, and they have a subcommand
 pub record IsParsed (words : List Text) (o : Option (Text × List Row)) : Type 0 where
-  pub none : fault_of kalah_app words ≡ []
-  pub same : o ≡ subcommand_of kalah_app words
-  pub some : is_some o ≡ true
+  pub no_fault : fault_of kalah_app words ≡ []
+  pub matches : o ≡ subcommand_of kalah_app words
+  pub entered : is_some o ≡ true
 
 pub parsed : (a : App) (words : List Text) (o : Option (Text × List Row)) → a ≡ kalah_app →
     (is_simple_and_free a ≡ true → fault_of a words ≡ [])
     → (is_simple a ≡ true → o ≡ subcommand_of a words) → IsParsed words o
-parsed a words o is none rows =
-    let simple = ap is_simple_and_free is ∙ app_is_simple in
-    let none : fault_of kalah_app words ≡ [] = subst (λ b. fault_of b words ≡ []) is (none simple) in
-    let same = rows (and_parts (is_simple a) _ simple).0 ∙ ap (λ b. subcommand_of b words) is in
-    record { none = none; same = same; some = ap is_some same ∙ (taken_has kalah_app words usable refl none).0 }
+parsed a words o same faultless rows =
+    let simple = ap is_simple_and_free same ∙ app_is_simple in
+    let no_fault : fault_of kalah_app words ≡ [] = subst (λ b. fault_of b words ≡ []) same (faultless simple) in
+    let matches = rows (and_parts (is_simple a) _ simple).0 ∙ ap (λ b. subcommand_of b words) same in
+    record {
+      no_fault = no_fault;
+      matches = matches;
+      entered = ap is_some matches ∙ (accepted_satisfies kalah_app words usable refl no_fault).0;
+    }
 
 -- if it fails, the error has a kind of the arguments' fault
 pub faulty : (a : App) (words : List Text) (e : Error) → a ≡ kalah_app →
     (is_simple_and_free a ≡ true → HasKind (fault_of a words) e)
     → HasKind (fault_of kalah_app words) e
-faulty a words e is has = subst (λ b. HasKind (fault_of b words) e) is (has (ap is_simple_and_free is ∙ app_is_simple))
+faulty a words e same has_kind = subst (λ b. HasKind (fault_of b words) e) same (has_kind (ap is_simple_and_free same ∙ app_is_simple))
 
 -- ---- a line that is read is no flag, as no number begins with a dash
 

@@ -56,9 +56,12 @@ number_written text = digits_value 10 (without_leading_plus text)
 abbrev pub number_given : Text → List Row → Option ℕ
 number_given id rows = option_map number_written (one_of id rows)
 
--- this number, or the default
-abbrev pub number_or : ℕ → Text → List Row → ℕ
-number_or default id rows = unwrap_or (number_given id rows) default
+-- how many workers there are, and how many entries a table has: what the matches say, or the default
+abbrev pub worker_count : List Row → ℕ
+worker_count rows = unwrap_or (number_given (codes "workers") rows) default_workers
+
+abbrev pub table_size : List Row → ℕ
+table_size rows = unwrap_or (number_given (codes "table") rows) default_entries
 
 -- whether the matches have the flag
 abbrev pub is_set : Text → List Row → Bool
@@ -73,12 +76,11 @@ abbrev pub moves_asks : List Row → Option Asked
 moves_asks rows = line_asks (Moves (is_set (codes "boards") rows)) rows
 
 abbrev pub play_asks : List Row → Option Asked
-play_asks rows = line_asks (Play (number_or default_entries (codes "table") rows) (is_set (codes "boards") rows)
-    (is_set (codes "values") rows) (number_given (codes "first") rows)) rows
+play_asks rows = line_asks
+    (Play (table_size rows) (is_set (codes "boards") rows) (is_set (codes "values") rows) (number_given (codes "first") rows)) rows
 
 abbrev pub show_asks : List Row → Option Asked
-show_asks rows = line_asks (Show (number_or default_entries (codes "table") rows) (is_set (codes "plain") rows)
-    (is_set (codes "lines") rows)) rows
+show_asks rows = line_asks (Show (table_size rows) (is_set (codes "plain") rows) (is_set (codes "lines") rows)) rows
 
 abbrev pub count_asks : List Row → Option Asked
 count_asks rows = option_and_then (λ depth. line_asks (Count depth) rows) (number_given (codes "depth") rows)
@@ -86,12 +88,12 @@ count_asks rows = option_and_then (λ depth. line_asks (Count depth) rows) (numb
 -- the size of the tables that the matches of a subcommand with files ask for: steps need none, and the least is one
 abbrev pub table_asked : Question → List Row → ℕ
 table_asked Steps rows = 1
-table_asked question rows = number_or default_entries (codes "table") rows
+table_asked question rows = table_size rows
 
 -- what these matches ask for
 abbrev pub files_ask : Question → List Row → Option Asked
-files_ask question rows = option_map (answers question (number_or default_workers (codes "workers") rows) (table_asked question rows)
-    (is_set (codes "progress") rows)) (all_of (codes "file") rows)
+files_ask question rows = option_map
+    (answers question (worker_count rows) (table_asked question rows) (is_set (codes "progress") rows)) (all_of (codes "file") rows)
 
 -- what `ask` asks for, with `--values` and `--steps` set or not, and with this table, if one is given: steps exclude the other two
 abbrev pub flags_ask : Bool → Bool → Option ℕ → Asked

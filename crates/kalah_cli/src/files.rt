@@ -87,7 +87,7 @@ pub(crate) fn read_limited<F: Read>(
 }
 
 // Returns all bytes of the file of this name. A file of more than 67,108,864 bytes can't be read.
-#[tactic(auto, using(crate::proofs::RunLemmas::read_whole))]
+#[tactic(auto, using(crate::proofs::InputLemmas::read_whole))]
 fn read_file<R: Sources>(rt: &R, alloc: Global, name: &str) -> Result<Vec<u8>, ReadFault>
     ensures within { IfOk result (λ bytes. length bytes.items ≤ most_file_bytes) }
     ensures given { IfOk result (λ bytes. R.may_give rt.now (file_named name.now) bytes.items) }

@@ -3,9 +3,9 @@ ghost use Rattle.std.specs.Prelude.{◌≡◌, IfErr, IfOk, IfSome, Some, codes,
 ghost use Rattle.clap.specs.Words.{FailsBy, fault_of, first_of, found_of, kind_of, rows_of};
 ghost use Rattle.clap.specs.declared.error.kind.ErrorKind.TheVariants.{OutOfMemory};
 ghost use Rattle.kalah_solve.specs.Table.Entries.{most_entries};
-ghost use Rattle.kalah_run.specs.Limits.{IsTableSize};
+ghost use Rattle.kalah_run.specs.Limits.{AreWorkers, IsTableSize, most_workers};
 ghost use Rattle.kalah_cli.specs.Command.{kalah_app};
-ghost use Rattle.kalah_cli.specs.Request.{AreMatches, IsInRange, IsAcceptedAs, MayHaveNumber, name_of_question, files_ask, flags_ask, is_set, matches_ask, number_given, number_or, request_asks};
+ghost use Rattle.kalah_cli.specs.Request.{AreMatches, IsInRange, IsAcceptedAs, MayHaveNumber, name_of_question, files_ask, flags_ask, is_set, matches_ask, number_given, request_asks, table_size, worker_count};
 
 use crate::command::command;
 use clap::{ArgMatches, Error};
@@ -75,23 +75,31 @@ pub struct FilesRequest<'a> {
     pub files: Vec<&'a str>,
 }
 
-// Returns the number of an option, if it is given.
-fn number_given(found: &ArgMatches<'_>, id: &str) -> Option<u32>
-    requires { MayHaveNumber id.now 1 most_entries (rows_of (found_of found.now)) }
-    ensures given { result ≡ number_given id.now (rows_of (found_of found.now)) }
-    ensures range { IfSome result IsTableSize }
+// Returns the number of workers that `--workers` gives, or the default.
+fn worker_count(found: &ArgMatches<'_>) -> u32
+    requires { MayHaveNumber (codes "workers") 1 most_workers (rows_of (found_of found.now)) }
+    ensures number { result ≡ worker_count (rows_of (found_of found.now)) }
+    ensures range { AreWorkers result }
 {
-    found.get_one::<u32>(id)
+    found.get_one::<u32>("workers").unwrap_or(DEFAULT_WORKERS)
 }
 
-// Returns the number of an option, or the default if it isn't given.
-fn number_or(found: &ArgMatches<'_>, id: &str, default: u32) -> u32
-    requires given { MayHaveNumber id.now 1 most_entries (rows_of (found_of found.now)) }
-    requires default { IsTableSize default }
-    ensures number { result ≡ number_or default id.now (rows_of (found_of found.now)) }
+// Returns the size of a table that `--table` gives, if it is given.
+fn table_given(found: &ArgMatches<'_>) -> Option<u32>
+    requires { MayHaveNumber (codes "table") 1 most_entries (rows_of (found_of found.now)) }
+    ensures given { result ≡ number_given (codes "table") (rows_of (found_of found.now)) }
+    ensures range { IfSome result IsTableSize }
+{
+    found.get_one::<u32>("table")
+}
+
+// Returns the size of a table that `--table` gives, or the default.
+fn table_size(found: &ArgMatches<'_>) -> u32
+    requires { MayHaveNumber (codes "table") 1 most_entries (rows_of (found_of found.now)) }
+    ensures number { result ≡ table_size (rows_of (found_of found.now)) }
     ensures range { IsTableSize result }
 {
-    number_given(found, id).unwrap_or(default)
+    table_given(found).unwrap_or(DEFAULT_ENTRIES)
 }
 
 // Returns the small number of an argument, if it has one.
@@ -131,9 +139,9 @@ fn files_request<'a>(
 {
     Ok(Request::Files(FilesRequest {
         question,
-        workers: number_or(found, "workers", DEFAULT_WORKERS),
+        workers: worker_count(found),
         table: match question {
-            Question::BestMove | Question::Values => number_or(found, "table", DEFAULT_ENTRIES),
+            Question::BestMove | Question::Values => table_size(found),
             Question::Steps => 1,
         },
         progress: is_set(found, "progress"),
@@ -169,19 +177,19 @@ fn requested<'a>(alloc: Global, name: &str, found: &ArgMatches<'a>) -> Result<Re
         "steps" => return files_request(alloc, Question::Steps, found),
         "ask" => {
             let (values, steps) = (is_set(found, "values"), is_set(found, "steps"));
-            return Ok(ask_request(values, steps, number_given(found, "table")));
+            return Ok(ask_request(values, steps, table_given(found)));
         }
         "moves" => LineCommand::Moves {
             boards: is_set(found, "boards"),
         },
         "play" => LineCommand::Play {
-            table: number_or(found, "table", DEFAULT_ENTRIES),
+            table: table_size(found),
             boards: is_set(found, "boards"),
             values: is_set(found, "values"),
             first: byte_given(found, "first"),
         },
         "show" => LineCommand::Show {
-            table: number_or(found, "table", DEFAULT_ENTRIES),
+            table: table_size(found),
             plain: is_set(found, "plain"),
             lines: is_set(found, "lines"),
         },

@@ -30,7 +30,6 @@ use std::sync::Wait;
 use std::thread::Threads;
 
 // Writes the requested help or version, and flushes.
-#[tactic(auto, using(crate::proofs::RunLemmas::printed_flushed))]
 fn print_text<O: Sink>(text: &str, out: &mut O)
     ensures { IsPrinted O.state out.old out.new text.now }
 {
@@ -137,8 +136,9 @@ pub fn run_words<R: Sources + Clock + Terminal + Threads + Wait + Sync, O: Sink,
     ensures failed { (O.state out.new).has_failed ≡ true → result ≡ ExitStatus.Failed }
     ensures unchanged { ((a : Asked) → IsAcceptedAs (texts_of words.items) a → IsOfNoInput a) → result ≡ ExitStatus.Failed
         → (O.state out.new).has_failed ≡ false → out.new ≡ out.old }
-    ensures stopped { (question : Question) (table : ℕ) → IsAcceptedAs (texts_of words.items) (ask question table) → result ≡ ExitStatus.Failed
-        → (O.state out.new).has_failed ≡ false → StopsBetweenLines question (O.state out.old).written (O.state out.new).written }
+    ensures stopped { (question : Question) (table : ℕ) → IsAcceptedAs (texts_of words.items) (ask question table)
+        → result ≡ ExitStatus.Failed → (O.state out.new).has_failed ≡ false
+        → StopsBetweenLines question (O.state out.old).written (O.state out.new).written }
     // If it did not, all that was written is flushed.
     ensures all_flushed { result ≢ ExitStatus.Failed → (O.state out.old).is_flushed ≡ true → (O.state out.new).is_flushed ≡ true }
 {

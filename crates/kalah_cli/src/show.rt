@@ -21,7 +21,6 @@ use kalah_solve::{MoveValue, MoveValues};
 use std::alloc::Global;
 
 // Draws a board, and flushes.
-#[tactic(auto, using(crate::proofs::RunLemmas::printed_flushed))]
 fn write_plain<O: Sink>(board: &Board, out: &mut O)
     ensures { IsPrinted O.state out.old out.new (picture_of board.now) }
 {

@@ -30,7 +30,7 @@ fn any_has_line_feed(names: &[&str]) -> bool
 }
 
 // Returns the files of these names, each read whole. Fails with `LineFeed` exactly if one of the names has a line feed in it.
-#[tactic(auto, using(crate::proofs::RunLemmas::texts_have_line_feed))]
+#[tactic(auto, using(crate::proofs::InputLemmas::texts_have_line_feed))]
 fn read_named<'a, R: Sources>(
     rt: &R,
     alloc: Global,

@@ -55,8 +55,8 @@ impl<O: Sink> GameSolver<O> {
         })
     }
 
-    /// Finds the best move of a board, as `Solver::solve` does. All that leads to the board is written and flushed: how its game begins, and
-    /// each move.
+    /// Finds the best move of a board, as `Solver::solve` does. All that leads to the board is written and flushed: how its game begins,
+    /// and each move.
     pub(crate) fn solve(&mut self, board: &Board, _out: &O) -> Verdict
         requires all_flushed { (O.state _out.now).is_flushed ≡ true }
         requires shown { IsShown O.state (begun self.old) _out.now board.now }

@@ -1,5 +1,5 @@
 use Rattle.std.proofs.Common.{refl}
-use Rattle.kalah_cli.proofs.RunLemmas.{input_answered, input_refused}
+use Rattle.kalah_cli.proofs.InputLemmas.{input_answered, input_refused}
 use Rattle.kalah_cli.proofs.ask.run_ask.Goals as goal
 
 pub returns-in_default : goal.returns-in_default
@@ -10,6 +10,6 @@ returns-in_default-new_solver g c = input_refused _ refl c.requires.sink
 
 pub returns : goal.returns
 returns g c =
-    let is = c.answer_lines.ensures in
-    rw c.in-Ok.ensures (input_answered _ c.answer_lines.result is.answered is.cut_off is.begins is.failed is.all_flushed
+    let lines = c.answer_lines.ensures in
+    rw c.in-Ok.ensures (input_answered _ c.answer_lines.result lines.answered lines.cut_off lines.begins lines.failed lines.all_flushed
     c.ended.ensures.clean c.ended.ensures.failed)

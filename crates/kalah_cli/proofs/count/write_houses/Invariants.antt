@@ -3,7 +3,7 @@ use Rattle.std.specs.Prelude.{sum_by}
 use Rattle.kalah_rules.specs.Play.{legal_houses}
 use Rattle.kalah_rules.specs.Ways.{ways_by}
 use Rattle.kalah_jobs.specs.Writing.Sink.{WasGiven}
-use Rattle.kalah_cli.proofs.RunLemmas.{house_line}
+use Rattle.kalah_cli.specs.Count.{house_line}
 use Rattle.kalah_cli.proofs.count.write_houses.Given as goal
 
 abbrev pub invariant-loop-i : goal.invariant-loop-i

@@ -21,8 +21,8 @@ returns-in_default g c =
 
 pub returns-in-Err : goal.returns-in-Err
 returns-in-Err g c =
-    let has = Contains-get_or c.args.names.now c.loop-name.name-index _ c.loop-name-test.true in
-    record { named = tt; within = tt; given = tt; failure = (_, (has, c.unread.ensures)) }
+    let contained = Contains-get_or c.args.names.now c.loop-name.name-index _ c.loop-name-test.true in
+    record { named = tt; within = tt; given = tt; failure = (_, (contained, c.unread.ensures)) }
 
 pub loop-name-preserved : goal.loop-name-preserved
 loop-name-preserved g c = grind (arith, common_steps)

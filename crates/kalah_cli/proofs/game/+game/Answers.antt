@@ -4,7 +4,8 @@ use Rattle.kalah_solve.proofs.WorthLemmas.{board_equal_sides}
 use Rattle.kalah_jobs.specs.Writing.Sink.{WasGiven}
 use Rattle.kalah_jobs.proofs.SinkLemmas.{given_then}
 use Rattle.kalah_cli.specs.Game.{move_text}
-use Rattle.kalah_cli.proofs.GameLemmas.{fewer_left, next_text, shown_flushed, shown_next, text_goes_on}
+use Rattle.kalah_cli.proofs.GameLemmas.{fewer_left, next_text, text_goes_on}
+use Rattle.kalah_cli.proofs.SolverLemmas.{shown_flushed, shown_next}
 use Rattle.kalah_cli.proofs.game.+game.Goals as goal
 
 pub apply-step-requires : goal.apply-step-requires

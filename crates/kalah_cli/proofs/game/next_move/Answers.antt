@@ -1,7 +1,8 @@
 use Rattle.std.proofs.Common.{◌∙◌, [], sym, subst}
 use Rattle.kalah_jobs.specs.Writing.Sink.{WasGiven}
 use Rattle.kalah_jobs.proofs.SinkLemmas.{given_more_after_failure}
-use Rattle.kalah_cli.proofs.GameLemmas.{next_of_verdict, no_text, shown_flushed}
+use Rattle.kalah_cli.proofs.GameLemmas.{next_of_verdict, no_text}
+use Rattle.kalah_cli.proofs.SolverLemmas.{shown_flushed}
 use Rattle.kalah_cli.proofs.game.next_move.Goals as goal
 
 pub solve-requires-clause-shown : goal.solve-requires-clause-shown
@@ -22,5 +23,6 @@ returns-in-Over-clause-none g c = record {
 }
 
 pub returns-in-Best-clause-some : goal.returns-in-Best-clause-some
-returns-in-Best-clause-some g c = rw (c.unwrap_or.ensures, c.value_shown.ensures) (next_of_verdict c.args.form c.args.first c.args.board.now c.requires.begins
+returns-in-Best-clause-some g c = rw (c.unwrap_or.ensures, c.value_shown.ensures)
+    (next_of_verdict c.args.form c.args.first c.args.board.now c.requires.begins
     c.in-Best.ensures.small c.in-Best.ensures.best_play c.in-Best.ensures.verdict)

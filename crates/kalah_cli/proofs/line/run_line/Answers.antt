@@ -1,6 +1,6 @@
 use Rattle.std.proofs.Common.{refl, subst, sym}
 use Rattle.kalah_jobs.specs.Line.Line.{Reads}
-use Rattle.kalah_cli.proofs.RunLemmas.{line_answered, line_refused, line_unread}
+use Rattle.kalah_cli.proofs.EndsLemmas.{line_answered, line_refused, line_unread}
 use Rattle.kalah_cli.proofs.line.run_line.Goals as goal
 
 pub returns-in-Ok-print : goal.returns-in-Ok-print
@@ -15,4 +15,5 @@ returns-in-Err-print g c =
 
 pub returns-in-Err : goal.returns-in-Err
 returns-in-Err g c = line_unread _ c.args.command.now
-    (λ p reads. let other = c.in-Err.ensures.every p (subst (λ l. Reads l p) (sym c.as_bytes.ensures.value) reads) in cc) refl c.requires.sink
+    (λ p reads. let no_fault = c.in-Err.ensures.every p (subst (λ l. Reads l p) (sym c.as_bytes.ensures.value) reads) in cc)
+    refl c.requires.sink

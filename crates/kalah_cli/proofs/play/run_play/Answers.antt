@@ -1,5 +1,5 @@
 use Rattle.kalah_jobs.proofs.SinkLemmas.{given_then}
-use Rattle.kalah_cli.proofs.GameLemmas.{shown_first}
+use Rattle.kalah_cli.proofs.SolverLemmas.{shown_first}
 use Rattle.kalah_cli.proofs.play.run_play.Goals as goal
 
 pub write_game-requires-clause-shown : goal.write_game-requires-clause-shown

@@ -1,33 +1,29 @@
 use Rattle.std.proofs.Common.{[], ◌∙◌, ◌≡◌, ◌∷◌, ap, arith, codes, inl, inr, is_some, length, map, refl, sym}
 use Rattle.std.specs.Prelude.{unwrap_or}
 use Rattle.std.proofs.lemmas.List.{length-map}
-use Rattle.clap.specs.Words.{found_of, one_of, rows_of}
+use Rattle.clap.specs.Words.{found_of, rows_of}
 use Rattle.clap.proofs.CallerLemmas.{some_of_text}
 use Rattle.clap.proofs.WalkLemmas.{raw_values-rows}
 use Rattle.kalah_solve.specs.Table.Entries.{most_entries}
-use Rattle.kalah_run.specs.Limits.{AreWorkers, IsTableSize, most_workers}
-use Rattle.kalah_cli.specs.Request.{default_workers, number_given, table_asked}
-use Rattle.kalah_cli.proofs.RequestLemmas.{in_range, or_default, values_are, given, may_have_number, takes_files, takes_table}
+use Rattle.kalah_run.specs.Limits.{IsTableSize, most_workers}
+use Rattle.kalah_cli.specs.Request.{table_asked}
+use Rattle.kalah_cli.proofs.RequestLemmas.{may_have_number, takes_files, takes_table, value_given, values_are}
 use Rattle.kalah_cli.proofs.request.files_request.Goals.{in-BestMove, in-Steps}
 use Rattle.kalah_cli.proofs.request.files_request.Goals as goal
 
-pub number_or-requires : goal.number_or-requires
-number_or-requires c = record {
-  given = may_have_number (codes "workers") 1 most_entries c.requires (takes_files c.args.question).0 refl (omega arith) (omega arith);
-  default = (omega arith, omega arith);
-}
+pub worker_count-requires : goal.worker_count-requires
+worker_count-requires c =
+    may_have_number (codes "workers") 1 most_workers c.requires (takes_files c.args.question).0 refl (omega arith) (omega arith)
 
-pub number_or-requires-in-BestMove : goal.number_or-requires-in-BestMove
-number_or-requires-in-BestMove c = record {
-  given = may_have_number (codes "table") 1 most_entries c.requires (takes_table c.args.question c.in-BestMove.is) refl (omega arith)
-      (omega arith);
-  default = (omega arith, omega arith);
-}
+pub table_size-requires : goal.table_size-requires
+table_size-requires c =
+    may_have_number (codes "table") 1 most_entries c.requires (takes_table c.args.question c.in-BestMove.is) refl (omega arith)
+    (omega arith)
 
 pub unwrap-requires : goal.unwrap-requires
 unwrap-requires c =
     some_of_text _ c.get_strs.result _ (c.get_strs.ensures ∙ raw_values-rows (found_of c.args.found.now) (codes "file"))
-    (ap is_some (given (codes "file") c.requires (takes_files c.args.question).1 refl).all)
+    (ap is_some (value_given (codes "file") c.requires (takes_files c.args.question).1 refl).all)
 
 pub returns-clause-asked : goal.returns-clause-asked
 returns-clause-asked c =
@@ -36,27 +32,22 @@ returns-clause-asked c =
     let table : c.match-question.result ≡ table_asked c.args.question (rows_of (found_of c.args.found.now)) =
     elim c.match-question.branch [
       | in-BestMove w ↦ elim w.in-BestMove.is [
-        | inl best ↦ rw (best, w.result-is) w.number_or-in-BestMove.ensures.number
-        | inr values ↦ rw (values, w.result-is) w.number_or-in-BestMove.ensures.number
+        | inl best ↦ rw (best, w.result-is) w.table_size.ensures.number
+        | inr values ↦ rw (values, w.result-is) w.table_size.ensures.number
       ]
       | in-Steps w ↦ rw (w.in-Steps.is, w.result-is) refl
     ] in
-    rw (table, c.number_or.ensures.number, files, c.is_set.ensures) refl
+    rw (table, c.worker_count.ensures.number, files, c.is_set.ensures) refl
 
 pub returns-clause-range : goal.returns-clause-range
 returns-clause-range c =
-    let workers = may_have_number (codes "workers") 1 most_workers c.requires (takes_files c.args.question).0 refl (omega arith)
-    (omega arith) in
-    let few : AreWorkers c.number_or.result = rw c.number_or.ensures.number
-    (or_default AreWorkers (number_given (codes "workers") (rows_of (found_of c.args.found.now))) default_workers
-    (in_range 1 most_workers (one_of (codes "workers") (rows_of (found_of c.args.found.now))) workers) (omega arith, omega arith)) in
     let names = values_are (found_of c.args.found.now) (codes "file") c.get_strs.result c.unwrap.result _ c.get_strs.ensures
     c.unwrap.ensures (c.in_ok-to_vec.ensures.items_if_clones_equal (λ x y h. h)) in
-    let file = given (codes "file") c.requires (takes_files c.args.question).1 refl in
+    let file = value_given (codes "file") c.requires (takes_files c.args.question).1 refl in
     let same : map (λ f. f.now) c.in_ok-to_vec.field-0.items ≡ file.value ∷ file.more = ap (λ o. unwrap_or o []) (sym names ∙ file.all) in
     let count : length (map (λ f. f.now) c.in_ok-to_vec.field-0.items) ≡ length c.in_ok-to_vec.field-0.items = simp length-map in
     let table : IsTableSize c.match-question.result = elim c.match-question.branch [
-      | in-BestMove w ↦ rw w.result-is w.number_or-in-BestMove.ensures.range
+      | in-BestMove w ↦ rw w.result-is w.table_size.ensures.range
       | in-Steps w ↦ rw w.result-is (omega arith, omega arith)
     ] in
-    (few, table, omega (arith, ap length same))
+    (c.worker_count.ensures.range, table, omega (arith, ap length same, count))

@@ -12,7 +12,7 @@ unwrap-requires g c =
     let words = map g.S.AsStr.text c.args.words.now in
     let read = parsed _ words _ c.in_ok-command.ensures c.in_ok-matches.ensures.kinds
     (λ simple. (c.in_ok-matches.ensures.matches simple).1) in
-    c.subcommand.ensures.variant ∙ some_of_text _ _ _ refl read.some
+    c.subcommand.ensures.variant ∙ some_of_text _ _ _ refl read.entered
 
 pub requested-requires : goal.requested-requires
 requested-requires g c =
@@ -20,7 +20,7 @@ requested-requires g c =
     let read = parsed _ words _ c.in_ok-command.ensures c.in_ok-matches.ensures.kinds
     (λ simple. (c.in_ok-matches.ensures.matches simple).1) in
     let same = pair_got _ _ _ _ _ _ c.unwrap.result c.subcommand.ensures.name c.subcommand.ensures.rows c.unwrap.ensures in
-    (words, read.none, sym read.same ∙ same)
+    (words, read.no_fault, sym read.matches ∙ same)
 
 pub returns-clause-accepted : goal.returns-clause-accepted
 returns-clause-accepted g c =
@@ -29,14 +29,14 @@ returns-clause-accepted g c =
     (λ simple. (c.in_ok-matches.ensures.matches simple).1) in
     let same = pair_got _ _ _ _ _ _ c.unwrap.result c.subcommand.ensures.name c.subcommand.ensures.rows c.unwrap.ensures in
     IfOk-weaker c.requested.result _ (λ r. IsAcceptedAs words (request_asks r))
-    (λ r asked. (read.none, ap (option_and_then matches_ask) (sym read.same ∙ same) ∙ asked)) c.requested.ensures.asked
+    (λ r asked. (read.no_fault, ap (option_and_then matches_ask) (sym read.matches ∙ same) ∙ asked)) c.requested.ensures.asked
 
 pub returns-clause-kinds : goal.returns-clause-kinds
 returns-clause-kinds g c =
     let words = map g.S.AsStr.text c.args.words.now in
     let read = parsed _ words _ c.in_ok-command.ensures c.in_ok-matches.ensures.kinds
     (λ simple. (c.in_ok-matches.ensures.matches simple).1) in
-    fails_by_memory c.requested.result _ read.none c.requested.ensures.memory
+    fails_by_memory c.requested.result _ read.no_fault c.requested.ensures.memory
 
 pub returns-in_err-matches-clause-kinds : goal.returns-in_err-matches-clause-kinds
 returns-in_err-matches-clause-kinds g c =

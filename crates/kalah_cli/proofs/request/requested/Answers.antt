@@ -1,31 +1,25 @@
-use Rattle.std.proofs.lemmas.Grind.{common_steps}
 use Rattle.std.proofs.Common.{◌≤◌, ◌∙◌, IfSome, Some, ap, arith, codes, is_some, option_map, refl, subst, sym}
 use Rattle.clap.specs.Words.{found_of, one_of, rows_of}
 use Rattle.kalah_rules.specs.Limits.{most_depth}
 use Rattle.kalah_solve.specs.Table.Entries.{most_entries}
-use Rattle.kalah_cli.proofs.RequestLemmas.{in_range, given, may_have_number}
+use Rattle.kalah_cli.proofs.RequestLemmas.{in_range, may_have_number, value_given}
 use Rattle.kalah_cli.specs.Request.{number_written}
 use Rattle.kalah_cli.proofs.request.requested.Goals.{in-count, in-moves, in-play, in-show}
 use Rattle.kalah_cli.proofs.request.requested.Goals as goal
 
-pub number_or-requires : goal.number_or-requires
-number_or-requires c = record {
-  given = may_have_number (codes "table") 1 most_entries (rw c.in-play.is at c.requires) refl refl (omega arith) (omega arith);
-  default = (omega arith, omega arith);
-}
+pub table_size-requires : goal.table_size-requires
+table_size-requires c = may_have_number (codes "table") 1 most_entries (rw c.in-play.is at c.requires) refl refl (omega arith) (omega arith)
 
 pub byte_given-requires : goal.byte_given-requires
 byte_given-requires c = may_have_number (codes "first") 0 255 (rw c.in-play.is at c.requires) refl refl (omega arith) (omega arith)
 
-pub number_given-requires : goal.number_given-requires
-number_given-requires c = may_have_number (codes "table") 1 most_entries (rw c.in-ask.is at c.requires) refl refl (omega arith)
+pub table_given-requires : goal.table_given-requires
+table_given-requires c = may_have_number (codes "table") 1 most_entries (rw c.in-ask.is at c.requires) refl refl (omega arith)
     (omega arith)
 
-pub number_or-requires-in-show : goal.number_or-requires-in-show
-number_or-requires-in-show c = record {
-  given = may_have_number (codes "table") 1 most_entries (rw c.in-show.is at c.requires) refl refl (omega arith) (omega arith);
-  default = (omega arith, omega arith);
-}
+pub table_size-requires-in-show : goal.table_size-requires-in-show
+table_size-requires-in-show c = may_have_number (codes "table") 1 most_entries (rw c.in-show.is at c.requires) refl refl (omega arith)
+    (omega arith)
 
 pub byte_given-requires-in-count : goal.byte_given-requires-in-count
 byte_given-requires-in-count c = may_have_number (codes "depth") 0 255 (rw c.in-count.is at c.requires) refl refl (omega arith)
@@ -33,14 +27,14 @@ byte_given-requires-in-count c = may_have_number (codes "depth") 0 255 (rw c.in-
 
 pub unwrap-requires : goal.unwrap-requires
 unwrap-requires c = ap is_some c.byte_given-in-count.ensures
-    ∙ ap (λ o. is_some (option_map number_written o)) ((given (codes "depth") (rw c.in-count.is at c.requires) refl refl).one refl)
+    ∙ ap (λ o. is_some (option_map number_written o)) ((value_given (codes "depth") (rw c.in-count.is at c.requires) refl refl).text refl)
 
 pub line_of-requires : goal.line_of-requires
 line_of-requires c = elim c.match-name.branch [
-  | in-moves w ↦ ap is_some (given (codes "line") (rw w.in-moves.is at c.requires) refl refl).first
-  | in-play w ↦ ap is_some (given (codes "line") (rw w.in-play.is at c.requires) refl refl).first
-  | in-show w ↦ ap is_some (given (codes "line") (rw w.in-show.is at c.requires) refl refl).first
-  | in-count w ↦ ap is_some (given (codes "line") (rw w.in-count.is at c.requires) refl refl).first
+  | in-moves w ↦ ap is_some (value_given (codes "line") (rw w.in-moves.is at c.requires) refl refl).first
+  | in-play w ↦ ap is_some (value_given (codes "line") (rw w.in-play.is at c.requires) refl refl).first
+  | in-show w ↦ ap is_some (value_given (codes "line") (rw w.in-show.is at c.requires) refl refl).first
+  | in-count w ↦ ap is_some (value_given (codes "line") (rw w.in-count.is at c.requires) refl refl).first
 ]
 
 pub returns-in-values-clause-asked : goal.returns-in-values-clause-asked
@@ -49,8 +43,8 @@ returns-in-values-clause-asked c = rw c.in-values.is c.files_request-in-values.e
 pub returns-clause-range : goal.returns-clause-range
 returns-clause-range c = elim c.match-name.branch [
   | in-moves w ↦ rw w.command-is tt
-  | in-play w ↦ rw w.command-is w.number_or.ensures.range
-  | in-show w ↦ rw w.command-is w.number_or-in-show.ensures.range
+  | in-play w ↦ rw w.command-is w.table_size.ensures.range
+  | in-show w ↦ rw w.command-is w.table_size-in-show.ensures.range
   | in-count w ↦
       let depth : IfSome (Some w.unwrap.result) (λ n. (0 ≤ n) × (n ≤ most_depth)) =
       subst (λ o. IfSome o (λ n. (0 ≤ n) × (n ≤ most_depth))) (sym w.byte_given-in-count.ensures ∙ w.unwrap.ensures)
@@ -59,17 +53,17 @@ returns-clause-range c = elim c.match-name.branch [
       rw w.command-is depth.1
 ]
 
-pub files_request-requires-in-steps : goal.files_request-requires-in-steps
-files_request-requires-in-steps c = grind (arith, common_steps)
+pub files_request-requires : goal.files_request-requires
+files_request-requires c = rw c.in-solve.is at c.requires
 
 pub files_request-requires-in-values : goal.files_request-requires-in-values
-files_request-requires-in-values c = grind (arith, common_steps)
+files_request-requires-in-values c = rw c.in-values.is at c.requires
 
-pub files_request-requires : goal.files_request-requires
-files_request-requires c = grind (arith, common_steps)
-
-pub returns-in-steps-clause-asked : goal.returns-in-steps-clause-asked
-returns-in-steps-clause-asked c = grind (arith, common_steps)
+pub files_request-requires-in-steps : goal.files_request-requires-in-steps
+files_request-requires-in-steps c = rw c.in-steps.is at c.requires
 
 pub returns-in-solve-clause-asked : goal.returns-in-solve-clause-asked
-returns-in-solve-clause-asked c = grind (arith, common_steps)
+returns-in-solve-clause-asked c = rw c.in-solve.is c.files_request.ensures.asked
+
+pub returns-in-steps-clause-asked : goal.returns-in-steps-clause-asked
+returns-in-steps-clause-asked c = rw c.in-steps.is c.files_request-in-steps.ensures.asked

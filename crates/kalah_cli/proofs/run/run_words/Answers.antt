@@ -29,29 +29,15 @@ ran g c =
           refused.version refused.all_flushed)
     ]
 
-pub returns-clause-accepted : goal.returns-clause-accepted
-returns-clause-accepted g c = (ran g c).accepted
-
-pub returns-clause-by_words : goal.returns-clause-by_words
-returns-clause-by_words g c = by_words _ _ _ _ _ _ (ran g c).accepted
-
-pub returns-clause-best_play : goal.returns-clause-best_play
-returns-clause-best_play g c = plays_best
-
-pub returns-clause-variations : goal.returns-clause-variations
-returns-clause-variations g c = variations_end
-
-pub returns-clause-refused : goal.returns-clause-refused
-returns-clause-refused g c = (ran g c).refused
-
-pub returns-clause-failed : goal.returns-clause-failed
-returns-clause-failed g c = (ran g c).failed
-
-pub returns-clause-unchanged : goal.returns-clause-unchanged
-returns-clause-unchanged g c = (ran g c).unchanged
-
-pub returns-clause-stopped : goal.returns-clause-stopped
-returns-clause-stopped g c = (ran g c).stopped
-
-pub returns-clause-all_flushed : goal.returns-clause-all_flushed
-returns-clause-all_flushed g c = (ran g c).all_flushed
+pub returns : goal.returns
+returns g c = record {
+  accepted = (ran g c).accepted;
+  by_words = by_words _ _ _ _ _ _ (ran g c).accepted;
+  best_play = plays_best;
+  variations = variations_end;
+  refused = (ran g c).refused;
+  failed = (ran g c).failed;
+  unchanged = (ran g c).unchanged;
+  stopped = (ran g c).stopped;
+  all_flushed = (ran g c).all_flushed;
+}

@@ -12,11 +12,11 @@ sought t values i v is = rw (items_from values i v is) refl
 pub returns-then-rank_in-rank : goal.returns-then-rank_in-rank
 returns-then-rank_in-rank c =
     let values = c.args.values.now in
-    let has : (rank_in values c.get-value.result == c.args.rank) ≡ true = rw (← c.rank_in.ensures) (grind arith) in
-    sym (c.loop-i.invariant ∙ sought (λ v. rank_in values v == c.args.rank) values c.loop-i.i _ c.get-value.ensures ∙ rw has refl)
+    let of_this_rank : (rank_in values c.get-value.result == c.args.rank) ≡ true = rw (← c.rank_in.ensures) (grind arith) in
+    sym (c.loop-i.invariant ∙ sought (λ v. rank_in values v == c.args.rank) values c.loop-i.i _ c.get-value.ensures ∙ rw of_this_rank refl)
 
 pub loop-i-preserved : goal.loop-i-preserved
 loop-i-preserved c =
     let values = c.args.values.now in
-    let has : (rank_in values c.get-value.result == c.args.rank) ≡ false = rw (← c.rank_in.ensures) (grind arith) in
-    c.loop-i.invariant ∙ sought (λ v. rank_in values v == c.args.rank) values c.loop-i.i _ c.get-value.ensures ∙ rw has refl
+    let of_this_rank : (rank_in values c.get-value.result == c.args.rank) ≡ false = rw (← c.rank_in.ensures) (grind arith) in
+    c.loop-i.invariant ∙ sought (λ v. rank_in values v == c.args.rank) values c.loop-i.i _ c.get-value.ensures ∙ rw of_this_rank refl

@@ -5,7 +5,7 @@ use Rattle.kalah_solve.specs.Solver.MoveValues.{values_of}
 use Rattle.kalah_jobs.specs.Writing.Sink.{WasGiven}
 use Rattle.kalah_jobs.proofs.SinkLemmas.{given_all, given_more}
 use Rattle.kalah_cli.specs.Show.{lines_asked, ranked_line}
-use Rattle.kalah_cli.proofs.GameLemmas.{variations_go_on}
+use Rattle.kalah_cli.proofs.SolverLemmas.{variations_go_on}
 use Rattle.kalah_cli.proofs.show.write_lines.Goals as goal
 
 pub loop-rank-preserved : goal.loop-rank-preserved
@@ -13,11 +13,11 @@ loop-rank-preserved g c =
     let n = length (values_of c.args.board.now) in
     let few : c.loop-rank.rank < n = omega (arith, c.loop-rank-test.true, c.len-rank-end.ensures.is, ap length c.requires.values) in
     let all : length (range_with_len 0 n) ≡ n = length-range_with_len 0 n in
-    let this : c.loop-rank.rank ≡ 0 + c.loop-rank.rank = omega arith in
+    let from_zero : c.loop-rank.rank ≡ 0 + c.loop-rank.rank = omega arith in
     record {
       shown = variations_go_on _ _ c.write_variation.ensures.begun c.loop-rank.invariant.shown c.write_variation.ensures.line;
       given = given_more _ (ranked_line c.args.board.now) refl c.loop-rank.rank _ _ c.loop-rank.invariant.given _ c.loop-rank.rank
-          (omega (arith, few, all)) (this ∙ sym (get_or-range_with_len 0 n c.loop-rank.rank 0 few)) c.write_variation.ensures.line;
+          (omega (arith, few, all)) (from_zero ∙ sym (get_or-range_with_len 0 n c.loop-rank.rank 0 few)) c.write_variation.ensures.line;
     }
 
 pub returns : goal.returns

@@ -8,8 +8,8 @@ use Rattle.kalah_jobs.specs.Writing.Shown.{shown_of, values_line}
 use Rattle.kalah_jobs.proofs.SinkLemmas.{given_more_after_failure, given_then}
 use Rattle.kalah_cli.specs.Ends.{IsPrinted}
 use Rattle.kalah_cli.specs.Show.{lines_asked, show_output}
-use Rattle.kalah_cli.proofs.RunLemmas.{printed_flushed}
-use Rattle.kalah_cli.proofs.ShowLemmas.{variations_begin}
+use Rattle.kalah_cli.proofs.EndsLemmas.{printed_flushed}
+use Rattle.kalah_cli.proofs.SolverLemmas.{variations_begin}
 use Rattle.kalah_cli.proofs.show.write_shown.Goals as goal
 
 -- the picture, and the line below it
@@ -35,7 +35,7 @@ pub returns : goal.returns
 returns g c =
     subst (IsPrinted g.O.Sink.state c.args.out.now c.flush_unless_failed.new.out)
     (sym (output_parts c.args.lines c.args.board.now))
-    (printed_flushed _ _ _ _ _ (given_then _ _ _ _ _ _ c.write_plain.ensures.given
+    (printed_flushed _ (given_then _ _ _ _ _ _ c.write_plain.ensures.given
     (given_then _ _ _ _ _ _ c.write_values.ensures c.write_lines.ensures))
     c.flush_unless_failed.ensures.given c.flush_unless_failed.ensures.all_flushed)
 

@@ -1,16 +1,44 @@
-use Rattle.std.proofs.Common.{[], ◌∷◌, ◌++◌, ◌∙◌, ap, refl, subst, sym}
+use Rattle.std.proofs.Common.{◌≡◌, ◌∷◌, [], ◌∙◌, ℕ, List, Bool, Some, ◌==◌, ap, cond, find, inl, inr, map, subst, sym, ◌++◌, refl}
+use Rattle.std.specs.Prelude.{Contains}
+use Rattle.std.proofs.lemmas.Bool.{cases_Bool}
+use Rattle.std.proofs.lemmas.List.Elements.{Contains-append_left, Contains-append_right, Contains-push}
+use Rattle.kalah_rules.specs.Position.{Position}
+use Rattle.kalah_rules.specs.Play.{legal_houses, position_after}
+use Rattle.kalah_solve.specs.Solver.MoveValues.{move_value, values_of}
+use Rattle.kalah_solve.specs.declared.solver.move_values.MoveValue.{MoveValue}
+use Rattle.kalah_cli.specs.Show.{of_rank, rank_in, variation_line}
+use Rattle.std.proofs.lemmas.Option.{none-some, same_Some}
 use Rattle.std.specs.Option.{option_map_or}
-use Rattle.kalah_rules.specs.Play.{position_after}
 use Rattle.kalah_jobs.specs.Files.Lines.{line_feed}
 use Rattle.kalah_jobs.specs.Writing.Sink.{WasGiven}
 use Rattle.kalah_jobs.specs.Writing.Variation.{variation_start}
 use Rattle.kalah_jobs.proofs.SinkLemmas.{given_then}
 use Rattle.kalah_cli.specs.Game.{best_game, game_text}
-use Rattle.kalah_cli.specs.Show.{of_rank, variation_line}
 use Rattle.kalah_cli.specs.declared.game.Form.TheVariants.{Houses}
-use Rattle.kalah_cli.proofs.GameLemmas.{shown_after}
-use Rattle.kalah_cli.proofs.ShowLemmas.{ranked_is_legal}
+use Rattle.kalah_cli.proofs.SolverLemmas.{shown_after}
 use Rattle.kalah_cli.proofs.show.write_variation.Goals as goal
+
+-- what is found among the values of houses is the value of one of them
+found_among : (p : Position) (t : MoveValue → Bool) (houses : List ℕ) (v : MoveValue) → find t (map (move_value p) houses) ≡ Some v
+    → Contains houses v.house
+found_among p t [] v found = absurd (none-some v found)
+found_among p t (h ∷ hs) v found = elim (cases_Bool (t (move_value p h))) [
+  | inl passes ↦
+      let first : Some (move_value p h) ≡ Some v =
+      sym (ap (λ b. cond b (Some (move_value p h)) (find t (map (move_value p) hs))) passes) ∙ found in
+      let house : h ≡ v.house = ap (λ (w : MoveValue). w.house) (same_Some (move_value p h) v first) in
+      subst (Contains (h ∷ hs)) house (Contains-append_left (h ∷ []) hs h (Contains-push [] h))
+  | inr fails ↦
+      Contains-append_right (h ∷ []) hs v.house
+      (found_among p t hs v (sym (ap (λ b. cond b (Some (move_value p h)) (find t (map (move_value p) hs))) fails) ∙ found))
+]
+
+-- the move of a rank is legal
+ranked_is_legal : (p : Position) (values : List MoveValue) (rank : ℕ) (v : MoveValue) → values ≡ values_of p
+    → Some v ≡ of_rank values rank → Contains (legal_houses p) v.house
+ranked_is_legal p values rank v same ranked =
+    found_among p (λ w. rank_in (values_of p) w == rank) (legal_houses p) v
+    (sym (subst (λ vs. Some v ≡ of_rank vs rank) same ranked))
 
 pub apply-step-requires : goal.apply-step-requires
 apply-step-requires g c =
