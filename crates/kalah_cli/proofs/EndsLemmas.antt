@@ -1,21 +1,38 @@
--- How a run ends, and what it has printed.
-use Rattle.std.proofs.Common.{◌≡◌, ◌≢◌, ◌∙◌, ℕ, List, true, false, refl, sym, subst, []}
-use Rattle.std.specs.Prelude.{◌↔◌, IsErr, Result, Ok, Err}
+-- How a run ends, and what it has answered: a line, files, or the lines of the standard input.
+use Rattle.std.proofs.Common.{◌≡◌, ◌≢◌, ◌∙◌, ℕ, List, true, false, refl, sym, subst, [], ◌↔◌, IsErr, Result, Ok, Err, ◌++◌, Bool, Option, ◌∷◌, ap, map, inl, inr, append-nil, All, IfOk, IsErrOf, None, Some, ◌==◌, if◌then◌else◌, Bor}
 use Rattle.std.proofs.lemmas.Bool.{both_ways, false_from_ne_true}
 use Rattle.kalah_rules.specs.Position.{Position}
 use Rattle.kalah_jobs.specs.Line.Line.{Reads}
 use Rattle.kalah_jobs.specs.Writing.Sink.{SinkState, WasGiven}
 use Rattle.kalah_jobs.proofs.LineLemmas.{no_line_reads_twice}
-use Rattle.kalah_jobs.proofs.SinkLemmas.{given_then_flush, prefix_none}
-use Rattle.kalah_cli.specs.Ends.{Ends, IsPrinted, IsUnread, PrintsByStatus, ended_by}
+use Rattle.kalah_jobs.proofs.SinkLemmas.{given_then_flush, prefix_none, prefix_then}
+use Rattle.kalah_cli.specs.Ends.{Ends, IsPrinted, WritesNoPosition, PrintsByStatus, ended_by}
 use Rattle.kalah_cli.specs.declared.failure.Failure.{Failure}
 use Rattle.kalah_cli.specs.Line.{MayPrint, command_output}
 use Rattle.kalah_cli.specs.declared.request.LineCommand.{LineCommand}
-use Rattle.kalah_cli.specs.declared.status.ExitStatus.{ExitStatus}
-use Rattle.kalah_cli.specs.declared.status.ExitStatus.TheVariants.{Failed, LineFaults}
-use Rattle.kalah_cli.specs.Sources.{any_bytes}
+use Rattle.kalah_cli.specs.Status.{ExitStatus, Failed, LineFaults, Clean}
+use Rattle.kalah_cli.specs.Sources.{any_bytes, MayBeLeft, Source, file_named}
 use Rattle.kalah_cli.specs.Request.{about_line}
 use Rattle.kalah_cli.specs.Runs.{Does}
+use Rattle.kalah_jobs.specs.declared.asking.ask_fault.AskFault.{AskFault}
+use Rattle.kalah_jobs.specs.declared.asking.ask_fault.AskFault.TheVariants.{Read, Write}
+use Rattle.std.specs.List.{list_any}
+use Rattle.clap.proofs.WalkLemmas.{list_any-map}
+use Rattle.kalah_jobs.specs.Files.NamedBytes.{NamedBytes}
+use Rattle.kalah_jobs.specs.declared.files.question.Question.{Question}
+use Rattle.kalah_jobs.specs.Writing.Output.{output_to}
+use Rattle.kalah_jobs.specs.declared.writing.tally.Tally.{Tally}
+use Rattle.kalah_run.specs.Batch.Answering.{AnswersAll, AnswersBatch}
+use Rattle.kalah_run.specs.declared.batch.run_fault.RunFault.{RunFault}
+use Rattle.kalah_run.specs.declared.batch.run_fault.RunFault.TheVariants as fault
+use Rattle.kalah_cli.specs.SolveFiles.{AnswersFiles, has_line_feed}
+use Rattle.std.specs.Io.Buffered.{reader_buffer, reader_capacity, reader_inner, reader_remaining}
+use Rattle.std.specs.Io.KnownBytes.{Consumes, IsAtEnd, prepend_known}
+use Rattle.std.specs.declared.io.buffered.BufReader.{BufReader}
+use Rattle.std.proofs.KnownBytes.{Keeps-refl}
+use Rattle.kalah_jobs.specs.Asking.{IsAnswered, IsBegun, IsCutOff}
+use Rattle.kalah_jobs.proofs.AskingLemmas.{begun_so_far, cut_off, nothing_read}
+use Rattle.kalah_cli.specs.Ask.{AnswersInput, StopsBetweenLines}
 
 -- ---- how any run ends
 
@@ -31,7 +48,7 @@ printed_flushed state given flushed all_flushed =
     record { given = given_then_flush state _ _ _ _ given flushed; all_flushed = all_flushed }
 
 module _ {O : Type 0} (state : O → SinkState) {status : ExitStatus} where
-  -- If nothing was written, it ends, and if it failed, no text was printed
+  -- nothing was written
   pub ends_unchanged : {out : O} → (state out).has_failed ≡ false → Ends state out out status
   ends_unchanged sound = record {
     failed = λ failed. absurd (both_ways _ sound failed);
@@ -39,7 +56,8 @@ module _ {O : Type 0} (state : O → SinkState) {status : ExitStatus} where
     all_flushed = λ _ flushed. flushed;
   }
 
-  pub prints_nothing : {out : O} {text : List ℕ} → status ≡ Failed → PrintsByStatus state out out status text
+  -- and if it failed, this is how it prints any text
+  prints_nothing : {out : O} {text : List ℕ} → status ≡ Failed → PrintsByStatus state out out status text
   prints_nothing {out} {text} failed =
       record { start = prefix_none (state out).written text; whole = λ not_failed. absurd (not_failed failed) }
 
@@ -86,7 +104,7 @@ module _ {O : Type 0} (state : O → SinkState) {status : ExitStatus} where
           )
 
     -- the line writes no position
-    pub line_unread : {out : O} → IsUnread line → status ≡ LineFaults → (state out).has_failed ≡ false
+    pub line_unread : {out : O} → WritesNoPosition line → status ≡ LineFaults → (state out).has_failed ≡ false
         → Does state out out status any_bytes (about_line command line)
     line_unread unread fault sound = (
       record {
@@ -96,3 +114,162 @@ module _ {O : Type 0} (state : O → SinkState) {status : ExitStatus} where
       },
       λ p reads. absurd (unread p reads),
     )
+
+-- ---- what is answered of files
+
+-- bytes that are all that a reader had left
+pub read_whole : (may_give : List ℕ → Type 0) (old new : Option (List ℕ)) (bytes : List ℕ) → MayBeLeft may_give old
+    → Consumes old new bytes
+    → IsAtEnd new → may_give bytes
+read_whole may_give None new bytes possible consumed at_end = possible bytes
+read_whole may_give (Some all) None bytes possible consumed at_end = absurd consumed
+read_whole may_give (Some all) (Some left) bytes possible consumed at_end =
+    subst may_give (consumed ∙ ap (λ l. bytes ++ l) at_end ∙ append-nil bytes) possible
+
+-- one of the names has a line feed exactly when one of their texts has
+pub texts_have_line_feed : (names : List (Bor (List ℕ)))
+    → list_any (λ name. has_line_feed name.now) names ≡ list_any has_line_feed (map (λ name. name.now) names)
+texts_have_line_feed names = list_any-map has_line_feed (λ name. name.now) names
+
+-- files of these names
+empty_files : List (List ℕ) → List NamedBytes
+empty_files names = map (λ name. let file : NamedBytes = record { name = name; bytes = [] } in file) names
+
+their_names : (names : List (List ℕ)) → map (λ (file : NamedBytes). file.name) (empty_files names) ≡ names
+unfolding empty_files
+their_names [] = refl
+their_names (name ∷ names) = ap (λ l. name ∷ l) (their_names names)
+
+module _ {O : Type 0} (state : O → SinkState) {status : ExitStatus} {may_give : Source → List ℕ → Type 0} {question : Question}
+    {names : List (List ℕ)} where
+  -- the program failed before anything was written
+  pub files_refused : {out : O} → status ≡ Failed → (state out).has_failed ≡ false
+      → AnswersFiles state out out status may_give question names
+  files_refused failed sound = record {
+    files = empty_files names;
+    named = their_names names;
+    given = inl (failed, refl);
+    printed = prints_nothing state failed;
+    no_line_feed = λ not_failed. absurd (not_failed failed);
+    clean = λ not_failed. absurd (not_failed failed);
+    ends = ends_unchanged state sound;
+  }
+
+  module _ {old new : O} (files : List NamedBytes) (named : map (λ file. file.name) files ≡ names)
+      (given : All (λ file. may_give (file_named file.name) file.bytes) files) where
+    -- each line was answered
+    pub files_answered : {tally : Tally} → AnswersAll state (output_to question files) files old new tally
+        → list_any has_line_feed names ≡ false → status ≢ Failed → (status ≡ Clean) ↔ (tally.faults ≡ 0)
+        → AnswersFiles state old new status may_give question names
+    files_answered answered no_line_feed not_failed clean = record {
+      files = files;
+      named = named;
+      given = inr given;
+      printed = record {
+        start = prefix_then _ _ _ _ _ [] (sym (append-nil _)) answered.written (prefix_none _ []);
+        whole = λ _. answered.written;
+      };
+      no_line_feed = λ _. no_line_feed;
+      clean = λ _. subst (λ (tally : Tally). (status ≡ Clean) ↔ (tally.faults ≡ 0)) answered.counted clean;
+      ends = record {
+        failed = λ write_failed. absurd (both_ways _ answered.sound write_failed);
+        unchanged = λ failed. absurd (not_failed failed);
+        all_flushed = λ _ _. answered.flushed;
+      };
+    }
+
+    -- the batch failed
+    pub files_failed : (cause : RunFault) → AnswersBatch state (output_to question files) files old new (Err cause) → status ≡ Failed
+        → (state old).has_failed ≡ false → AnswersFiles state old new status may_give question names
+    files_failed cause answered failed sound = by_fault cause answered
+      where
+        untouched : new ≡ old → AnswersFiles state old new status may_give question names
+        untouched unchanged =
+            subst (λ o. AnswersFiles state old o status may_give question names) (sym unchanged) (files_refused failed sound)
+
+        by_fault : (f : RunFault) → AnswersBatch state (output_to question files) files old new (Err f)
+            → AnswersFiles state old new status may_give question names
+        by_fault fault.TooManyFiles answered = untouched answered.1.0
+        by_fault fault.TooManyLines answered = untouched answered.2.0
+        by_fault fault.OutOfMemory answered = untouched answered.1.0
+        by_fault fault.NoWorker answered = untouched answered.2.0
+        by_fault fault.Write answered = record {
+          files = files;
+          named = named;
+          given = inr given;
+          printed = record { start = answered.1; whole = λ not_failed. absurd (not_failed failed) };
+          no_line_feed = λ not_failed. absurd (not_failed failed);
+          clean = λ not_failed. absurd (not_failed failed);
+          ends = record {
+            failed = λ _. failed;
+            unchanged = λ _ sound. absurd (both_ways _ sound answered.2);
+            all_flushed = λ not_failed. absurd (not_failed failed);
+          };
+        }
+
+-- ---- what `ask` has answered
+
+-- a reader that reads ahead has at first all that the other has
+pub all_unread : {T A : Type 0} (remaining : T → Option (List ℕ)) (r : BufReader T A) (inner : T) → reader_inner r ≡ inner
+    → reader_buffer r ≡ []
+    → reader_capacity r ≡ 8192 → remaining inner ≡ reader_remaining remaining r
+all_unread {T} {A} remaining r inner same_reader empty capacity =
+    sym (ap (λ n. if n == 0 then None else prepend_known (reader_buffer r) (remaining r.inner)) capacity
+    ∙ ap (λ l. prepend_known l (remaining r.inner)) empty
+    ∙ none_before (remaining r.inner)
+    ∙ ap remaining same_reader)
+  where
+    none_before : (known : Option (List ℕ)) → prepend_known [] known ≡ known
+    none_before None = refl
+    none_before (Some xs) = refl
+
+-- nothing was read
+pub stops_at_once : (question : Question) (old : Option (List ℕ)) → StopsBetweenLines question old old
+stops_at_once question old = (None, None, cut_off (nothing_read question None old [] refl) tt (Keeps-refl old))
+
+module _ {O : Type 0} (state : O → SinkState) {status : ExitStatus} {question : Question}
+    {unread : Option (List ℕ)} where
+  -- the program failed before anything was read
+  pub input_refused : {out : O} → status ≡ Failed → (state out).has_failed ≡ false
+      → AnswersInput state out out status question unread
+  input_refused {out} failed sound =
+      let nothing = nothing_read question unread (state out).written [] refl in
+      record {
+        left = unread;
+        all_read = true;
+        asked = λ not_failed. absurd (not_failed failed);
+        begins = begun_so_far nothing (Keeps-refl unread) (Keeps-refl (state out).written);
+        failed = λ write_failed. absurd (both_ways _ sound write_failed);
+        stopped = λ _ _. cut_off nothing (Keeps-refl unread) (Keeps-refl (state out).written);
+        all_flushed = λ _ flushed. flushed;
+      }
+
+  -- all was read, or a read or a write failed
+  pub input_answered : {left : Option (List ℕ)} {old new : O} (answered : Result Bool AskFault)
+      → IfOk answered (λ all_read. IsAnswered question unread left (state old).written (state new).written all_read)
+      → (IsErrOf answered Read → IsCutOff question unread left (state old).written (state new).written)
+      → IsBegun question unread left (state old).written (state new).written → ((state new).has_failed ≡ true) ↔ IsErrOf answered Write
+      → ((state new).has_failed ≡ false → (state new).is_flushed ≡ true) → IfOk answered (λ all_read. (status ≡ Clean) ↔ (all_read ≡ true))
+      → IsErr answered ↔ (status ≡ Failed) → AnswersInput state old new status question unread
+  input_answered {left} (Ok all_read) complete stopped begins write_fails all_flushed clean failed = record {
+    left = left;
+    all_read = all_read;
+    asked = λ _. (complete, clean);
+    begins = begins;
+    failed = λ write_failed. absurd (let impossible = write_fails.0 write_failed in cc);
+    stopped = λ fails _. absurd (let impossible = failed.1 fails in cc);
+    all_flushed = λ sound _. all_flushed sound;
+  }
+  input_answered {left} (Err fault) complete stopped begins write_fails all_flushed clean failed = record {
+    left = left;
+    all_read = true;
+    asked = λ not_failed. absurd (not_failed (failed.0 refl));
+    begins = begins;
+    failed = λ _. failed.0 refl;
+    stopped = λ _ sound. by_fault fault (λ same. stopped (ap (λ f. Err f) same))
+        (λ same. both_ways _ sound (write_fails.1 (ap (λ f. Err f) same)));
+    all_flushed = λ sound _. all_flushed sound;
+  } where
+    by_fault : {P : Type 0} (f : AskFault) → (f ≡ Read → P) → (f ≡ Write → ⊥) → P
+    by_fault Read read write = read refl
+    by_fault Write read write = absurd (write refl)

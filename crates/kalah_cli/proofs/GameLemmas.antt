@@ -1,6 +1,5 @@
 -- The game of best play, move by move.
-use Rattle.std.proofs.Common.{◌⊎◌, ◌<◌, ◌≤◌, ◌-◌, ◌≡◌, ℕ, zero, suc, List, [], ◌∷◌, ◌++◌, Bool, true, false, inl, inr, of_z, refl, sym, subst, to_z, w32, ap, ◌∙◌, arith}
-use Rattle.std.specs.Prelude.{Contains, ℤ, None, Option, Some, if◌then◌else◌, unwrap_or}
+use Rattle.std.proofs.Common.{◌⊎◌, ◌<◌, ◌≤◌, ◌-◌, ◌≡◌, ℕ, zero, suc, List, [], ◌∷◌, ◌++◌, Bool, true, false, inl, inr, of_z, refl, sym, subst, to_z, w32, ap, ◌∙◌, arith, Contains, ℤ, None, Option, Some, if◌then◌else◌, unwrap_or}
 use Rattle.std.proofs.lemmas.Bool.{both_ways, cases_Bool}
 use Rattle.std.proofs.lemmas.Int.{ints, to_z-of_z}
 use Rattle.kalah_rules.specs.Position.{Position, HasEqualSides, final_margin, is_over, swapped, swept}
@@ -19,9 +18,8 @@ use Rattle.std.proofs.lemmas.List.Elements.{Contains-push}
 use Rattle.kalah_solve.proofs.SolverLemmas.{best_is_strategy, best_plays, game_is_bounded, strategy_within, widened}
 use Rattle.kalah_rules.proofs.PackedLemmas.{is_over-swapped}
 use Rattle.kalah_solve.proofs.WorthLemmas.{final_swapped, value_moving_again, value_of_again, value_of_turn, value_passing, worth_of_over, again_fewer, over_at_end, over_ends, step_states, swapped_equal_sides, turn_fewer}
-use Rattle.kalah_cli.specs.Game.{IsNextMove, PlaysBestGames, VariationsEndWithTheirValue, best_game, best_moves, game_played, game_text, move_text, value_shown}
+use Rattle.kalah_cli.specs.Game.{IsNextMove, PlaysBestGames, VariationsEndWithTheirValue, best_game, best_moves, game_played, game_text, move_text, value_shown, Form}
 use Rattle.kalah_cli.specs.Play.{MayBegin}
-use Rattle.kalah_cli.specs.declared.game.Form.{Form}
 
 -- both players always move the lowest best house
 abbrev pub BestGame : Position → List ℕ → Position → Type 0

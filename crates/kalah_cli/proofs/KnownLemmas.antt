@@ -1,6 +1,5 @@
 -- Runs over a disk and a standard input that are known.
-use Rattle.std.proofs.Common.{◌≡◌, ◌≢◌, ◌∷◌, ℕ, List, [], Option, arith, None, Some, ap, inl, inr, length, subst, suc, true}
-use Rattle.std.specs.Prelude.{◌↔◌, IfSome}
+use Rattle.std.proofs.Common.{◌≡◌, ◌≢◌, ◌∷◌, ℕ, List, [], Option, arith, None, Some, ap, inl, inr, length, subst, suc, true, ◌↔◌, IfSome}
 use Rattle.std.specs.Io.KnownBytes.{Appends}
 use Rattle.clap.specs.Words.{Text}
 use Rattle.kalah_jobs.specs.Asking.{answers_to, are_all_read}
@@ -13,8 +12,7 @@ use Rattle.kalah_cli.specs.Request.{answers, ask}
 use Rattle.kalah_cli.specs.Runs.{DoesWhatIsAsked}
 use Rattle.kalah_cli.specs.SolveFiles.{AnswersFiles}
 use Rattle.kalah_cli.specs.Sources.{MayBeLeft, known_bytes}
-use Rattle.kalah_cli.specs.declared.status.ExitStatus.{ExitStatus}
-use Rattle.kalah_cli.specs.declared.status.ExitStatus.TheVariants.{Clean, Failed}
+use Rattle.kalah_cli.specs.Status.{ExitStatus, Clean, Failed}
 
 -- a standard input that may be left is the one that is known
 known_left : (typed : List ℕ) (unread : Option (List ℕ)) → MayBeLeft (λ bytes. bytes ≡ typed) unread → unread ≡ Some typed

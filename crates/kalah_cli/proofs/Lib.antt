@@ -3,7 +3,6 @@ pub mod ClapLemmas
 pub mod CommandLemmas
 pub mod RequestLemmas
 pub mod EndsLemmas
-pub mod InputLemmas
 pub mod RunLemmas
 pub mod GameLemmas
 pub mod SolverLemmas

@@ -1,7 +1,6 @@
 -- What arguments are accepted, and the request that they make.
-use Rattle.std.proofs.Common.{is_some, ◌≡◌, ◌⊎◌, ◌≤◌, ℕ, true, refl, ap, subst, inl, inr, List, Some, codes, arith, ◌∙◌, ◌<◌, ◌^◌, Bool, false, Option, None, map, sym, [], ◌∷◌}
+use Rattle.std.proofs.Common.{is_some, ◌≡◌, ◌⊎◌, ◌≤◌, ℕ, true, refl, ap, subst, inl, inr, List, Some, codes, arith, ◌∙◌, ◌<◌, ◌^◌, Bool, false, Option, None, map, sym, [], ◌∷◌, IfSome, option_map, unwrap_or, bytes_eq, Bor}
 use Rattle.std.specs.List.{AllByRecursion as AllOf}
-use Rattle.std.specs.Prelude.{IfSome, option_map, unwrap_or}
 use Rattle.std.proofs.lemmas.Option.{IfSome_then, same_Some}
 use Rattle.clap.specs.Facts.{parser_of_value}
 use Rattle.clap.specs.Words.{Accepts, Row, Rule, Text, reading_of, IsUnsignedIn, ReadsOne, all_of, matched_of, one_of, one_text, raw_values, rows_of, App, HasKind, fault_of, is_simple, is_simple_and_free, subcommand_of}
@@ -15,11 +14,9 @@ use Rattle.kalah_cli.specs.Request.{AreMatches, MayHaveNumber, name_of_question,
 use Rattle.kalah_cli.specs.Runs.{IsPlainWord}
 use Rattle.kalah_cli.specs.declared.request.LineCommand.TheVariants.{Moves}
 use Rattle.kalah_cli.proofs.ClapLemmas.{Given, IsUsableIn, SatisfyAll, accepted_satisfies, arg_in, required_is_given, row_by_id, text_is_accepted}
-use Rattle.std.specs.Str.{bytes_eq}
 use Rattle.std.proofs.lemmas.Bool.{and_parts, false_from_ne_true, ne_eqb}
 use Rattle.std.proofs.lemmas.Slice.Eq.{bytes_eq-Decides}
 use Rattle.std.specs.Str.Parse.{ExplainsUnsignedError, HasUnsignedDigitsIfOk, ParsesBool, ParsesUnsigned}
-use Rattle.std.specs.Borrow.{Bor}
 use Rattle.clap.specs.declared.parser.matches.Found.{Found}
 use Rattle.clap.proofs.WalkLemmas.{one_text-rows, raw_values-rows}
 use Rattle.clap.specs.declared.error.Error.{Error}
@@ -50,14 +47,18 @@ abbrev pub Takes : Text → Text → Rule → Type 0
 Takes name id a = arg_in subs name id ≡ Some a
 
 -- a number is in the range of its argument
-pub may_have_number : {name : Text} {rows : List Row} (id : Text) {a : Rule} {low high : ℕ} (least most : ℕ) → AreMatches name rows
-    → Takes name id a
-    → a.parser ≡ Some (Unsigned low high) → least ≤ low → high ≤ most → MayHaveNumber id least most rows
-may_have_number {name} {rows} id {a} least most matches takes parser lower higher =
+pub may_have_number : {name : Text} {rows : List Row} (id : Text) {a : Rule} {low high : ℕ} → AreMatches name rows → Takes name id a
+    → a.parser ≡ Some (Unsigned low high) → MayHaveNumber id low high rows
+may_have_number {name} {rows} id {a} matches takes parser =
     let as_written = ap (λ p. reading_of (parser_of_value p)) parser in
-    let accepted = subst (λ p. IfSome (one_of id rows) (Accepts a.ignore_case (parser_of_value p))) parser
-    (text_is_accepted a (row_by_id id rows) (rows_satisfy name rows matches id a takes) as_written) in
-    IfSome_then (one_of id rows) accepted (λ t range. (range.0, range.1, omega (arith, range.2, lower), omega (arith, range.3, higher)))
+    subst (λ p. IfSome (one_of id rows) (Accepts a.ignore_case (parser_of_value p))) parser
+    (text_is_accepted a (row_by_id id rows) (rows_satisfy name rows matches id a takes) as_written)
+
+-- one of at most 255 may be read as a byte
+pub byte_ranged : {name : Text} {rows : List Row} (id : Text) {a : Rule} {low high : ℕ} → AreMatches name rows → Takes name id a
+    → a.parser ≡ Some (Unsigned low high) → high ≤ 255 → MayHaveNumber id 0 255 rows
+byte_ranged {rows = rows} id matches takes parser small = IfSome_then (one_of id rows) (may_have_number id matches takes parser)
+    (λ t range. (range.0, range.1, omega arith, omega (arith, range.3, small)))
 
 -- an argument that is required has a value
 pub value_given : {name : Text} {rows : List Row} (id : Text) {a : Rule} → AreMatches name rows → Takes name id a → a.required ≡ true
@@ -181,10 +182,10 @@ pub record IsParsed (words : List Text) (o : Option (Text × List Row)) : Type 0
   pub matches : o ≡ subcommand_of kalah_app words
   pub entered : is_some o ≡ true
 
-pub parsed : (a : App) (words : List Text) (o : Option (Text × List Row)) → a ≡ kalah_app →
+pub parsed : {a : App} {words : List Text} {o : Option (Text × List Row)} → a ≡ kalah_app →
     (is_simple_and_free a ≡ true → fault_of a words ≡ [])
     → (is_simple a ≡ true → o ≡ subcommand_of a words) → IsParsed words o
-parsed a words o same faultless rows =
+parsed {a} {words} same faultless rows =
     let simple = ap is_simple_and_free same ∙ app_is_simple in
     let no_fault : fault_of kalah_app words ≡ [] = subst (λ b. fault_of b words ≡ []) same (faultless simple) in
     let matches = rows (and_parts (is_simple a) _ simple).0 ∙ ap (λ b. subcommand_of b words) same in

@@ -9,12 +9,10 @@ use Rattle.kalah_jobs.specs.Writing.Shown.{shown_of, values_line}
 use Rattle.kalah_jobs.specs.Writing.Variation.{variation_start}
 use Rattle.kalah_jobs.proofs.SinkLemmas.{given_then_flush, given_then}
 use Rattle.kalah_solve.specs.declared.solver.move_values.MoveValue.{MoveValue}
-use Rattle.kalah_cli.specs.Game.{move_text, value_shown}
+use Rattle.kalah_cli.specs.Game.{move_text, value_shown, Form, Houses, Lines}
 use Rattle.kalah_cli.specs.Moves.{board_lines}
 use Rattle.kalah_cli.specs.Solver.{Begins, GameStart, IsOfVariations, IsShown}
-use Rattle.kalah_cli.specs.declared.game.Form.{Form}
-use Rattle.kalah_cli.specs.declared.game.Form.TheVariants.{Houses, Lines}
-use Rattle.kalah_cli.specs.Solver.IsShown.{begins, moves}
+use Rattle.kalah_cli.specs.Solver.IsShown.{shown_after_move, shown_at_start}
 use Rattle.kalah_jobs.specs.Files.Lines.{line_feed}
 use Rattle.kalah_jobs.specs.Writing.Picture.{picture_of}
 
@@ -23,7 +21,7 @@ module _ {O : Type 0} (state : O → SinkState) where
   pub shown_first : {game : GameStart O} {boards values : Bool} {p : Position} {old new : O}
       → game ≡ record { form = Lines boards values; first = p; sink = old } → WasGiven state old new (board_lines boards p)
       → IsShown state game new p
-  shown_first {p = p} {new = new} begun given = subst (λ game. IsShown state game new p) (sym begun) (begins (refl, given))
+  shown_first {p = p} {new = new} begun given = subst (λ game. IsShown state game new p) (sym begun) (shown_at_start (refl, given))
 
   -- the position after the first move of a variation is shown, once the line of that move began
   pub shown_after : {game now : GameStart O} {p q : Position} {between new : O} (v : MoveValue)
@@ -31,7 +29,7 @@ module _ {O : Type 0} (state : O → SinkState) where
       → q ≡ position_after (step_of p v.house) → now ≡ game → IsShown state now new q
   shown_after {game} {now} {p} {q} {between} {new} v below given after_move same_game =
       subst (λ game. IsShown state game new q) (sym same_game)
-      (begins (subst (λ f. Begins state game f new q) (sym below.form) (record {
+      (shown_at_start (subst (λ f. Begins state game f new q) (sym below.form) (record {
         between = between;
         move = v;
         below = subst (λ r. IsOfVariations state game r between) (sym below.first) below;
@@ -84,13 +82,13 @@ module _ {O : Type 0} (state : O → SinkState) where
     pub shown_flushed : WasGiven state between new [] → IsShown state game new p
     shown_flushed flushed = go shown flushed where
       go : {q : Position} {o : O} → IsShown state game o q → WasGiven state o new [] → IsShown state game new q
-      go (begins begun) flushed = begins (begins_flushed game game.form _ _ _ begun flushed)
-      go (moves o q h shown given) flushed = moves o q h shown (given_then_flush state _ _ _ _ given flushed)
+      go (shown_at_start begun) flushed = shown_at_start (begins_flushed game game.form _ _ _ begun flushed)
+      go (shown_after_move o q h shown given) flushed = shown_after_move o q h shown (given_then_flush state _ _ _ _ given flushed)
 
     -- the next position is shown, once its move was given
     pub shown_next : {now : GameStart O} {form : Form} {s : Step} {q : Position} (h : ℕ) → game.form ≡ form → s ≡ step_of p h
         → q ≡ position_after s → now ≡ game → WasGiven state between new (move_text form (value_shown form (worth p)) h (step_of p h))
         → IsShown state now new q
     shown_next h written_in step_is after_move same_game given = rw (same_game, after_move, step_is)
-        (moves between p h shown
+        (shown_after_move between p h shown
         (subst (λ f. WasGiven state between new (move_text f (value_shown f (worth p)) h (step_of p h))) (sym written_in) given))

@@ -3,8 +3,7 @@ use Rattle.std.specs.Prelude.{◌≡◌, ◌≢◌, ◌↔◌, ℕ, List, Bool, 
 use Rattle.kalah_jobs.specs.Asking.{IsAnswered, IsBegun, IsCutOff}
 use Rattle.kalah_jobs.specs.declared.files.question.Question.{Question}
 use Rattle.kalah_jobs.specs.Writing.Sink.{SinkState}
-use Rattle.kalah_cli.specs.declared.status.ExitStatus.{ExitStatus}
-use Rattle.kalah_cli.specs.declared.status.ExitStatus.TheVariants.{Clean, Failed}
+use Rattle.kalah_cli.specs.Status.{ExitStatus, Clean, Failed}
 
 -- the answers to lines that were read completely were written, and nothing else
 abbrev pub StopsBetweenLines : Question → Option (List ℕ) → Option (List ℕ) → Type 0

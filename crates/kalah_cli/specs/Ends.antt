@@ -5,8 +5,7 @@ use Rattle.kalah_rules.specs.Position.{Position}
 use Rattle.kalah_jobs.specs.Line.Line.{Reads}
 use Rattle.kalah_jobs.specs.Writing.Sink.{AppendsPrefix, SinkState, WasGiven}
 use Rattle.kalah_cli.specs.declared.failure.Failure.{Failure}
-use Rattle.kalah_cli.specs.declared.status.ExitStatus.{ExitStatus}
-use Rattle.kalah_cli.specs.declared.status.ExitStatus.TheVariants.{Failed, LineFaults}
+use Rattle.kalah_cli.specs.Status.{ExitStatus, Failed, LineFaults}
 
 -- the status of a program that ended so, or failed
 abbrev pub ended_by : Result ExitStatus Failure → ExitStatus
@@ -20,8 +19,8 @@ module _ {O : Type 0} (state : O → SinkState) (old new : O) where
     pub all_flushed : (state new).has_failed ≡ false → (state new).is_flushed ≡ true
 
 -- no position is written by the line
-abbrev pub IsUnread : List ℕ → Type 0
-IsUnread line = (p : Position) → Reads line p → ⊥
+abbrev pub WritesNoPosition : List ℕ → Type 0
+WritesNoPosition line = (p : Position) → Reads line p → ⊥
 
 -- the program failed, and its output is as it was
 abbrev pub FailsWithoutOutput : {O : Type 0} → O → O → ExitStatus → Type 0
@@ -43,5 +42,5 @@ module _ {O : Type 0} (state : O → SinkState) (old new : O) (status : ExitStat
   -- what a request about a line does: it prints the text of the position that the line writes, and nothing if the line writes none
   pub record AnswersLine (line : List ℕ) (text : Position → List ℕ) : Type 0 where
     pub read : (p : Position) → Reads line p → (status ≢ LineFaults) × PrintsByStatus (text p)
-    pub unread : IsUnread line → (status ≡ LineFaults) × (new ≡ old)
+    pub unread : WritesNoPosition line → (status ≡ LineFaults) × (new ≡ old)
     pub ends : Ends

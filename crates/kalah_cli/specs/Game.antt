@@ -8,8 +8,8 @@ use Rattle.kalah_solve.specs.Solver.BestPlay.{Game, follow}
 use Rattle.kalah_solve.specs.Solver.Worth.{best_house, value_of_move, worth}
 use Rattle.kalah_jobs.specs.Writing.Variation.{next_house}
 use Rattle.kalah_cli.specs.Moves.{move_lines}
-use Rattle.kalah_cli.specs.declared.game.Form.{Form}
-use Rattle.kalah_cli.specs.declared.game.Form.TheVariants.{Lines, Houses}
+pub use Rattle.kalah_cli.specs.declared.game.Form.{Form}
+pub use Rattle.kalah_cli.specs.declared.game.Form.TheVariants.{Lines, Houses}
 
 -- the houses of the first n moves from p, if both players always move the lowest-numbered best house
 unfoldable pub best_moves : ℕ → Position → List ℕ

@@ -7,8 +7,7 @@ use Rattle.kalah_jobs.specs.Writing.Output.{output_to, tally_of}
 use Rattle.kalah_jobs.specs.declared.files.question.Question.{Question}
 use Rattle.kalah_cli.specs.Request.{IsAcceptedAs, answers, ask}
 use Rattle.kalah_cli.specs.Sources.{bytes_on}
-use Rattle.kalah_cli.specs.declared.status.ExitStatus.{ExitStatus}
-use Rattle.kalah_cli.specs.declared.status.ExitStatus.TheVariants.{Clean, Failed}
+use Rattle.kalah_cli.specs.Status.{ExitStatus, Clean, Failed}
 
 -- the files have these names, in order, and each has its bytes on the disk
 pub record AreOn (disk : List NamedBytes) (names : List (List ℕ)) (files : List NamedBytes) : Type 0 where

@@ -3,8 +3,7 @@ use Rattle.std.specs.Prelude.{ℕ, List, ◌++◌, Bool, Option, Some, None, Con
 use Rattle.kalah_rules.specs.Position.{Position}
 use Rattle.kalah_rules.specs.Play.{legal_houses}
 use Rattle.kalah_cli.specs.Moves.{board_lines}
-use Rattle.kalah_cli.specs.Game.{game_played, game_text}
-use Rattle.kalah_cli.specs.declared.game.Form.TheVariants.{Lines}
+use Rattle.kalah_cli.specs.Game.{game_played, game_text, Lines}
 
 -- the position, if boards are drawn, and the moves of the game, with the value of the position of each, if values are asked for
 abbrev pub play_output : Option ℕ → Bool → Bool → Position → List ℕ

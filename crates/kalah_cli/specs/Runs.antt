@@ -13,9 +13,8 @@ use Rattle.kalah_cli.specs.Request.{Asked, AsksNot, IsRefused, IsAcceptedAs, abo
 use Rattle.kalah_cli.specs.Ask.{AnswersInput}
 use Rattle.kalah_cli.specs.SolveFiles.{AnswersFiles}
 use Rattle.kalah_cli.specs.Sources.{MayBeLeft, Source, standard_input}
-use Rattle.kalah_cli.specs.Ends.{AnswersLine, FailsWithoutOutput, IsUnread}
-use Rattle.kalah_cli.specs.declared.status.ExitStatus.{ExitStatus}
-use Rattle.kalah_cli.specs.declared.status.ExitStatus.TheVariants.{Clean, LineFaults, Failed}
+use Rattle.kalah_cli.specs.Ends.{AnswersLine, FailsWithoutOutput, WritesNoPosition}
+use Rattle.kalah_cli.specs.Status.{ExitStatus, Clean, LineFaults, Failed}
 
 -- nothing is asked of the standard input
 abbrev pub IsOfNoInput : Asked → Type 0
@@ -50,13 +49,13 @@ IsPlainWord [] = ⊥
 IsPlainWord (x ∷ xs) = x ≢ 45
 
 module _ {O : Type 0} (state : O → SinkState) (words : List Text) (old new : O) (status : ExitStatus) where
-  -- the arguments of `moves` without options
+  -- the arguments of `moves` without options: an example whose promise names no parse
   pub record MovesByItsWords : Type 0 where
     -- `moves` and a line that can be read: its moves are written, if nothing fails
     pub moves : (name line : Text) → words ≡ name ∷ codes "moves" ∷ line ∷ [] → (p : Position) → Reads line p
         → (status ≢ LineFaults) × (status ≡ Clean → Appends (state old).written (state new).written (moves_output false p))
     -- `moves` and a line that can't be read, but is no flag
-    pub unread : (name line : Text) → words ≡ name ∷ codes "moves" ∷ line ∷ [] → IsPlainWord line → IsUnread line
+    pub unread : (name line : Text) → words ≡ name ∷ codes "moves" ∷ line ∷ [] → IsPlainWord line → WritesNoPosition line
         → (status ≢ Clean) × (new ≡ old)
 
   -- arguments that are refused

@@ -11,8 +11,7 @@ use Rattle.kalah_jobs.specs.Files.Lines.{line_feed}
 use Rattle.kalah_jobs.specs.Writing.Picture.{picture_of}
 use Rattle.kalah_jobs.specs.Writing.Shown.{shown_of}
 use Rattle.kalah_jobs.specs.Writing.Variation.{variation_start}
-use Rattle.kalah_cli.specs.Game.{best_game, game_text}
-use Rattle.kalah_cli.specs.declared.game.Form.TheVariants.{Houses}
+use Rattle.kalah_cli.specs.Game.{best_game, game_text, Houses}
 
 -- the move of v and best play after it, to the end of the game: its house, its value, and the houses that are moved, from this one on
 abbrev pub variation_line : Position → MoveValue → List ℕ

@@ -6,8 +6,7 @@ use Rattle.kalah_jobs.specs.Files.NamedBytes.{NamedBytes}
 use Rattle.kalah_jobs.specs.Writing.Output.{output_to, tally_of}
 use Rattle.kalah_jobs.specs.declared.files.question.Question.{Question}
 use Rattle.kalah_jobs.specs.Writing.Sink.{SinkState}
-use Rattle.kalah_cli.specs.declared.status.ExitStatus.{ExitStatus}
-use Rattle.kalah_cli.specs.declared.status.ExitStatus.TheVariants.{Clean, Failed}
+use Rattle.kalah_cli.specs.Status.{ExitStatus, Clean, Failed}
 use Rattle.kalah_cli.specs.Ends.{Ends, FailsWithoutOutput, PrintsByStatus}
 use Rattle.kalah_cli.specs.Sources.{Source, file_named}
 
@@ -25,6 +24,6 @@ module _ {O : Type 0} (state : O → SinkState) (old new : O) (status : ExitStat
     pub named : map (λ file. file.name) files ≡ names
     pub given : FailsWithoutOutput old new status ⊎ All (λ file. may_give (file_named file.name) file.bytes) files
     pub printed : PrintsByStatus state old new status (output_to question files)
-    pub one_line : status ≢ Failed → list_any has_line_feed names ≡ false
+    pub no_line_feed : status ≢ Failed → list_any has_line_feed names ≡ false
     pub clean : status ≢ Failed → status ≡ Clean ↔ (tally_of files).faults ≡ 0
     pub ends : Ends state old new status

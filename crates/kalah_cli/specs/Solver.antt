@@ -10,10 +10,8 @@ use Rattle.kalah_solve.specs.declared.solver.move_values.MoveValue.{MoveValue}
 use Rattle.kalah_jobs.specs.Writing.Sink.{SinkState, WasGiven}
 use Rattle.kalah_jobs.specs.Writing.Shown.{shown_of}
 use Rattle.kalah_jobs.specs.Writing.Variation.{variation_start}
-use Rattle.kalah_cli.specs.Game.{move_text, value_shown}
+use Rattle.kalah_cli.specs.Game.{move_text, value_shown, Form, Lines, Houses}
 use Rattle.kalah_cli.specs.Moves.{board_lines}
-use Rattle.kalah_cli.specs.declared.game.Form.{Form}
-use Rattle.kalah_cli.specs.declared.game.Form.TheVariants.{Lines, Houses}
 use Rattle.kalah_cli.specs.declared.solver.GameSolver.{GameSolver}
 
 -- the solver has an empty table of this capacity
@@ -53,7 +51,7 @@ module _ {O : Type 0} (state : O → SinkState) (game : GameStart O) where
 
   -- a position of the game is shown: the game began, and then the sink was given each move that leads to this position, and nothing else
   pub data IsShown : O → Position → Type 0 where
-    begins : {new : O} {p : Position} → Begins game.form new p → IsShown new p
-    moves : {new : O} (between : O) (p : Position) (h : ℕ) → IsShown between p
+    shown_at_start : {new : O} {p : Position} → Begins game.form new p → IsShown new p
+    shown_after_move : {new : O} (between : O) (p : Position) (h : ℕ) → IsShown between p
         → WasGiven state between new (move_text game.form (value_shown game.form (worth p)) h (step_of p h))
         → IsShown new (position_after (step_of p h))

@@ -1,7 +1,7 @@
 -- The exit statuses of the program.
 use Rattle.std.specs.Prelude.{ℕ}
-use Rattle.kalah_cli.specs.declared.status.ExitStatus.{ExitStatus}
-use Rattle.kalah_cli.specs.declared.status.ExitStatus.TheVariants.{Clean, LineFaults, Failed}
+pub use Rattle.kalah_cli.specs.declared.status.ExitStatus.{ExitStatus}
+pub use Rattle.kalah_cli.specs.declared.status.ExitStatus.TheVariants.{Clean, LineFaults, Failed}
 
 -- 0 if all was read, 1 if a line was not, 2 if the program failed
 abbrev pub status_number : ExitStatus → ℕ

@@ -17,7 +17,7 @@ use std::io::{BufReader, Read, Write};
 const HINT: &str = "kalah: waits for positions, one a line, as 1,1/0 1,1/0; Ctrl-D ends\n";
 
 // Returns a reader that reads ahead, with all that the reader has left.
-#[tactic(auto, using(crate::proofs::InputLemmas::all_unread))]
+#[tactic(auto, using(crate::proofs::EndsLemmas::all_unread))]
 fn reading_ahead<I: Read + Drop>(alloc: Global, input: I) -> io::Result<BufReader<I>>
     ensures { IfOk result (λ r. I.remaining input ≡ reader_remaining I.remaining r) }
 {

@@ -52,19 +52,8 @@ fn command_of<'a>(alloc: Global, subcommand: &Subcommand) -> Result<Command<'a>,
     Ok(command)
 }
 
-/// Returns the command line of the program. It is complete: nothing is added to it before a parse.
-///
-/// It asks for one of eight subcommands, or for help or the version:
-/// - `solve [--workers N] [--table N] [--progress] FILE..`, and `values` with the same arguments
-/// - `show [--plain] [--lines] [--table N] LINE`
-/// - `play [--table N] [--boards] [--values] [--first H] LINE`
-/// - `moves [--boards] LINE`
-/// - `ask [--values] [--steps] [--table N]`
-/// - `steps [--workers N] [--progress] FILE..`
-/// - `count DEPTH LINE`
-///
-/// There are 1 to 64 workers, 4 by default. A table has 1 to 1,048,576 entries, 65,536 by default. H is a house from 1 to 6, and DEPTH a
-/// number from 0 to 20. Fails with `AllocError` only if memory was refused.
+/// Returns the command line of the program: it asks for one of `SUBCOMMANDS`, or for help or the version. It is complete: nothing is
+/// added to it before a parse. Fails with `AllocError` only if memory was refused.
 pub fn command<'a>(alloc: Global) -> Result<Command<'a>, AllocError>
     ensures { IfOk result (λ c. app_of c ≡ kalah_app) }
 {

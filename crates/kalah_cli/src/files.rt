@@ -87,7 +87,7 @@ pub(crate) fn read_limited<F: Read>(
 }
 
 // Returns all bytes of the file of this name. A file of more than 67,108,864 bytes can't be read.
-#[tactic(auto, using(crate::proofs::InputLemmas::read_whole))]
+#[tactic(auto, using(crate::proofs::EndsLemmas::read_whole))]
 fn read_file<R: Sources>(rt: &R, alloc: Global, name: &str) -> Result<Vec<u8>, ReadFault>
     ensures within { IfOk result (λ bytes. length bytes.items ≤ most_file_bytes) }
     ensures given { IfOk result (λ bytes. R.may_give rt.now (file_named name.now) bytes.items) }
@@ -99,7 +99,7 @@ fn read_file<R: Sources>(rt: &R, alloc: Global, name: &str) -> Result<Vec<u8>, R
 }
 
 // Returns the failure for a file of this name that is not read.
-fn unread<'a>(name: &'a str, fault: ReadFault) -> Failure<'a>
+fn failure_of_file<'a>(name: &'a str, fault: ReadFault) -> Failure<'a>
     ensures { FailsToRead name.entry result }
 {
     match fault {
@@ -125,7 +125,7 @@ pub(crate) fn read_files<'a, R: Sources>(
     for name in names {
         let bytes = match read_file(rt, alloc, *name) {
             Ok(bytes) => bytes,
-            Err(fault) => return Err(unread(*name, fault)),
+            Err(fault) => return Err(failure_of_file(*name, fault)),
         };
         let Ok(name) = String::from_str(alloc, *name) else {
             return Err(Failure::OutOfMemory);

@@ -30,7 +30,7 @@ fn any_has_line_feed(names: &[&str]) -> bool
 }
 
 // Returns the files of these names, each read whole. Fails with `LineFeed` exactly if one of the names has a line feed in it.
-#[tactic(auto, using(crate::proofs::InputLemmas::texts_have_line_feed))]
+#[tactic(auto, using(crate::proofs::EndsLemmas::texts_have_line_feed))]
 fn read_named<'a, R: Sources>(
     rt: &R,
     alloc: Global,
@@ -60,7 +60,7 @@ fn answer_files<R: Sources + Clock + Terminal + Threads + Wait + Sync, O: Sink, 
     requires sink { (O.state out.old).has_failed ≡ false }
     requires named { map (λ file. file.name) files.now ≡ map (λ name. name.now) request.now.files.items }
     requires given { All (λ file. R.may_give rt.now (file_named file.name) file.bytes) files.now }
-    requires one_line { list_any has_line_feed (map (λ name. name.now) request.now.files.items) ≡ false }
+    requires no_line_feed { list_any has_line_feed (map (λ name. name.now) request.now.files.items) ≡ false }
     ensures { AnswersFiles O.state out.old out.new (ended_by result) (R.may_give rt.now) request.now.question
         (map (λ name. name.now) request.now.files.items) }
 {

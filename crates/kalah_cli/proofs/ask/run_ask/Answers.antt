@@ -1,5 +1,5 @@
 use Rattle.std.proofs.Common.{refl}
-use Rattle.kalah_cli.proofs.InputLemmas.{input_answered, input_refused}
+use Rattle.kalah_cli.proofs.EndsLemmas.{input_answered, input_refused}
 use Rattle.kalah_cli.proofs.ask.run_ask.Goals as goal
 
 pub returns-in_default : goal.returns-in_default

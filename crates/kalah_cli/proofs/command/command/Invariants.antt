@@ -1,5 +1,4 @@
-use Rattle.std.proofs.Common.{◌≡◌, take}
-use Rattle.std.specs.List.{fold}
+use Rattle.std.proofs.Common.{◌≡◌, take, fold}
 use Rattle.clap.specs.Words.{app_of, with_subcommand}
 use Rattle.kalah_cli.specs.Command.{program_app, subcommand_app}
 use Rattle.kalah_cli.proofs.command.command.Given as goal

@@ -1,5 +1,4 @@
-use Rattle.std.proofs.Common.{◌≡◌, take}
-use Rattle.std.specs.List.{fold}
+use Rattle.std.proofs.Common.{◌≡◌, take, fold}
 use Rattle.clap.specs.Words.{app_of, new_app, with_rule}
 use Rattle.kalah_cli.specs.Command.{argument_rule}
 use Rattle.kalah_cli.proofs.command.command_of.Given as goal

@@ -1,24 +1,19 @@
-use Rattle.std.proofs.Common.{[], ◌∙◌, ◌≡◌, ◌∷◌, ap, arith, codes, inl, inr, is_some, length, map, refl, sym}
-use Rattle.std.specs.Prelude.{unwrap_or}
+use Rattle.std.proofs.Common.{[], ◌∙◌, ◌≡◌, ◌∷◌, ap, arith, codes, inl, inr, is_some, length, map, refl, sym, unwrap_or}
 use Rattle.std.proofs.lemmas.List.{length-map}
 use Rattle.clap.specs.Words.{found_of, rows_of}
 use Rattle.clap.proofs.CallerLemmas.{some_of_text}
 use Rattle.clap.proofs.WalkLemmas.{raw_values-rows}
-use Rattle.kalah_solve.specs.Table.Entries.{most_entries}
-use Rattle.kalah_run.specs.Limits.{IsTableSize, most_workers}
+use Rattle.kalah_run.specs.Limits.{IsTableSize}
 use Rattle.kalah_cli.specs.Request.{table_asked}
 use Rattle.kalah_cli.proofs.RequestLemmas.{may_have_number, takes_files, takes_table, value_given, values_are}
 use Rattle.kalah_cli.proofs.request.files_request.Goals.{in-BestMove, in-Steps}
 use Rattle.kalah_cli.proofs.request.files_request.Goals as goal
 
 pub worker_count-requires : goal.worker_count-requires
-worker_count-requires c =
-    may_have_number (codes "workers") 1 most_workers c.requires (takes_files c.args.question).0 refl (omega arith) (omega arith)
+worker_count-requires c = may_have_number (codes "workers") c.requires (takes_files c.args.question).0 refl
 
 pub table_size-requires : goal.table_size-requires
-table_size-requires c =
-    may_have_number (codes "table") 1 most_entries c.requires (takes_table c.args.question c.in-BestMove.is) refl (omega arith)
-    (omega arith)
+table_size-requires c = may_have_number (codes "table") c.requires (takes_table c.args.question c.in-BestMove.is) refl
 
 pub unwrap-requires : goal.unwrap-requires
 unwrap-requires c =

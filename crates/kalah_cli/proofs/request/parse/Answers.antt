@@ -1,5 +1,4 @@
-use Rattle.std.proofs.Common.{◌∙◌, ap, map, refl, sym}
-use Rattle.std.specs.Prelude.{option_and_then}
+use Rattle.std.proofs.Common.{◌∙◌, ap, map, refl, sym, option_and_then}
 use Rattle.std.proofs.lemmas.Result.{IfOk-weaker}
 use Rattle.clap.proofs.CallerLemmas.{some_of_text}
 use Rattle.clap.proofs.FaultLemmas.{failed_up, fails_by_memory}
@@ -9,37 +8,29 @@ use Rattle.kalah_cli.proofs.request.parse.Goals as goal
 
 pub unwrap-requires : goal.unwrap-requires
 unwrap-requires g c =
-    let words = map g.S.AsStr.text c.args.words.now in
-    let read = parsed _ words _ c.in_ok-command.ensures c.in_ok-matches.ensures.kinds
-    (λ simple. (c.in_ok-matches.ensures.matches simple).1) in
+    let read = parsed c.in_ok-command.ensures c.in_ok-matches.ensures.kinds (λ simple. (c.in_ok-matches.ensures.matches simple).1) in
     c.subcommand.ensures.variant ∙ some_of_text _ _ _ refl read.entered
 
 pub requested-requires : goal.requested-requires
 requested-requires g c =
-    let words = map g.S.AsStr.text c.args.words.now in
-    let read = parsed _ words _ c.in_ok-command.ensures c.in_ok-matches.ensures.kinds
-    (λ simple. (c.in_ok-matches.ensures.matches simple).1) in
+    let read = parsed c.in_ok-command.ensures c.in_ok-matches.ensures.kinds (λ simple. (c.in_ok-matches.ensures.matches simple).1) in
     let same = pair_got _ _ _ _ _ _ c.unwrap.result c.subcommand.ensures.name c.subcommand.ensures.rows c.unwrap.ensures in
-    (words, read.no_fault, sym read.matches ∙ same)
+    (map g.S.AsStr.text c.args.words.now, read.no_fault, sym read.matches ∙ same)
 
 pub returns-clause-accepted : goal.returns-clause-accepted
 returns-clause-accepted g c =
     let words = map g.S.AsStr.text c.args.words.now in
-    let read = parsed _ words _ c.in_ok-command.ensures c.in_ok-matches.ensures.kinds
-    (λ simple. (c.in_ok-matches.ensures.matches simple).1) in
+    let read = parsed c.in_ok-command.ensures c.in_ok-matches.ensures.kinds (λ simple. (c.in_ok-matches.ensures.matches simple).1) in
     let same = pair_got _ _ _ _ _ _ c.unwrap.result c.subcommand.ensures.name c.subcommand.ensures.rows c.unwrap.ensures in
     IfOk-weaker c.requested.result _ (λ r. IsAcceptedAs words (request_asks r))
     (λ r asked. (read.no_fault, ap (option_and_then matches_ask) (sym read.matches ∙ same) ∙ asked)) c.requested.ensures.asked
 
 pub returns-clause-kinds : goal.returns-clause-kinds
 returns-clause-kinds g c =
-    let words = map g.S.AsStr.text c.args.words.now in
-    let read = parsed _ words _ c.in_ok-command.ensures c.in_ok-matches.ensures.kinds
-    (λ simple. (c.in_ok-matches.ensures.matches simple).1) in
+    let read = parsed c.in_ok-command.ensures c.in_ok-matches.ensures.kinds (λ simple. (c.in_ok-matches.ensures.matches simple).1) in
     fails_by_memory c.requested.result _ read.no_fault c.requested.ensures.memory
 
 pub returns-in_err-matches-clause-kinds : goal.returns-in_err-matches-clause-kinds
 returns-in_err-matches-clause-kinds g c =
-    let words = map g.S.AsStr.text c.args.words.now in
     failed_up _ _ _ _ c.from_residual-in_err-matches.ensures.1
-    (faulty _ words c.in_err-matches.field-0.0 c.in_ok-command.ensures c.in_err-matches.ensures.kinds)
+    (faulty _ _ c.in_err-matches.field-0.0 c.in_ok-command.ensures c.in_err-matches.ensures.kinds)

@@ -1,29 +1,25 @@
 use Rattle.std.proofs.Common.{◌≤◌, ◌∙◌, IfSome, Some, ap, arith, codes, is_some, option_map, refl, subst, sym}
 use Rattle.clap.specs.Words.{found_of, one_of, rows_of}
 use Rattle.kalah_rules.specs.Limits.{most_depth}
-use Rattle.kalah_solve.specs.Table.Entries.{most_entries}
-use Rattle.kalah_cli.proofs.RequestLemmas.{in_range, may_have_number, value_given}
+use Rattle.kalah_cli.proofs.RequestLemmas.{byte_ranged, in_range, may_have_number, value_given}
 use Rattle.kalah_cli.specs.Request.{number_written}
 use Rattle.kalah_cli.proofs.request.requested.Goals.{in-count, in-moves, in-play, in-show}
 use Rattle.kalah_cli.proofs.request.requested.Goals as goal
 
 pub table_size-requires : goal.table_size-requires
-table_size-requires c = may_have_number (codes "table") 1 most_entries (rw c.in-play.is at c.requires) refl refl (omega arith) (omega arith)
+table_size-requires c = may_have_number (codes "table") (rw c.in-play.is at c.requires) refl refl
 
 pub byte_given-requires : goal.byte_given-requires
-byte_given-requires c = may_have_number (codes "first") 0 255 (rw c.in-play.is at c.requires) refl refl (omega arith) (omega arith)
+byte_given-requires c = byte_ranged (codes "first") (rw c.in-play.is at c.requires) refl refl (omega arith)
 
 pub table_given-requires : goal.table_given-requires
-table_given-requires c = may_have_number (codes "table") 1 most_entries (rw c.in-ask.is at c.requires) refl refl (omega arith)
-    (omega arith)
+table_given-requires c = may_have_number (codes "table") (rw c.in-ask.is at c.requires) refl refl
 
 pub table_size-requires-in-show : goal.table_size-requires-in-show
-table_size-requires-in-show c = may_have_number (codes "table") 1 most_entries (rw c.in-show.is at c.requires) refl refl (omega arith)
-    (omega arith)
+table_size-requires-in-show c = may_have_number (codes "table") (rw c.in-show.is at c.requires) refl refl
 
 pub byte_given-requires-in-count : goal.byte_given-requires-in-count
-byte_given-requires-in-count c = may_have_number (codes "depth") 0 255 (rw c.in-count.is at c.requires) refl refl (omega arith)
-    (omega arith)
+byte_given-requires-in-count c = byte_ranged (codes "depth") (rw c.in-count.is at c.requires) refl refl (omega arith)
 
 pub unwrap-requires : goal.unwrap-requires
 unwrap-requires c = ap is_some c.byte_given-in-count.ensures
@@ -49,7 +45,7 @@ returns-clause-range c = elim c.match-name.branch [
       let depth : IfSome (Some w.unwrap.result) (λ n. (0 ≤ n) × (n ≤ most_depth)) =
       subst (λ o. IfSome o (λ n. (0 ≤ n) × (n ≤ most_depth))) (sym w.byte_given-in-count.ensures ∙ w.unwrap.ensures)
       (in_range 0 most_depth (one_of (codes "depth") (rows_of (found_of c.args.found.now)))
-      (may_have_number (codes "depth") 0 most_depth (rw w.in-count.is at c.requires) refl refl (omega arith) (omega arith))) in
+      (may_have_number (codes "depth") (rw w.in-count.is at c.requires) refl refl)) in
       rw w.command-is depth.1
 ]
 

@@ -1,5 +1,4 @@
-use Rattle.std.proofs.Common.{◌∙◌, ap, arith, codes, subst, sym}
-use Rattle.std.specs.Prelude.{unwrap_or}
+use Rattle.std.proofs.Common.{◌∙◌, ap, arith, codes, subst, sym, unwrap_or}
 use Rattle.clap.specs.Words.{found_of, one_of, rows_of}
 use Rattle.kalah_run.specs.Limits.{AreWorkers, most_workers}
 use Rattle.kalah_cli.specs.Request.{default_workers, number_given}

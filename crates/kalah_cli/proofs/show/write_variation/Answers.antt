@@ -1,5 +1,4 @@
-use Rattle.std.proofs.Common.{◌≡◌, ◌∷◌, [], ◌∙◌, ℕ, List, Bool, Some, ◌==◌, ap, cond, find, inl, inr, map, subst, sym, ◌++◌, refl}
-use Rattle.std.specs.Prelude.{Contains}
+use Rattle.std.proofs.Common.{◌≡◌, ◌∷◌, [], ◌∙◌, ℕ, List, Bool, Some, ◌==◌, ap, cond, find, inl, inr, map, subst, sym, ◌++◌, refl, Contains}
 use Rattle.std.proofs.lemmas.Bool.{cases_Bool}
 use Rattle.std.proofs.lemmas.List.Elements.{Contains-append_left, Contains-append_right, Contains-push}
 use Rattle.kalah_rules.specs.Position.{Position}
@@ -13,8 +12,7 @@ use Rattle.kalah_jobs.specs.Files.Lines.{line_feed}
 use Rattle.kalah_jobs.specs.Writing.Sink.{WasGiven}
 use Rattle.kalah_jobs.specs.Writing.Variation.{variation_start}
 use Rattle.kalah_jobs.proofs.SinkLemmas.{given_then}
-use Rattle.kalah_cli.specs.Game.{best_game, game_text}
-use Rattle.kalah_cli.specs.declared.game.Form.TheVariants.{Houses}
+use Rattle.kalah_cli.specs.Game.{best_game, game_text, Houses}
 use Rattle.kalah_cli.proofs.SolverLemmas.{shown_after}
 use Rattle.kalah_cli.proofs.show.write_variation.Goals as goal
 

@@ -1,5 +1,4 @@
-use Rattle.kalah_cli.proofs.EndsLemmas.{ended_err}
-use Rattle.kalah_cli.proofs.InputLemmas.{files_refused}
+use Rattle.kalah_cli.proofs.EndsLemmas.{ended_err, files_refused}
 use Rattle.kalah_cli.proofs.solve_files.run_files.Goals as goal
 
 pub returns-in_err-files : goal.returns-in_err-files
