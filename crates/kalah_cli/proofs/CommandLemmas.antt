@@ -5,34 +5,33 @@ use Rattle.clap.specs.Words.{AddsArg, AddsSubcommand, App, app_of, new_app, with
 use Rattle.clap.specs.declared.builder.arg.Arg.{Arg}
 use Rattle.clap.specs.declared.builder.command.Command.{Command}
 use Rattle.clap.proofs.SimpleLemmas.{plain_fields}
-use Rattle.kalah_cli.specs.Command.{IsReadBy, argument_rule, subcommand_app}
+use Rattle.kalah_cli.specs.Command.{IsReadBy, argument_rule, subcommand_app, with_argument, with_listed}
 use Rattle.kalah_cli.specs.declared.subcommands.Argument.{Argument}
 use Rattle.kalah_cli.specs.declared.subcommands.Subcommand.{Subcommand}
 
 -- one argument more
 pub argument_added : (start : App) (arguments : List Argument) (i : ℕ) (argument : Argument) {arg : Arg} {old new : Command}
     → i < length arguments → IsReadBy (argument_rule (get_or arguments i argument)) arg
-    → app_of old ≡ fold (λ app a. with_rule app (argument_rule a)) start (take i arguments) → AddsArg old arg new
-    → app_of new ≡ fold (λ app a. with_rule app (argument_rule a)) start (take (i + 1) arguments)
+    → app_of old ≡ fold with_argument start (take i arguments) → AddsArg old arg new
+    → app_of new ≡ fold with_argument start (take (i + 1) arguments)
 argument_added start arguments i argument {old = old} within read so_far adds =
     adds.shape read.1 ∙ ap (with_rule (app_of old)) read.0
-    ∙ ap (λ app. with_rule app (argument_rule (get_or arguments i argument))) so_far
-    ∙ sym (fold_more (λ app a. with_rule app (argument_rule a)) start arguments i argument within)
+    ∙ ap (λ app. with_argument app (get_or arguments i argument)) so_far
+    ∙ sym (fold_more with_argument start arguments i argument within)
 
 -- a command stays plain with more arguments, as none is global
-stays_plain : (app : App) (arguments : List Argument) → app.top.is_plain ≡ true
-    → (fold (λ app a. with_rule app (argument_rule a)) app arguments).top.is_plain ≡ true
+stays_plain : (app : App) (arguments : List Argument) → app.top.is_plain ≡ true → (fold with_argument app arguments).top.is_plain ≡ true
 stays_plain app [] plain = plain
-stays_plain app (a ∷ rest) plain = stays_plain (with_rule app (argument_rule a)) rest plain
+stays_plain app (a ∷ rest) plain = stays_plain (with_argument app a) rest plain
 
 -- one subcommand more
 pub subcommand_added : {X : Type 0} (described : X → Subcommand) (start : App) (xs : List X) (i : ℕ) (x : X) {made old new : Command}
     → i < length xs → app_of made ≡ subcommand_app (described (get_or xs i x))
-    → app_of old ≡ fold (λ app x. with_subcommand app (subcommand_app (described x)).top) start (take i xs) → AddsSubcommand old made new
-    → app_of new ≡ fold (λ app x. with_subcommand app (subcommand_app (described x)).top) start (take (i + 1) xs)
+    → app_of old ≡ fold (λ app x. with_listed app (described x)) start (take i xs) → AddsSubcommand old made new
+    → app_of new ≡ fold (λ app x. with_listed app (described x)) start (take (i + 1) xs)
 subcommand_added described start xs i x {made} within made_is so_far adds =
     let s = described (get_or xs i x) in
     let plain = ap (λ a. a.top.is_plain) made_is ∙ stays_plain (new_app s.name.now) s.arguments.now refl in
     adds.shape (plain_fields made plain).globals
     ∙ (λ j. with_subcommand (so_far j) (made_is j).top)
-    ∙ sym (fold_more (λ app x. with_subcommand app (subcommand_app (described x)).top) start xs i x within)
+    ∙ sym (fold_more (λ app x. with_listed app (described x)) start xs i x within)

@@ -21,47 +21,26 @@ use Rattle.kalah_cli.proofs.EndsLemmas.{ends_unchanged, stops_at_once}
 
 -- ---- what arguments are accepted as, and what is done for them
 
-module _ {O : Type 0} (state : O → SinkState) {old new : O} {status : ExitStatus}
+module _ {O : Type 0} (state : O → SinkState) {old new : O} {status : ExitStatus} (may_give : Source → List ℕ → Type 0)
     (sound : (state old).has_failed ≡ false) where
   -- how a run ends that does what is asked, unless lines of the standard input are to be answered
-  run_ends : (may_give : Source → List ℕ → Type 0) (a : Asked) → IsOfNoInput a
-      → Does state old new status may_give a → Ends state old new status
-  run_ends may_give (about_line command line) _ does = does.0.ends
-  run_ends may_give (answers question workers table progress names) _ does = does.ends
-  run_ends may_give (ask question table) no_input does = absurd no_input
-  run_ends may_give conflict _ does = subst (λ o. Ends state old o status) (sym does.1) (ends_unchanged state sound)
+  run_ends : (a : Asked) → IsOfNoInput a → Does state old new status may_give a → Ends state old new status
+  run_ends (about_line command line) _ does = does.0.ends
+  run_ends (answers question workers table progress names) _ does = does.ends
+  run_ends (ask question table) no_input does = absurd no_input
+  run_ends conflict _ does = subst (λ o. Ends state old o status) (sym does.1) (ends_unchanged state sound)
 
   -- if a write failed, it failed
-  run_fails : (may_give : Source → List ℕ → Type 0) (a : Asked) → Does state old new status may_give a
-      → (state new).has_failed ≡ true → status ≡ Failed
-  run_fails may_give (ask question table) does = does.1.1.failed
-  run_fails may_give a does = (run_ends may_give a tt does).failed
+  run_fails : (a : Asked) → Does state old new status may_give a → (state new).has_failed ≡ true → status ≡ Failed
+  run_fails (ask question table) does = does.1.1.failed
+  run_fails a does = (run_ends a tt does).failed
 
   -- unless it failed, all is flushed
-  run_flushes : (may_give : Source → List ℕ → Type 0) (a : Asked) → Does state old new status may_give a
-      → status ≢ Failed → (state old).is_flushed ≡ true
+  run_flushes : (a : Asked) → Does state old new status may_give a → status ≢ Failed → (state old).is_flushed ≡ true
       → (state new).is_flushed ≡ true
-  run_flushes may_give (ask question table) does = λ not_failed.
+  run_flushes (ask question table) does = λ not_failed.
       does.1.1.all_flushed (false_from_ne_true (state new).has_failed (λ failed. not_failed (does.1.1.failed failed)))
-  run_flushes may_give a does = (run_ends may_give a tt does).all_flushed
-
--- what is promised of arguments that are accepted covers those of `moves`
-pub by_words : {O : Type 0} (state : O → SinkState) (words : List Text) (old new : O)
-    (status : ExitStatus) (may_give : Source → List ℕ → Type 0)
-    → DoesWhatIsAsked state old new status may_give words
-    → MovesByItsWords state words old new status
-by_words state words old new status may_give accepted = record {
-  moves = λ name line words_are p reads.
-      elim (accepted (about_line (Moves false) line) (accepted_at words_are (moves_accepted name line (read_is_plain line p reads)))) [
-        | inl does ↦ let printed = does.0.read p reads in (printed.0, λ clean. printed.1.whole (λ failed. cc))
-        | inr fails ↦ ((λ fault. cc), (λ clean. absurd cc))
-      ];
-  unread = λ name line words_are plain no_position.
-      elim (accepted (about_line (Moves false) line) (accepted_at words_are (moves_accepted name line plain))) [
-        | inl does ↦ let unread = does.0.unread no_position in ((λ clean. cc), unread.1)
-        | inr fails ↦ ((λ clean. cc), fails.1)
-      ];
-}
+  run_flushes a does = (run_ends a tt does).all_flushed
 
 -- an error of arguments that ask for no help, or for no version, is no such request
 no_request : (k : ErrorKind) (words : List Text) (e : Error) → OutOfMemory ≢ k → HasKind (fault_of kalah_app words) e → AsksNot k words
@@ -76,6 +55,21 @@ no_request k words e other has_kind unasked = λ asked.
 
 module _ {O : Type 0} (state : O → SinkState) (words : List Text) (may_give : Source → List ℕ → Type 0) (old new : O)
     (status : ExitStatus) where
+  -- what is promised of arguments that are accepted covers those of `moves`
+  pub by_words : DoesWhatIsAsked state old new status may_give words → MovesByItsWords state words old new status
+  by_words accepted = record {
+    moves = λ name line words_are p reads.
+        elim (accepted (about_line (Moves false) line) (accepted_at words_are (moves_accepted name line (read_is_plain line p reads)))) [
+          | inl does ↦ let printed = does.0.read p reads in (printed.0, λ clean. printed.1.whole (λ failed. cc))
+          | inr fails ↦ ((λ fault. cc), (λ clean. absurd cc))
+        ];
+    unread = λ name line words_are plain no_position.
+        elim (accepted (about_line (Moves false) line) (accepted_at words_are (moves_accepted name line plain))) [
+          | inl does ↦ let unread = does.0.unread no_position in ((λ clean. cc), unread.1)
+          | inr fails ↦ ((λ clean. cc), fails.1)
+        ];
+  }
+
   -- what is promised of every run, but for what follows from these
   pub record KeepsPromises : Type 0 where
     pub accepted : DoesWhatIsAsked state old new status may_give words
@@ -99,11 +93,11 @@ module _ {O : Type 0} (state : O → SinkState) (words : List Text) (may_give : 
           version = λ faulty. absurd (faulty accepted_as.0);
           no_line = λ faulty. absurd (faulty accepted_as.0);
         };
-        failed = run_fails state sound may_give b done;
-        unchanged = λ no_input. (run_ends state sound may_give b (no_input b accepted_as) done).unchanged;
+        failed = run_fails state may_give sound b done;
+        unchanged = λ no_input. (run_ends state may_give sound b (no_input b accepted_as) done).unchanged;
         stopped = λ question table asked failed unfailed.
             let input = (does (ask question table) asked).1.1 in (_, input.left, input.stopped failed unfailed);
-        all_flushed = run_flushes state sound may_give b done;
+        all_flushed = run_flushes state may_give sound b done;
       }
 
   -- the arguments are refused with this error, which asks for help or the version, or is a mistake in them

@@ -118,6 +118,13 @@ kind_rule name (PositionalText value_name action) = record (value_rule name) { r
 abbrev pub argument_rule : Argument → Rule
 argument_rule a = kind_rule a.name.now a.kind
 
--- a subcommand with its arguments, in order
+-- a subcommand with one argument more, and with all its arguments, in order
+abbrev pub with_argument : App → Argument → App
+with_argument app a = with_rule app (argument_rule a)
+
 abbrev pub subcommand_app : Subcommand → App
-subcommand_app s = fold (λ app a. with_rule app (argument_rule a)) (new_app s.name.now) s.arguments.now
+subcommand_app s = fold with_argument (new_app s.name.now) s.arguments.now
+
+-- the program with one subcommand more
+abbrev pub with_listed : App → Subcommand → App
+with_listed app s = with_subcommand app (subcommand_app s).top

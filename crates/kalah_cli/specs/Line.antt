@@ -21,7 +21,6 @@ MayPrint command p = ⊤
 
 -- without a search
 abbrev pub SearchesNothing : LineCommand → Type 0
-SearchesNothing (Moves boards) = ⊤
 SearchesNothing (Play table boards values first) = ⊥
 SearchesNothing (Show table plain lines) = plain ≡ true
-SearchesNothing (Count depth) = ⊤
+SearchesNothing command = ⊤

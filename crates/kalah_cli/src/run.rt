@@ -102,15 +102,8 @@ fn run_request<'a, R: Sources + Clock + Terminal + Threads + Wait + Sync, O: Sin
     }
 }
 
-/// Runs the program on its arguments, and returns its exit status. The first argument is always taken as the program's name.
-///
-/// - `moves LINE` prints the moves of a position, and `play LINE` the game that best play leads to from it.
-/// - `solve FILE..` answers each line of files. `values FILE..` prints what each of its moves is worth, and `steps FILE..` what each
-///   leads to.
-/// - `ask` answers each line of the standard input before it reads on.
-/// - `show LINE` draws a position with what its moves are worth.
-/// - `count DEPTH LINE` counts the ways to play on from a position.
-/// - `--help` prints help, and `--version` the version.
+/// Runs the program on its arguments, and returns its exit status. The first argument is always taken as the program's name. `SUBCOMMANDS` says what each
+/// subcommand prints; `--help` prints help, and `--version` the version.
 ///
 /// Answers, help and the version go to `out`, and messages about failures and unread lines to `err`. A failing write to `err` changes
 /// nothing.

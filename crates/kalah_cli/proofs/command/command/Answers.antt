@@ -1,8 +1,7 @@
 use Rattle.std.proofs.lemmas.Grind.{common_steps}
 use Rattle.std.proofs.Common.{◌∙◌, ap, arith, fold}
 use Rattle.std.proofs.lemmas.List.{take_all}
-use Rattle.clap.specs.Words.{with_subcommand}
-use Rattle.kalah_cli.specs.Command.{program_app, subcommand_app}
+use Rattle.kalah_cli.specs.Command.{program_app, with_listed}
 use Rattle.kalah_cli.proofs.CommandLemmas.{subcommand_added}
 use Rattle.kalah_cli.proofs.command.command.Goals as goal
 
@@ -16,5 +15,5 @@ loop-subcommand-preserved c =
 
 pub returns : goal.returns
 returns c = c.loop-subcommand.invariant
-    ∙ ap (fold (λ app s. with_subcommand app (subcommand_app s.now).top) program_app)
+    ∙ ap (fold (λ app s. with_listed app s.now) program_app)
     (take_all c.loop-subcommand.subcommand-index _ (omega (arith, c.loop-subcommand-test.false)))

@@ -1,8 +1,8 @@
 use Rattle.std.proofs.Common.{◌≡◌, take, fold}
-use Rattle.clap.specs.Words.{app_of, new_app, with_rule}
-use Rattle.kalah_cli.specs.Command.{argument_rule}
+use Rattle.clap.specs.Words.{app_of, new_app}
+use Rattle.kalah_cli.specs.Command.{with_argument}
 use Rattle.kalah_cli.proofs.command.command_of.Given as goal
 
 abbrev pub invariant-loop-argument : goal.invariant-loop-argument
 invariant-loop-argument l = app_of l.command
-    ≡ fold (λ app a. with_rule app (argument_rule a)) (new_app l.subcommand.name.now) (take l.argument-index l.argument-items)
+    ≡ fold with_argument (new_app l.subcommand.name.now) (take l.argument-index l.argument-items)
