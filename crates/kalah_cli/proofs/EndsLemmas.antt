@@ -9,17 +9,15 @@ use Rattle.kalah_jobs.proofs.SinkLemmas.{given_then_flush, prefix_none, prefix_t
 use Rattle.kalah_cli.specs.Ends.{Ends, IsPrinted, WritesNoPosition, PrintsByStatus, ended_by}
 use Rattle.kalah_cli.specs.declared.failure.Failure.{Failure}
 use Rattle.kalah_cli.specs.Line.{MayPrint, command_output}
-use Rattle.kalah_cli.specs.declared.request.LineCommand.{LineCommand}
 use Rattle.kalah_cli.specs.Status.{ExitStatus, Failed, LineFaults, Clean}
 use Rattle.kalah_cli.specs.Sources.{any_bytes, MayBeLeft, Source, file_named}
-use Rattle.kalah_cli.specs.Request.{about_line}
+use Rattle.kalah_cli.specs.Request.{about_line, Question, LineCommand}
 use Rattle.kalah_cli.specs.Runs.{Does}
 use Rattle.kalah_jobs.specs.declared.asking.ask_fault.AskFault.{AskFault}
 use Rattle.kalah_jobs.specs.declared.asking.ask_fault.AskFault.TheVariants.{Read, Write}
 use Rattle.std.specs.List.{list_any}
 use Rattle.clap.proofs.WalkLemmas.{list_any-map}
 use Rattle.kalah_jobs.specs.Files.NamedBytes.{NamedBytes}
-use Rattle.kalah_jobs.specs.declared.files.question.Question.{Question}
 use Rattle.kalah_jobs.specs.Writing.Output.{output_to}
 use Rattle.kalah_jobs.specs.declared.writing.tally.Tally.{Tally}
 use Rattle.kalah_run.specs.Batch.Answering.{AnswersAll, AnswersBatch}

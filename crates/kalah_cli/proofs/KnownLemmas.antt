@@ -5,10 +5,9 @@ use Rattle.clap.specs.Words.{Text}
 use Rattle.kalah_jobs.specs.Asking.{answers_to, are_all_read}
 use Rattle.kalah_jobs.specs.Files.NamedBytes.{NamedBytes}
 use Rattle.kalah_jobs.specs.Writing.Sink.{SinkState}
-use Rattle.kalah_jobs.specs.declared.files.question.Question.{Question}
 use Rattle.kalah_cli.specs.Ask.{AnswersInput}
 use Rattle.kalah_cli.specs.KnownRuns.{AnswersWhatIsKnown, AreOn, IsAnswerTo, IsAnswerToLines}
-use Rattle.kalah_cli.specs.Request.{answers, ask}
+use Rattle.kalah_cli.specs.Request.{answers, ask, Question}
 use Rattle.kalah_cli.specs.Runs.{DoesWhatIsAsked}
 use Rattle.kalah_cli.specs.SolveFiles.{AnswersFiles}
 use Rattle.kalah_cli.specs.Sources.{MayBeLeft, known_bytes}

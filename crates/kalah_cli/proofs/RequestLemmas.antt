@@ -7,12 +7,9 @@ use Rattle.clap.specs.Words.{Accepts, Row, Rule, Text, reading_of, IsUnsignedIn,
 use Rattle.clap.specs.Simple.{Shape, built, filled, with_index}
 use Rattle.clap.specs.declared.builder.value_parser.ValueParser.TheVariants.{Unsigned}
 use Rattle.clap.proofs.OnLiterals.{clap_on_literals}
-use Rattle.kalah_jobs.specs.declared.files.question.Question.{Question}
-use Rattle.kalah_jobs.specs.declared.files.question.Question.TheVariants.{BestMove, Steps, Values}
 use Rattle.kalah_cli.specs.Command.{file_rule, kalah_app, table_rule, workers_rule}
-use Rattle.kalah_cli.specs.Request.{AreMatches, MayHaveNumber, name_of_question, number_written, is_set, number_given, Asked, IsAcceptedAs, about_line}
+use Rattle.kalah_cli.specs.Request.{AreMatches, MayHaveNumber, name_of_question, number_written, is_set, number_given, Asked, IsAcceptedAs, about_line, Question, BestMove, Steps, Values, Moves}
 use Rattle.kalah_cli.specs.Runs.{IsPlainWord}
-use Rattle.kalah_cli.specs.declared.request.LineCommand.TheVariants.{Moves}
 use Rattle.kalah_cli.proofs.ClapLemmas.{Given, IsUsableIn, SatisfyAll, accepted_satisfies, arg_in, required_is_given, row_by_id, text_is_accepted}
 use Rattle.std.proofs.lemmas.Bool.{and_parts, false_from_ne_true, ne_eqb}
 use Rattle.std.proofs.lemmas.Slice.Eq.{bytes_eq-Decides}
@@ -182,13 +179,12 @@ pub record IsParsed (words : List Text) (o : Option (Text × List Row)) : Type 0
   pub matches : o ≡ subcommand_of kalah_app words
   pub entered : is_some o ≡ true
 
-pub parsed : {a : App} {words : List Text} {o : Option (Text × List Row)} → a ≡ kalah_app →
-    (is_simple_and_free a ≡ true → fault_of a words ≡ [])
-    → (is_simple a ≡ true → o ≡ subcommand_of a words) → IsParsed words o
+pub parsed : {X : Type 0} {a : App} {words : List Text} {o : Option (Text × List Row)} → a ≡ kalah_app
+    → (is_simple_and_free a ≡ true → fault_of a words ≡ []) → (is_simple a ≡ true → X × (o ≡ subcommand_of a words)) → IsParsed words o
 parsed {a} {words} same faultless rows =
     let simple = ap is_simple_and_free same ∙ app_is_simple in
     let no_fault : fault_of kalah_app words ≡ [] = subst (λ b. fault_of b words ≡ []) same (faultless simple) in
-    let matches = rows (and_parts (is_simple a) _ simple).0 ∙ ap (λ b. subcommand_of b words) same in
+    let matches = (rows (and_parts (is_simple a) _ simple).0).1 ∙ ap (λ b. subcommand_of b words) same in
     record {
       no_fault = no_fault;
       matches = matches;

@@ -3,9 +3,7 @@ use Rattle.std.proofs.Common.{◌≡◌, ◌≢◌, ◌∙◌, ℕ, List, true, 
 use Rattle.std.proofs.lemmas.Bool.{false_from_ne_true}
 use Rattle.kalah_jobs.specs.Writing.Sink.{SinkState}
 use Rattle.kalah_cli.specs.Ends.{Ends, FailsWithoutOutput}
-use Rattle.kalah_cli.specs.declared.request.LineCommand.TheVariants.{Moves}
 use Rattle.kalah_cli.specs.Status.{ExitStatus, Failed, LineFaults, Clean}
-use Rattle.kalah_jobs.specs.declared.files.question.Question.{Question}
 use Rattle.kalah_cli.specs.Sources.{Source}
 use Rattle.std.specs.Io.KnownBytes.{Appends}
 use Rattle.kalah_cli.specs.Ask.{StopsBetweenLines}
@@ -14,7 +12,7 @@ use Rattle.clap.specs.declared.error.Error.{Error}
 use Rattle.clap.specs.declared.error.kind.ErrorKind.{ErrorKind}
 use Rattle.clap.specs.declared.error.kind.ErrorKind.TheVariants.{DisplayHelp, DisplayVersion, OutOfMemory}
 use Rattle.kalah_cli.specs.Command.{kalah_app}
-use Rattle.kalah_cli.specs.Request.{Asked, AsksNot, IsAcceptedAs, about_line, answers, ask, conflict}
+use Rattle.kalah_cli.specs.Request.{Asked, AsksNot, IsAcceptedAs, about_line, answers, ask, conflict, Question, Moves}
 use Rattle.kalah_cli.specs.Runs.{Does, DoesWhatIsAsked, IsOfNoInput, MovesByItsWords, RefusesArguments, version_line}
 use Rattle.kalah_cli.proofs.RequestLemmas.{moves_accepted, accepted_at, accepted_once, read_is_plain}
 use Rattle.kalah_cli.proofs.EndsLemmas.{ends_unchanged, stops_at_once}

@@ -4,8 +4,7 @@ use Rattle.clap.specs.Words.{Text}
 use Rattle.kalah_jobs.specs.Asking.{answers_to, are_all_read}
 use Rattle.kalah_jobs.specs.Files.NamedBytes.{NamedBytes}
 use Rattle.kalah_jobs.specs.Writing.Output.{output_to, tally_of}
-use Rattle.kalah_jobs.specs.declared.files.question.Question.{Question}
-use Rattle.kalah_cli.specs.Request.{IsAcceptedAs, answers, ask}
+use Rattle.kalah_cli.specs.Request.{IsAcceptedAs, answers, ask, Question}
 use Rattle.kalah_cli.specs.Sources.{bytes_on}
 use Rattle.kalah_cli.specs.Status.{ExitStatus, Clean, Failed}
 

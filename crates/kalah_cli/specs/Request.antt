@@ -6,15 +6,15 @@ use Rattle.std.specs.Str.{bytes_eq}
 use Rattle.std.specs.Str.Parse.{digits_value, without_leading_plus}
 use Rattle.clap.specs.Words.{IsAmong, IsUnsignedIn, Row, Text, all_of, fault_of, first_of, one_of, subcommand_of}
 use Rattle.clap.specs.declared.error.kind.ErrorKind.{ErrorKind}
-use Rattle.kalah_jobs.specs.declared.files.question.Question.{Question}
-use Rattle.kalah_jobs.specs.declared.files.question.Question.TheVariants.{BestMove, Values, Steps}
+pub use Rattle.kalah_jobs.specs.declared.files.question.Question.{Question}
+pub use Rattle.kalah_jobs.specs.declared.files.question.Question.TheVariants.{BestMove, Values, Steps}
 use Rattle.kalah_rules.specs.Limits.{most_depth}
 use Rattle.kalah_run.specs.Limits.{AreWorkers, IsTableSize}
 use Rattle.kalah_cli.specs.Command.{kalah_app}
 use Rattle.kalah_cli.specs.declared.request.Request.{Request}
 use Rattle.kalah_cli.specs.declared.request.Request.TheVariants.{Line, Files, Ask, Conflict}
-use Rattle.kalah_cli.specs.declared.request.LineCommand.{LineCommand}
-use Rattle.kalah_cli.specs.declared.request.LineCommand.TheVariants.{Moves, Play, Show, Count}
+pub use Rattle.kalah_cli.specs.declared.request.LineCommand.{LineCommand}
+pub use Rattle.kalah_cli.specs.declared.request.LineCommand.TheVariants.{Moves, Play, Show, Count}
 use Rattle.kalah_cli.specs.declared.request.FilesRequest.{FilesRequest}
 
 module _ {A : Type 0} where

@@ -8,26 +8,26 @@ use Rattle.kalah_cli.proofs.request.parse.Goals as goal
 
 pub unwrap-requires : goal.unwrap-requires
 unwrap-requires g c =
-    let read = parsed c.in_ok-command.ensures c.in_ok-matches.ensures.kinds (λ simple. (c.in_ok-matches.ensures.matches simple).1) in
+    let read = parsed c.in_ok-command.ensures c.in_ok-matches.ensures.kinds c.in_ok-matches.ensures.matches in
     c.subcommand.ensures.variant ∙ some_of_text _ _ _ refl read.entered
 
 pub requested-requires : goal.requested-requires
 requested-requires g c =
-    let read = parsed c.in_ok-command.ensures c.in_ok-matches.ensures.kinds (λ simple. (c.in_ok-matches.ensures.matches simple).1) in
+    let read = parsed c.in_ok-command.ensures c.in_ok-matches.ensures.kinds c.in_ok-matches.ensures.matches in
     let same = pair_got _ _ _ _ _ _ c.unwrap.result c.subcommand.ensures.name c.subcommand.ensures.rows c.unwrap.ensures in
     (map g.S.AsStr.text c.args.words.now, read.no_fault, sym read.matches ∙ same)
 
 pub returns-clause-accepted : goal.returns-clause-accepted
 returns-clause-accepted g c =
     let words = map g.S.AsStr.text c.args.words.now in
-    let read = parsed c.in_ok-command.ensures c.in_ok-matches.ensures.kinds (λ simple. (c.in_ok-matches.ensures.matches simple).1) in
+    let read = parsed c.in_ok-command.ensures c.in_ok-matches.ensures.kinds c.in_ok-matches.ensures.matches in
     let same = pair_got _ _ _ _ _ _ c.unwrap.result c.subcommand.ensures.name c.subcommand.ensures.rows c.unwrap.ensures in
     IfOk-weaker c.requested.result _ (λ r. IsAcceptedAs words (request_asks r))
     (λ r asked. (read.no_fault, ap (option_and_then matches_ask) (sym read.matches ∙ same) ∙ asked)) c.requested.ensures.asked
 
 pub returns-clause-kinds : goal.returns-clause-kinds
 returns-clause-kinds g c =
-    let read = parsed c.in_ok-command.ensures c.in_ok-matches.ensures.kinds (λ simple. (c.in_ok-matches.ensures.matches simple).1) in
+    let read = parsed c.in_ok-command.ensures c.in_ok-matches.ensures.kinds c.in_ok-matches.ensures.matches in
     fails_by_memory c.requested.result _ read.no_fault c.requested.ensures.memory
 
 pub returns-in_err-matches-clause-kinds : goal.returns-in_err-matches-clause-kinds

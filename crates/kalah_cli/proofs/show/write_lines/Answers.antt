@@ -1,5 +1,4 @@
 use Rattle.std.proofs.Common.{◌≡◌, ◌<◌, ◌≤◌, ◌+◌, ◌∙◌, ap, arith, length, refl, subst, sym}
-use Rattle.std.specs.List.{range_with_len}
 use Rattle.std.proofs.lemmas.List.FromFn.{get_or-range_with_len, length-range_with_len}
 use Rattle.kalah_solve.specs.Solver.MoveValues.{values_of}
 use Rattle.kalah_jobs.specs.Writing.Sink.{WasGiven}
@@ -12,19 +11,19 @@ pub loop-rank-preserved : goal.loop-rank-preserved
 loop-rank-preserved g c =
     let n = length (values_of c.args.board.now) in
     let few : c.loop-rank.rank < n = omega (arith, c.loop-rank-test.true, c.len-rank-end.ensures.is, ap length c.requires.values) in
-    let all : length (range_with_len 0 n) ≡ n = length-range_with_len 0 n in
     let from_zero : c.loop-rank.rank ≡ 0 + c.loop-rank.rank = omega arith in
     record {
       shown = variations_go_on _ _ c.write_variation.ensures.begun c.loop-rank.invariant.shown c.write_variation.ensures.line;
       given = given_more _ (ranked_line c.args.board.now) refl c.loop-rank.rank _ _ c.loop-rank.invariant.given _ c.loop-rank.rank
-          (omega (arith, few, all)) (from_zero ∙ sym (get_or-range_with_len 0 n c.loop-rank.rank 0 few)) c.write_variation.ensures.line;
+          (omega (arith, few, length-range_with_len 0 n)) (from_zero ∙ sym (get_or-range_with_len 0 n c.loop-rank.rank 0 few))
+          c.write_variation.ensures.line;
     }
 
 pub returns : goal.returns
 returns g c =
     let n = length (values_of c.args.board.now) in
-    let all : length (range_with_len 0 n) ≡ n = length-range_with_len 0 n in
     let done : n ≤ c.loop-rank.rank = omega (arith, c.loop-rank-test.false, c.len-rank-end.ensures.is, ap length c.requires.values) in
     subst (λ b. WasGiven g.O.Sink.state c.args.out.now c.loop-rank.out (lines_asked b c.args.board.now))
     (sym c.if-not-lines.false)
-    (given_all _ (ranked_line c.args.board.now) refl c.loop-rank.rank _ _ c.loop-rank.invariant.given (omega (arith, done, all)))
+    (given_all _ (ranked_line c.args.board.now) refl c.loop-rank.rank _ _ c.loop-rank.invariant.given
+    (omega (arith, done, length-range_with_len 0 n)))
