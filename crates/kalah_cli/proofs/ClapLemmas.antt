@@ -1,4 +1,4 @@
--- What the rows of a subcommand have of its arguments, if a parse by clap fails by no kind. Nothing here is of Kalah.
+-- The rows of a subcommand satisfy its arguments, if a parse by clap has no fault. Nothing here is of Kalah.
 use Rattle.std.proofs.Common.{IfSome, find, slice_get, option_and_then, option_map, bytes_eq, ◌≡◌, Bool, true, false, refl, List, [], ◌∷◌, Option, None, Some, is_some, ap, arith, ◌&&◌, ◌∙◌, not}
 use Rattle.std.specs.List.{AllByRecursion as AllOf}
 use Rattle.std.specs.Option.{option_map_or}

@@ -1,4 +1,4 @@
--- The rows of a walk by clap fit their arguments, if no step of the walk has a fault. Nothing here is of Kalah.
+-- The rows of a walk by clap fit their arguments, if no step has a fault. Nothing here is of Kalah.
 use Rattle.std.proofs.Common.{IfSome, find, encode_utf8, slice_get, bytes_eq, chars, fold, ◌≡◌, ◌||◌, Bool, cond, true, false, inl, inr, refl, List, [], ◌∷◌, Option, None, Some, ◌++◌, ℕ, zero, suc, ◌<◌, ap, arith, drop, length, nat_lt, ◌&&◌}
 use Rattle.std.specs.List.{AllByRecursion as AllOf, list_any}
 use Rattle.std.proofs.lemmas.Bool.{true_from_ne_false, cases_Bool, cond_both, or_parts, ne_eqb}

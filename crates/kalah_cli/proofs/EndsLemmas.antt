@@ -72,11 +72,11 @@ module _ {O : Type 0} (state : O → SinkState) {status : ExitStatus} where
           λ not_failed. false_from_ne_true (state new).has_failed (λ failed. not_failed (fails.0 failed)) in
           let prints : PrintsByStatus state old new status (command_output command p) =
           record { start = printed.given.start; whole = λ not_failed. (printed.given.whole (sound not_failed)).1 } in
-          let same_position : (q : Position) → Reads line q → p ≡ q = λ q other_reads. no_line_reads_twice line p q reads other_reads in (
+          let same : (q : Position) → Reads line q → p ≡ q = λ q. no_line_reads_twice line p q reads in (
             record {
               read = λ q other_reads. (
                 no_fault,
-                subst (λ r. PrintsByStatus state old new status (command_output command r)) (same_position q other_reads) prints,
+                subst (λ r. PrintsByStatus state old new status (command_output command r)) (same q other_reads) prints,
               );
               unread = λ none. absurd (none p reads);
               ends = record {
@@ -85,7 +85,7 @@ module _ {O : Type 0} (state : O → SinkState) {status : ExitStatus} where
                 all_flushed = λ not_failed _. printed.all_flushed (sound not_failed);
               };
             },
-            λ q other_reads never. absurd (never (subst (MayPrint command) (same_position q other_reads) printable)),
+            λ q other_reads never. absurd (never (subst (MayPrint command) (same q other_reads) printable)),
           )
 
       -- the command failed before anything was written
@@ -94,7 +94,7 @@ module _ {O : Type 0} (state : O → SinkState) {status : ExitStatus} where
       line_refused {old} failed sound unchanged =
           subst (λ new. Does state old new status any_bytes (about_line command line)) (sym unchanged) (
             record {
-              read = λ q other_reads. (λ fault. let same_status : Failed ≡ LineFaults = sym failed ∙ fault in cc, prints_nothing failed);
+              read = λ q other_reads. (λ fault. cc, prints_nothing failed);
               unread = λ none. absurd (none p reads);
               ends = ends_unchanged sound;
             },
@@ -254,8 +254,8 @@ module _ {O : Type 0} (state : O → SinkState) {status : ExitStatus} {question 
     all_read = all_read;
     asked = λ _. (complete, clean);
     begins = begins;
-    failed = λ write_failed. absurd (let impossible = write_fails.0 write_failed in cc);
-    stopped = λ fails _. absurd (let impossible = failed.1 fails in cc);
+    failed = λ write_failed. absurd (cc (write_fails.0 write_failed));
+    stopped = λ fails _. absurd (cc (failed.1 fails));
     all_flushed = λ sound _. all_flushed sound;
   }
   input_answered {left} (Err fault) complete stopped begins write_fails all_flushed clean failed = record {

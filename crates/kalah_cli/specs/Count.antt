@@ -9,8 +9,7 @@ use Rattle.kalah_jobs.specs.Writing.Counts.{total_line, ways_line}
 abbrev pub house_line : ℕ → Position → ℕ → List ℕ
 house_line n p h = ways_line h (ways_by n p h)
 
--- a line for each legal house, in ascending order: the number of ways of that many moves that begin with its move. No way of no moves
--- begins with one
+-- a line for each legal house, in ascending order. No way of no moves begins with a move
 abbrev pub ways_lines : ℕ → Position → List ℕ
 ways_lines zero p = []
 ways_lines (suc n) p = flat_map (house_line n p) (legal_houses p)

@@ -1,5 +1,4 @@
-//! Solves small positions of Kalah: `kalah solve FILE..`, `kalah values FILE..`, `kalah show LINE`, `kalah play LINE`,
-//! `kalah moves LINE`, `kalah ask`, `kalah steps FILE..` and `kalah count DEPTH LINE`.
+//! The program `kalah`: it solves small positions of Kalah. `SUBCOMMANDS` lists what it can be asked.
 #![tactic(auto)]
 
 mod ask;

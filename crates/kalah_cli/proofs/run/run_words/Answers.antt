@@ -14,17 +14,17 @@ ran g c =
     let words = ap texts_of (sym c.as_slice-arguments.ensures.value) in
     elim c.match-parse.branch [
       | in-Ok+in-Line-1 w ↦ rw (c.report_end.ensures, w.ended-is, w.out-is)
-          (accepted_run g.O.Sink.state _ _ _ _ _ c.requires.sink (accepted_at words w.in-Ok.ensures.accepted) w.run_request-ended.ensures)
+          (accepted_run _ _ _ _ _ _ c.requires.sink (accepted_at words w.in-Ok.ensures.accepted) w.run_request-ended.ensures)
       | in-Ok+in-Files-1 w ↦ rw (c.report_end.ensures, w.ended-is, w.out-is)
-          (accepted_run g.O.Sink.state _ _ _ _ _ c.requires.sink (accepted_at words w.in-Ok.ensures.accepted) w.run_request-ended.ensures)
+          (accepted_run _ _ _ _ _ _ c.requires.sink (accepted_at words w.in-Ok.ensures.accepted) w.run_request-ended.ensures)
       | in-Err+in-None-1 w ↦
           let refused = w.refuse-ended.ensures in
-          rw (c.report_end.ensures, w.ended-is, w.out-is) (refused_run g.O.Sink.state _ _ _ _ _ w.in-Err.error
+          rw (c.report_end.ensures, w.ended-is, w.out-is) (refused_run _ _ _ _ _ _ w.in-Err.error
           (rw c.as_slice-arguments.ensures.value at w.in-Err.ensures.kinds) refused.mistake refused.failed refused.unchanged refused.no_line
           refused.version refused.all_flushed)
       | in-Err+in-Some-1 w ↦
           let refused = w.refuse-ended.ensures in
-          rw (c.report_end.ensures, w.ended-is, w.out-is) (refused_run g.O.Sink.state _ _ _ _ _ w.in-Err.error
+          rw (c.report_end.ensures, w.ended-is, w.out-is) (refused_run _ _ _ _ _ _ w.in-Err.error
           (rw c.as_slice-arguments.ensures.value at w.in-Err.ensures.kinds) refused.mistake refused.failed refused.unchanged refused.no_line
           refused.version refused.all_flushed)
     ]
