@@ -34,6 +34,10 @@ use Rattle.kalah_cli.specs.Ask.{AnswersInput, StopsBetweenLines}
 
 -- ---- how any run ends
 
+-- no two statuses are the same
+pub statuses_differ : (Clean ≢ Failed) × (LineFaults ≢ Failed) × (LineFaults ≢ Clean)
+statuses_differ = ((λ same. cc), (λ same. cc), (λ same. cc))
+
 -- an error is a failure
 pub ended_err : (ended : Result ExitStatus Failure) → IsErr ended → ended_by ended ≡ Failed
 ended_err (Ok status) failed = cc
@@ -54,7 +58,7 @@ module _ {O : Type 0} (state : O → SinkState) {status : ExitStatus} where
     all_flushed = λ _ flushed. flushed;
   }
 
-  -- and if it failed, this is how it prints any text
+  -- nor was any text, if it failed
   prints_nothing : {out : O} {text : List ℕ} → status ≡ Failed → PrintsByStatus state out out status text
   prints_nothing {out} {text} failed =
       record { start = prefix_none (state out).written text; whole = λ not_failed. absurd (not_failed failed) }

@@ -56,7 +56,7 @@ number_written text = digits_value 10 (without_leading_plus text)
 abbrev pub number_given : Text → List Row → Option ℕ
 number_given id rows = option_map number_written (one_of id rows)
 
--- how many workers there are, and how many entries a table has: what the matches say, or the default
+-- these, as the matches say, or by default
 abbrev pub worker_count : List Row → ℕ
 worker_count rows = unwrap_or (number_given (codes "workers") rows) default_workers
 

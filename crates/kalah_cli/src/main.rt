@@ -1,4 +1,4 @@
-//! The program `kalah`: it solves small positions of Kalah. `SUBCOMMANDS` lists what it can be asked.
+//! Solves small positions of Kalah. `SUBCOMMANDS` lists what can be asked.
 #![tactic(auto)]
 
 mod ask;

@@ -84,7 +84,7 @@ fn worker_count(found: &ArgMatches<'_>) -> u32
     found.get_one::<u32>("workers").unwrap_or(DEFAULT_WORKERS)
 }
 
-// Returns the size of a table that `--table` gives, if it is given.
+// Returns the size of a table that `--table` gives.
 fn table_given(found: &ArgMatches<'_>) -> Option<u32>
     requires { MayHaveNumber (codes "table") 1 most_entries (rows_of (found_of found.now)) }
     ensures given { result ≡ number_given (codes "table") (rows_of (found_of found.now)) }

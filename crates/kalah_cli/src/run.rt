@@ -103,7 +103,7 @@ fn run_request<'a, R: Sources + Clock + Terminal + Threads + Wait + Sync, O: Sin
 }
 
 /// Runs the program on its arguments, and returns its exit status. The first argument is always taken as the program's name. `SUBCOMMANDS`
-/// says what each subcommand does; `--help` prints help, and `--version` the version.
+/// says what each subcommand does.
 ///
 /// Answers, help and the version go to `out`, and messages about failures and unread lines to `err`. A failing write to `err` changes
 /// nothing.

@@ -55,16 +55,14 @@ write_ways-requires g c =
 pub overflow_add-total : goal.overflow_add-total
 overflow_add-total g c =
     let few = few_ways c.ways_by-ways.result c.args.depth c.ways_by-ways.ensures.small c.requires in
-    let within = legal_few c.args.board.now in
-    let same = ap length c.loop-i.invariant.same in
     omega (
       arith,
       c.loop-i.invariant.few,
       few,
       c.loop-i-test.true,
       c.len-i-end.ensures,
-      same,
-      within,
+      ap length c.loop-i.invariant.same,
+      legal_few c.args.board.now,
       c.legal-moves.ensures.limits.at_most_six,
     )
 

@@ -10,17 +10,18 @@ lacks_memory : (names : List (Bor (List ℕ))) (i : ℕ) → i < length names �
 lacks_memory [] i within = absurd (omega (arith, within))
 lacks_memory (name ∷ names) i within = (name, ((0, omega arith, refl), tt))
 
-pub returns-then-is_err-clause-failure : goal.returns-then-is_err-clause-failure
-returns-then-is_err-clause-failure g c =
-    lacks_memory c.args.names.now c.loop-name.name-index c.loop-name-test.true
+pub returns-then-is_err : goal.returns-then-is_err
+returns-then-is_err g c =
+    record { named = tt; within = tt; given = tt; failure = lacks_memory c.args.names.now c.loop-name.name-index c.loop-name-test.true }
 
-pub returns-in_default-clause-failure : goal.returns-in_default-clause-failure
-returns-in_default-clause-failure g c =
-    lacks_memory c.args.names.now c.loop-name.name-index c.loop-name-test.true
+pub returns-in_default : goal.returns-in_default
+returns-in_default g c =
+    record { named = tt; within = tt; given = tt; failure = lacks_memory c.args.names.now c.loop-name.name-index c.loop-name-test.true }
 
-pub returns-in-Err-clause-failure : goal.returns-in-Err-clause-failure
-returns-in-Err-clause-failure g c =
-    (_, (Contains-get_or c.args.names.now c.loop-name.name-index _ c.loop-name-test.true, c.failure_of_file.ensures))
+pub returns-in-Err : goal.returns-in-Err
+returns-in-Err g c =
+    let contained = Contains-get_or c.args.names.now c.loop-name.name-index _ c.loop-name-test.true in
+    record { named = tt; within = tt; given = tt; failure = (_, (contained, c.failure_of_file.ensures)) }
 
 pub loop-name-preserved : goal.loop-name-preserved
 loop-name-preserved g c = grind (arith, common_steps)

@@ -1,7 +1,5 @@
 use Rattle.kalah_cli.proofs.run.run_request.Goals as goal
 
--- Answers are written for what a seeded mistake breaks: a wrong answer fails at once, and a search only at its limits.
-
 pub returns-in-Line : goal.returns-in-Line
 returns-in-Line g c = rw c.in-Line.is c.run_line.ensures
 
