@@ -105,8 +105,8 @@ module _ (s : Shape) (all_usable : AllOf (IsUsable s.rules) s.rules) where
   in_turn k l x y z first second no_fault fit = let none = both_none k l no_fault in second none.1 (first none.0 fit)
 
   -- each branch at a test keeps it
-  at_test : {X : Type 0} (b : Bool) {k l : Kinds} (x : List Row) (y z : Held × X)
-      → Keeps k x y.0.rows → Keeps l x z.0.rows → Keeps (cond b k l) x (cond b y z).0.rows
+  at_test : {X : Type 0} (b : Bool) {k l : Kinds} (x : List Row) (y z : Held × X) → Keeps k x y.0.rows → Keeps l x z.0.rows
+      → Keeps (cond b k l) x (cond b y z).0.rows
   at_test true x y z if_true if_false = if_true
   at_test false x y z if_true if_false = if_false
 
@@ -116,8 +116,8 @@ module _ (s : Shape) (all_usable : AllOf (IsUsable s.rules) s.rules) where
 
   -- a change of the row of an id, or a new one
   kept_at : (id : Text) (change : Row → List Row) (missing : List Row)
-      → ((r : Row) (rs : List Row) → FitsIn rules r → Fit rs → Fit (change r ++ rs)) → Fit missing
-      → (rows : List Row) → Fit rows → Fit (at_row id change missing rows)
+      → ((r : Row) (rs : List Row) → FitsIn rules r → Fit rs → Fit (change r ++ rs)) → Fit missing → (rows : List Row)
+      → Fit rows → Fit (at_row id change missing rows)
   kept_at id change missing changed new [] fit = new
   kept_at id change missing changed new (r ∷ rs) fit =
       cond_both (bytes_eq r.id id) (change r ++ rs) (r ∷ at_row id change missing rs) Fit (λ _. changed r rs fit.0 fit.1)
@@ -152,8 +152,8 @@ module _ (s : Shape) (all_usable : AllOf (IsUsable s.rules) s.rules) where
       vs : List Text
       vs = values_or_missing a values
 
-      go : (x : ArgAction) → is_usable x a ≡ true → (has_value a ≡ true → 0 < length vs)
-          → action_fault x again a vs rows ≡ [] → Fit (without a.id rows) → Fit rows → Fit (used_as x a.id (reading_by a) vs rows)
+      go : (x : ArgAction) → is_usable x a ≡ true → (has_value a ≡ true → 0 < length vs) → action_fault x again a vs rows ≡ []
+          → Fit (without a.id rows) → Fit rows → Fit (used_as x a.id (reading_by a) vs rows)
       go Set by_action nonempty no_fault others fit =
           kept_values a usable CommandLine vs (nonempty by_action) _ (both_none _ _ no_fault).1 others
       go Append by_action nonempty no_fault others fit = kept_values a usable CommandLine vs (nonempty by_action) rows no_fault fit
@@ -211,8 +211,7 @@ module _ (s : Shape) (all_usable : AllOf (IsUsable s.rules) s.rules) where
       go keeps (Some x) (suc skip) = keeps (drop (length (encode_utf8 x)) flags) skip so_far h
 
   -- what a flag leaves to be done
-  kept_after : (waiting : Waiting) (word : Text) (h : Held) (o : Outcome) → Fit h.rows
-      → Fit (after_flag rules waiting word h o).0.rows
+  kept_after : (waiting : Waiting) (word : Text) (h : Held) (o : Outcome) → Fit h.rows → Fit (after_flag rules waiting word h o).0.rows
   kept_after waiting word h done fit = fit
   kept_after waiting word h (waits id) fit = fit
   kept_after (option id) word h o fit =
@@ -226,8 +225,8 @@ module _ (s : Shape) (all_usable : AllOf (IsUsable s.rules) s.rules) where
       kept_after waiting word _ (long_met rules (arg_by_long rules p.0) p.1 h).1 (kept_long _ (of_rules _) p.1 h no_fault fit)
   kept_flag_word waiting word None h = go (short_of word)
     where
-      go : (o : Option Text) → Keeps (option_map_or (λ flags. bundle_fault rules again flags h) o []) h.rows
-          (short_or_plain rules waiting word o h).0.rows
+      go : (o : Option Text)
+          → Keeps (option_map_or (λ flags. bundle_fault rules again flags h) o []) h.rows (short_or_plain rules waiting word o h).0.rows
       go None no_fault fit = kept_after waiting word h plain fit
       go (Some flags) no_fault fit =
           kept_after waiting word _ _ (kept_flags (length flags) flags h.skip plain (record h { skip = 0 }) no_fault fit)
@@ -237,11 +236,10 @@ module _ (s : Shape) (all_usable : AllOf (IsUsable s.rules) s.rules) where
       (word_met rules [] w.is_trailing w.waiting w.position word w.held).0.rows
   kept_word w word = at_test w.is_trailing _ _ _ (λ _ fit. fit) (go (subcommand_met [] w.waiting word))
     where
-      go : (met : Option Text) → Keeps (other_fault s met word w.held) w.held.rows
-          (subcommand_or_other rules met w.waiting w.position word w.held).0.rows
+      go : (met : Option Text)
+          → Keeps (other_fault s met word w.held) w.held.rows (subcommand_or_other rules met w.waiting w.position word w.held).0.rows
       go (Some name) = λ _ fit. fit
-      go None =
-          at_test (bytes_eq word (45 ∷ 45 ∷ [])) _ _ _ (λ _ fit. fit) (kept_flag_word w.waiting word (long_of word) w.held)
+      go None = at_test (bytes_eq word (45 ∷ 45 ∷ [])) _ _ _ (λ _ fit. fit) (kept_flag_word w.waiting word (long_of word) w.held)
 
   -- what it leaves to be done
   kept_step : (word : Text) (w : Walk) (h : Held) (step : Step)

@@ -121,8 +121,7 @@ module _ {O : Type 0} (state : O → SinkState) {status : ExitStatus} where
 
 -- bytes that are all that a reader had left
 pub read_whole : (may_give : List ℕ → Type 0) (old new : Option (List ℕ)) (bytes : List ℕ) → MayBeLeft may_give old
-    → Consumes old new bytes
-    → IsAtEnd new → may_give bytes
+    → Consumes old new bytes → IsAtEnd new → may_give bytes
 read_whole may_give None new bytes possible consumed at_end = possible bytes
 read_whole may_give (Some all) None bytes possible consumed at_end = absurd consumed
 read_whole may_give (Some all) (Some left) bytes possible consumed at_end =
@@ -213,8 +212,7 @@ module _ {O : Type 0} (state : O → SinkState) {status : ExitStatus} {may_give 
 
 -- a reader that reads ahead has at first all that the other has
 pub all_unread : {T A : Type 0} (remaining : T → Option (List ℕ)) (r : BufReader T A) (inner : T) → reader_inner r ≡ inner
-    → reader_buffer r ≡ []
-    → reader_capacity r ≡ 8192 → remaining inner ≡ reader_remaining remaining r
+    → reader_buffer r ≡ [] → reader_capacity r ≡ 8192 → remaining inner ≡ reader_remaining remaining r
 all_unread {T} {A} remaining r inner same_reader empty capacity =
     sym (ap (λ n. if n == 0 then None else prepend_known (reader_buffer r) (remaining r.inner)) capacity
     ∙ ap (λ l. prepend_known l (remaining r.inner)) empty

@@ -71,8 +71,8 @@ fewer_left {p} {h} (step.Over q) equal legal step_is = omega (arith, none_after 
 -- position, the longer one ends with the value of the move
 game_before : {policy : Policy} {p : Position} {h : ℕ} {houses : List ℕ} {final : Position} (s : Step) → is_over p ≡ false
     → Contains (policy p) h → s ≡ step_of p h → Game policy policy (position_after s) houses final
-    → (end : Position) × Game policy policy p (h ∷ houses) end
-    × (final_margin final ≡ worth (position_after s) → final_margin end ≡ value_of_move p h)
+    → (end : Position) × Game policy policy p (h ∷ houses) end ×
+    (final_margin final ≡ worth (position_after s) → final_margin end ≡ value_of_move p h)
 game_before {policy} {p} {h} {houses} {final} (step.Again q) going allowed step_is game =
     let states = step_states (is_over (after p h)) (is_again p h) (after p h) (step.Again q) step_is in (
       final,
@@ -117,8 +117,7 @@ game_before {p = p} {h = h} (step.Over q) going allowed step_is (passes_turn goe
 no_best_moves : (n : ℕ) (p : Position) → is_over p ≡ true → best_moves n p ≡ []
 unfolding best_moves
 no_best_moves zero p over = refl
-no_best_moves (suc n) p over =
-    ap (λ b. if b then [] else best_house p ∷ best_moves n (position_after (step_of p (best_house p)))) over
+no_best_moves (suc n) p over = ap (λ b. if b then [] else best_house p ∷ best_moves n (position_after (step_of p (best_house p)))) over
 
 -- one that goes on has one, and those after it
 best_move_first : (n : ℕ) (p : Position) → is_over p ≡ false
@@ -157,8 +156,8 @@ game_goes_on p equal going =
     ap (λ k. best_moves k p) left ∙ best_move_first n p going ∙ ap (λ moves. best_house p ∷ moves) next
 
 -- the moves of a game that may begin with a house that is asked for are its first one, and those of best play after it
-played_next : (first : Option ℕ) (p : Position) (h : ℕ) → HasEqualSides p → is_over p ≡ false → h ≡ unwrap_or first (best_house p)
-    → game_played first p ≡ h ∷ best_game (position_after (step_of p h))
+played_next : (first : Option ℕ) (p : Position) (h : ℕ) → HasEqualSides p → is_over p ≡ false
+    → h ≡ unwrap_or first (best_house p) → game_played first p ≡ h ∷ best_game (position_after (step_of p h))
 played_next first p h equal going house_is = first_of first ∙ ap (λ k. k ∷ best_game (position_after (step_of p k))) (sym house_is)
   where
     first_of : (f : Option ℕ)
@@ -187,8 +186,8 @@ no_text form None p may_begin over = ap (game_text form p) (no_best_moves (moves
 no_text form (Some h) p may_begin over = absurd (both_ways _ (legal_going p h may_begin) over)
 
 -- the verdict determines the next move, by a margin of thirty-two bits
-pub next_of_verdict : (form : Form) (first : Option ℕ) (p : Position) {margin : ℤ} {house : ℕ} → MayBegin first p → IsSmallBest margin house
-    → StatesBestMove p margin house → Best margin house ≡ verdict_of p
+pub next_of_verdict : (form : Form) (first : Option ℕ) (p : Position) {margin : ℤ} {house : ℕ} → MayBegin first p
+    → IsSmallBest margin house → StatesBestMove p margin house → Best margin house ≡ verdict_of p
     → IsNextMove form first p (value_shown form (to_z w32 (of_z w32 margin))) (unwrap_or first house)
 next_of_verdict form first p {margin} {house} may_begin small states verdict =
     let best = best_of_verdict p margin house states.going verdict in

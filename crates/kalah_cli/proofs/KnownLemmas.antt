@@ -25,8 +25,7 @@ module _ {O : Type 0} (state : O → SinkState) (old new : O) (status : ExitStat
     (before : (state old).written ≡ Some []) (after : (state new).written ≡ Some output) where
   -- what was added is all that was written
   all_written : (text : List ℕ) → Appends (state old).written (state new).written text → output ≡ text
-  all_written text adds =
-      subst (λ o. Appends o (Some output) text) before (subst (λ o. Appends (state old).written o text) after adds)
+  all_written text adds = subst (λ o. Appends o (Some output) text) before (subst (λ o. Appends (state old).written o text) after adds)
 
   files_known : (question : Question) (names : List Text) → status ≢ Failed
       → AnswersFiles state old new status (known_bytes disk typed) question names
@@ -40,8 +39,7 @@ module _ {O : Type 0} (state : O → SinkState) (old new : O) (status : ExitStat
   )
 
   lines_known : (question : Question) (unread : Option (List ℕ)) → status ≢ Failed → unread ≡ Some typed
-      → AnswersInput state old new status question unread
-      → IsAnswerToLines status output question typed
+      → AnswersInput state old new status question unread → IsAnswerToLines status output question typed
   lines_known question unread not_failed known answered =
       let asked = answered.asked not_failed in
       let all : asked.0.read ≡ typed = subst (λ u. IfSome u (λ bytes. asked.0.read ≡ bytes)) known asked.0.all in

@@ -58,8 +58,8 @@ byte_ranged {rows = rows} id matches takes parser small = IfSome_then (one_of id
     (λ t range. (range.0, range.1, omega arith, omega (arith, range.3, small)))
 
 -- an argument that is required has a value
-pub value_given : {name : Text} {rows : List Row} (id : Text) {a : Rule} → AreMatches name rows → Takes name id a → a.required ≡ true
-    → Given a (row_by_id id rows)
+pub value_given : {name : Text} {rows : List Row} (id : Text) {a : Rule} → AreMatches name rows → Takes name id a
+    → a.required ≡ true → Given a (row_by_id id rows)
 value_given {name} {rows} id {a} matches takes required =
     required_is_given a (row_by_id id rows) (rows_satisfy name rows matches id a takes) required
 
@@ -107,11 +107,10 @@ values_are f id o s copied read found same =
     ∙ ap (λ vs. Some (map (λ v. v.now) vs)) (sym same)
 
 -- the getter of a type of numbers of this width returns the number under the name
-pub number_read : (width low high : ℕ) (f : Found) (id : Text) (r : Option ℕ)
-    → (one_text f id ≡ None → r ≡ None)
-    → ((t : Text) → one_text f id ≡ Some t
-    → ReadsOne (λ t x. ParsesUnsigned width 10 t x × ExplainsUnsignedError 10 t x × HasUnsignedDigitsIfOk t x) t r)
-    → high < 2 ^ width → MayHaveNumber id low high (rows_of f) → r ≡ number_given id (rows_of f)
+pub number_read : (width low high : ℕ) (f : Found) (id : Text) (r : Option ℕ) → (one_text f id ≡ None → r ≡ None)
+    → ((t : Text) → one_text f id ≡ Some t → ReadsOne
+    (λ t x. ParsesUnsigned width 10 t x × ExplainsUnsignedError 10 t x × HasUnsignedDigitsIfOk t x) t r) → high < 2 ^ width
+    → MayHaveNumber id low high (rows_of f) → r ≡ number_given id (rows_of f)
 number_read width low high f id r absent value fits ranged = elim (cases_Option (one_of id (rows_of f))) [
   | inl none ↦ rw none (absent (one_text-rows f id ∙ none))
   | inr given ↦ rw given.1 (go r given.0 (rw given.1 at ranged) (value given.0 (one_text-rows f id ∙ given.1)))
@@ -192,9 +191,8 @@ parsed {a} {words} same faultless rows =
     }
 
 -- if it fails, the error has a kind of the arguments' fault
-pub faulty : (a : App) (words : List Text) (e : Error) → a ≡ kalah_app →
-    (is_simple_and_free a ≡ true → HasKind (fault_of a words) e)
-    → HasKind (fault_of kalah_app words) e
+pub faulty : (a : App) (words : List Text) (e : Error) → a ≡ kalah_app
+    → (is_simple_and_free a ≡ true → HasKind (fault_of a words) e) → HasKind (fault_of kalah_app words) e
 faulty a words e same has_kind = subst (λ b. HasKind (fault_of b words) e) same (has_kind (ap is_simple_and_free same ∙ app_is_simple))
 
 -- ---- a line that is read is no flag, as no number begins with a dash

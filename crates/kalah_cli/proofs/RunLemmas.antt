@@ -41,8 +41,8 @@ module _ {O : Type 0} (state : O → SinkState) {old new : O} {status : ExitStat
   run_flushes a does = (run_ends a tt does).all_flushed
 
 -- an error of arguments that ask for no help, or for no version, is no such request
-no_request : (k : ErrorKind) (words : List Text) (e : Error) → OutOfMemory ≢ k → HasKind (fault_of kalah_app words) e → AsksNot k words
-    → kind_of e ≢ k
+no_request : (k : ErrorKind) (words : List Text) (e : Error) → OutOfMemory ≢ k → HasKind (fault_of kalah_app words) e
+    → AsksNot k words → kind_of e ≢ k
 no_request k words e other has_kind unasked = λ asked.
     elim has_kind [
       | inl memory ↦ other (sym memory ∙ asked)
@@ -101,8 +101,8 @@ module _ {O : Type 0} (state : O → SinkState) (words : List Text) (may_give : 
   -- the arguments are refused with this error, which asks for help or the version, or is a mistake in them
   pub refused_run : (error : Error) → HasKind (fault_of kalah_app words) error
       → (kind_of error ≢ DisplayHelp → kind_of error ≢ DisplayVersion → FailsWithoutOutput old new status)
-      → ((state new).has_failed ≡ true → status ≡ Failed) → (status ≡ Failed → (state new).has_failed ≡ false → new ≡ old)
-      → status ≢ LineFaults
+      → ((state new).has_failed ≡ true → status ≡ Failed)
+      → (status ≡ Failed → (state new).has_failed ≡ false → new ≡ old) → status ≢ LineFaults
       → (kind_of error ≢ DisplayHelp → status ≡ Clean → Appends (state old).written (state new).written version_line)
       → (status ≢ Failed → (state new).is_flushed ≡ true) → KeepsPromises
   refused_run error has_kind mistake failed unchanged no_line version all_flushed =

@@ -24,9 +24,9 @@ module _ {O : Type 0} (state : O → SinkState) where
   shown_first {p = p} {new = new} begun given = subst (λ game. IsShown state game new p) (sym begun) (shown_at_start (refl, given))
 
   -- the position after the first move of a variation is shown, once the line of that move began
-  pub shown_after : {game now : GameStart O} {p q : Position} {between new : O} (v : MoveValue)
-      → IsOfVariations state game p between → WasGiven state between new (variation_start v)
-      → q ≡ position_after (step_of p v.house) → now ≡ game → IsShown state now new q
+  pub shown_after : {game now : GameStart O} {p q : Position} {between new : O} (v : MoveValue) → IsOfVariations state game p between
+      → WasGiven state between new (variation_start v) → q ≡ position_after (step_of p v.house) → now ≡ game
+      → IsShown state now new q
   shown_after {game} {now} {p} {q} {between} {new} v below given after_move same_game =
       subst (λ game. IsShown state game new q) (sym same_game)
       (shown_at_start (subst (λ f. Begins state game f new q) (sym below.form) (record {
@@ -52,8 +52,7 @@ module _ {O : Type 0} (state : O → SinkState) where
 
   -- more of the variations was given
   pub variations_go_on : {game now : GameStart O} {p : Position} {between new : O} (text : List ℕ) → now ≡ game
-      → IsOfVariations state game p between → WasGiven state between new text
-      → IsOfVariations state now p new
+      → IsOfVariations state game p between → WasGiven state between new text → IsOfVariations state now p new
   variations_go_on {game} {now} {p} {between} {new} text same_game below given = rw same_game (record {
     form = below.form;
     first = below.first;
@@ -87,8 +86,8 @@ module _ {O : Type 0} (state : O → SinkState) where
 
     -- the next position is shown, once its move was given
     pub shown_next : {now : GameStart O} {form : Form} {s : Step} {q : Position} (h : ℕ) → game.form ≡ form → s ≡ step_of p h
-        → q ≡ position_after s → now ≡ game → WasGiven state between new (move_text form (value_shown form (worth p)) h (step_of p h))
-        → IsShown state now new q
+        → q ≡ position_after s → now ≡ game
+        → WasGiven state between new (move_text form (value_shown form (worth p)) h (step_of p h)) → IsShown state now new q
     shown_next h written_in step_is after_move same_game given = rw (same_game, after_move, step_is)
         (shown_after_move between p h shown
         (subst (λ f. WasGiven state between new (move_text f (value_shown f (worth p)) h (step_of p h))) (sym written_in) given))

@@ -1,8 +1,6 @@
 -- What the arguments of a command line ask the program to do.
-use Rattle.std.specs.Prelude.{IfSome, ℕ, Bool, false, List, [], Option, None, Some, codes, ◌<◌, ◌≤◌, ◌≡◌, ◌≢◌, length, map, option_map, string_bytes, option_and_then, if◌then◌else◌, true, unwrap_or, ⊤}
-use Rattle.std.specs.declared.string.String.{String}
+use Rattle.std.specs.Prelude.{IfSome, ℕ, Bool, false, List, [], Option, None, Some, codes, ◌<◌, ◌≤◌, ◌≡◌, ◌≢◌, length, map, option_map, string_bytes, option_and_then, if◌then◌else◌, true, unwrap_or, ⊤, String, bytes_eq}
 use Rattle.std.specs.Option.{option_map_or}
-use Rattle.std.specs.Str.{bytes_eq}
 use Rattle.std.specs.Str.Parse.{digits_value, without_leading_plus}
 use Rattle.clap.specs.Words.{IsAmong, IsUnsignedIn, Row, Text, all_of, fault_of, first_of, one_of, subcommand_of}
 use Rattle.clap.specs.declared.error.kind.ErrorKind.{ErrorKind}

@@ -1,6 +1,5 @@
 -- What a run reads: files by their names, and the standard input.
-use Rattle.std.specs.Prelude.{◌≡◌, ℕ, List, Option, None, Some, find, option_map, ⊤}
-use Rattle.std.specs.Str.{bytes_eq}
+use Rattle.std.specs.Prelude.{◌≡◌, ℕ, List, Option, None, Some, find, option_map, ⊤, bytes_eq}
 use Rattle.kalah_jobs.specs.Files.NamedBytes.{NamedBytes}
 
 -- what can be read: the file of a name, or the standard input

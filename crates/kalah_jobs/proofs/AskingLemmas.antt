@@ -49,11 +49,10 @@ one_line (byte ∷ piece) none = rw (rest_is_one_line byte piece none) (omega ar
 -- ---- the answers
 
 -- the answers to whole lines and more are those to both, in order
-answers_split : (question : Question) (lines more : List ℕ) → EndsWithItsLine lines →
-    answers_to question (lines ++ more) ≡ answers_to question lines ++ answers_to question more
+answers_split : (question : Question) (lines more : List ℕ) → EndsWithItsLine lines
+    → answers_to question (lines ++ more) ≡ answers_to question lines ++ answers_to question more
 unfolding answers_to
-answers_split question lines more ends =
-    simp ((files_split_between_lines.parts lines more ends).lines, flat_map-append)
+answers_split question lines more ends = simp ((files_split_between_lines.parts lines more ends).lines, flat_map-append)
 
 -- nothing is answered by nothing
 no_answers : (question : Question) → answers_to question [] ≡ []
@@ -81,8 +80,7 @@ both_read false false = refl
 -- all are read if one more is, and those before
 all_read_more : (lines more line : List ℕ) → EndsWithItsLine lines → lines_of more ≡ line ∷ []
     → are_all_read (lines ++ more) ≡ (are_all_read lines && not (is_faulty line))
-all_read_more lines more line ends one =
-    simp ((files_split_between_lines.parts lines more ends).lines, one, list_any-append, both_read)
+all_read_more lines more line ends one = simp ((files_split_between_lines.parts lines more ends).lines, one, list_any-append, both_read)
 
 -- ---- as many bytes as are kept
 
@@ -138,8 +136,8 @@ last_read lines (byte ∷ piece) ends none =
 -- ---- the law
 
 -- where no steps are asked an answer is of one line
-one_line_read : (question : Question) → question ≢ Steps → (r : Result position.Position LineFault) →
-    IsOfOneLine (answer_of (entry_of_reading question r))
+one_line_read : (question : Question) → question ≢ Steps → (r : Result position.Position LineFault)
+    → IsOfOneLine (answer_of (entry_of_reading question r))
 unfolding answer_of
 one_line_read BestMove other (Ok p) = cond_both (is_over p) _ _ IsOfOneLine (λ _. tt) (λ _. tt)
 one_line_read BestMove other (Err fault) = tt
@@ -148,8 +146,8 @@ one_line_read Values other (Err fault) = tt
 one_line_read Steps other r = absurd (other refl)
 
 -- where no steps are asked an answer line is the place, and then the answer
-line_parts : (question : Question) → question ≢ Steps → (name : List ℕ) (number : ℕ) (line : List ℕ) →
-    line_output question name (number, line) ≡ place_text name number ++ reply question line
+line_parts : (question : Question) → question ≢ Steps → (name : List ℕ) (number : ℕ) (line : List ℕ)
+    → line_output question name (number, line) ≡ place_text name number ++ reply question line
 unfolding entry_to
 line_parts question other name number line =
     let answer = answer_of (entry_to question line) in
@@ -157,11 +155,10 @@ line_parts question other name number line =
     ∙ append_assoc (place_text name number) (joined_text answer) (line_feed ∷ [])
 
 -- so is each answer line of a file
-lines_parts : (question : Question) → question ≢ Steps → (name : List ℕ) (number : ℕ) (lines : List (List ℕ)) →
-    flat_map (line_output question name) (enumerate_from number lines)
-    ≡ flat_map (λ p. place_text name p.0 ++ reply question p.1) (enumerate_from number lines)
-lines_parts question other name number lines =
-    λ i. flat_map (λ p. line_parts question other name p.0 p.1 i) (enumerate_from number lines)
+lines_parts : (question : Question) → question ≢ Steps → (name : List ℕ) (number : ℕ) (lines : List (List ℕ))
+    → flat_map (line_output question name) (enumerate_from number lines) ≡ flat_map (λ p. place_text name p.0 ++ reply question p.1)
+    (enumerate_from number lines)
+lines_parts question other name number lines = λ i. flat_map (λ p. line_parts question other name p.0 p.1 i) (enumerate_from number lines)
 
 pub answers_are_those_of_a_file : AnswersAreThoseOfAFile
 answers_are_those_of_a_file = record {
@@ -187,8 +184,8 @@ pub record IsAnsweredSoFar (question : Question) (before now old new : Option (L
   pub status : all_read ≡ are_all_read lines
 
 -- before anything is read, nothing is answered
-pub nothing_read : (question : Question) (before old : Option (List ℕ)) (line : List ℕ) → line ≡ [] →
-    IsAnsweredSoFar question before before old old line true
+pub nothing_read : (question : Question) (before old : Option (List ℕ)) (line : List ℕ) → line ≡ []
+    → IsAnsweredSoFar question before before old old line true
 unfolding lines_of
 nothing_read question before old line empty = record {
   lines = [];
@@ -209,8 +206,8 @@ module _ {question : Question} {before now old new : Option (List ℕ)} {line : 
   answers_kept kept keeps = Appends-kept old new kept (answers_to question u.lines) u.written keeps
 
   -- what was written is kept, and more is written
-  more_written : (kept more : Option (List ℕ)) (bytes : List ℕ) → Keeps new kept → Appends kept more bytes →
-      Appends old more (answers_to question u.lines ++ bytes)
+  more_written : (kept more : Option (List ℕ)) (bytes : List ℕ) → Keeps new kept → Appends kept more bytes
+      → Appends old more (answers_to question u.lines ++ bytes)
   more_written kept more bytes keeps appends =
       Appends-trans old kept more (answers_to question u.lines) bytes (answers_kept kept keeps) appends
 
@@ -293,8 +290,8 @@ module _ {question : Question} {before now old new : Option (List ℕ)} {line : 
 
   -- as much was read as makes one line at most, and its answer was begun
   begun : {next more : Option (List ℕ)} (kept : Option (List ℕ)) (last answer : List ℕ) → length (lines_of last) ≤ 1
-      → Consumes before next (u.lines ++ last) → answer ≡ answers_to question last → Keeps new kept → AppendsPrefix kept more answer
-      → IsBegun question before next old more
+      → Consumes before next (u.lines ++ last) → answer ≡ answers_to question last → Keeps new kept
+      → AppendsPrefix kept more answer → IsBegun question before next old more
   begun {next} {more} kept last answer one taken answer_is keeps start = record {
     lines = u.lines;
     last = last;
@@ -317,8 +314,7 @@ module _ {question : Question} {before now old new : Option (List ℕ)} {line : 
   -- of what stands after the last line feed, where nothing is left
   pub begun_last : {next more : Option (List ℕ)} (kept : Option (List ℕ)) → Consumes now next [] → Keeps new kept
       → AppendsPrefix kept more (last_reply question line) → IsBegun question before next old more
-  begun_last {next} kept end =
-      begun kept u.part (last_reply question line) (one_line u.part u.unended) (all_taken next end) reply_part
+  begun_last {next} kept end = begun kept u.part (last_reply question line) (one_line u.part u.unended) (all_taken next end) reply_part
 
   -- of all that was read, where the whole was written
   pub all_answered : {next more : Option (List ℕ)} {is_read : Bool} (kept : Option (List ℕ)) → Consumes now next [] → IsAtEnd now
@@ -342,8 +338,8 @@ pub no_failure : {all_read : Bool} {fault : AskFault} → IsErrOf (Ok all_read) 
 no_failure failed = cc
 
 -- what holds if a write failed
-pub write_failed : {question : Question} {before after : Option (List ℕ)} {old new : SinkState} → new.has_failed ≡ true →
-    IsBegun question before after old.written new.written → AnswersLines question before after old new (Err Write)
+pub write_failed : {question : Question} {before after : Option (List ℕ)} {old new : SinkState} → new.has_failed ≡ true
+    → IsBegun question before after old.written new.written → AnswersLines question before after old new (Err Write)
 write_failed has_failed begins = record {
   answered = tt;
   cut_off = λ cut_off. absurd cc;

@@ -81,17 +81,17 @@ pub state_other : (files : List ArrivalsState) (f g : ℕ) (s : ArrivalsState) �
 state_other files f g s ne = get_or-set_other files f g s no_file ne
 
 -- what holds of the changed file, and of each other as it was, holds of each
-each_file : (files : List ArrivalsState) (f : ℕ) (s : ArrivalsState) → f < length files → (P : ℕ → ArrivalsState → Type 0) → P f s →
-    ((g : ℕ) → g ≢ f → P g (state_of files g)) → (g : ℕ) → P g (state_of (set files f s) g)
+each_file : (files : List ArrivalsState) (f : ℕ) (s : ArrivalsState) → f < length files → (P : ℕ → ArrivalsState → Type 0)
+    → P f s → ((g : ℕ) → g ≢ f → P g (state_of files g)) → (g : ℕ) → P g (state_of (set files f s) g)
 each_file files f s low P here others g = elim (cases_eq g f) [
   | inl same ↦ rw (same, state_same files f s low) here
   | inr other ↦ rw (state_other files f g s other) (others g other)
 ]
 
 -- after an answer for one line, what holds of that line, and of each other as it was, holds of each
-each_line : (files : List ArrivalsState) (o : Job) (a : Answer) → o.file < length files → o.line < line_count (state_of files o.file) →
-    (P : ℕ → ℕ → Option Answer → Type 0) → P o.file o.line (Some a) →
-    ((f k : ℕ) → ((f ≡ o.file) × (k ≡ o.line) → ⊥) → P f k (arrived_for (state_of files f) k)) → (f k : ℕ)
+each_line : (files : List ArrivalsState) (o : Job) (a : Answer) → o.file < length files → o.line < line_count (state_of files o.file)
+    → (P : ℕ → ℕ → Option Answer → Type 0) → P o.file o.line (Some a)
+    → ((f k : ℕ) → ((f ≡ o.file) × (k ≡ o.line) → ⊥) → P f k (arrived_for (state_of files f) k)) → (f k : ℕ)
     → P f k (arrived_for (state_of (after_offer files o.file o.line a) f) k)
 each_line files o a file_low line_low P here others =
     let s : ArrivalsState = state_of files o.file in
@@ -110,15 +110,15 @@ files_many jobs files has_lines = sym (length-map files line_count) ∙ ap lengt
     ∙ length-map jobs length
 
 -- each file has as many lines as its jobs, also if there is no such file
-pub lines_are : (jobs : List (List Entry)) (files : List ArrivalsState) → HasLinesOf jobs files → (f : ℕ) →
-    line_count (state_of files f) ≡ length (entries_of jobs f)
+pub lines_are : (jobs : List (List Entry)) (files : List ArrivalsState) → HasLinesOf jobs files → (f : ℕ)
+    → line_count (state_of files f) ≡ length (entries_of jobs f)
 lines_are [] [] has_lines f = refl
 lines_are (entries ∷ jobs) (s ∷ files) has_lines (suc f) = lines_are jobs files (cc) f
 lines_are jobs files has_lines f = cc
 
 -- a change that keeps a file's number of lines keeps all counts
-pub counts_set : (files : List ArrivalsState) (f : ℕ) (s : ArrivalsState) → line_count s ≡ line_count (state_of files f) →
-    map line_count (set files f s) ≡ map line_count files
+pub counts_set : (files : List ArrivalsState) (f : ℕ) (s : ArrivalsState) → line_count s ≡ line_count (state_of files f)
+    → map line_count (set files f s) ≡ map line_count files
 counts_set [] f s same = refl
 counts_set (x ∷ files) zero s same = ap (◌∷ map line_count files) same
 counts_set (x ∷ files) (suc f) s same = ap (line_count x ∷◌) (counts_set files f s same)
@@ -126,8 +126,8 @@ counts_set (x ∷ files) (suc f) s same = ap (line_count x ∷◌) (counts_set f
 -- ---- what came
 
 -- what was offered is offered with one offer more
-still_offered : {jobs : List (List Entry)} {past : List Job} {f k : ℕ} {a : Answer} (o : Job) → IsOffered jobs past f k a →
-    IsOffered jobs (past ++ o ∷ []) f k a
+still_offered : {jobs : List (List Entry)} {past : List Job} {f k : ℕ} {a : Answer} (o : Job) → IsOffered jobs past f k a
+    → IsOffered jobs (past ++ o ∷ []) f k a
 still_offered {jobs} {past} {f} {k} o old = record {
   entry = old.entry;
   entry_is = old.entry_is;
@@ -289,8 +289,8 @@ module _ {jobs : List (List Entry)} {past : List Job} {files after : List Arriva
 
 -- any list of events
 runs_keep : (jobs : List (List Entry)) (past : List Job) (events : List Event) (files after : List ArrivalsState)
-    → Runs jobs files events after → AreInStep jobs past files →
-    AreInStep jobs (past ++ offered_in events) after × WereTaken jobs files (λ f. taken_in f events) after
+    → Runs jobs files events after → AreInStep jobs past files
+    → AreInStep jobs (past ++ offered_in events) after × WereTaken jobs files (λ f. taken_in f events) after
 runs_keep jobs past [] files after run kept =
     rw (← run, append-nil) (kept, λ f. append-nil (take (state_of files f).taken (answered_lines_of jobs f)))
 runs_keep jobs past (Offered o gave ∷ events) files after run kept =
@@ -374,8 +374,8 @@ pub ruleset new_counts = (new_lines, take_all)
 -- ---- each job once, in any order
 
 -- each line was offered with its entry
-each_came : (jobs : List (List Entry)) (got : List Job) → AreJobsInSomeOrder jobs got → (f k : ℕ) (e : Entry) →
-    entry_at jobs f k ≡ Some e → Contains got (line_job f k e)
+each_came : (jobs : List (List Entry)) (got : List Job) → AreJobsInSomeOrder jobs got → (f k : ℕ) (e : Entry)
+    → entry_at jobs f k ≡ Some e → Contains got (line_job f k e)
 each_came jobs got each_once f k e entry_is =
     let o : Job = line_job f k e in
     contains_from_times o got (grind (arith, each_once.same_counts (same_job o), times_in_jobs o jobs, same_entry_itself e, entry_is))

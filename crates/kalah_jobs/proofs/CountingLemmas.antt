@@ -62,8 +62,8 @@ class_of_number q x [] = grind arith
 class_of_number q x (y ∷ ys) = grind (arith, class_of_number q x ys, count_by-cons (λ z. z == x) y ys, nat_tests)
 
 -- in lawful rows, as many numbers pass a test as among all numbers below n
-rows_count : (n : ℕ) (rows : List (List ℕ)) (q : ℕ → Bool) → ((x : ℕ) → times_in x rows ≡ (if nat_lt x n then 1 else 0)) →
-    sum_by (count_by q) rows ≡ count_by q (range_with_len 0 n)
+rows_count : (n : ℕ) (rows : List (List ℕ)) (q : ℕ → Bool) → ((x : ℕ) → times_in x rows ≡ (if nat_lt x n then 1 else 0))
+    → sum_by (count_by q) rows ≡ count_by q (range_with_len 0 n)
 rows_count n rows q once =
     let flat : List ℕ = flat_map (λ r. r) rows in
     let times_in_flat : (x : ℕ) → count_by (λ y. y == x) flat ≡ (if nat_lt x n then 1 else 0) = λ x. count_flat (λ y. y == x) rows ∙ once x in
@@ -203,8 +203,8 @@ times_in_file o f k (e ∷ entries) =
     grind (arith, nat_tests, times_in_file o f (suc k) entries, count_by-cons (same_job o) (line_job f k e) (file_jobs f (suc k) entries))
 
 -- at its place in the files' lines
-times_from_file : (o : Job) (f : ℕ) (jobs : List (List Entry)) → times_offered o (jobs_from f jobs)
-    ≡ (if not (nat_lt o.file f) then hits o.entry (entry_at jobs (o.file - f) o.line) else 0)
+times_from_file : (o : Job) (f : ℕ) (jobs : List (List Entry))
+    → times_offered o (jobs_from f jobs) ≡ (if not (nat_lt o.file f) then hits o.entry (entry_at jobs (o.file - f) o.line) else 0)
 times_from_file o f [] = grind arith
 times_from_file o f (entries ∷ jobs) =
     let all = sum_by-append (λ x. cond (same_job o x) 1 0) (file_jobs f 0 entries) (jobs_from (suc f) jobs) in

@@ -62,8 +62,8 @@ lines_of-open (byte ∷ another ∷ line) whole some =
     (lines_of-open (another ∷ line) (All-tail IsNoFeed byte (another ∷ line) whole) (λ e. cc))
 
 -- the first line ends at the first line feed, and what follows it is cut out of the bytes
-pub lines_of-cut : (bytes : List ℕ) (i n : ℕ) → i < length bytes → length bytes ≤ n + (i + 1) → get_or bytes i 0 ≡ line_feed →
-    HasNoLineFeed (take i bytes) → lines_of bytes ≡ take i bytes ∷ lines_of (take n (drop (i + 1) bytes))
+pub lines_of-cut : (bytes : List ℕ) (i n : ℕ) → i < length bytes → length bytes ≤ n + (i + 1) → get_or bytes i 0 ≡ line_feed
+    → HasNoLineFeed (take i bytes) → lines_of bytes ≡ take i bytes ∷ lines_of (take n (drop (i + 1) bytes))
 lines_of-cut bytes i n low high is_feed none =
     let all : take n (drop (i + 1) bytes) ≡ drop (i + 1) bytes =
     take_all n (drop (i + 1) bytes) (omega (arith, length-drop (i + 1) bytes)) in
@@ -72,8 +72,8 @@ lines_of-cut bytes i n low high is_feed none =
     ∙ lines_of-ended (take i bytes) (drop (i + 1) bytes) none ∙ ap (λ rest. take i bytes ∷ lines_of rest) (sym all)
 
 -- no bytes follow a line that is not ended
-pub lines_of-last : (bytes : List ℕ) (n : ℕ) → 0 < length bytes → HasNoLineFeed bytes →
-    lines_of bytes ≡ bytes ∷ lines_of (take n (drop (length bytes) bytes))
+pub lines_of-last : (bytes : List ℕ) (n : ℕ) → 0 < length bytes → HasNoLineFeed bytes
+    → lines_of bytes ≡ bytes ∷ lines_of (take n (drop (length bytes) bytes))
 unfolding lines_of
 lines_of-last bytes n some none =
     let nothing : take n (drop (length bytes) bytes) ≡ [] =
@@ -97,8 +97,8 @@ length-onto_first-same byte [] some = absurd (omega arith)
 length-onto_first-same byte (line ∷ lines) some = refl
 
 -- one for each line feed before the last byte, and one more
-pub length-lines_of : (front : List ℕ) (last : ℕ) →
-    length (lines_of (front ++ last ∷ [])) ≡ count_by (λ byte. byte == line_feed) front + 1
+pub length-lines_of : (front : List ℕ) (last : ℕ)
+    → length (lines_of (front ++ last ∷ [])) ≡ count_by (λ byte. byte == line_feed) front + 1
 unfolding lines_of
 length-lines_of [] last = grind arith
 length-lines_of (byte ∷ front) last =
@@ -120,8 +120,8 @@ pub ruleset no_line = (lines_of-empty, append-nil)
 -- ---- the lines of the bytes are lines of them
 
 -- a byte other than a line feed leaves the lines without one
-whole_after_byte : (byte : ℕ) (lines : List (List ℕ)) → byte ≢ line_feed → All HasNoLineFeed lines →
-    All HasNoLineFeed (onto_first byte lines)
+whole_after_byte : (byte : ℕ) (lines : List (List ℕ)) → byte ≢ line_feed → All HasNoLineFeed lines
+    → All HasNoLineFeed (onto_first byte lines)
 whole_after_byte byte [] no_feed whole = All-cons HasNoLineFeed (byte ∷ []) [] (All-cons IsNoFeed byte [] no_feed (All-nil IsNoFeed)) whole
 whole_after_byte byte (line ∷ lines) no_feed whole =
     All-cons HasNoLineFeed (byte ∷ line) lines
@@ -129,20 +129,20 @@ whole_after_byte byte (line ∷ lines) no_feed whole =
     (All-tail HasNoLineFeed line lines whole)
 
 -- lines before a last one that is not ended
-open_lines : {bytes : List ℕ} {lines : List (List ℕ)} (before : List (List ℕ)) (last : List ℕ) → last ≢ [] →
-    lines ≡ before ++ last ∷ [] → bytes ≡ with_line_feeds before ++ last → ArePieces bytes lines
+open_lines : {bytes : List ℕ} {lines : List (List ℕ)} (before : List (List ℕ)) (last : List ℕ) → last ≢ []
+    → lines ≡ before ++ last ∷ [] → bytes ≡ with_line_feeds before ++ last → ArePieces bytes lines
 open_lines before last some pieces_are bytes_are =
     inr (record { before = before; last = last; pieces_are = pieces_are; bytes_are = bytes_are; some_bytes = some })
 
 -- a byte before lines stands in the first, or in one of its own
-parts_after_byte : (byte : ℕ) (bytes : List ℕ) (lines : List (List ℕ)) → ArePieces bytes lines →
-    ArePieces (byte ∷ bytes) (onto_first byte lines)
+parts_after_byte : (byte : ℕ) (bytes : List ℕ) (lines : List (List ℕ)) → ArePieces bytes lines
+    → ArePieces (byte ∷ bytes) (onto_first byte lines)
 parts_after_byte byte bytes [] (inl closed) = open_lines [] (byte ∷ []) (λ e. cc) refl (ap (byte ∷◌) closed)
 parts_after_byte byte bytes (line ∷ lines) (inl closed) = inl (ap (byte ∷◌) closed)
 parts_after_byte byte bytes lines (inr unended) = go unended.before unended.pieces_are unended.bytes_are
   where
-    go : (before : List (List ℕ)) → lines ≡ before ++ unended.last ∷ [] → bytes ≡ with_line_feeds before ++ unended.last →
-        ArePieces (byte ∷ bytes) (onto_first byte lines)
+    go : (before : List (List ℕ)) → lines ≡ before ++ unended.last ∷ [] → bytes ≡ with_line_feeds before ++ unended.last
+        → ArePieces (byte ∷ bytes) (onto_first byte lines)
     go [] pieces_are bytes_are =
         open_lines [] (byte ∷ unended.last) (λ e. cc) (ap (onto_first byte) pieces_are) (ap (byte ∷◌) bytes_are)
     go (line ∷ before) pieces_are bytes_are =
@@ -176,8 +176,8 @@ are_lines_of (byte ∷ bytes) =
 -- ---- and no others are
 
 -- pieces that each end in a line feed are lines, before those of the rest
-lines_of-feeds : (pieces : List (List ℕ)) (rest : List ℕ) → All HasNoLineFeed pieces →
-    lines_of (with_line_feeds pieces ++ rest) ≡ pieces ++ lines_of rest
+lines_of-feeds : (pieces : List (List ℕ)) (rest : List ℕ) → All HasNoLineFeed pieces
+    → lines_of (with_line_feeds pieces ++ rest) ≡ pieces ++ lines_of rest
 lines_of-feeds [] rest whole = refl
 lines_of-feeds (piece ∷ pieces) rest whole =
     grind (
@@ -232,8 +232,7 @@ entries_of_file f k (e ∷ own) = ap (e ∷◌) (entries_of_file f (suc k) own)
 -- the jobs of the files have the entries of all lines
 entries_from : (f : ℕ) (jobs : List (List Entry)) → map entry_in (jobs_from f jobs) ≡ all_entries jobs
 entries_from f [] = refl
-entries_from f (own ∷ jobs) =
-    grind (arith, map-append entry_in (file_jobs f 0 own), entries_of_file f 0 own, entries_from (suc f) jobs)
+entries_from f (own ∷ jobs) = grind (arith, map-append entry_in (file_jobs f 0 own), entries_of_file f 0 own, entries_from (suc f) jobs)
 
 -- they are those of the jobs, in order
 entries_of_jobs : (jobs : List (List Entry)) → map entry_in (job_list jobs) ≡ all_entries jobs
@@ -276,8 +275,8 @@ slice_get-jobs_from f (suc g) k (entries ∷ jobs) e entry_is =
     )
 
 -- line k of file f comes after the jobs of the files before f
-pub slice_get-job_list : (jobs : List (List Entry)) (f k n : ℕ) (e : Entry) → n ≡ job_count (take f jobs) + k →
-    slice_get (entries_of jobs f) k ≡ Some e → slice_get (job_list jobs) n ≡ Some (line_job f k e)
+pub slice_get-job_list : (jobs : List (List Entry)) (f k n : ℕ) (e : Entry) → n ≡ job_count (take f jobs) + k
+    → slice_get (entries_of jobs f) k ≡ Some e → slice_get (job_list jobs) n ≡ Some (line_job f k e)
 slice_get-job_list jobs f k n e n_is entry_is = grind (arith, slice_get-jobs_from 0 f k jobs e entry_is)
 
 -- ---- the place of a job among the files
@@ -307,8 +306,8 @@ job_count-jobs_to question (file ∷ files) =
     )
 
 -- one file more starts after all jobs so far
-starts_more : {jobs : List (List Entry)} {starts : List ℕ} {start : ℕ} (own : List Entry) → AreStarts jobs starts →
-    start ≡ job_count jobs → AreStarts (jobs ++ own ∷ []) (starts ++ start ∷ [])
+starts_more : {jobs : List (List Entry)} {starts : List ℕ} {start : ℕ} (own : List Entry) → AreStarts jobs starts
+    → start ≡ job_count jobs → AreStarts (jobs ++ own ∷ []) (starts ++ start ∷ [])
 starts_more {jobs} {starts} {start} own so_far start_is = record {
   as_many = omega (arith, so_far.as_many, length-append starts (start ∷ []), length-append jobs (own ∷ []));
   before = λ f low.
@@ -340,8 +339,8 @@ pub record AreRead (question : Question) (files : List NamedBytes) (count : ℕ)
 -- one file more is read
 pub one_more_read : {question : Question} {files : List NamedBytes} {count : ℕ} {jobs : List (List Entry)} {starts : List ℕ}
     {before faults many found : ℕ} {own : List Entry} (file : NamedBytes) → AreRead question files count jobs starts before faults
-    → count < length files → file ≡ get_or files count file → own ≡ entries_to question file.bytes
-    → many ≡ length own → count_by is_faulty_entry own ≡ found
+    → count < length files → file ≡ get_or files count file → own ≡ entries_to question file.bytes → many ≡ length own
+    → count_by is_faulty_entry own ≡ found
     → AreRead question files (count + 1) (jobs ++ own ∷ []) (starts ++ before ∷ []) (before + many) (faults + found)
 one_more_read {question} {files} {count} {jobs} {own = own} file so_far low file_is own_is many_are found_are =
     let all = sum_by_push length jobs own in
@@ -385,8 +384,7 @@ asked_fault question line =
 
 -- as many jobs are answered by a fault as entries
 pub faulty_jobs : (jobs : List (List Entry)) → count_by is_faulty_job (job_list jobs) ≡ count_by is_faulty_entry (all_entries jobs)
-faulty_jobs jobs =
-    sym (count_map is_faulty_entry entry_in (job_list jobs)) ∙ ap (count_by is_faulty_entry) (entries_of_jobs jobs)
+faulty_jobs jobs = sym (count_map is_faulty_entry entry_in (job_list jobs)) ∙ ap (count_by is_faulty_entry) (entries_of_jobs jobs)
 
 -- counted file by file
 pub faults_by_file : (jobs : List (List Entry)) → count_by is_faulty_job (job_list jobs) ≡ sum_by (count_by is_faulty_entry) jobs

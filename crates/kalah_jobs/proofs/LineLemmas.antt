@@ -33,8 +33,8 @@ suffix_is_written bytes rule read = grind (arith, nat_tests)
 -- ---- positions
 
 -- a side, a space, a side and a suffix write a line
-line_of_sides : {text rest : List ℕ} {own other : SideRead} {rule : Rule} → side_at text ≡ Some own → own.rest ≡ space ∷ rest →
-    side_at rest ≡ Some other → rule_of other.rest ≡ Some rule → IsLineOf text (position_of_sides own other rule)
+line_of_sides : {text rest : List ℕ} {own other : SideRead} {rule : Rule} → side_at text ≡ Some own → own.rest ≡ space ∷ rest
+    → side_at rest ≡ Some other → rule_of other.rest ≡ Some rule → IsLineOf text (position_of_sides own other rule)
 line_of_sides {text} {rest} {own} {other} {rule} own_read space_next other_read rule_read =
     let first = side_is_written text own own_read in
     let second = side_is_written rest other other_read in
@@ -50,15 +50,15 @@ line_of_sides {text} {rest} {own} {other} {rule} own_read space_next other_read 
     }
 
 -- two sides with a space between them, and a suffix, are read as their position
-pub sides_are_read : (text : List ℕ) {rest : List ℕ} {own other : SideRead} {rule : Rule} → side_at text ≡ Some own →
-    own.rest ≡ space ∷ rest → side_at rest ≡ Some other → rule_of other.rest ≡ Some rule →
-    position_of_text text ≡ Some (position_of_sides own other rule)
+pub sides_are_read : (text : List ℕ) {rest : List ℕ} {own other : SideRead} {rule : Rule} → side_at text ≡ Some own
+    → own.rest ≡ space ∷ rest → side_at rest ≡ Some other → rule_of other.rest ≡ Some rule
+    → position_of_text text ≡ Some (position_of_sides own other rule)
 unfolding position_of_text
 sides_are_read text own_read space_next other_read rule_read = rw (own_read, space_next, other_read, rule_read) refl
 
 -- what is read after the first side is a space, the other side and a suffix
-rest_is_written : (text : List ℕ) (own : SideRead) (rest : List ℕ) (p : Position) → side_at text ≡ Some own → own.rest ≡ rest →
-    position_from own rest ≡ Some p → IsLineOf text p
+rest_is_written : (text : List ℕ) (own : SideRead) (rest : List ℕ) (p : Position) → side_at text ≡ Some own → own.rest ≡ rest
+    → position_from own rest ≡ Some p → IsLineOf text p
 rest_is_written text own [] p own_read rest_is position_read = absurd cc
 rest_is_written text own (mark ∷ rest) p own_read rest_is position_read =
     let with_rule = λ (other : SideRead). rule_of other.rest >>= λ rule. Some (position_of_sides own other rule) in
@@ -123,8 +123,8 @@ none_at_first : (text : List ℕ) → NoneBefore text 1
 none_at_first text earlier low = grind arith
 
 -- if the fault at this place doesn't hold either, none before the next place holds
-nor_this : {text : List ℕ} (fault : LineFault) → NoneBefore text (order_of fault) → ¬ Holds fault text →
-    NoneBefore text (order_of fault + 1)
+nor_this : {text : List ℕ} (fault : LineFault) → NoneBefore text (order_of fault) → ¬ Holds fault text
+    → NoneBefore text (order_of fault + 1)
 nor_this {text} fault before not earlier low holds = elim (cases_lt (order_of earlier) (order_of fault)) [
   | inl less ↦ before earlier less holds
   | inr more ↦ not (rw (same_order earlier fault (omega arith)) at holds)
@@ -139,8 +139,8 @@ not_houses : (text : List ℕ) (p : Position) → IsLineOf text p → HasSidesIn
 not_houses text p form sides (q, (other, wrong)) = wrong (subst HasSidesInLimits (one_position text p q form other) sides)
 
 -- a line of few bytes that writes the position is read as it, or has a fault of houses or seeds
-position_is_read : (line : List ℕ) (p : Position) → length (without_cr line) ≤ most_line_bytes → NoneBefore (without_cr line) 4 →
-    IsLineOf (without_cr line) p → IsReading line (admitted p)
+position_is_read : (line : List ℕ) (p : Position) → length (without_cr line) ≤ most_line_bytes → NoneBefore (without_cr line) 4
+    → IsLineOf (without_cr line) p → IsReading line (admitted p)
 position_is_read line p few none form = elim (eqb_tells (length p.other) (side_length p)) [
   | inl same ↦ elim (cases_lt most_houses (side_length p)) [
     | inl many ↦
@@ -160,8 +160,8 @@ position_is_read line p few none form = elim (eqb_tells (length p.other) (side_l
 ]
 
 -- a line of few bytes that writes no position is empty, or has the fault of shape
-nothing_is_read : (line text : List ℕ) → without_cr line ≡ text → NoneBefore (without_cr line) 2 → position_of_text text ≡ None →
-    IsReading line (admitted_if_written None text)
+nothing_is_read : (line text : List ℕ) → without_cr line ≡ text → NoneBefore (without_cr line) 2 → position_of_text text ≡ None
+    → IsReading line (admitted_if_written None text)
 nothing_is_read line [] text_is none unwritten = record { holds = text_is; first = none }
 nothing_is_read line (byte ∷ text) text_is none unwritten =
     let some : ¬ Holds Empty (without_cr line) = λ empty. absurd (cc (sym text_is ∙ empty)) in
@@ -174,8 +174,8 @@ nothing_is_read line (byte ∷ text) text_is none unwritten =
     }
 
 -- a line of few bytes is read, or has its first fault
-few_are_read : (line : List ℕ) → length (without_cr line) ≤ most_line_bytes → (r : Option Position) →
-    position_of_text (without_cr line) ≡ r → IsReading line (admitted_if_written r (without_cr line))
+few_are_read : (line : List ℕ) → length (without_cr line) ≤ most_line_bytes → (r : Option Position)
+    → position_of_text (without_cr line) ≡ r → IsReading line (admitted_if_written r (without_cr line))
 few_are_read line few r read_as =
     let text : List ℕ = without_cr line in
     let none = nor_this {text = text} Long (none_at_first text) (λ long. omega (arith, few, long)) in
@@ -216,8 +216,7 @@ no_fault line p reads Seeds (q, (form, many)) =
 
 -- no line has two first faults
 one_fault : (line : List ℕ) (a b : LineFault) → HasFault line a → HasFault line b → a ≡ b
-one_fault line a b first second =
-    grind (arith, same_order a b, first.first b, second.first a, first.holds, second.holds)
+one_fault line a b first second = grind (arith, same_order a b, first.first b, second.first a, first.holds, second.holds)
 
 -- no line has two readings
 one_reading : (line : List ℕ) (r s : Result Position LineFault) → IsReading line r → IsReading line s → r ≡ s
@@ -251,8 +250,7 @@ pub ruleset ends_of_lines = (without_cr-cr, without_cr-other)
 without_cr-append : (text : List ℕ) (byte : ℕ) (rest : List ℕ) → without_cr (text ++ byte ∷ rest) ≡ text ++ without_cr (byte ∷ rest)
 without_cr-append [] byte rest = refl
 without_cr-append (first ∷ []) byte rest = refl
-without_cr-append (first ∷ second ∷ text) byte rest =
-    ap (first ∷◌) (without_cr-append (second ∷ text) byte rest)
+without_cr-append (first ∷ second ∷ text) byte rest = ap (first ∷◌) (without_cr-append (second ∷ text) byte rest)
 
 -- a number doesn't end in a CR
 number_ends_without_cr : (byte : ℕ) (text : List ℕ) (n : ℕ) → IsNumber text n → without_cr (byte ∷ text) ≡ byte ∷ text
@@ -366,8 +364,8 @@ text_are_houses (n ∷ m ∷ houses) some few =
     (decimal_is_number n (omega (arith, all))) rest
 
 -- the text of a side writes it
-text_is_side : (houses : List ℕ) (store : ℕ) → 1 ≤ length houses → sum houses ≤ 99 → store ≤ 99 →
-    IsSide (side_text houses store) houses store
+text_is_side : (houses : List ℕ) (store : ℕ) → 1 ≤ length houses → sum houses ≤ 99 → store ≤ 99
+    → IsSide (side_text houses store) houses store
 text_is_side houses store some short low = record {
   houses_text = join_with_byte comma (map decimal houses);
   store_text = decimal store;
@@ -393,8 +391,8 @@ houses_text_length (n ∷ m ∷ houses) few =
     omega (arith, first, rest, length-append (decimal n) (comma ∷ join_with_byte comma (map decimal (m ∷ houses))))
 
 -- a side takes at most 21 bytes
-side_text_length : (houses : List ℕ) (store : ℕ) → length houses ≤ most_houses → sum houses ≤ 99 → store ≤ 99 →
-    length (side_text houses store) ≤ 21
+side_text_length : (houses : List ℕ) (store : ℕ) → length houses ≤ most_houses → sum houses ≤ 99 → store ≤ 99
+    → length (side_text houses store) ≤ 21
 side_text_length houses store few short low =
     let own = houses_text_length houses short in
     let last = small_number_length store low in
@@ -403,8 +401,8 @@ side_text_length houses store few short low =
 -- ---- the text of a position is read back
 
 -- the line of a position isn't too long
-text_has_few_bytes : (p : Position) → IsWithinLimits p → p.own_store ≤ most_in_store → p.other_store ≤ most_in_store →
-    length (line_text_of p) ≤ most_line_bytes
+text_has_few_bytes : (p : Position) → IsWithinLimits p → p.own_store ≤ most_in_store → p.other_store ≤ most_in_store
+    → length (line_text_of p) ≤ most_line_bytes
 unfolding line_text_of
 text_has_few_bytes p limits own_low other_low =
     let own = side_text p.own p.own_store in

@@ -51,8 +51,8 @@ onto_first-append byte [] more some = absurd (omega arith)
 onto_first-append byte (line ∷ lines) more some = refl
 
 -- more lines are numbered on
-pub enumerate_from-append : (number : ℕ) (lines more : List (List ℕ)) →
-    enumerate_from number (lines ++ more) ≡ enumerate_from number lines ++ enumerate_from (number + length lines) more
+pub enumerate_from-append : (number : ℕ) (lines more : List (List ℕ))
+    → enumerate_from number (lines ++ more) ≡ enumerate_from number lines ++ enumerate_from (number + length lines) more
 enumerate_from-append number [] more = ap (λ k. enumerate_from k more) (let e : number ≡ number + 0 = omega arith in e)
 enumerate_from-append number (line ∷ lines) more =
     let e : number + 1 + length lines ≡ number + suc (length lines) = omega arith in

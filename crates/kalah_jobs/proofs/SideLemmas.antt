@@ -22,8 +22,8 @@ pub record WritesNumber (bytes : List ℕ) (n : ℕ) (rest : List ℕ) : Type 0 
   pub number : IsNumber text n
 
 -- the digits at the front of the bytes write the number that is read of them
-digits_written : (first : ℕ) (rest : List ℕ) → IsAsciiDigit first →
-    WritesNumber (first ∷ rest) (number_from (first - zero_digit) rest).0 (number_from (first - zero_digit) rest).1
+digits_written : (first : ℕ) (rest : List ℕ) → IsAsciiDigit first
+    → WritesNumber (first ∷ rest) (number_from (first - zero_digit) rest).0 (number_from (first - zero_digit) rest).1
 digits_written first [] digit = record { text = first ∷ []; parts = refl; number = (digit, refl) }
 digits_written first (byte ∷ rest) digit = elim (cases_Bool (nat_lt 0 (first - zero_digit) && is_ascii_digit byte)) [
   | inl two ↦
@@ -45,8 +45,8 @@ EndsNumber [] = ⊤
 EndsNumber (byte ∷ rest) = ¬ IsAsciiDigit byte
 
 -- a number that is written is read, if no digit follows
-number_is_read : (text : List ℕ) (n : ℕ) (rest : List ℕ) → IsNumber text n → EndsNumber rest →
-    number_at (text ++ rest) ≡ Some (n, rest)
+number_is_read : (text : List ℕ) (n : ℕ) (rest : List ℕ) → IsNumber text n → EndsNumber rest
+    → number_at (text ++ rest) ≡ Some (n, rest)
 number_is_read text n rest written ends = grind (arith, nat_tests)
 
 -- a text that writes a number isn't empty
@@ -84,14 +84,14 @@ pub record BothSucceed {A B : Type 0} (step : Option A) (next : A → Option B) 
   pub second : next value ≡ Some result
 
 -- if two steps succeed together, both do
-pub both_succeed : {A B : Type 0} (step : Option A) (next : A → Option B) (result : B) → (step >>= next) ≡ Some result →
-    BothSucceed step next result
+pub both_succeed : {A B : Type 0} (step : Option A) (next : A → Option B) (result : B) → (step >>= next) ≡ Some result
+    → BothSucceed step next result
 both_succeed None next result both = absurd cc
 both_succeed (Some value) next result both = record { value = value; first = refl; second = both }
 
 -- a step that stands under a test succeeds only if the test passes
-pub passes_and_succeeds : {A : Type 0} (test : Bool) (step : Option A) (result : A) → cond test step None ≡ Some result →
-    (test ≡ true) × (step ≡ Some result)
+pub passes_and_succeeds : {A : Type 0} (test : Bool) (step : Option A) (result : A) → cond test step None ≡ Some result
+    → (test ≡ true) × (step ≡ Some result)
 passes_and_succeeds test step result both = grind arith
 
 -- ---- what is read is written
@@ -105,8 +105,8 @@ pub record WritesSide (houses bytes : List ℕ) (found : SideRead) : Type 0 wher
   pub side : IsSide text more found.store
 
 -- a house, a comma and other houses are houses
-pub house_before_others : (house_text others_text : List ℕ) (n : ℕ) (others : List ℕ) → IsNumber house_text n →
-    AreHouses others_text others → AreHouses (house_text ++ comma ∷ others_text) (n ∷ others)
+pub house_before_others : (house_text others_text : List ℕ) (n : ℕ) (others : List ℕ) → IsNumber house_text n
+    → AreHouses others_text others → AreHouses (house_text ++ comma ∷ others_text) (n ∷ others)
 house_before_others house_text others_text n [] number written = absurd written
 house_before_others house_text others_text n (m ∷ others) number written = record {
   house_text = house_text;
@@ -118,8 +118,8 @@ house_before_others house_text others_text n (m ∷ others) number written = rec
 
 module _ {houses bytes : List ℕ} {n : ℕ} where
   -- a house, a slash and a store write the end of a side
-  store_written : {rest : List ℕ} {found : SideRead} → WritesNumber bytes n (slash ∷ rest) →
-      store_at (houses ++ n ∷ []) rest ≡ Some found → WritesSide houses bytes found
+  store_written : {rest : List ℕ} {found : SideRead} → WritesNumber bytes n (slash ∷ rest)
+      → store_at (houses ++ n ∷ []) rest ≡ Some found → WritesSide houses bytes found
   store_written {rest} {found} house store_read =
       let with_store : ℕ × List ℕ → SideRead = λ store. record { houses = houses ++ n ∷ []; store = store.0; rest = store.1 } in
       let read = both_succeed (number_at rest) (λ store. Some (with_store store)) found store_read in
@@ -142,8 +142,8 @@ module _ {houses bytes : List ℕ} {n : ℕ} where
       })
 
   -- a house, a comma and the rest of a side write the rest of a side
-  others_written : {rest : List ℕ} {found : SideRead} → WritesNumber bytes n (comma ∷ rest) →
-      WritesSide (houses ++ n ∷ []) rest found → WritesSide houses bytes found
+  others_written : {rest : List ℕ} {found : SideRead} → WritesNumber bytes n (comma ∷ rest)
+      → WritesSide (houses ++ n ∷ []) rest found → WritesSide houses bytes found
   others_written {rest} {found} house others = record {
     text = house.text ++ comma ∷ others.text;
     more = n ∷ others.more;
@@ -180,8 +180,8 @@ module _ {houses bytes : List ℕ} {n : ℕ} where
   ]
 
 -- a side that is read from some byte on is written there
-side_from_written : (i : ℕ) (houses bytes : List ℕ) (found : SideRead) → side_from i houses bytes ≡ Some found →
-    WritesSide houses bytes found
+side_from_written : (i : ℕ) (houses bytes : List ℕ) (found : SideRead) → side_from i houses bytes ≡ Some found
+    → WritesSide houses bytes found
 side_from_written zero houses bytes found side_read = absurd cc
 side_from_written (suc i) houses bytes found side_read =
     let after = λ (house : ℕ × List ℕ).
@@ -292,8 +292,8 @@ module _ {bytes : List ℕ} {side : Side} {rest : List ℕ} {n : ℕ} {after : L
   store_follows slash_next stored = goes_on_after ∙ rw (slash_next, stored) refl
 
   -- if a comma follows it, more houses are taken
-  pub house_follows : {new : Side} {more : List ℕ} → after ≡ comma ∷ more → AreKept houses new.kept new.left_out →
-      new.left_out ≤ side.left_out + 1 → IsReadSoFar bytes new more
+  pub house_follows : {new : Side} {more : List ℕ} → after ≡ comma ∷ more → AreKept houses new.kept new.left_out
+      → new.left_out ≤ side.left_out + 1 → IsReadSoFar bytes new more
   house_follows {new} {more} comma_next are_kept one = record {
     houses = houses;
     steps = pred so_far.steps;

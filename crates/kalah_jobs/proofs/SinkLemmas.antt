@@ -18,8 +18,8 @@ pub prefix_kept_all : (old new : Option (List ℕ)) (bs : List ℕ) → Keeps ol
 prefix_kept_all old new bs kept = (0, Appends-kept old old new [] (Appends-nil old) kept)
 
 -- a first part of the bytes, and then a prefix of the rest
-pub prefix_then : (old between new : Option (List ℕ)) (bs done rest : List ℕ) → bs ≡ done ++ rest → Appends old between done →
-    AppendsPrefix between new rest → AppendsPrefix old new bs
+pub prefix_then : (old between new : Option (List ℕ)) (bs done rest : List ℕ) → bs ≡ done ++ rest → Appends old between done
+    → AppendsPrefix between new rest → AppendsPrefix old new bs
 prefix_then old between new bs done rest parts first start =
     let split : take (length done + start.0) bs ≡ done ++ take start.0 rest = ap (take (length done + start.0)) parts
     ∙ take-append-add done rest start.0 in
@@ -82,9 +82,8 @@ module _ {O : Type 0} (state : O → SinkState) where
 
   -- a text by one call, which is not made after a failure
   pub given_once : {A E : Type 0} (r : Result A E) (old new : O) (text : List ℕ) → (state old).has_failed ≡ false
-      → IsErr r ↔ ((state new).has_failed ≡ true)
-      → OnOk r (Appends (state old).written (state new).written text) → AppendsPrefix (state old).written (state new).written text
-      → WasGiven state old new text
+      → IsErr r ↔ ((state new).has_failed ≡ true) → OnOk r (Appends (state old).written (state new).written text)
+      → AppendsPrefix (state old).written (state new).written text → WasGiven state old new text
   given_once (Ok x) old new text sound fails adds start = record { start = start; whole = λ still. (sound, adds); quiet = λ failed. cc }
   given_once (Err e) old new text sound fails adds start =
       record { start = start; whole = λ still. absurd (cc (fails.0 refl)); quiet = λ failed. cc }
@@ -103,8 +102,8 @@ module _ {O : Type 0} (state : O → SinkState) where
   given_after_failure out text failed = record { start = prefix_none (state out).written text; whole = λ sound. absurd cc; quiet = λ _. refl }
 
   -- a text, and then another
-  pub given_then : (old between new : O) (text more : List ℕ) → WasGiven state old between text
-      → WasGiven state between new more → WasGiven state old new (text ++ more)
+  pub given_then : (old between new : O) (text more : List ℕ) → WasGiven state old between text → WasGiven state between new more
+      → WasGiven state old new (text ++ more)
   given_then old between new text more first second = record {
     start = by (state between).has_failed refl;
     whole = λ sound. (
@@ -126,14 +125,13 @@ module _ {O : Type 0} (state : O → SinkState) where
     by false sound = given_then _ _ _ _ _ first (subst (WasGiven state between new) (same sound) second)
 
   -- a text, and then a flush
-  pub given_then_flush : (old between new : O) (text : List ℕ) → WasGiven state old between text
-      → WasGiven state between new [] → WasGiven state old new text
-  given_then_flush old between new text first second =
-      subst (WasGiven state old new) (append-nil text) (given_then _ _ _ _ _ first second)
+  pub given_then_flush : (old between new : O) (text : List ℕ) → WasGiven state old between text → WasGiven state between new []
+      → WasGiven state old new text
+  given_then_flush old between new text first second = subst (WasGiven state old new) (append-nil text) (given_then _ _ _ _ _ first second)
 
   -- a text that goes on after a failure
-  pub given_more_after_failure : (old between : O) (text more : List ℕ) → WasGiven state old between text → (state between).has_failed ≡ true
-      → WasGiven state old between (text ++ more)
+  pub given_more_after_failure : (old between : O) (text more : List ℕ) → WasGiven state old between text
+      → (state between).has_failed ≡ true → WasGiven state old between (text ++ more)
   given_more_after_failure old between text more first failed = given_then _ _ _ _ _ first (given_after_failure between more failed)
 
   -- the texts of the first elements were given

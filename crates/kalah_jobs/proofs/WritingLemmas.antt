@@ -1,5 +1,5 @@
 -- How positions and answers are written: their texts, and the output of files.
-use Rattle.std.proofs.Common.{zero-add, SFits, of_z, to_z, w16, w32, ℕ, ◌<◌, ◌≤◌, ◌^◌, length, arith, ◌≡◌, zero, suc, List, ◌++◌, IsAscii, IsUtf8, subst, sym, refl, ◌+◌, [], ap, ◌∙◌, take, drop, append_assoc, ◌∷◌, map, get_or, flat_map, cond, ◌==◌, append-nil, add-one, Bool, false, codes, ◌-◌, filter, length-append, replicate, ℤ, pos, negsuc, slice_get, Some, ap₂, inl, inr, sum_by, count_by}
+use Rattle.std.proofs.Common.{zero-add, SFits, of_z, to_z, w16, w32, ℕ, ◌<◌, ◌≤◌, ◌^◌, length, arith, ◌≡◌, zero, suc, List, ◌++◌, IsAscii, IsUtf8, subst, sym, refl, ◌+◌, [], ap, ◌∙◌, take, drop, append_assoc, ◌∷◌, map, get_or, flat_map, cond, ◌==◌, append-nil, add-one, Bool, false, codes, ◌-◌, filter, length-append, replicate, ℤ, pos, negsuc, slice_get, Some, ap₂, inl, inr, sum_by, count_by, drop_of_length-le}
 use Rattle.std.specs.Fmt.{decimal, signed_decimal}
 use Rattle.std.proofs.lemmas.Fmt.{length-decimal-le, IsAscii-decimal, length_signed_le}
 use Rattle.std.proofs.lemmas.Str.{IsUtf8-append, IsUtf8-from_ascii}
@@ -9,7 +9,6 @@ use Rattle.kalah_rules.specs.Position.{Position, side_length, IsWithinLimits, Is
 use Rattle.kalah_jobs.specs.Writing.Player.{houses_of}
 use Rattle.kalah_jobs.specs.Types.{BestMove, Player, Answer, Taken, Question, Tally}
 use Rattle.kalah_jobs.specs.declared.writing.player.Player.TheVariants.{Mover, Other}
-use Rattle.std.proofs.Math.ListN.{drop_of_length-le}
 use Rattle.std.proofs.lemmas.List.{length-take-le, length-drop, drop_at, drop-drop, drop_more}
 use Rattle.std.specs.List.{join_with_byte, range_with_len, enumerate_from}
 use Rattle.std.proofs.lemmas.Bool.{ne_eqb, cond_both, cases_eq}
@@ -90,8 +89,8 @@ module _ (joined : List ℕ → List ℕ) (text : ℕ → List ℕ) (separator :
     (one : (x : ℕ) → joined (x ∷ []) ≡ text x)
     (more : (x y : ℕ) (xs : List ℕ) → joined (x ∷ y ∷ xs) ≡ text x ++ (separator ++ joined (y ∷ xs))) where
   -- one text more comes after the separator, unless it is the first
-  one_more_joined : (xs : List ℕ) (i : ℕ) → i < length xs →
-      joined (take (i + 1) xs) ≡ joined (take i xs) ++ (cond (i == 0) [] separator ++ text (get_or xs i 0))
+  one_more_joined : (xs : List ℕ) (i : ℕ) → i < length xs
+      → joined (take (i + 1) xs) ≡ joined (take i xs) ++ (cond (i == 0) [] separator ++ text (get_or xs i 0))
   one_more_joined [] i within = absurd (omega (arith, within))
   one_more_joined (x ∷ xs) zero within = rw (none, one) refl
   one_more_joined (x ∷ []) (suc i) within = absurd (omega (arith, within))
@@ -106,8 +105,8 @@ module _ (place : List ℕ) (text : ℕ → List ℕ) where
   joined_lines moves = join_with_byte line_feed (map (place ++◌) (map text moves))
 
   -- lines with a line feed between any two, and one at the end, are lines that end in one each
-  pub lines_end_in_feeds : (moves : List ℕ) → 0 < length moves →
-      joined_lines moves ++ line_feed ∷ [] ≡ flat_map (λ h. (place ++ text h) ++ line_feed ∷ []) moves
+  pub lines_end_in_feeds : (moves : List ℕ) → 0 < length moves
+      → joined_lines moves ++ line_feed ∷ [] ≡ flat_map (λ h. (place ++ text h) ++ line_feed ∷ []) moves
   lines_end_in_feeds [] some = absurd (omega (arith, some))
   lines_end_in_feeds (h ∷ []) some = sym (append-nil ((place ++ text h) ++ line_feed ∷ []))
   lines_end_in_feeds (h ∷ k ∷ moves) some = simp (append_assoc, lines_end_in_feeds (k ∷ moves) (omega arith))
@@ -125,21 +124,20 @@ module _ (text : ℕ → List ℕ) where
   texts_in_line moves = in_one_line (map text moves)
 
   -- one text more comes after `; `, unless it is the first
-  pub one_text_more : (moves : List ℕ) (i : ℕ) → i < length moves →
-      texts_in_line (take (i + 1) moves) ≡ texts_in_line (take i moves) ++ (cond (i == 0) [] (codes "; ") ++ text (get_or moves i 0))
+  pub one_text_more : (moves : List ℕ) (i : ℕ) → i < length moves
+      → texts_in_line (take (i + 1) moves) ≡ texts_in_line (take i moves) ++ (cond (i == 0) [] (codes "; ") ++ text (get_or moves i 0))
   one_text_more = one_more_joined texts_in_line text (codes "; ") refl (λ h. refl) (λ h k moves. refl)
 
 -- ==== Texts with a byte between any two, put together from the last on
 
 -- a number of 16 bits is read back from its bits, and from those that it is widened to
 read_back : (v z : ℤ) → SFits w16 v → z ≡ to_z w16 (of_z w16 v) → to_z w32 (of_z w32 z) ≡ v
-read_back v z fits z_is =
-    ap (λ x. to_z w32 (of_z w32 x)) (z_is ∙ to_z-of_z w16 v fits) ∙ to_z-of_z w32 v (omega (arith, ints, fits))
+read_back v z fits z_is = ap (λ x. to_z w32 (of_z w32 x)) (z_is ∙ to_z-of_z w16 v fits) ∙ to_z-of_z w32 v (omega (arith, ints, fits))
 
 -- an answer that begins with its margin
 pub from_margin : (answer : Answer) (margin : ℤ) (rest old : List ℕ) {text all : List ℕ} → SFits w32 margin
-    → joined_text answer ≡ signed_decimal margin ++ rest
-    → text ≡ rest ++ old → all ≡ signed_decimal (to_z w32 (of_z w32 margin)) ++ text → all ≡ joined_text answer ++ old
+    → joined_text answer ≡ signed_decimal margin ++ rest → text ≡ rest ++ old
+    → all ≡ signed_decimal (to_z w32 (of_z w32 margin)) ++ text → all ≡ joined_text answer ++ old
 from_margin answer margin rest old fits joined_is text_is all_is = rw (all_is, text_is, joined_is, to_z-of_z w32 margin fits) (simp append_assoc)
 
 module _ (values : List MoveValue) (i : ℕ) (v : MoveValue) (value_is : slice_get values i ≡ Some v) where
@@ -238,15 +236,14 @@ module _ {v z : ℤ} {end len : ℕ} (old : List ℕ) {text : List ℕ} (small :
 -- ---- one value more
 
 -- the column of a value before those after it
-pub column_before : (filled : ℕ) (v : MoveValue) (vs : List MoveValue) (old : List ℕ) {columns cell after : List ℕ} →
-    columns ≡ value_columns (v.house + 1) vs ++ old
-    → cell ≡ value_cell v.value ++ columns → after ≡ empty_columns (v.house - filled) ++ cell →
-    after ≡ value_columns filled (v ∷ vs) ++ old
+pub column_before : (filled : ℕ) (v : MoveValue) (vs : List MoveValue) (old : List ℕ) {columns cell after : List ℕ}
+    → columns ≡ value_columns (v.house + 1) vs ++ old → cell ≡ value_cell v.value ++ columns
+    → after ≡ empty_columns (v.house - filled) ++ cell → after ≡ value_columns filled (v ∷ vs) ++ old
 column_before filled v vs old columns_are cell_is after_is = after_is ∙ simp (cell_is, columns_are, append_assoc)
 
 -- what is known of the value at place i, and of those after it
-pub next_value : (filled : ℕ) (values : List MoveValue) (i : ℕ) (v : MoveValue) → slice_get values i ≡ Some v →
-    AscendFrom filled (drop i values) → AreSmall (drop i values)
+pub next_value : (filled : ℕ) (values : List MoveValue) (i : ℕ) (v : MoveValue) → slice_get values i ≡ Some v
+    → AscendFrom filled (drop i values) → AreSmall (drop i values)
     → IsMoveValue v × AscendFrom (v.house + 1) (drop (i + 1) values) × AreSmall (drop (i + 1) values)
 next_value filled values i v value_is ascend small =
     let front = items_from values i v value_is in
@@ -313,15 +310,15 @@ files_by_entries question text n (file ∷ files) under =
     (files_by_entries question text (n + 1) files (λ m i m_is low. under m (suc i) (omega arith) (omega arith)))
 
 -- a line is answered by a fault for each question
-faults_of_lines : (question : Question) (lines : List (List ℕ)) →
-    count_by is_faulty_entry (map (entry_to question) lines) ≡ count_by is_faulty lines
+faults_of_lines : (question : Question) (lines : List (List ℕ))
+    → count_by is_faulty_entry (map (entry_to question) lines) ≡ count_by is_faulty lines
 faults_of_lines question lines =
     count_map is_faulty_entry (entry_to question) lines ∙ (λ i. count_by (λ line. asked_fault question line i) lines)
 
 -- the faults of files are the faulty entries of their jobs
 faults_of_files : (question : Question) (files : List NamedBytes)
-    → sum_by (λ (file : NamedBytes). count_by is_faulty (lines_of file.bytes)) files
-    ≡ count_by is_faulty_entry (all_entries (jobs_to question files))
+    → sum_by (λ (file : NamedBytes). count_by is_faulty (lines_of file.bytes)) files ≡ count_by is_faulty_entry
+    (all_entries (jobs_to question files))
 unfolding entries_to
 faults_of_files question [] = refl
 faults_of_files question (file ∷ files) =
@@ -365,8 +362,8 @@ output_splits_by_files = record {
 -- ---- lines
 
 -- lines that end and more have the lines of both
-lines_of_both : (front second : List ℕ) → lines_of ((front ++ line_feed ∷ []) ++ second) ≡ lines_of
-    (front ++ line_feed ∷ []) ++ lines_of second
+lines_of_both : (front second : List ℕ)
+    → lines_of ((front ++ line_feed ∷ []) ++ second) ≡ lines_of (front ++ line_feed ∷ []) ++ lines_of second
 lines_of_both [] second = unfold lines_of in lines_of-feed line_feed second refl
 lines_of_both (byte ∷ front) second = elim (cases_eq byte line_feed) [
   | inl feed ↦ simp (lines_of-feed, lines_of_both front second)

@@ -84,8 +84,8 @@ number_of-suc n f =
     rw add-one at more
 
 -- rows are added house by house
-pub number_of-plus : (n : ℕ) (f g : ℕ → ℕ) → number_of (row_of n (λ i. f i + g i)) ≡ number_of (row_of n f) + number_of
-    (row_of n g)
+pub number_of-plus : (n : ℕ) (f g : ℕ → ℕ)
+    → number_of (row_of n (λ i. f i + g i)) ≡ number_of (row_of n f) + number_of (row_of n g)
 number_of-plus zero f g = refl
 number_of-plus (suc n) f g =
     let before = number_of-plus n f g in
@@ -114,13 +114,13 @@ number_of-up_to (suc n) x within = elim (cases_eq x (suc n)) [
 ]
 
 -- a row whose house h is emptied
-pub lifted_row : (xs : List ℕ) (h : ℕ) → 1 ≤ h → h ≤ length xs →
-    row_of (length xs) (λ i. if i == h then 0 else seeds xs i) ≡ slice_set xs (h - 1) 0
+pub lifted_row : (xs : List ℕ) (h : ℕ) → 1 ≤ h → h ≤ length xs
+    → row_of (length xs) (λ i. if i == h then 0 else seeds xs i) ≡ slice_set xs (h - 1) 0
 lifted_row xs h low high = grind (arith, same_as_row, length-set, seeds-set_same, seeds-set_other)
 
 -- the cells of the last lap, which begins past house h and has r seeds: it reaches a house after h at once, and one up to h on its way back
-pub own_lap : (m h r i : ℕ) → 1 ≤ h → h ≤ m → r < lap_length m → 1 ≤ i → i ≤ m →
-    up_to r (own_distance m h i) + up_to h i ≡ up_to (h + r) i + up_to (h + r - lap_length m) i
+pub own_lap : (m h r i : ℕ) → 1 ≤ h → h ≤ m → r < lap_length m → 1 ≤ i → i ≤ m
+    → up_to r (own_distance m h i) + up_to h i ≡ up_to (h + r) i + up_to (h + r - lap_length m) i
 own_lap m h r i low high few i_low i_high = search rules
 
 -- the same for the other houses
@@ -129,10 +129,10 @@ other_lap m h r j low high j_low = grind arith
 
 -- ---- what a sowing adds
 -- the own row after a sowing, by what was lifted and what it gains
-pub own_sown : (xs : List ℕ) (h c : ℕ) → 1 ≤ h → h ≤ length xs →
-    number_of
-    (row_of (length xs) (λ i. (if i == h then 0 else seeds xs i) + gain (lap_length (length xs)) c (own_distance (length xs) h i)))
-    + 32 ^ (h - 1) * seeds xs h ≡ number_of xs + own_gains (length xs) h c
+pub own_sown : (xs : List ℕ) (h c : ℕ) → 1 ≤ h → h ≤ length xs
+    → number_of
+    (row_of (length xs) (λ i. (if i == h then 0 else seeds xs i) + gain (lap_length (length xs)) c (own_distance (length xs) h i))) + 32 ^
+    (h - 1) * seeds xs h ≡ number_of xs + own_gains (length xs) h c
 own_sown xs h c low high =
     let plus = number_of-plus (length xs) (λ i. if i == h then 0 else seeds xs i)
     (λ i. gain (lap_length (length xs)) c (own_distance (length xs) h i)) in
@@ -141,9 +141,9 @@ own_sown xs h c low high =
     omega arith
 
 -- what it adds to the other row
-pub other_sown : (ys : List ℕ) (h c : ℕ) →
-    number_of (row_of (length ys) (λ j. seeds ys j + gain (lap_length (length ys)) c (other_distance (length ys) h j)))
-    ≡ number_of ys + other_gains (length ys) h c
+pub other_sown : (ys : List ℕ) (h c : ℕ)
+    → number_of (row_of (length ys) (λ j. seeds ys j + gain (lap_length (length ys)) c (other_distance (length ys) h j))) ≡ number_of
+    ys + other_gains (length ys) h c
 other_sown ys h c =
     let plus = number_of-plus (length ys) (seeds ys) (λ j. gain (lap_length (length ys)) c (other_distance (length ys) h j)) in
     let kept = ap number_of (sym (same_as_row ys _ (seeds ys) refl (omega arith))) in
@@ -151,8 +151,8 @@ other_sown ys h c =
 
 module _ (m h c : ℕ) (low : 1 ≤ h) (high : h ≤ m) where
   -- what the own row gains, and one seed more in each house up to the one that is emptied
-  pub own_gain : own_gains m h c + ones h ≡ c / lap_length m * ones m + number_of (row_of m (up_to (h + c % lap_length m)))
-      + number_of (row_of m (up_to (h + c % lap_length m - lap_length m)))
+  pub own_gain : own_gains m h c + ones h ≡ c / lap_length m * ones m + number_of (row_of m (up_to (h + c % lap_length m))) + number_of
+      (row_of m (up_to (h + c % lap_length m - lap_length m)))
   own_gain =
       let q = c / lap_length m in
       let gains : ℕ → ℕ = λ i. gain (lap_length m) c (own_distance m h i) in
@@ -218,8 +218,8 @@ up_to_past m h x within past = grind (arith, number_of-up_to, ones_le, number_of
 -- ==== Padded rows, cells of a key, and the houses that it determines
 
 -- zeros past the houses are what a row is padded with
-pub padded_from_zeros : (m : ℕ) (cells : List ℕ) → length cells ≡ 6 → m ≤ 6 → All (λ x. x ≡ 0) (drop m cells) →
-    padded (take m cells) ≡ cells
+pub padded_from_zeros : (m : ℕ) (cells : List ℕ) → length cells ≡ 6 → m ≤ 6 → All (λ x. x ≡ 0) (drop m cells)
+    → padded (take m cells) ≡ cells
 padded_from_zeros m cells long high zeros =
     let past = same_number_lists _ _ (length-drop m _ ∙ omega (arith, length-replicate {A = ℕ} (6 - m) 0))
     (λ k h. let within : k < 6 - m = omega (arith, length-drop m cells) in
@@ -346,8 +346,8 @@ pub same_houses_in : {a b : HousesState} → a.own ≡ b.own → a.other ≡ b.o
 same_houses_in x y z = grind arith
 
 -- the houses that have a key, by its parts
-pub houses_of_key : (a : HousesState) (k : ℕ) (rule : Rule) → IsWithinHouses a → key_of a ≡ k → rule_bit rule ≡ k / 2 ^ 63 →
-    houses_from (side_at k) (cells 6 k) (cells 6 (k / 2 ^ 30)) rule ≡ a
+pub houses_of_key : (a : HousesState) (k : ℕ) (rule : Rule) → IsWithinHouses a → key_of a ≡ k → rule_bit rule ≡ k / 2 ^ 63
+    → houses_from (side_at k) (cells 6 k) (cells 6 (k / 2 ^ 30)) rule ≡ a
 houses_of_key a k rule limits key_is bit =
     let held = key_holds limits key_is in
     let other_shown : take (side_at k) (cells 6 (k / 2 ^ 30)) ≡ a.other =
@@ -355,17 +355,15 @@ houses_of_key a k rule limits key_is bit =
     same_houses_in (rw (held.side, held.own_cells) (take-padded _)) other_shown (rule_bit-injective _ _ (omega arith))
 
 -- the parts of a key make the key
-key_from_parts : {k side : ℕ} {own other : List ℕ} (rule : Rule) → number_of own + 2 ^ 30 * (k / 2 ^ 30) ≡ k →
-    number_of other + 2 ^ 30 * (k / 2 ^ 30 / 2 ^ 30) ≡ k / 2 ^ 30 →
-    padded (take side own) ≡ own → padded (take side other) ≡ other → length (take side own) ≡ side
-    → side ≡ k / 2 ^ 60 % 8 →
-    rule_bit rule ≡ k / 2 ^ 63 →
-    key_of (houses_from side own other rule) ≡ k
+key_from_parts : {k side : ℕ} {own other : List ℕ} (rule : Rule) → number_of own + 2 ^ 30 * (k / 2 ^ 30) ≡ k
+    → number_of other + 2 ^ 30 * (k / 2 ^ 30 / 2 ^ 30) ≡ k / 2 ^ 30 → padded (take side own) ≡ own
+    → padded (take side other) ≡ other → length (take side own) ≡ side → side ≡ k / 2 ^ 60 % 8 → rule_bit rule ≡ k / 2 ^ 63
+    → key_of (houses_from side own other rule) ≡ k
 key_from_parts rule own_is other_is own_padded other_padded long side_is bit = omega (arith, number_of-shown)
 
 -- the key of the houses that a key holds
-pub key_of_houses : {k : ℕ} (rule : Rule) → IsKey k → rule_bit rule ≡ k / 2 ^ 63 →
-    key_of (houses_from (side_at k) (cells 6 k) (cells 6 (k / 2 ^ 30)) rule) ≡ k
+pub key_of_houses : {k : ℕ} (rule : Rule) → IsKey k → rule_bit rule ≡ k / 2 ^ 63
+    → key_of (houses_from (side_at k) (cells 6 k) (cells 6 (k / 2 ^ 30)) rule) ≡ k
 key_of_houses {k} rule is_key bit = search (rules, key_from_parts, number_of-cells, padded_from_zeros)
 
 -- the rule that a key names has the key's bit
@@ -387,8 +385,8 @@ key_fits b limits = grind (arith, number_of-small)
 
 -- the parts of the key of houses, with their number of seeds, are those houses packed
 pub packed_as : (b : HousesState) (rows seeds variant : ℕ) → IsWithinHouses b → rows ≡ rows_number b
-    → seeds ≡ seeds_in_houses (storeless b) →
-    variant ≡ variant_of b → IsPacked rows seeds variant × (unpacked rows variant ≡ b)
+    → seeds ≡ seeds_in_houses (storeless b) → variant ≡ variant_of b
+    → IsPacked rows seeds variant × (unpacked rows variant ≡ b)
 packed_as b rows seeds variant limits rows_are seeds_are variant_is =
     let key_is : rows + 2 ^ 60 * variant ≡ key_of b = omega arith in
     let same : unpacked rows variant ≡ b = ap houses_at key_is ∙ houses_at_key limits in
@@ -433,15 +431,13 @@ module _ (k : ℕ) (rule : Rule) (bit : rule_bit rule ≡ k / 2 ^ 63) where
   parts = houses_from (side_at k) (cells 6 k) (cells 6 (k / 2 ^ 30)) rule
 
   -- what is found has the key
-  pub of_key_same : (o : Option HousesState) → (IsSome o ↔ IsKey k) → IfSome o (λ a. a ≡ parts)
-      → IfSome o (λ a. key_of a ≡ k)
+  pub of_key_same : (o : Option HousesState) → (IsSome o ↔ IsKey k) → IfSome o (λ a. a ≡ parts) → IfSome o (λ a. key_of a ≡ k)
   of_key_same None valid value = tt
   of_key_same (Some a) valid value = ap key_of value ∙ key_of_houses _ (valid.0 (search rules)) bit
 
   -- the houses of a key are found
   pub of_key_found : (o : Option HousesState) → (IsSome o ↔ IsKey k) → IfSome o (λ a. a ≡ parts) → (a : HousesState)
-      → IsWithinHouses a →
-      key_of a ≡ k → o ≡ Some a
+      → IsWithinHouses a → key_of a ≡ k → o ≡ Some a
   of_key_found None valid value a limits key_is = grind (arith, key_is_key)
   of_key_found (Some b) valid value a limits key_is = ap Some (value ∙ houses_of_key _ _ _ limits key_is bit)
 
@@ -452,8 +448,8 @@ key-injective a b limits_a limits_b same =
     sym (houses_of_key _ _ _ limits_a same bit) ∙ houses_of_key _ _ _ limits_b refl bit
 
 -- without seeds only the variant is left
-pub without_seeds_packed : {a : HousesState} {rows seeds variant : ℕ} → IsPackOf a rows seeds variant →
-    IsPacked 0 0 variant × (unpacked 0 variant ≡ without_seeds a)
+pub without_seeds_packed : {a : HousesState} {rows seeds variant : ℕ} → IsPackOf a rows seeds variant
+    → IsPacked 0 0 variant × (unpacked 0 variant ≡ without_seeds a)
 without_seeds_packed {a} pack =
     let side = length-replicate {A = ℕ} (length a.own) 0 in
     let none = sum-zeros (length a.own) in
@@ -508,14 +504,14 @@ packed_rows limits own_is other_is m_is variant_is seeds_are = packed_as _ _ _ _
 -- ==== Houses from six cells a row
 
 -- the cells past the houses hold no seeds
-pub sum-shown : (m : ℕ) (cells : List ℕ) → length cells ≡ 6 → m ≤ 6 → All (λ x. x ≡ 0) (drop m cells) →
-    sum (take m cells) ≡ sum cells
+pub sum-shown : (m : ℕ) (cells : List ℕ) → length cells ≡ 6 → m ≤ 6 → All (λ x. x ≡ 0) (drop m cells)
+    → sum (take m cells) ≡ sum cells
 sum-shown m cells long few none = let same = padded_from_zeros m cells long few none in grind (arith, sum-padded)
 
 -- cells whose last ones hold no seeds can be houses exactly if their first ones are within the limits
-pub can_be_houses : {m : ℕ} {own other : List ℕ} (rule : Rule) → m ≤ 6 → length own ≡ 6 → length other ≡ 6 →
-    All (λ x. x ≡ 0) (drop m own) → All (λ x. x ≡ 0) (drop m other) →
-    IsWithinHouses (houses_from m own other rule) ↔ CanBeHouses m own other
+pub can_be_houses : {m : ℕ} {own other : List ℕ} (rule : Rule) → m ≤ 6 → length own ≡ 6 → length other ≡ 6
+    → All (λ x. x ≡ 0) (drop m own) → All (λ x. x ≡ 0) (drop m other)
+    → IsWithinHouses (houses_from m own other rule) ↔ CanBeHouses m own other
 can_be_houses {m} {own} {other} rule few own_long other_long own_past other_past =
     let own_shown = length-take-le m own (omega arith) in
     let other_shown = length-take-le m other (omega arith) in

@@ -43,8 +43,8 @@ record AreLeft (rows taken own other : ℕ) : Type 0 where
   other_is : (rows - taken) / 2 ^ 30 ≡ other
 
 -- x is taken from the own row, and y from the other
-left_of_rows : (rows x y : ℕ) {own other own_new other_new : ℕ} → rows % 2 ^ 30 ≡ own → rows / 2 ^ 30 ≡ other →
-    own_new + x ≡ own → other_new + y ≡ other → AreLeft rows (x + 2 ^ 30 * y) own_new other_new
+left_of_rows : (rows x y : ℕ) {own other own_new other_new : ℕ} → rows % 2 ^ 30 ≡ own → rows / 2 ^ 30 ≡ other
+    → own_new + x ≡ own → other_new + y ≡ other → AreLeft rows (x + 2 ^ 30 * y) own_new other_new
 left_of_rows rows x y own_is other_is less other_less = omega arith
 
 -- the seeds across from the last house of a sowing
@@ -95,8 +95,7 @@ record GainsIntoStore (m h c : ℕ) : Type 0 where
 
 -- such a sowing gives each later own house and the store one seed, and the other player none
 gains_into_store : (m h c : ℕ) → 1 ≤ h → h ≤ m → c + h ≡ m + 1 → GainsIntoStore m h c
-gains_into_store m h c low high ends =
-    grind (arith, div-eq_of_lt, mod-eq_of_lt, number_of-all, number_of-up_to, own_gain, other_gain)
+gains_into_store m h c low high ends = grind (arith, div-eq_of_lt, mod-eq_of_lt, number_of-all, number_of-up_to, own_gain, other_gain)
 
 -- a house of houses within their limits that holds seeds
 pub record CanSow (a : HousesState) (h : ℕ) : Type 0 where
@@ -155,16 +154,15 @@ module _ {a : HousesState} {h : ℕ} (can : CanSow a h) where
 
   -- both rows without the house's seeds, and with what they gain
   pub sown_rows : (rows house gains : ℕ) → rows ≡ number_of a.own + 2 ^ 30 * number_of a.other
-      → house ≡ 32 ^ (h - 1) * seeds a.own h →
-      gains ≡ own_gains (length a.own) h (seeds a.own h) + 2 ^ 30 * other_gains (length a.own) h (seeds a.own h) →
-      rows - house + gains ≡ number_of after_sowing.own + 2 ^ 30 * number_of after_sowing.other
+      → house ≡ 32 ^ (h - 1) * seeds a.own h
+      → gains ≡ own_gains (length a.own) h (seeds a.own h) + 2 ^ 30 * other_gains (length a.own) h (seeds a.own h)
+      → rows - house + gains ≡ number_of after_sowing.own + 2 ^ 30 * number_of after_sowing.other
   sown_rows rows house gains rows_are house_is gains_are = omega (arith, number_of-sown_own, number_of-sown_other, number_of-lifted)
 
   -- after a sowing the rows are both rows, less what they lose
-  pub sown_less : (rows loses : ℕ) → rows ≡ number_of a.own + 2 ^ 30 * number_of a.other → loses < 2 ^ 64 →
-      (loses + (own_gains (length a.own) h (seeds a.own h) + 2 ^ 30 * other_gains (length a.own) h (seeds a.own h))) % 2 ^ 64
-      ≡ 32 ^ (h - 1) * seeds a.own h →
-      (rows + (2 ^ 64 - loses)) % 2 ^ 64 ≡ number_of after_sowing.own + 2 ^ 30 * number_of after_sowing.other
+  pub sown_less : (rows loses : ℕ) → rows ≡ number_of a.own + 2 ^ 30 * number_of a.other → loses < 2 ^ 64
+      → (loses + (own_gains (length a.own) h (seeds a.own h) + 2 ^ 30 * other_gains (length a.own) h (seeds a.own h))) % 2 ^ 64 ≡ 32 ^
+      (h - 1) * seeds a.own h → (rows + (2 ^ 64 - loses)) % 2 ^ 64 ≡ number_of after_sowing.own + 2 ^ 30 * number_of after_sowing.other
   sown_less rows loses rows_are loses_small loses_is = omega (arith, number_of-sown_own, number_of-sown_other, own_small, other_small)
 
   -- rows and a store with what a sowing adds show the position after it
@@ -182,8 +180,8 @@ module _ {a : HousesState} {h : ℕ} (can : CanSow a h) where
       rows_show _ 1 (sown_rows _ house _ rows_are house_is (omega arith)) (omega arith)
 
   -- a house read off the numbers
-  pub read_own : (r : RowNumbers) (i bit : ℕ) → IsPackedPosition r after_sowing → 1 ≤ i → i ≤ length a.own → bit ≡ 5 * (i - 1) →
-      r.rows / 2 ^ bit % 32 ≡ seeds after_sowing.own i
+  pub read_own : (r : RowNumbers) (i bit : ℕ) → IsPackedPosition r after_sowing → 1 ≤ i → i ≤ length a.own
+      → bit ≡ 5 * (i - 1) → r.rows / 2 ^ bit % 32 ≡ seeds after_sowing.own i
   read_own r i bit shows low high bit_is =
       let near : i - 1 ≤ 5 = omega arith in
       rw (bit_is, pow_five) (own_house_of_rows _ _ near ∙ ap (λ n. n / 32 ^ (i - 1) % 32) shows.own
@@ -191,8 +189,7 @@ module _ {a : HousesState} {h : ℕ} (can : CanSow a h) where
 
   -- the house across
   pub read_across : (r : RowNumbers) (i bit : ℕ) → IsPackedPosition r after_sowing → 1 ≤ i → i ≤ length a.own
-      → bit ≡ 30 + 5 * (opposite after_sowing i - 1) →
-      r.rows / 2 ^ bit % 32 ≡ seeds after_sowing.other (opposite after_sowing i)
+      → bit ≡ 30 + 5 * (opposite after_sowing i - 1) → r.rows / 2 ^ bit % 32 ≡ seeds after_sowing.other (opposite after_sowing i)
   read_across r i bit shows low high bit_is =
       let side = sown_keeps.side in
       let other_side = sown_keeps.other_side in
@@ -214,9 +211,8 @@ module _ {a : HousesState} {h : ℕ} (can : CanSow a h) where
 
     -- the seeds are taken if and only if the rule lets the last seed capture
     taken_by_rule : MatchBool (can_capture after_sowing i)
-        ((taken ≡ s.last_seed + seeds after_sowing.other across * 2 ^ s.across_bit % 2 ^ 64)
-        × (count ≡ 1 + seeds after_sowing.other across))
-        ((taken ≡ 0) × (count ≡ 0))
+        ((taken ≡ s.last_seed + seeds after_sowing.other across * 2 ^ s.across_bit % 2 ^ 64) ×
+        (count ≡ 1 + seeds after_sowing.other across)) ((taken ≡ 0) × (count ≡ 0))
     taken_by_rule =
         let single : (bit_and r.rows s.last_mask == s.last_seed) ≡ (seeds after_sowing.own i == 1) =
         rw (house.house, house.seed, ← read_own r i (5 * (i - 1)) shows first last refl, pow_five (i - 1)) (one_seed_at r.rows (i - 1)) in
@@ -288,25 +284,24 @@ module _ (p : Position) (h : ℕ) (holds : HoldsSeeds p h) where
   place_near near = grind arith
 
   -- the place of a last seed that comes round
-  place_round : lap_length (side_length p) < h + last_distance p h →
-      last_place (side_length p) h (seeds p.own h) ≡ h + last_distance p h - lap_length (side_length p)
+  place_round : lap_length (side_length p) < h + last_distance p h
+      → last_place (side_length p) h (seeds p.own h) ≡ h + last_distance p h - lap_length (side_length p)
   place_round round = grind arith
 
   -- an own house where it falls is as far as it goes
-  own_at : last_place (side_length p) h (seeds p.own h) ≤ side_length p →
-      own_distance (side_length p) h (last_place (side_length p) h (seeds p.own h)) ≡ last_distance p h
-  own_at own =
-      grind (arith, cases_lt, place_round, own_distance_back, last_high, place_near, own_distance_past, last_low)
+  own_at : last_place (side_length p) h (seeds p.own h) ≤ side_length p
+      → own_distance (side_length p) h (last_place (side_length p) h (seeds p.own h)) ≡ last_distance p h
+  own_at own = grind (arith, cases_lt, place_round, own_distance_back, last_high, place_near, own_distance_past, last_low)
 
   -- it falls into an own house, and may capture
-  pub after_own : (r : RowNumbers) → last_place (side_length p) h (seeds p.own h) ≤ side_length p →
-      IsPackedPosition r (captured (sown p h) (Some (last_place (side_length p) h (seeds p.own h)))) → IsPackedPosition r (after p h)
+  pub after_own : (r : RowNumbers) → last_place (side_length p) h (seeds p.own h) ≤ side_length p
+      → IsPackedPosition r (captured (sown p h) (Some (last_place (side_length p) h (seeds p.own h)))) → IsPackedPosition r (after p h)
   after_own r own shows = subst (λ z. IsPackedPosition r z)
       (after_at _ _ _ (last_house_own holds (omega arith) own (own_at own))) shows
 
   -- the place of any other cell is its distance past the house
-  place_past : side_length p < last_place (side_length p) h (seeds p.own h) →
-      (last_place (side_length p) h (seeds p.own h) ≡ h + last_distance p h) × (h + last_distance p h ≤ lap_length (side_length p))
+  place_past : side_length p < last_place (side_length p) h (seeds p.own h)
+      → (last_place (side_length p) h (seeds p.own h) ≡ h + last_distance p h) × (h + last_distance p h ≤ lap_length (side_length p))
   place_past past = grind (arith, place_round)
 
   -- it falls into the store or beyond
@@ -420,8 +415,7 @@ pub record IsPackedStep (a : HousesState) (h rows seeds variant : ℕ) (step : H
 
 -- a move brings at most 31 seeds to the store
 pub store_small : {a : HousesState} {h : ℕ} {r : RowNumbers} → IsWithinHouses a → IsLegal a h
-    → IsPackedPosition r (after (storeless a) h) →
-    r.store ≤ 31
+    → IsPackedPosition r (after (storeless a) h) → r.store ≤ 31
 store_small {a} {h} {r} limits legal shows =
     let keeps = after_keeps _ _ limits (legal_holds _ _ legal) in
     omega (arith, keeps.play)
@@ -481,8 +475,8 @@ module _ {a : HousesState} {h rows seeds variant : ℕ} {r : RowNumbers} (packed
         record { packed = there.0; step_is = rw (shows.store, there.1) (sym (step_again _ _ moved_going more)) }
 
     -- if the turn passes, they change places
-    pub turn_packed : is_again (storeless a) h ≡ false →
-        IsPackedStep a h (r.rows / 2 ^ 30 + 2 ^ 30 * (r.rows % 2 ^ 30)) (seeds - r.store) variant (Turn r.store)
+    pub turn_packed : is_again (storeless a) h ≡ false
+        → IsPackedStep a h (r.rows / 2 ^ 30 + 2 ^ 30 * (r.rows % 2 ^ 30)) (seeds - r.store) variant (Turn r.store)
     turn_packed passed =
         let rule = ap rule_bit move_keeps.rule in
         let there = packed_as (houses_in (swapped moved)) _ (seeds - _) variant
@@ -504,16 +498,16 @@ abbrev pub IsStepWithin : Position → HousesStep → Type 0
 IsStepWithin p s = IsWithinLimits (position_after (with_board_stores p s))
 
 -- the step with the stores is that of the position with the stores
-with_board_stores-step_to : (p q : Position) (over again : Bool) → side_length q ≡ side_length p → q.rule ≡ p.rule → q.other_store ≡ 0
-    → is_over q ≡ over →
-    with_board_stores p (houses_step_to q again) ≡ step_to (with_store_seeds p.own_store p.other_store q) again
+with_board_stores-step_to : (p q : Position) (over again : Bool) → side_length q ≡ side_length p → q.rule ≡ p.rule
+    → q.other_store ≡ 0 → is_over q ≡ over
+    → with_board_stores p (houses_step_to q again) ≡ step_to (with_store_seeds p.own_store p.other_store q) again
 with_board_stores-step_to p q true again side rule none over_is = grind arith
 with_board_stores-step_to p q false true side rule none over_is = grind arith
 with_board_stores-step_to p q false false side rule none over_is = grind arith
 
 -- the step of a board is that of its houses
-pub step_of_houses : (p : Position) (h : ℕ) → IsWithinHouses (houses_in p) → HoldsSeeds (storeless (houses_in p)) h →
-    with_board_stores p (houses_step (houses_in p) h) ≡ step_of p h
+pub step_of_houses : (p : Position) (h : ℕ) → IsWithinHouses (houses_in p) → HoldsSeeds (storeless (houses_in p)) h
+    → with_board_stores p (houses_step (houses_in p) h) ≡ step_of p h
 step_of_houses p h limits holds =
     let q = after _ h in
     let keeps = after_keeps _ _ limits holds in
@@ -553,9 +547,8 @@ pub record IsStepOf (p : Position) (h : ℕ) (s : HousesStep) : Type 0 where
 
 -- a step of a board's houses is the board's, within the limits
 pub step_of_board : {b : HousesState} {own_store other_store h : ℕ} {p : Position} {s t : HousesStep}
-    → IsWithinLimits (with_stores b own_store other_store) →
-    with_stores b own_store other_store ≡ p → Contains (legal_houses p) h → t ≡ s → t ≡ houses_step b h →
-    IsStepOf (with_stores b own_store other_store) h s
+    → IsWithinLimits (with_stores b own_store other_store) → with_stores b own_store other_store ≡ p → Contains (legal_houses p) h
+    → t ≡ s → t ≡ houses_step b h → IsStepOf (with_stores b own_store other_store) h s
 step_of_board {b} {own_store} {other_store} {h} limits view_is legal same step_is =
     let p = with_stores b own_store _ in
     let holds = legal_holds _ _ (subst (λ (x : Position). Contains (legal_houses x) h) (sym view_is) legal) in
@@ -604,11 +597,9 @@ pub record MovesIntoStore (a : HousesState) (h seeds variant now : ℕ) : Type 0
 
 -- it adds a seed in each later house, less the seeds of the house
 pub moves_into_store : {a : HousesState} {h rows seeds variant : ℕ} (more : ℕ) → IsPacked rows seeds variant
-    → unpacked rows variant ≡ a
-    → IsLegal a h →
-    position.seeds a.own h + h ≡ length a.own + 1
-    → (more + 32 ^ (h - 1) * (length a.own + 1 - h)) % 2 ^ 64 ≡ ones (length a.own) - ones h →
-    MovesIntoStore a h seeds variant ((rows + more) % 2 ^ 64)
+    → unpacked rows variant ≡ a → IsLegal a h → position.seeds a.own h + h ≡ length a.own + 1
+    → (more + 32 ^ (h - 1) * (length a.own + 1 - h)) % 2 ^ 64 ≡ ones (length a.own) - ones h
+    → MovesIntoStore a h seeds variant ((rows + more) % 2 ^ 64)
 moves_into_store {a} {h} {rows} {seeds} {variant} more packed view_is legal ends more_is =
     let pack = pack_of packed view_is in
     let can : CanSow a h = record { limits = pack.limits; holds = legal_holds (storeless a) h legal } in
@@ -633,8 +624,8 @@ moves_into_store {a} {h} {rows} {seeds} {variant} more packed view_is legal ends
 -- ==== The cells of the table of sowings
 
 -- one cell more
-pub sowings_more : (cells : List Sowing) (i : ℕ) (s : Sowing) → i < length cells → AreSowings i cells →
-    ((m h c : ℕ) → IsSowingCell m h c i → IsSowing m h c s) → AreSowings (i + 1) (slice_set cells i s)
+pub sowings_more : (cells : List Sowing) (i : ℕ) (s : Sowing) → i < length cells → AreSowings i cells
+    → ((m h c : ℕ) → IsSowingCell m h c i → IsSowing m h c s) → AreSowings (i + 1) (slice_set cells i s)
 sowings_more cells i s inside before sown m h c k d cell below = elim (cases_eq k i) [
   | inl same ↦ rw (same, get_or-set_same) (sown m h c (rw same at cell))
   | inr other ↦ rw (get_or-set_other cells i k s d other) (before m h c k d cell (omega arith))

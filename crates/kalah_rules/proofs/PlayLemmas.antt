@@ -1,5 +1,5 @@
 -- Moves, house by house: how seeds are sown and captured, which moves there are, and how each nears the end.
-use Rattle.std.proofs.Common.{zero, suc, ◌≡◌, ◌≢◌, ℕ, ◌+◌, ◌-◌, ◌*◌, ◌<◌, ◌≤◌, inl, inr, List, [], ◌∷◌, zero-le, length, replicate, arith, ap, ◌∙◌, refl, ◌/◌, ◌%◌, ◌⊎◌, sym, add-one, ◌++◌, eq-eqb, lt-ltb, slice_set, slice_index, sum, sum_by, Bool, true, false, cond, Option, Some, None, find, filter, Contains, All, nat_lt, length-set}
+use Rattle.std.proofs.Common.{zero, suc, ◌≡◌, ◌≢◌, ℕ, ◌+◌, ◌-◌, ◌*◌, ◌<◌, ◌≤◌, inl, inr, List, [], ◌∷◌, zero-le, length, replicate, arith, ap, ◌∙◌, refl, ◌/◌, ◌%◌, ◌⊎◌, sym, add-one, ◌++◌, eq-eqb, lt-ltb, slice_set, slice_index, sum, sum_by, Bool, true, false, cond, Option, Some, None, find, filter, Contains, All, nat_lt, length-set, mod-eq_of_lt}
 use Rattle.std.specs.List.{range_with_len}
 use Rattle.std.proofs.lemmas.Nat.{mul-le}
 use Rattle.std.proofs.lemmas.Bool.{cases_eq, cases_lt, cond_both, ltb-true, ne_eqb}
@@ -13,23 +13,21 @@ use Rattle.kalah_rules.specs.Position.{Position, HousesState, seeds, side_length
 use Rattle.kalah_rules.specs.Lap.{Cell, Own, Store, Other, distance, IsCellOf, with_seed, lifted, HoldsSeeds}
 use Rattle.std.proofs.lemmas.List.Elements.{filter-append, filter_passes, All-filter, All-contains, Contains-append_left, Contains-append_right, Contains-push}
 use Rattle.kalah_rules.specs.Play.{legal_houses}
-use Rattle.std.proofs.Math.Nat.{mod-eq_of_lt}
 use Rattle.kalah_rules.specs.Measure.{row_distance, distance_to_stores, IsNearerEnd, moves_left}
 
 -- ==== Numbers, sums and lists of them: nothing here is of Kalah
 
 -- sums over a range are equal if their terms are
-pub sum_range_same : (f g : ℕ → ℕ) (a n : ℕ) → ((j : ℕ) → a ≤ j → f j ≡ g j) →
-    sum_by f (range_with_len a n) ≡ sum_by g (range_with_len a n)
+pub sum_range_same : (f g : ℕ → ℕ) (a n : ℕ) → ((j : ℕ) → a ≤ j → f j ≡ g j)
+    → sum_by f (range_with_len a n) ≡ sum_by g (range_with_len a n)
 sum_range_same f g a zero same = refl
 sum_range_same f g a (suc n) same =
     let rest = sum_range_same f g (a + 1) n (omega arith) in
     omega (arith, sum_by-cons)
 
 -- a sum over a range whose term changes at one place
-pub sum_range_change : (f g : ℕ → ℕ) (a n i : ℕ) → a ≤ i → i < a + n →
-    ((j : ℕ) → a ≤ j → j ≢ i → f j ≡ g j) →
-    sum_by f (range_with_len a n) + g i ≡ sum_by g (range_with_len a n) + f i
+pub sum_range_change : (f g : ℕ → ℕ) (a n i : ℕ) → a ≤ i → i < a + n → ((j : ℕ) → a ≤ j → j ≢ i → f j ≡ g j)
+    → sum_by f (range_with_len a n) + g i ≡ sum_by g (range_with_len a n) + f i
 sum_range_change f g a zero i low high same = omega arith
 sum_range_change f g a (suc n) i low high same =
     let f_cons = sum_by-cons f a (range_with_len (a + 1) n) in
@@ -85,9 +83,9 @@ sum-zeros n = omega (arith, sum_by-replicate)
 -- ==== Distances on a lap, and what one more seed adds
 
 -- a count and its successor, in whole laps and the rest
-pub div-mod-suc : (n k : ℕ) → 0 < n →
-    ((k % n + 1 < n) × ((k + 1) % n ≡ k % n + 1) × ((k + 1) / n ≡ k / n))
-    ⊎ ((k % n + 1 ≡ n) × ((k + 1) % n ≡ 0) × ((k + 1) / n ≡ k / n + 1))
+pub div-mod-suc : (n k : ℕ) → 0 < n
+    → ((k % n + 1 < n) × ((k + 1) % n ≡ k % n + 1) × ((k + 1) / n ≡ k / n)) ⊎
+    ((k % n + 1 ≡ n) × ((k + 1) % n ≡ 0) × ((k + 1) / n ≡ k / n + 1))
 div-mod-suc n k pos = grind arith
 
 -- the seed after k seeds goes to the cell at distance k % n + 1, and to no other
@@ -112,8 +110,8 @@ own_distance_back m h i back = grind arith
 -- ==== Rows of houses, house by house
 
 -- positions with the same parts are the same
-pub same_position : {p q : Position} → p.own ≡ q.own → p.own_store ≡ q.own_store → p.other ≡ q.other →
-    p.other_store ≡ q.other_store → p.rule ≡ q.rule → p ≡ q
+pub same_position : {p q : Position} → p.own ≡ q.own → p.own_store ≡ q.own_store → p.other ≡ q.other
+    → p.other_store ≡ q.other_store → p.rule ≡ q.rule → p ≡ q
 same_position a b c d e = grind arith
 
 pub length-row_of : (n : ℕ) (f : ℕ → ℕ) → length (row_of n f) ≡ n
@@ -131,9 +129,8 @@ same_rows xs ys long each = same_number_lists xs ys long (λ k h.
     let at : k + 1 - 1 ≡ k = omega arith in
     rw at at (each _ low high))
 
-pub same_as_row : (xs : List ℕ) (n : ℕ) (f : ℕ → ℕ) → length xs ≡ n →
-    ((i : ℕ) → 1 ≤ i → i ≤ n → seeds xs i ≡ f i) →
-    xs ≡ row_of n f
+pub same_as_row : (xs : List ℕ) (n : ℕ) (f : ℕ → ℕ) → length xs ≡ n
+    → ((i : ℕ) → 1 ≤ i → i ≤ n → seeds xs i ≡ f i) → xs ≡ row_of n f
 same_as_row xs n f long each = grind (arith, same_rows, length-row_of, seeds-row_of)
 
 pub seeds-set_same : (xs : List ℕ) (i v : ℕ) → 1 ≤ i → i ≤ length xs → seeds (slice_set xs (i - 1) v) i ≡ v
@@ -149,9 +146,9 @@ pub row_of_same : (n : ℕ) (f g : ℕ → ℕ) → ((j : ℕ) → 1 ≤ j → j
 row_of_same n f g each = same_as_row _ n f (length-row_of n g) (λ j low high. seeds-row_of n g j low high ∙ each j low high)
 
 -- one seed more in house i
-pub row_of_more : (n : ℕ) (f g : ℕ → ℕ) (i : ℕ) → 1 ≤ i → i ≤ n → g i ≡ f i + 1 →
-    ((j : ℕ) → 1 ≤ j → j ≤ n → j ≢ i → g j ≡ f j) →
-    row_of n g ≡ slice_set (row_of n f) (i - 1) (seeds (row_of n f) i + 1)
+pub row_of_more : (n : ℕ) (f g : ℕ → ℕ) (i : ℕ) → 1 ≤ i → i ≤ n → g i ≡ f i + 1
+    → ((j : ℕ) → 1 ≤ j → j ≤ n → j ≢ i → g j ≡ f j)
+    → row_of n g ≡ slice_set (row_of n f) (i - 1) (seeds (row_of n f) i + 1)
 row_of_more n f g i low high here others =
     let long : i ≤ length _ = omega (arith, length-row_of) in
     sym (same_as_row _ n g
@@ -200,16 +197,15 @@ module _ (p : Position) (h : ℕ) (low : 1 ≤ h) (high : h ≤ side_length p) w
   -- a cell away from the next distance gets nothing
   gain_kept : (k d : ℕ) → d ≡ k % lap_length (side_length p) + 1 → (cell : Cell) → IsCellOf (side_length p) cell
       → distance (side_length p) h cell ≢ d
-      → gain (lap_length (side_length p)) (k + 1) (distance (side_length p) h cell)
-      ≡ gain (lap_length (side_length p)) k (distance (side_length p) h cell)
+      → gain (lap_length (side_length p)) (k + 1) (distance (side_length p) h cell) ≡ gain (lap_length (side_length p)) k
+      (distance (side_length p) h cell)
   gain_kept k d next (Own j) is_cell ne = grind (arith, gain_same)
   gain_kept k d next Store is_cell ne = omega (arith, gain_same)
   gain_kept k d next (Other j) is_cell ne = omega (arith, gain_same)
 
   -- one seed more goes to the cell at the next distance
   pub sow_suc : (k : ℕ) (cell : Cell) → IsCellOf (side_length p) cell
-      → distance (side_length p) h cell ≡ k % lap_length (side_length p) + 1 →
-      sow p h (k + 1) ≡ with_seed (sow p h k) cell
+      → distance (side_length p) h cell ≡ k % lap_length (side_length p) + 1 → sow p h (k + 1) ≡ with_seed (sow p h k) cell
   unfolding sow
   sow_suc k (Own i) is_cell next = same_position
       (row_of_more _ _ _ i is_cell.0 is_cell.1
@@ -238,8 +234,8 @@ module _ (p : Position) (h : ℕ) (low : 1 ≤ h) (high : h ≤ side_length p) w
       refl refl
 
 -- some cell lies at each distance of a lap
-pub cell_at : (m h d : ℕ) → 1 ≤ h → h ≤ m → 1 ≤ d → d ≤ lap_length m → (cell : Cell) × IsCellOf m cell
-    × (distance m h cell ≡ d)
+pub cell_at : (m h d : ℕ) → 1 ≤ h → h ≤ m → 1 ≤ d → d ≤ lap_length m
+    → (cell : Cell) × IsCellOf m cell × (distance m h cell ≡ d)
 cell_at m h d low high d_low d_high = elim (cases_lt (m + 1 - h) d) [
   | inr near ↦ elim (cases_eq _ d) [
     | inl store ↦ (Store, tt, store)
@@ -278,21 +274,21 @@ pub record HasSown (p : Position) (c k : ℕ) (q : Position) : Type 0 where
   pub play : q.own_store + seeds_in_houses q + c ≡ p.own_store + seeds_in_houses p + k
 
 -- one seed more sown is one more in the own store and the houses together
-pub sow_adds : (p : Position) (h : ℕ) → 1 ≤ h → h ≤ side_length p → (k : ℕ) →
-    (cell : Cell) × IsCellOf (side_length p) cell × (distance (side_length p) h cell ≡ k % lap_length (side_length p) + 1) →
-    AddsOne (sow p h k) (sow p h (k + 1))
+pub sow_adds : (p : Position) (h : ℕ) → 1 ≤ h → h ≤ side_length p → (k : ℕ)
+    → (cell : Cell) × IsCellOf (side_length p) cell × (distance (side_length p) h cell ≡ k % lap_length (side_length p) + 1)
+    → AddsOne (sow p h k) (sow p h (k + 1))
 sow_adds p h low high k (cell, is_cell, next) =
     let side = sow_side p h k in
     rw (sow_suc p h low high k _ is_cell next) (with_seed_adds _ _ (omega arith) (rw side.0 is_cell))
 
 -- the cell of the next seed
-pub next_cell : (p : Position) (h : ℕ) → 1 ≤ h → h ≤ side_length p → (k : ℕ) →
-    (cell : Cell) × IsCellOf (side_length p) cell × (distance (side_length p) h cell ≡ k % lap_length (side_length p) + 1)
+pub next_cell : (p : Position) (h : ℕ) → 1 ≤ h → h ≤ side_length p → (k : ℕ)
+    → (cell : Cell) × IsCellOf (side_length p) cell × (distance (side_length p) h cell ≡ k % lap_length (side_length p) + 1)
 next_cell p h low high k = grind (arith, cell_at)
 
 -- sowing loses no seed
-pub sow_keeps : (p : Position) (h : ℕ) → 1 ≤ h → h ≤ side_length p → length p.other ≡ side_length p → (k : ℕ) →
-    HasSown p (seeds p.own h) k (sow p h k)
+pub sow_keeps : (p : Position) (h : ℕ) → 1 ≤ h → h ≤ side_length p → length p.other ≡ side_length p → (k : ℕ)
+    → HasSown p (seeds p.own h) k (sow p h k)
 sow_keeps p h low high equal zero = grind (arith, sum-slice_set, sow_none)
 sow_keeps p h low high equal (suc k) =
     let before = sow_keeps p h low high equal k in
@@ -309,8 +305,8 @@ range-suc a (suc n) = rw (add-one _)
     (ap (λ xs. a ∷ xs) (rw (add-one n) at (range-suc (a + 1) n) ∙ ap (λ x. range_with_len (a + 1) n ++ x ∷ []) (omega arith)))
 
 -- the first number of a range that passes
-pub find_in_range : (f : ℕ → Bool) (a n i : ℕ) → a ≤ i → i < a + n → f i ≡ true →
-    ((j : ℕ) → a ≤ j → j < i → f j ≡ false) → find f (range_with_len a n) ≡ Some i
+pub find_in_range : (f : ℕ → Bool) (a n i : ℕ) → a ≤ i → i < a + n → f i ≡ true
+    → ((j : ℕ) → a ≤ j → j < i → f j ≡ false) → find f (range_with_len a n) ≡ Some i
 find_in_range f a zero i low high here before = absurd (omega arith)
 find_in_range f a (suc n) i low high here before = elim (cases_eq a i) [
   | inl e ↦ rw (e, here) refl
@@ -328,8 +324,8 @@ find_none f a (suc n) fails =
     rw (fails a (omega arith) (omega arith)) (find_none f (a + 1) n (λ j low high. fails j (omega arith) (omega arith)))
 
 -- the house in which the last seed falls
-pub last_house_own : {p : Position} {h i : ℕ} → HoldsSeeds p h → 1 ≤ i → i ≤ side_length p →
-    own_distance (side_length p) h i ≡ last_distance p h → last_house p h ≡ Some i
+pub last_house_own : {p : Position} {h i : ℕ} → HoldsSeeds p h → 1 ≤ i → i ≤ side_length p
+    → own_distance (side_length p) h i ≡ last_distance p h → last_house p h ≡ Some i
 last_house_own {p} {h} {i} holds low high distance_is = find_in_range _ 1 _ i low
     (omega arith)
     (eq-eqb _ _ distance_is)
@@ -342,8 +338,8 @@ pub last_house_store : {p : Position} {h : ℕ} → HoldsSeeds p h → store_dis
 last_house_store {p} {h} holds distance_is = grind (arith, find_none)
 
 -- there is none if it falls into a house of the other player
-pub last_house_other : {p : Position} {h : ℕ} (i : ℕ) → HoldsSeeds p h → 1 ≤ i → i ≤ side_length p →
-    other_distance (side_length p) h i ≡ last_distance p h → last_house p h ≡ None
+pub last_house_other : {p : Position} {h : ℕ} (i : ℕ) → HoldsSeeds p h → 1 ≤ i → i ≤ side_length p
+    → other_distance (side_length p) h i ≡ last_distance p h → last_house p h ≡ None
 last_house_other {p} {h} i holds low high distance_is = grind (arith, find_none)
 
 -- the position after the move, by the place of the last seed
@@ -391,8 +387,8 @@ holds_legal p h holds going = rw going
     (lt-ltb 0 _ holds.some))
 
 -- one house more
-pub filter_range-suc : (f : ℕ → Bool) (a n j : ℕ) → a + n ≡ j →
-    filter f (range_with_len a (n + 1)) ≡ filter f (range_with_len a n) ++ cond (f j) (j ∷ []) []
+pub filter_range-suc : (f : ℕ → Bool) (a n j : ℕ) → a + n ≡ j
+    → filter f (range_with_len a (n + 1)) ≡ filter f (range_with_len a n) ++ cond (f j) (j ∷ []) []
 filter_range-suc f a n j end_is = rw (range-suc a n, end_is) (filter-append f _ _)
 
 pub length-filter_range : (f : ℕ → Bool) (a n : ℕ) → length (filter f (range_with_len a n)) ≤ n
@@ -428,8 +424,8 @@ after_of_houses p h = ap (λ q. after q h) (storeless-store_seeds p) ∙ after-s
 -- ==== Every move brings the game nearer to its end
 
 -- a write to one house
-pub row_distance-set : (row : List ℕ) (i v : ℕ) → 1 ≤ i → i ≤ length row →
-    row_distance (slice_set row (i - 1) v) + seeds row i * (length row + 1 - i) ≡ row_distance row + v * (length row + 1 - i)
+pub row_distance-set : (row : List ℕ) (i v : ℕ) → 1 ≤ i → i ≤ length row
+    → row_distance (slice_set row (i - 1) v) + seeds row i * (length row + 1 - i) ≡ row_distance row + v * (length row + 1 - i)
 unfolding row_distance
 row_distance-set row i v low high =
     let change = sum_range_change _ _ 1 (length row) i low
@@ -438,18 +434,18 @@ row_distance-set row i v low high =
     rw (length-set _ _ v) (change ∙ ap (λ x. row_distance row + x) (ap (λ x. x * _) (seeds-set_same _ _ _ low high)))
 
 -- the own store after a sowing
-sown_store : (p : Position) (h : ℕ) →
-    (sown p h).own_store ≡ p.own_store + gain (lap_length (side_length p)) (seeds p.own h) (store_distance (side_length p) h)
+sown_store : (p : Position) (h : ℕ)
+    → (sown p h).own_store ≡ p.own_store + gain (lap_length (side_length p)) (seeds p.own h) (store_distance (side_length p) h)
 unfolding sow
 sown_store p h = refl
 
-pub row_distance-more : (row : List ℕ) (i : ℕ) → 1 ≤ i → i ≤ length row →
-    row_distance (slice_set row (i - 1) (seeds row i + 1)) ≡ row_distance row + (length row + 1 - i)
+pub row_distance-more : (row : List ℕ) (i : ℕ) → 1 ≤ i → i ≤ length row
+    → row_distance (slice_set row (i - 1) (seeds row i + 1)) ≡ row_distance row + (length row + 1 - i)
 row_distance-more row i low high = omega (arith, row_distance-set)
 
 -- one seed more in own house i adds its distance
-distance-with_seed : (q : Position) (i : ℕ) → 1 ≤ i → i ≤ length q.own →
-    distance_to_stores (with_seed q (Own i)) ≡ distance_to_stores q + (length q.own + 1 - i)
+distance-with_seed : (q : Position) (i : ℕ) → 1 ≤ i → i ≤ length q.own
+    → distance_to_stores (with_seed q (Own i)) ≡ distance_to_stores q + (length q.own + 1 - i)
 distance-with_seed q i low high = omega (arith, row_distance-more)
 
 -- the cell of the next seed, while sowing has not reached the store
@@ -459,8 +455,8 @@ next_house m h k near = grind (arith, mod-eq_of_lt)
 -- a sowing brings its seeds nearer to the store, or leaves fewer in houses
 module _ (p : Position) (h : ℕ) (holds : HoldsSeeds p h) (same : length p.other ≡ side_length p) where
   -- the next seed before the store adds its distance
-  distance_grows : (k : ℕ) → k + 1 + h ≤ side_length p →
-      distance_to_stores (sow p h (k + 1)) ≡ distance_to_stores (sow p h k) + (side_length p + 1 - (h + (k + 1)))
+  distance_grows : (k : ℕ) → k + 1 + h ≤ side_length p
+      → distance_to_stores (sow p h (k + 1)) ≡ distance_to_stores (sow p h k) + (side_length p + 1 - (h + (k + 1)))
   distance_grows k near =
       let side = (sow_side p h k).0 in
       let low : 1 ≤ h + _ = omega arith in
@@ -471,8 +467,8 @@ module _ (p : Position) (h : ℕ) (holds : HoldsSeeds p h) (same : length p.othe
       ∙ ap (λ x. distance_to_stores (sow p h k) + (x + 1 - (h + (k + 1)))) side
 
   -- k seeds sown before the store bring each nearer by one or more
-  pub distance_falls : (k : ℕ) → k + h ≤ side_length p →
-      distance_to_stores (sow p h k) + seeds p.own h * (side_length p + 1 - h) ≤ distance_to_stores p + k * (side_length p - h)
+  pub distance_falls : (k : ℕ) → k + h ≤ side_length p
+      → distance_to_stores (sow p h k) + seeds p.own h * (side_length p + 1 - h) ≤ distance_to_stores p + k * (side_length p - h)
   distance_falls zero near = grind (arith, sow_none, row_distance-set)
   distance_falls (suc k) near = rw (← add-one k) (fall_step _ _ _ _ _ _ (distance_falls k (omega arith))
       (distance_grows k (omega arith)) omega arith)
@@ -503,8 +499,8 @@ pub after_nearer : (p : Position) (h : ℕ) → HoldsSeeds p h → HasEqualSides
 unfolding after
 after_nearer p h holds equal = grind (arith, sown_nearer, captured_leaves_no_more)
 
-capture_side : (q : Position) (o : Option ℕ) → (side_length (captured q o) ≡ side_length q)
-    × (length (captured q o).other ≡ length q.other)
+capture_side : (q : Position) (o : Option ℕ)
+    → (side_length (captured q o) ≡ side_length q) × (length (captured q o).other ≡ length q.other)
 capture_side q None = omega arith
 capture_side q (Some i) = grind (arith, length-set)
 

@@ -1,7 +1,6 @@
 -- The ways to play on: stores do not influence them, and how they are summed up.
-use Rattle.std.proofs.Common.{zero, suc, ◌≡◌, ℕ, ◌+◌, ◌-◌, ◌*◌, ◌<◌, ◌≤◌, List, [], ◌∷◌, length, arith, ap, ◌∙◌, refl, sym, add-one, ◌++◌, lt-ltb, ◌^◌, append-nil, sum_by, Bool, true, false, filter, nat_lt, ◌==◌, if◌then◌else◌}
+use Rattle.std.proofs.Common.{zero, suc, ◌≡◌, ℕ, ◌+◌, ◌-◌, ◌*◌, ◌<◌, ◌≤◌, List, [], ◌∷◌, length, arith, ap, ◌∙◌, refl, sym, add-one, ◌++◌, lt-ltb, ◌^◌, append-nil, sum_by, Bool, true, false, filter, nat_lt, ◌==◌, if◌then◌else◌, le-ltb}
 use Rattle.std.specs.List.{range_with_len}
-use Rattle.std.proofs.lemmas.Bool.{le-ltb}
 use Rattle.std.proofs.lemmas.List.Sums.{sum_by_push}
 use Rattle.kalah_rules.specs.Sowing.{after, is_again}
 use Rattle.kalah_rules.specs.Position.{Position, seeds, side_length, is_over, houses_in, storeless, HousesState, swept}
@@ -34,9 +33,9 @@ sum_same f g xs same = grind arith
 
 -- ---- stores
 -- what was added stays after a step
-step-store_seeds : (n a b : ℕ) (q : Position) (over again : Bool) → is_over q ≡ over →
-    ((c d : ℕ) (p : Position) → ways n (with_store_seeds c d p) ≡ ways n p) →
-    ways n (position_after (step_to (with_store_seeds a b q) again)) ≡ ways n (position_after (step_to q again))
+step-store_seeds : (n a b : ℕ) (q : Position) (over again : Bool) → is_over q ≡ over
+    → ((c d : ℕ) (p : Position) → ways n (with_store_seeds c d p) ≡ ways n p)
+    → ways n (position_after (step_to (with_store_seeds a b q) again)) ≡ ways n (position_after (step_to q again))
 step-store_seeds n a b q true again over_is same = rw over_is (ap (ways n) (same_position refl (omega arith) refl (omega arith) refl) ∙ same a b _)
 step-store_seeds n a b q false true over_is same = rw over_is (same a b q)
 step-store_seeds n a b q false false over_is same = rw over_is (same b a _)
@@ -72,8 +71,8 @@ ways_swept zero q = ways_none _
 ways_swept (suc n) q = grind (arith, sum-zeros, ways-suc)
 
 -- the ways after a step are those after the step of the houses
-ways_step_to : (n : ℕ) (q : Position) (over again : Bool) → is_over q ≡ over →
-    ways n (position_after (step_to q again)) ≡ ways_from n (houses_step_to q again)
+ways_step_to : (n : ℕ) (q : Position) (over again : Bool) → is_over q ≡ over
+    → ways n (position_after (step_to q again)) ≡ ways_from n (houses_step_to q again)
 ways_step_to n q true again over_is = rw over_is (ways_swept n q)
 ways_step_to n q false true over_is = rw over_is (ways_of_houses n q)
 ways_step_to n q false false over_is = rw over_is (ways_of_houses n _)
@@ -106,8 +105,8 @@ one_way p h depth_is = rw depth_is (sym (ways_none _), omega arith)
 abbrev pub seeded_before : List ℕ → ℕ → List ℕ
 seeded_before row h = filter (λ i. nat_lt 0 (seeds row i)) (range_with_len 1 (h - 1))
 
-seeded_next : (row : List ℕ) (h : ℕ) → 1 ≤ h → seeded_before row (h + 1) ≡ filter (λ i. nat_lt 0 (seeds row i))
-    (range_with_len 1 (h - 1 + 1))
+seeded_next : (row : List ℕ) (h : ℕ) → 1 ≤ h
+    → seeded_before row (h + 1) ≡ filter (λ i. nat_lt 0 (seeds row i)) (range_with_len 1 (h - 1 + 1))
 seeded_next row h low = grind arith
 
 pub seeded_more : (row : List ℕ) (h : ℕ) → 1 ≤ h → 0 < seeds row h
@@ -138,8 +137,8 @@ pub before_none : (n : ℕ) (p : Position) → AreWaysBefore n p 1 0
 before_none n p = omega arith
 
 -- a house with seeds adds the ways after its move
-pub before_more : {n : ℕ} {p : Position} {h total : ℕ} (count : ℕ) → AreWaysBefore n p h total → 1 ≤ h → 0 < seeds p.own h →
-    count ≡ ways_by n p h → count ≤ most_houses ^ n → AreWaysBefore n p (h + 1) (total + count)
+pub before_more : {n : ℕ} {p : Position} {h total : ℕ} (count : ℕ) → AreWaysBefore n p h total → 1 ≤ h → 0 < seeds p.own h
+    → count ≡ ways_by n p h → count ≤ most_houses ^ n → AreWaysBefore n p (h + 1) (total + count)
 before_more {n} {p} {h} count before low some count_is few = grind (arith, sum_by_push, seeded_more, six_more)
 
 -- an empty house adds none
@@ -148,9 +147,8 @@ pub before_same : {n : ℕ} {p : Position} {h total : ℕ} → AreWaysBefore n p
 before_same {n} {p} {h} before low none = grind (arith, seeded_same)
 
 -- after the last house they are all ways
-pub before_all : {n : ℕ} {p : Position} {h total : ℕ} → AreWaysBefore n p h total → is_over p ≡ false
-    → h ≡ side_length p + 1 →
-    total ≡ ways (n + 1) p
+pub before_all : {n : ℕ} {p : Position} {h total : ℕ} → AreWaysBefore n p h total → is_over p ≡ false → h ≡ side_length p + 1
+    → total ≡ ways (n + 1) p
 before_all {n} {p} {h} before going end = rw (add-one n) (grind (arith, ways-suc))
 
 -- a sum of at most six powers of six is at most the next one

@@ -97,8 +97,8 @@ as_many_left (Some p) None same = absurd (let both : Solve ≡ Leave = same in c
 -- after the run, when the passes of the workers and that of the calling thread come back
 module _ {G : Type 0} {knows : G → ℕ → Bool} {shared : SharedWork G} {before after : List Worker} (run : HaveRun knows shared before after) where
   -- a list that had room for all passes has room for them again
-  pub passes_fit : {len capacity : ℕ} (left left' : Option PassState) → rest_by_pass left' ≡ rest_by_pass left → len ≡ length after
-      → length before + length (pass_list left) ≤ capacity → len + length (pass_list left') ≤ capacity
+  pub passes_fit : {len capacity : ℕ} (left left' : Option PassState) → rest_by_pass left' ≡ rest_by_pass left
+      → len ≡ length after → length before + length (pass_list left) ≤ capacity → len + length (pass_list left') ≤ capacity
   passes_fit left left' same len_is room = omega (arith, len_is, run.as_many, room, as_many_left left left' same)
 
   -- all passes of the desk are back
@@ -215,9 +215,9 @@ has_collected {output = output} {r} {begun} {later = later} {before} {now} so_fa
     })
 
 -- the output of the jobs of the files is that of the files
-pub since_output : (question : Question) (files : List NamedBytes) (r : OrderedOutput) (begun out : SinkState)
-    → r.files.now ≡ files → r.jobs.now ≡ jobs_to question files
-    → WasGivenSince begun out (whole_output r) → WasGivenSince begun out (output_to question files)
+pub since_output : (question : Question) (files : List NamedBytes) (r : OrderedOutput) (begun out : SinkState) → r.files.now ≡ files
+    → r.jobs.now ≡ jobs_to question files → WasGivenSince begun out (whole_output r)
+    → WasGivenSince begun out (output_to question files)
 since_output question files r begun out of_files of_jobs given =
     subst (WasGivenSince begun out)
     ((λ i. output_of_jobs (names_of (of_files i)) (of_jobs i)) ∙ sym (files_are_their_jobs.output question files)) given
@@ -250,8 +250,8 @@ starts_none old new bytes none start = appends_none old new (take start.0 bytes)
 module _ {W : Type 0} (state : W → SinkState) (question : Question) (files : List NamedBytes) (old : W) where
   -- if the sink was given the answers to all lines, and either all is flushed or a write failed
   pub answered : {jobs : List (List Entry)} → MakesJobs question files (Ok jobs) → (new : W) (result : Result Tally RunFault)
-      → WasGivenSince (state old) (state new) (output_to question files)
-      → IfOk result (λ tally. tally ≡ counts_of jobs) → OnOk result (((state new).has_failed ≡ false) × ((state new).is_flushed ≡ true))
+      → WasGivenSince (state old) (state new) (output_to question files) → IfOk result (λ tally. tally ≡ counts_of jobs)
+      → OnOk result (((state new).has_failed ≡ false) × ((state new).is_flushed ≡ true))
       → IfErr result (λ e. (e ≡ Write) × ((state new).has_failed ≡ true))
       → AnswersBatch state (output_to question files) files old new result
   answered made new (Ok tally) given counted sound fault = record {
@@ -261,8 +261,7 @@ module _ {W : Type 0} (state : W → SinkState) (question : Question) (files : L
     flushed = sound.1;
     counted = counted ∙ ap counts_of made.1 ∙ counted_tally question files;
   }
-  answered made new (Err e) given counted sound fault =
-      rw fault.0 (made.0, given.start, fault.1)
+  answered made new (Err e) given counted sound fault = rw fault.0 (made.0, given.start, fault.1)
 
 -- a sink that is as it was keeps what it has
 left_same : {W : Type 0} (state : W → SinkState) {old new : W} → new ≡ old → Keeps (state old).written (state new).written

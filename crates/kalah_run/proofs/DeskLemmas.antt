@@ -1,5 +1,5 @@
 -- The desk: what is kept of its word and its seats, and what the rows are at the end.
-use Rattle.std.proofs.Common.{◌≡◌, ◌⊎◌, ⊎_elim, inl, inr, ℕ, zero, suc, ◌+◌, ◌≤◌, List, [], ◌∷◌, ◌++◌, length, set, refl, sym, ap, ◌∙◌, subst, arith, length-append, append-nil, append_assoc, ◌%◌, ◌^◌, ◌<◌, get_or, true, false, cond, ◌-◌, ◌==◌, Option, Some, None, sum_by, count_by, All, nat_lt, AllPairs, if◌then◌else◌, slice_index, max, min, IsTrue, ◌↔◌}
+use Rattle.std.proofs.Common.{◌≡◌, ◌⊎◌, ⊎_elim, inl, inr, ℕ, zero, suc, ◌+◌, ◌≤◌, List, [], ◌∷◌, ◌++◌, length, set, refl, sym, ap, ◌∙◌, subst, arith, length-append, append-nil, append_assoc, ◌%◌, ◌^◌, ◌<◌, get_or, true, false, cond, ◌-◌, ◌==◌, Option, Some, None, sum_by, count_by, All, nat_lt, AllPairs, if◌then◌else◌, slice_index, max, min, IsTrue, ◌↔◌, mod-eq_of_lt}
 use Rattle.std.proofs.lemmas.List.Sums.{sum_by-cons, sum_by-append, sum_by_push, sum_by-set, count_by-le-length, get_or-le-sum_by}
 use Rattle.std.proofs.lemmas.List.Elements.{All-append, All-nil, All-cons, All-head, All-take, All-drop}
 use mathlib.Core.Option.{some, some-injective, some-ne-none, none}
@@ -13,7 +13,6 @@ use Rattle.kalah_run.specs.Desk.Rows.{drawn_numbers, drawn_row, drawn_in, spent_
 use Rattle.kalah_run.specs.Desk.Rule.{rows_in, all_rows, passes_in, HasTotal, IsLawful, opening_view, CountsWhatItDeals, DrawsFrom, Draws, DrawsRest, StartsClosing, after_handing_out, pass_handed_out, after_reclaiming_row}
 use Rattle.std.proofs.lemmas.List.Quantifiers.{all_pairs_push}
 use Rattle.std.proofs.lemmas.Bool.{lt-ltb, le-ltb, cases_lt}
-use Rattle.std.proofs.Math.Nat.{mod-eq_of_lt}
 use Rattle.std.proofs.lemmas.Bool.Decides.{nat_tests}
 use Rattle.atomic_table.specs.Table.{State, Me, step, keeps, Allows, opening, Splits, Joins, Enters, Seen, Final}
 use Rattle.kalah_jobs.specs.Limits.{most_lines}
@@ -117,8 +116,8 @@ Ascends r = AllPairs (λ x y. x < y) r.numbers
 
 -- rows with the same numbers, each as often, deal the same
 deals_alike : {total drawn : ℕ} {rows others : List DrawnRow} → DealsEachOnce total drawn rows → drawn_in others ≡ drawn_in rows
-    → ((x : ℕ) → sum_by (times_in_row x) others ≡ sum_by (times_in_row x) rows) → All Ascends others → (0 < spent_in others → drawn ≡ total)
-    → DealsEachOnce total drawn others
+    → ((x : ℕ) → sum_by (times_in_row x) others ≡ sum_by (times_in_row x) rows) → All Ascends others
+    → (0 < spent_in others → drawn ≡ total) → DealsEachOnce total drawn others
 deals_alike {rows = rows} {others} deals drawn same ascending spent = record {
   within = deals.within;
   count = deals.count ∙ sym drawn;
@@ -216,8 +215,8 @@ module _ {S : Type 0} {plan : DeskPlan} {s : State S DeskView} (seat : ℕ) {tot
 
   -- it finds a number below the total: the rule stays with that at the end of the pass's row, where it is above all others
   draws_some : word_of kept < total
-      → IsLawful plan (after_step s ((word_of kept + 1) ∷ []) seat (drawn_view total number numbers (word_of kept)))
-      × All (λ x. x < word_of kept) numbers
+      → IsLawful plan (after_step s ((word_of kept + 1) ∷ []) seat (drawn_view total number numbers (word_of kept))) × All
+      (λ x. x < word_of kept) numbers
   draws_some low =
       let before : DeskView = unspent_view total number numbers in
       let n : ℕ = kept.drawn in
@@ -526,8 +525,7 @@ deals_but_last total drawn rows r empty deals = deals_alike deals
 -- if the calling thread has drawn nothing, the workers have all numbers
 pub deals_to_others : {total drawn : ℕ} (passes : List PassState) (left : Option PassState) → HasDrawnNothing left
     → DealsEachOnce total drawn (drawn_rows (passes ++ pass_list left)) → DealsEachOnce total drawn (drawn_rows passes)
-deals_to_others {total} {drawn} passes None nothing deals =
-    rw (append-nil passes) at deals
+deals_to_others {total} {drawn} passes None nothing deals = rw (append-nil passes) at deals
 deals_to_others {total} {drawn} passes (Some p) nothing deals =
     deals_but_last total drawn (drawn_rows passes) p.row nothing
     (subst (DealsEachOnce total drawn) (map-append (λ (p : PassState). p.row) passes (p ∷ [])) deals)

@@ -222,8 +222,8 @@ module _ {text : ℕ → Taken → List ℕ} {jobs : List (List Entry)} {past : 
 -- ==== What an output writes, line by line
 
 -- the text of a line of file f begins with that file's name
-pub text_of_taken : (files : List NamedBytes) (f : ℕ) (file : NamedBytes) (name : List ℕ) (taken : Taken) → f < length files →
-    file ≡ get_or files f file → name ≡ file.name → text_of files f taken ≡ answer_line name taken ++ line_feed ∷ []
+pub text_of_taken : (files : List NamedBytes) (f : ℕ) (file : NamedBytes) (name : List ℕ) (taken : Taken) → f < length files
+    → file ≡ get_or files f file → name ≡ file.name → text_of files f taken ≡ answer_line name taken ++ line_feed ∷ []
 unfolding text_of
 text_of_taken files f file name taken low file_is name_is =
     ap (λ n. answer_line n taken ++ line_feed ∷ [])
@@ -231,10 +231,10 @@ text_of_taken files f file name taken low file_is name_is =
 
 -- an output advances with the state of what is under way
 pub written_on : {files : List NamedBytes} {jobs : List (List Entry)} {past : List Job} {begun out more : SinkState}
-    {r after : OrderedOutput} → HasWritten files jobs past begun out r → after.files.now ≡ r.files.now → after.jobs.now ≡ r.jobs.now
-    → (IsUnderWay (text_of r.files.now) r.jobs.now past r.collector r.current begun out
-    → IsUnderWay (text_of r.files.now) r.jobs.now past after.collector after.current begun more)
-    → HasWritten files jobs past begun more after
+    {r after : OrderedOutput} → HasWritten files jobs past begun out r → after.files.now ≡ r.files.now
+    → after.jobs.now ≡ r.jobs.now
+    → (IsUnderWay (text_of r.files.now) r.jobs.now past r.collector r.current begun out → IsUnderWay (text_of r.files.now) r.jobs.now
+    past after.collector after.current begun more) → HasWritten files jobs past begun more after
 written_on was same_files same_jobs step =
     record {
       of_files = same_files ∙ was.of_files;
@@ -244,8 +244,8 @@ written_on was same_files same_jobs step =
     }
 
 -- what an output has written stays if nothing more is written
-pub written_kept : {files : List NamedBytes} {jobs : List (List Entry)} {past : List Job} {begun out later : SinkState}
-    {r : OrderedOutput} → IsOnlyFlushed out later → HasWritten files jobs past begun out r → HasWritten files jobs past begun later r
+pub written_kept : {files : List NamedBytes} {jobs : List (List Entry)} {past : List Job} {begun out later : SinkState} {r : OrderedOutput}
+    → IsOnlyFlushed out later → HasWritten files jobs past begun out r → HasWritten files jobs past begun later r
 written_kept flushed was = record {
   of_files = was.of_files;
   of_jobs = was.of_jobs;

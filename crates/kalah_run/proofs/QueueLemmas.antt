@@ -61,8 +61,8 @@ next_below workers got t rest below =
 
 -- if lists are known as they are given, so they are with the next one at the end
 known_more : (known : List (List Job)) (s : List Job) (given : ℕ → List Job)
-    → ((k : ℕ) → k < length known → given k ≡ slice_index_or known k []) → given (length known) ≡ s
-    → (k : ℕ) → k < length (known ++ s ∷ []) → given k ≡ slice_index_or (known ++ s ∷ []) k []
+    → ((k : ℕ) → k < length known → given k ≡ slice_index_or known k []) → given (length known) ≡ s → (k : ℕ)
+    → k < length (known ++ s ∷ []) → given k ≡ slice_index_or (known ++ s ∷ []) k []
 known_more known s given same next k lt = elim (cases_lt k (length known)) [
   | inl old ↦ same k old ∙ sym (get_or_append_left known (s ∷ []) [] k old)
   | inr new ↦
@@ -77,8 +77,8 @@ accounts_none : Accounts 0 [] []
 accounts_none = record { below = λ k d lt. absurd (omega arith); whole = λ w lt. absurd (omega arith) }
 
 -- a pair more, of a worker whose list isn't known yet
-accounts_pair : (workers : ℕ) (known : List (List Job)) (pairs : List (ℕ × Job)) (x : ℕ × Job) → x.0 < workers → length known ≤ x.0
-    → Accounts workers known pairs → Accounts workers known (pairs ++ x ∷ [])
+accounts_pair : (workers : ℕ) (known : List (List Job)) (pairs : List (ℕ × Job)) (x : ℕ × Job) → x.0 < workers
+    → length known ≤ x.0 → Accounts workers known pairs → Accounts workers known (pairs ++ x ∷ [])
 accounts_pair workers known pairs x lt le accounts =
     record {
       below = All-push (λ (t : ℕ × Job). t.0 < workers) pairs x accounts.below lt;
@@ -159,8 +159,8 @@ module _ {items : List Job} {views : List QueueView} (kept : IsLawful items view
       (first, some-injective _ _ (sym has_view ∙ ap (get_elem? views) first ∙ kept.getter))
 
   -- the view of another pass fits if one pair more was sent, by a worker that has not ended
-  fits_more : {place : ℕ} (x : ℕ × Job) → place ≡ suc x.0 → (j : ℕ) (u : QueueView) → j ≢ place → get_elem? views j ≡ some u
-      → Fits (pairs ++ x ∷ []) (length kept.known) j u
+  fits_more : {place : ℕ} (x : ℕ × Job) → place ≡ suc x.0 → (j : ℕ) (u : QueueView) → j ≢ place
+      → get_elem? views j ≡ some u → Fits (pairs ++ x ∷ []) (length kept.known) j u
   fits_more x place_is j (Putting number sent) apart has_view =
       let fit : FitsPut pairs (length kept.known) j number sent = kept.fits j _ has_view in
       let another : x.0 ≢ number = (λ q. apart (fit.place_is ∙ (ap suc (sym q) ∙ sym place_is))) in
@@ -169,8 +169,8 @@ module _ {items : List Job} {views : List QueueView} (kept : IsLawful items view
   fits_more x place_is j Ended apart has_view = tt
 
   -- the view of another pass fits if one worker more has ended
-  fits_ended : {ended : ℕ} → ended ≡ suc (length kept.known) → (j : ℕ) (u : QueueView) → j ≢ ended → get_elem? views j ≡ some u
-      → Fits pairs (length kept.known + 1) j u
+  fits_ended : {ended : ℕ} → ended ≡ suc (length kept.known) → (j : ℕ) (u : QueueView) → j ≢ ended
+      → get_elem? views j ≡ some u → Fits pairs (length kept.known + 1) j u
   fits_ended ended_is j (Putting number sent) apart has_view =
       let fit : FitsPut pairs (length kept.known) j number sent = kept.fits j _ has_view in
       let another : number ≢ length kept.known = (λ q. apart (fit.place_is ∙ (ap suc q ∙ sym ended_is))) in
@@ -281,8 +281,8 @@ pub put_is_lawful : (n place : ℕ) {v : QueueView} (x : Job) {number : ℕ} {se
     → Pushes IsLawful n place v x (λ w. w ≡ after_put v x)
 put_is_lawful n place x putting = rw putting (λ items views room kept has_view. (_, lawful_with_put kept place x has_view, refl))
 
-pub get_is_lawful : (place : ℕ) {v : QueueView} {workers : ℕ} {got : List (ℕ × Job)} {known : List (List Job)} → v ≡ Getting workers got known
-    → Pops IsLawful place v (IsGot v)
+pub get_is_lawful : (place : ℕ) {v : QueueView} {workers : ℕ} {got : List (ℕ × Job)} {known : List (List Job)}
+    → v ≡ Getting workers got known → Pops IsLawful place v (IsGot v)
 get_is_lawful place getting = λ x items views kept has_view.
     let getter = getter_is_first kept place getting has_view in
     let now = lawful_with_get kept in
@@ -294,8 +294,8 @@ new_pass_is_lawful place getting = λ items views kept has_view.
     let getter = getter_is_first kept place getting has_view in
     rw (getter.0, getter.1) (lawful_with_pass kept (ap known_in (sym getter.1 ∙ getting)))
 
-pub reclaim_is_lawful : (place other : ℕ) {v u : QueueView} {workers : ℕ} {got : List (ℕ × Job)} {known : List (List Job)} {number : ℕ}
-    {sent : List Job} → v ≡ Getting workers got known → u ≡ Putting number sent → number ≡ length known
+pub reclaim_is_lawful : (place other : ℕ) {v u : QueueView} {workers : ℕ} {got : List (ℕ × Job)} {known : List (List Job)}
+    {number : ℕ} {sent : List Job} → v ≡ Getting workers got known → u ≡ Putting number sent → number ≡ length known
     → Merges IsLawful place v other u (after_reclaiming_sent v u) Ended
 reclaim_is_lawful place other {sent = sent} getting putting next = λ items views kept has_view apart has_other.
     let getter = getter_is_first kept place getting has_view in
@@ -304,8 +304,8 @@ reclaim_is_lawful place other {sent = sent} getting putting next = λ items view
     rw (getter.0, getter.1, putting) (lawful_with_end kept other (λ q. apart (q ∙ sym getter.0)) here)
 
 -- what the pass to get learns of the queue
-pub getter_knows_sent : (place : ℕ) {v : QueueView} {workers : ℕ} {got : List (ℕ × Job)} {known : List (List Job)} → v ≡ Getting workers got known
-    → Learns IsLawful place v (KnowsSent v)
+pub getter_knows_sent : (place : ℕ) {v : QueueView} {workers : ℕ} {got : List (ℕ × Job)} {known : List (List Job)}
+    → v ≡ Getting workers got known → Learns IsLawful place v (KnowsSent v)
 getter_knows_sent place getting = λ items views kept has_view. rw (getter_is_first kept place getting has_view).1 (kept.inside, kept.held, kept.accounts)
 
 -- ==== What the pass to get knows once it has reclaimed the others
@@ -317,8 +317,8 @@ pub reclaimed : {v u after : QueueView} {workers : ℕ} {got : List (ℕ × Job)
 reclaimed getting putting after_is = after_is ∙ λ i. after_reclaiming_sent (getting i) (putting i)
 
 -- once it has reclaimed all, it learns what all workers have sent
-pub whole_when_reclaimed : {v : QueueView} {workers left : ℕ} {got : List (ℕ × Job)} {known all : List (List Job)} (rest : List (List Job))
-    → v ≡ Getting workers got known → length rest ≡ 0 → known ++ rest ≡ all → Held left (KnowsSent v)
+pub whole_when_reclaimed : {v : QueueView} {workers left : ℕ} {got : List (ℕ × Job)} {known all : List (List Job)}
+    (rest : List (List Job)) → v ≡ Getting workers got known → length rest ≡ 0 → known ++ rest ≡ all → Held left (KnowsSent v)
     → (inside : List (ℕ × Job)) × (length inside ≡ left) × Accounts workers all (got ++ inside)
 whole_when_reclaimed (x ∷ xs) getting none whole held = absurd (omega arith)
 whole_when_reclaimed {workers = workers} {got = got} {known} [] getting none whole held =

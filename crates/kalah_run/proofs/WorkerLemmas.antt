@@ -68,8 +68,8 @@ one_given {X} f workers {workers'} {w} rest {x} workers_are x_is took so_far =
     ∙ so_far
 
 -- one worker more has its table
-pub tables_more : (workers workers' : List Worker) (w : Worker) (entries : ℕ) → workers' ≡ workers ++ w ∷ [] → HasOwnTable entries w
-    → HaveOwnTables entries (reverse workers) → HaveOwnTables entries (reverse workers')
+pub tables_more : (workers workers' : List Worker) (w : Worker) (entries : ℕ) → workers' ≡ workers ++ w ∷ []
+    → HasOwnTable entries w → HaveOwnTables entries (reverse workers) → HaveOwnTables entries (reverse workers')
 tables_more workers workers' w entries workers_are own so_far =
     subst (HaveOwnTables entries) (sym (last_first workers workers' w workers_are))
     (All-cons (HasOwnTable entries) w (reverse workers) own so_far)
@@ -92,10 +92,9 @@ room_still len more workers_are longer same room = omega (arith, room, longer, s
 -- ==== The workers of a batch, from their passes to what was got of them
 
 -- there are as many workers as passes
-pub as_many_workers : (workers : List Worker) (passes : List PassState) (count : ℕ) → passes_of workers ≡ passes → length passes ≡ count
-    → length workers ≡ count
-as_many_workers workers passes count are many =
-    sym (length-map workers (λ (w : Worker). w.pass)) ∙ ap length are ∙ many
+pub as_many_workers : (workers : List Worker) (passes : List PassState) (count : ℕ) → passes_of workers ≡ passes
+    → length passes ≡ count → length workers ≡ count
+as_many_workers workers passes count are many = sym (length-map workers (λ (w : Worker). w.pass)) ∙ ap length are ∙ many
 
 -- workers with new passes, that have sent nothing, are at work
 pub new_at_work : {G : Type 0} {knows : G → ℕ → Bool} (shared : SharedWork G) (workers : List Worker) (count : ℕ)
@@ -118,8 +117,8 @@ new_at_work {knows = knows} shared workers count new from unsent = λ k d within
 
 -- after the run each pass to put is still of the queue, and in its place
 pub puts_after : {G : Type 0} {knows : G → ℕ → Bool} (shared : SharedWork G) (before after : List Worker) (n : ℕ)
-    → HaveRun knows shared before after
-    → ArePassesFrom shared.queue.id n (puts_of before) → ArePassesFrom shared.queue.id n (puts_of after)
+    → HaveRun knows shared before after → ArePassesFrom shared.queue.id n (puts_of before)
+    → ArePassesFrom shared.queue.id n (puts_of after)
 puts_after shared [] [] n run from = tt
 puts_after shared [] (a ∷ others) n run from = absurd (omega (arith, run.as_many))
 puts_after shared (b ∷ bs) [] n run from = absurd (omega (arith, run.as_many))
@@ -175,10 +174,10 @@ shares_of_workers {shared = shared} {before} {after} run pairs count_is deals ac
 
 -- Each number below the count of those drawn stands in the rows once, the pairs that were got and those left inside account for what was
 -- sent, and as many were got as there are jobs: so each job was got once.
-pub each_job_got : {G : Type 0} {knows : G → ℕ → Bool} {shared : SharedWork G} {before after : List Worker}
-    {count drawn left : ℕ} {puts : List PutPassState} {jobs : List (List Entry)} (run : HaveRun knows shared before after) (got : List (ℕ × Job))
-    → count ≡ length before → DealsEachOnce (job_count shared.jobs.now) drawn (drawn_rows (passes_of after)) → puts ≡ puts_of after
-    → (rest : List (ℕ × Job)) × (length rest ≡ left) × Accounts count (sent_by puts) (got ++ rest)
+pub each_job_got : {G : Type 0} {knows : G → ℕ → Bool} {shared : SharedWork G} {before after : List Worker} {count drawn left : ℕ}
+    {puts : List PutPassState} {jobs : List (List Entry)} (run : HaveRun knows shared before after) (got : List (ℕ × Job))
+    → count ≡ length before → DealsEachOnce (job_count shared.jobs.now) drawn (drawn_rows (passes_of after))
+    → puts ≡ puts_of after → (rest : List (ℕ × Job)) × (length rest ≡ left) × Accounts count (sent_by puts) (got ++ rest)
     → jobs ≡ shared.jobs.now → length got ≡ job_count jobs → AreJobsInSomeOrder jobs (outcomes_in got)
 each_job_got {shared = shared} {after = after} {drawn = drawn} run got count_is deals puts_are inside jobs_are all =
     let own : List (List Entry) = shared.jobs.now in
@@ -235,8 +234,8 @@ some_spent (w ∷ ws) some spent =
 -- Each worker has run: all jobs were drawn, and if they were drawn by workers the gate knows them.
 pub each_job_known : {G : Type 0} {knows : G → ℕ → Bool} {shared : SharedWork G} {before after : List Worker} {drawn : ℕ}
     → HaveRun knows shared before after → 0 < length before
-    → DealsEachOnce (job_count shared.jobs.now) drawn (drawn_rows (passes_of after))
-    → (job : ℕ) → job < job_count shared.jobs.now → knows shared.gate.now job ≡ true
+    → DealsEachOnce (job_count shared.jobs.now) drawn (drawn_rows (passes_of after)) → (job : ℕ) → job < job_count shared.jobs.now
+    → knows shared.gate.now job ≡ true
 each_job_known {knows = knows} {shared} {before} {after} {drawn} run some deals job low =
     let Known : ℕ → Type 0 = λ n. knows shared.gate.now n ≡ true in
     let spent = λ (k : ℕ) (w : Worker) (within : k < length after).

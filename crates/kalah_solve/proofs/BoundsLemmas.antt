@@ -31,8 +31,8 @@ module _ (window : Window) (n low high : ℕ) (is_low : IsHalf (window.lo +ℤ p
   bounds_high few = omega (arith, ints, clamps)
 
   -- a number that is raised and lowered to them makes the same margin in the window
-  pub bounds_apart : (t : ℕ) → t ≤ n → clamped window.lo window.hi (pos (2 * max low (min high t)) -ℤ pos n)
-      ≡ clamped window.lo window.hi (pos (2 * t) -ℤ pos n)
+  pub bounds_apart : (t : ℕ) → t ≤ n
+      → clamped window.lo window.hi (pos (2 * max low (min high t)) -ℤ pos n) ≡ clamped window.lo window.hi (pos (2 * t) -ℤ pos n)
   bounds_apart t few = omega (arith, ints, clamps)
 
 -- the bounds of an interval's ends
@@ -43,8 +43,8 @@ module _ (interval : Interval) (n least most : ℕ) (few : n ≤ most_seeds) (is
   bounds_held t all holds = omega (arith, ints, clamps)
 
   -- and no other: a number that they hold has its margin in it, if the interval doesn't end below -n
-  pub bounds_exact : pos 0 ≤ℤ (interval.hi +ℤ pos n) → (t : ℕ) → t ≤ n → least ≤ t → t ≤ min most most_seeds →
-      Encloses interval (pos (t + t) -ℤ pos n)
+  pub bounds_exact : pos 0 ≤ℤ (interval.hi +ℤ pos n) → (t : ℕ) → t ≤ n → least ≤ t → t ≤ min most most_seeds
+      → Encloses interval (pos (t + t) -ℤ pos n)
   bounds_exact some t all low high = omega (arith, ints, clamps)
 
 -- ==== How many seeds a player wins: by houses, by a step, and by the best move
@@ -55,9 +55,9 @@ pub record IsWonOf (n : ℕ) (z : ℤ) (t : ℕ) : Type 0 where
   pub margin : z +ℤ pos n ≡ pos (t + t)
 
 -- some number is won by a step, if some is of the houses that it leads to
-some_won_by_step : (a : HousesState) (s : HousesStep) → LeadsOn a s →
-    ((b : HousesState) (gained : ℕ) → LeadsTo a gained b → (t : ℕ) × IsWonOf (seeds_in_houses (storeless b)) (houses_worth b) t) →
-    (t : ℕ) × IsWonOf (seeds_in_houses (storeless a)) (worth_of_step s) t
+some_won_by_step : (a : HousesState) (s : HousesStep) → LeadsOn a s
+    → ((b : HousesState) (gained : ℕ) → LeadsTo a gained b → (t : ℕ) × IsWonOf (seeds_in_houses (storeless b)) (houses_worth b)
+    t) → (t : ℕ) × IsWonOf (seeds_in_houses (storeless a)) (worth_of_step s) t
 some_won_by_step a (Over own other) leads each = (own, record { few = omega arith; margin = omega (arith, ints) })
 some_won_by_step a (Again gained b) leads each =
     let on = each b _ leads in
@@ -67,8 +67,8 @@ some_won_by_step a (Turn gained b) leads each =
     (gained + seeds_in_houses (storeless b) - on.0, record { few = omega arith; margin = omega (arith, ints) })
 
 -- what houses are worth is the margin of some number of their seeds, by the moves left
-some_won : (n : ℕ) (a : HousesState) → IsWithinHouses a → moves_left (storeless a) < n → (t : ℕ)
-    × IsWonOf (seeds_in_houses (storeless a)) (houses_worth a) t
+some_won : (n : ℕ) (a : HousesState) → IsWithinHouses a → moves_left (storeless a) < n
+    → (t : ℕ) × IsWonOf (seeds_in_houses (storeless a)) (houses_worth a) t
 some_won zero a limits few = absurd (omega arith)
 some_won (suc n) a limits few = elim (cases_Bool _) [
   | inl over ↦ (sum a.own, rw (worth_of_over _ over) (record { few = omega arith; margin = omega (arith, ints) }))
@@ -102,8 +102,8 @@ pub worth_high : (a : HousesState) → IsWithinHouses a → houses_worth a ≤�
 worth_high a limits = omega (arith, ints, (won_of_houses limits).few, (won_of_houses limits).margin)
 
 -- the mover wins half of what the houses are worth and hold together
-pub half_is_won : (a : HousesState) (worth : ℤ) (half : ℕ) → IsWithinHouses a → worth ≡ houses_worth a →
-    IsHalf (worth +ℤ pos (seeds_in_houses (storeless a))) half → half ≡ won a
+pub half_is_won : (a : HousesState) (worth : ℤ) (half : ℕ) → IsWithinHouses a → worth ≡ houses_worth a
+    → IsHalf (worth +ℤ pos (seeds_in_houses (storeless a))) half → half ≡ won a
 half_is_won a worth half limits worth_is half_is = grind (arith, won_of_houses)
 
 -- what is won by a step
@@ -119,8 +119,8 @@ won_of_step a (Turn gained b) leads =
 
 module _ (a : HousesState) (limits : IsWithinHouses a) where
   -- what is won by the move of house h
-  pub won_of_move : (h : ℕ) → IsLegal a h →
-      IsWonOf (seeds_in_houses (storeless a)) (value_of_move (storeless a) h) (won_by_step (houses_step a h))
+  pub won_of_move : (h : ℕ) → IsLegal a h
+      → IsWonOf (seeds_in_houses (storeless a)) (value_of_move (storeless a) h) (won_by_step (houses_step a h))
   won_of_move h legal = rw (value_is a h limits legal) (won_of_step a _ (leads_on a h limits legal))
 
   -- no move wins more than best play
@@ -130,8 +130,7 @@ module _ (a : HousesState) (limits : IsWithinHouses a) where
       omega (arith, ints, (won_of_move h legal).margin, (won_of_houses limits).margin)
 
   -- some move wins what best play wins
-  pub won_reached : is_over (storeless a) ≡ false → (h : ℕ) × IsLegal a h
-      × (won_by_step (houses_step a h) ≡ won a)
+  pub won_reached : is_over (storeless a) ≡ false → (h : ℕ) × IsLegal a h × (won_by_step (houses_step a h) ≡ won a)
   won_reached going =
       let at = (worth_is_most (storeless a) (omega arith) going).reached in
       (at.0, at.1, omega (arith, ints, at.2, (won_of_move at.0 at.1).margin, (won_of_houses limits).margin))
@@ -143,22 +142,21 @@ pub clamped_within : (lo hi z : ℤ) → lo <ℤ hi → (lo ≤ℤ clamped lo hi
 clamped_within lo hi z ordered = omega (arith, ints, clamps)
 
 -- an interval that leaves nothing of it open answers
-pub known_answers : (lo hi z : ℤ) (k : Interval) → lo <ℤ hi → Encloses k z → int_min hi k.hi ≤ℤ int_max lo k.lo →
-    clamped lo hi k.lo ≡ clamped lo hi z
+pub known_answers : (lo hi z : ℤ) (k : Interval) → lo <ℤ hi → Encloses k z → int_min hi k.hi ≤ℤ int_max lo k.lo
+    → clamped lo hi k.lo ≡ clamped lo hi z
 known_answers lo hi z k ordered holds none = omega (arith, ints, clamps)
 
 -- what the mover wins, raised and lowered to the bounds that a window distinguishes, makes the worth in the window
 pub worth_by_bounds : {a : HousesState} (lo hi : ℤ) (asked : SeedBounds) {m : ℤ} {n t : ℕ} → IsWithinHouses a
-    → n ≡ seeds_in_houses (storeless a) →
-    asked.least ≤ asked.most →
-    ((u : ℕ) → u ≤ n → clamped lo hi (pos (2 * max asked.least (min asked.most u)) -ℤ pos n) ≡ clamped lo hi
-    (pos (2 * u) -ℤ pos n)) →
-    t ≡ max asked.least (min asked.most (won a)) → m ≡ pos (2 * t) -ℤ pos n → clamped lo hi m ≡ clamped lo hi (houses_worth a)
+    → n ≡ seeds_in_houses (storeless a) → asked.least ≤ asked.most
+    → ((u : ℕ) → u ≤ n → clamped lo hi (pos (2 * max asked.least (min asked.most u)) -ℤ pos n) ≡ clamped lo hi
+    (pos (2 * u) -ℤ pos n)) → t ≡ max asked.least (min asked.most (won a)) → m ≡ pos (2 * t) -ℤ pos n
+    → clamped lo hi m ≡ clamped lo hi (houses_worth a)
 worth_by_bounds {a} lo hi asked {n = n} limits all ordered apart t_is m_is =
     let worth_is : pos (2 * won a) -ℤ pos n ≡ houses_worth a = omega (arith, ints, worth_of_won a limits) in
     rw (m_is, t_is) (apart _ (omega (arith, (won_of_houses limits).few)) ∙ ap (clamped lo hi) worth_is)
 
 -- the margin of what the mover wins is the worth of the houses
-pub margin_of_won_is_worth : {a : HousesState} {m : ℤ} {n t : ℕ} → IsWithinHouses a → n ≡ seeds_in_houses (storeless a) → t ≡ won a →
-    m ≡ pos (2 * t) -ℤ pos n → m ≡ houses_worth a
+pub margin_of_won_is_worth : {a : HousesState} {m : ℤ} {n t : ℕ} → IsWithinHouses a → n ≡ seeds_in_houses (storeless a)
+    → t ≡ won a → m ≡ pos (2 * t) -ℤ pos n → m ≡ houses_worth a
 margin_of_won_is_worth {a} limits all t_is m_is = omega (arith, ints, worth_of_won a limits)

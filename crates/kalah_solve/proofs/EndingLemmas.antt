@@ -31,8 +31,8 @@ digits_from_next_place : (n k : ℕ) → n / 2 ^ (4 * suc k) ≡ n / 16 / 2 ^ (4
 digits_from_next_place n k = simp (power_of_next_place, div-div-eq-div-mul)
 
 -- a digit put at an empty place leaves all from a later place on
-pub same_digits_past : (k e n d : ℕ) → k < e → stored_at n k ≡ 0 → d < 16 →
-    (n + d * 2 ^ (4 * k)) / 2 ^ (4 * e) ≡ n / 2 ^ (4 * e)
+pub same_digits_past : (k e n d : ℕ) → k < e → stored_at n k ≡ 0 → d < 16
+    → (n + d * 2 ^ (4 * k)) / 2 ^ (4 * e) ≡ n / 2 ^ (4 * e)
 same_digits_past k zero n d later none small = omega arith
 same_digits_past zero (suc e) n d later none small = grind (arith, digits_from_next_place)
 same_digits_past (suc k) (suc e) n d later none small =
@@ -56,8 +56,8 @@ same_digits_before j k n d before =
     rw (all, add-mul-div_right n (d * (16 * 2 ^ (4 * past))) (pow_pos (4 * j))) (omega arith)
 
 -- a digit put at an empty place leaves each other digit
-pub same_digits_elsewhere : (j k n d : ℕ) → j ≢ k → stored_at n k ≡ 0 → d < 16 →
-    stored_at (n + d * 2 ^ (4 * k)) j ≡ stored_at n j
+pub same_digits_elsewhere : (j k n d : ℕ) → j ≢ k → stored_at n k ≡ 0 → d < 16
+    → stored_at (n + d * 2 ^ (4 * k)) j ≡ stored_at n j
 same_digits_elsewhere j k n d other none small = grind (arith, cases_lt, same_digits_before, same_digits_past)
 
 -- a digit of a word is no more than a word
@@ -93,8 +93,8 @@ length-binomials zero = refl
 length-binomials (suc n) = length-next_binomials 0 _ ∙ length-binomials n
 
 -- each is a sum of two of this number
-next_binomials-suc : (before : ℕ) (ws : List ℕ) (k : ℕ) → suc k < length ws →
-    get_or (next_binomials before ws) (suc k) 0 ≡ get_or ws k 0 + get_or ws (suc k) 0
+next_binomials-suc : (before : ℕ) (ws : List ℕ) (k : ℕ) → suc k < length ws
+    → get_or (next_binomials before ws) (suc k) 0 ≡ get_or ws k 0 + get_or ws (suc k) 0
 next_binomials-suc before [] k inside = refl
 next_binomials-suc before (w ∷ []) k inside = omega arith
 next_binomials-suc before (w ∷ v ∷ ws) zero inside = refl
@@ -155,8 +155,8 @@ pub word_inside : {a : HousesState} → IsWithinHouses a → IsEnding a → word
 word_inside {a} limits ending = grind (arith, word_is_of_variant)
 
 -- endings of one word and one place in it are the same: the word is of one variant, and with the place it has one rank there
-word_and_place-injective : (a b : HousesState) → IsWithinHouses a → IsWithinHouses b → IsEnding a → IsEnding b → word_of a ≡ word_of b →
-    rank_of_houses a % 16 ≡ rank_of_houses b % 16 → a ≡ b
+word_and_place-injective : (a b : HousesState) → IsWithinHouses a → IsWithinHouses b → IsEnding a → IsEnding b
+    → word_of a ≡ word_of b → rank_of_houses a % 16 ≡ rank_of_houses b % 16 → a ≡ b
 word_and_place-injective a b limits_a limits_b ending ending_b word place =
     grind (arith, word_is_of_variant, first_word_rises, lit≤, rule_bit-small, cases_lt, houses_by_rank)
 
@@ -168,16 +168,16 @@ unfolding HoldsWon
 states_nothing i a limits ending word_is stored = omega arith
 
 -- after one more ending is stored
-pub states_one_more : (word : ℕ) (a : HousesState) → HoldsWon (word_of a) word → IsWithinHouses a → IsEnding a →
-    stored_at word (rank_of_houses a % 16) ≡ 0 → won a ≤ most_ending_seeds →
-    HoldsWon (word_of a) (word + suc (won a) * 2 ^ (4 * (rank_of_houses a % 16)))
+pub states_one_more : (word : ℕ) (a : HousesState) → HoldsWon (word_of a) word → IsWithinHouses a → IsEnding a
+    → stored_at word (rank_of_houses a % 16) ≡ 0 → won a ≤ most_ending_seeds
+    → HoldsWon (word_of a) (word + suc (won a) * 2 ^ (4 * (rank_of_houses a % 16)))
 unfolding HoldsWon
 states_one_more word a before limits ending none small b limits_b ending_b word_is stored =
     grind (arith, rank_of_houses, won, cases_eq, word_and_place-injective, put_digit_is_there, same_digits_elsewhere, stored)
 
 -- a stored ending is right
-pub stored_is_won : (word : ℕ) (a : HousesState) → HoldsWon (word_of a) word → IsWithinHouses a → IsEnding a →
-    stored_at word (rank_of_houses a % 16) ≢ 0 → stored_at word (rank_of_houses a % 16) ≡ suc (won a)
+pub stored_is_won : (word : ℕ) (a : HousesState) → HoldsWon (word_of a) word → IsWithinHouses a → IsEnding a
+    → stored_at word (rank_of_houses a % 16) ≢ 0 → stored_at word (rank_of_houses a % 16) ≡ suc (won a)
 unfolding HoldsWon
 stored_is_won word a states limits ending some = states a limits ending refl some
 
@@ -194,8 +194,8 @@ words_stay_true words i word states holds j =
 
 -- a new seat may write into each word what is true: the seat's view, an act that keeps all homes, that it may, the rule after the step, and
 -- nothing more to know
-pub word_may_be_written : (slots i word : ℕ) → HoldsWon i word →
-    Arrives (λ (s : State (Unit {0}) (Unit {0})). AreTrueWords s.words) slots i (λ n. word) (λ n me. Unit {0})
+pub word_may_be_written : (slots i word : ℕ) → HoldsWon i word
+    → Arrives (λ (s : State (Unit {0}) (Unit {0})). AreTrueWords s.words) slots i (λ n. word) (λ n me. Unit {0})
 word_may_be_written slots i word states s holds homes small = (tt, keeps, tt, words_stay_true s.words i word states holds, tt)
 
 -- ==== The most that a move wins
@@ -213,9 +213,9 @@ most_at_start {a} marked = record {
 }
 
 -- the last marked house was tried
-pub most_with_last : {a : HousesState} {marks most h : ℕ} (v new : ℕ) → IsWithinHouses a → IsMostOfUnmarked a marks most → IsLastMark marks h →
-    IsLegal a h →
-    v ≡ won_by_step (houses_step a h) → new ≡ max most v → IsMostOfUnmarked a (without_mark marks h) new
+pub most_with_last : {a : HousesState} {marks most h : ℕ} (v new : ℕ) → IsWithinHouses a → IsMostOfUnmarked a marks most
+    → IsLastMark marks h → IsLegal a h → v ≡ won_by_step (houses_step a h) → new ≡ max most v
+    → IsMostOfUnmarked a (without_mark marks h) new
 most_with_last {a} {marks} {most} {h} v new limits most_is last legal v_is new_is = record {
   reached = omega (arith, won_at_most a limits h legal);
   all = each_unmarked_without_last a (λ i. won_by_step (houses_step a i) ≤ new) last (omega arith)
@@ -223,12 +223,11 @@ most_with_last {a} {marks} {most} {h} v new limits most_is last legal v_is new_i
 }
 
 -- if all seeds are won, best play wins as many
-pub most_is_all : (a : HousesState) (marks most : ℕ) → IsWithinHouses a → IsMostOfUnmarked a marks most → seeds_in_houses (storeless a) ≤ most
-    → most ≡ won a
+pub most_is_all : (a : HousesState) (marks most : ℕ) → IsWithinHouses a → IsMostOfUnmarked a marks most
+    → seeds_in_houses (storeless a) ≤ most → most ≡ won a
 most_is_all a marks most limits most_is full = omega (arith, (won_of_houses limits).few)
 
 -- once no house is marked, best play wins the most of those tried
-pub won_is_most : (a : HousesState) (marks most : ℕ) → IsWithinHouses a → is_over (storeless a) ≡ false → IsMostOfUnmarked a marks most
-    → marks ≡ 0
-    → most ≡ won a
+pub won_is_most : (a : HousesState) (marks most : ℕ) → IsWithinHouses a → is_over (storeless a) ≡ false
+    → IsMostOfUnmarked a marks most → marks ≡ 0 → most ≡ won a
 won_is_most a marks most limits going most_is none = grind (arith, won_reached, cell_of_zero)

@@ -13,9 +13,8 @@ use Rattle.kalah_solve.specs.Bounds.Intervals.{Encloses}
 use Rattle.kalah_solve.specs.Table.Entries.{TableState, IsTrueEntry, AreTrueEntries}
 
 -- what a look-up finds encloses the worth of the houses
-pub found_encloses_worth : (es : List (ℕ × Interval)) (a : HousesState) (k : ℕ) → AreTrueEntries es → IsWithinHouses a → k ≡ key_of a →
-    (o : Option Interval) → lookup (nat_eq k) es ≡ o
-    → IfSome o (λ i. Encloses i (houses_worth a))
+pub found_encloses_worth : (es : List (ℕ × Interval)) (a : HousesState) (k : ℕ) → AreTrueEntries es → IsWithinHouses a
+    → k ≡ key_of a → (o : Option Interval) → lookup (nat_eq k) es ≡ o → IfSome o (λ i. Encloses i (houses_worth a))
 found_encloses_worth es a k entries limits key None found = tt
 found_encloses_worth es a k entries limits key (Some i) found =
     let at = Contains-lookup _ es i found in
@@ -41,14 +40,13 @@ module _ (c : LruCache ℕ Interval) (a : HousesState) (k : ℕ) (i : Interval) 
 
   -- both outcomes of a put
   pub true_after_put : {X E : Type 0} (r : Result X E) (new : LruCache ℕ Interval)
-      → OnOk r (new ≡ lru_cache (put_entries nat_eq c k i) c.cap) →
-      OnErr r (new ≡ c) → AreTrueEntries new.entries
+      → OnOk r (new ≡ lru_cache (put_entries nat_eq c k i) c.cap) → OnErr r (new ≡ c) → AreTrueEntries new.entries
   true_after_put (Ok x) new ok err = grind (arith, put_keeps_true)
   true_after_put (Err x) new ok err = grind arith
 
 -- a put leaves the room for entries
-pub put_leaves : {X E : Type 0} (r : Result X E) (c new : LruCache ℕ Interval) (es : List (ℕ × Interval)) →
-    OnOk r (new ≡ lru_cache es c.cap) → OnErr r (new ≡ c) → new.cap ≡ c.cap
+pub put_leaves : {X E : Type 0} (r : Result X E) (c new : LruCache ℕ Interval) (es : List (ℕ × Interval))
+    → OnOk r (new ≡ lru_cache es c.cap) → OnErr r (new ≡ c) → new.cap ≡ c.cap
 put_leaves (Ok x) c new es ok err = ap (λ now. now.cap) ok
 put_leaves (Err x) c new es ok err = ap (λ now. now.cap) err
 
@@ -57,16 +55,15 @@ abbrev pub state_of : LruCache ℕ Interval → TableState
 state_of c = record { entries = c.entries; capacity = c.cap }
 
 -- after a put the entry is there, or all is as before
-pub put_or_same : {X E : Type 0} (r : Result X E) (c new : LruCache ℕ Interval) (k : ℕ) (i : Interval) →
-    OnOk r (new ≡ lru_cache (put_entries nat_eq c k i) c.cap) → OnErr r (new ≡ c) →
-    (lookup (nat_eq k) new.entries ≡ Some i) ⊎ (state_of new ≡ state_of c)
+pub put_or_same : {X E : Type 0} (r : Result X E) (c new : LruCache ℕ Interval) (k : ℕ) (i : Interval)
+    → OnOk r (new ≡ lru_cache (put_entries nat_eq c k i) c.cap) → OnErr r (new ≡ c)
+    → (lookup (nat_eq k) new.entries ≡ Some i) ⊎ (state_of new ≡ state_of c)
 put_or_same (Ok x) c new k i ok err = inl (rw ok (lookup-put_entries nat_eq c k i nat_eq_equiv))
 put_or_same (Err x) c new k i ok err = inr (ap state_of err)
 
 -- if there was one, the put succeeds
-pub put_replaces : {X E : Type 0} (r : Result X E) (c new : LruCache ℕ Interval) (k : ℕ) (i : Interval) →
-    OnOk r (new ≡ lru_cache (put_entries nat_eq c k i) c.cap) → (IsSome (lookup (nat_eq k) c.entries) → IsOk r) →
-    IsSome (lookup (nat_eq k) c.entries) →
-    lookup (nat_eq k) new.entries ≡ Some i
+pub put_replaces : {X E : Type 0} (r : Result X E) (c new : LruCache ℕ Interval) (k : ℕ) (i : Interval)
+    → OnOk r (new ≡ lru_cache (put_entries nat_eq c k i) c.cap) → (IsSome (lookup (nat_eq k) c.entries) → IsOk r)
+    → IsSome (lookup (nat_eq k) c.entries) → lookup (nat_eq k) new.entries ≡ Some i
 put_replaces (Ok x) c new k i ok succeeds some = rw ok (lookup-put_entries nat_eq c k i nat_eq_equiv)
 put_replaces (Err x) c new k i ok succeeds some = cc (succeeds some)

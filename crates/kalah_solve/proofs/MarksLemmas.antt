@@ -156,8 +156,8 @@ last_mark_begins_house {marks} zeros some marked zeros_are =
     record { whole = ap (λ n. 5 * n) at ∙ whole; last = omega arith }
 
 -- the last mark of a row is worth a power of 32
-pub last_mark_is_power : {marks bit : ℕ} → marks < 2 ^ 30 → IsLastMark marks (bit / 5 + 1) → BeginsHouse bit →
-    1 * 2 ^ bit % 2 ^ 64 ≡ 32 ^ (bit / 5 + 1 - 1)
+pub last_mark_is_power : {marks bit : ℕ} → marks < 2 ^ 30 → IsLastMark marks (bit / 5 + 1) → BeginsHouse bit
+    → 1 * 2 ^ bit % 2 ^ 64 ≡ 32 ^ (bit / 5 + 1 - 1)
 last_mark_is_power {marks} {bit} small last begins = grind (arith, pow_five)
 
 -- the others are marks still
@@ -333,8 +333,8 @@ module _ {a : HousesState} {row : ℕ} (limits : IsWithinHouses a) (row_is : row
 -- ==== The moves of marked houses
 
 -- a house with seeds, counted from 0, may be moved while the game goes on
-pub seeded_is_legal : {a : HousesState} (i : ℕ) → IsWithinHouses a → is_over (storeless a) ≡ false → 0 < get_or a.own i 0 →
-    IsLegal a (i + 1)
+pub seeded_is_legal : {a : HousesState} (i : ℕ) → IsWithinHouses a → is_over (storeless a) ≡ false → 0 < get_or a.own i 0
+    → IsLegal a (i + 1)
 seeded_is_legal {a} i limits going some = elim (cases_lt i (length a.own)) [
   | inl inside ↦
       let at : i + 1 - 1 ≡ i = omega arith in
@@ -344,14 +344,13 @@ seeded_is_legal {a} i limits going some = elim (cases_lt i (length a.own)) [
 
 -- each house that ends in the store may be moved
 pub into_store_legal : {a : HousesState} (i : ℕ) → IsWithinHouses a → is_over (storeless a) ≡ false → i < length a.own
-    → EndsInStore a (i + 1) →
-    IsLegal a (i + 1)
+    → EndsInStore a (i + 1) → IsLegal a (i + 1)
 into_store_legal {a} i limits going inside ends =
     holds_legal (storeless a) (i + 1) (record { first = omega arith; last = omega arith; some = omega arith }) going
 
 -- what holds of each marked house holds of those that stay marked
-pub each_before_last : (P : ℕ → Type 0) {marks h : ℕ} → IsLastMark marks h → ((i : ℕ) → 0 < cell marks i → P (i + 1)) →
-    (i : ℕ) → 0 < cell (without_mark marks h) i → P (i + 1)
+pub each_before_last : (P : ℕ → Type 0) {marks h : ℕ} → IsLastMark marks h → ((i : ℕ) → 0 < cell marks i → P (i + 1))
+    → (i : ℕ) → 0 < cell (without_mark marks h) i → P (i + 1)
 each_before_last P {marks} {h} last each i some = each i (marked_before marks h last i some)
 
 -- what holds of each marked house holds of the last one

@@ -1,11 +1,9 @@
 -- The rank of a row of cells determines the row, and is added up from the choices and pairs of cells.
-use Rattle.std.proofs.Common.{ℕ, ◌≡◌, ◌≢◌, zero, suc, ◌+◌, ◌*◌, ◌/◌, ◌%◌, ◌^◌, ◌-◌, ◌<◌, ◌≤◌, arith, refl, ap, List, [], ◌∷◌, ◌++◌, length, get_or, drop, length-append, pow_mono, sum, slice_set}
-use Rattle.std.proofs.Math.Nat.{mul_comm}
+use Rattle.std.proofs.Common.{ℕ, ◌≡◌, ◌≢◌, zero, suc, ◌+◌, ◌*◌, ◌/◌, ◌%◌, ◌^◌, ◌-◌, ◌<◌, ◌≤◌, arith, refl, ap, List, [], ◌∷◌, ◌++◌, length, get_or, drop, length-append, pow_mono, sum, slice_set, mul_comm, take}
 use Rattle.std.proofs.lemmas.Nat.{pow_pos, mul-le}
 use Rattle.std.proofs.lemmas.Bool.{cases_eq}
 use Rattle.std.proofs.lemmas.List.{append_cancel_left, drop_more, length-drop, get_or-set_same, get_or-set_other}
 use Rattle.std.proofs.Math.Seq.{take-append_seam}
-use Rattle.std.proofs.Math.ListN.{take}
 use Rattle.std.proofs.lemmas.List.Sums.{sum_by-cons, sum_by-take-drop}
 use Rattle.kalah_rules.specs.Position.{HousesState, IsWithinHouses}
 use Rattle.kalah_rules.specs.Key.{number_of, variant_of}
@@ -130,8 +128,7 @@ pub record AreSums (row : List ℕ) (number seeds : ℕ) : Type 0 where
   pub sums : seeds + (number - seeds) * INVERSE_OF_31 % 2 ^ 64 * 32 ≡ sums_number row
 
 pub sums_are : (row : List ℕ) (number seeds : ℕ) → 1 ≤ length row → number ≡ number_of row → seeds ≡ sum row
-    → number < 2 ^ 60 →
-    AreSums row number seeds
+    → number < 2 ^ 60 → AreSums row number seeds
 sums_are [] number seeds some number_is all below = omega arith
 sums_are (x ∷ xs) number seeds some number_is all below =
     let whole : number ≡ seeds + 31 * sums_number xs = omega (arith, sums_by_number, sum_by-cons) in
@@ -143,9 +140,8 @@ sums_are (x ∷ xs) number seeds some number_is all below =
 
 -- both rows of houses in one number, the other one moved up by 5 * m bits: it ends below bit 60, so nothing wraps
 pub both_rows : {a : HousesState} (own other m : ℕ) → IsWithinHouses a → own ≡ number_of a.own → other ≡ number_of a.other
-    → own < 2 ^ 30 →
-    other < 2 ^ 30 → m ≡ length a.own →
-    (own + other * 2 ^ (5 * m) % 2 ^ 64 ≡ number_of (a.own ++ a.other)) × (own + other * 2 ^ (5 * m) % 2 ^ 64 < 2 ^ 60)
+    → own < 2 ^ 30 → other < 2 ^ 30 → m ≡ length a.own
+    → (own + other * 2 ^ (5 * m) % 2 ^ 64 ≡ number_of (a.own ++ a.other)) × (own + other * 2 ^ (5 * m) % 2 ^ 64 < 2 ^ 60)
 both_rows {a} own other m limits own_is other_is own_small other_small side =
     grind (arith, pow_mono, mul-le, length, number_of, pow_five, mul_comm, number_of-append)
 
@@ -193,9 +189,9 @@ module _ (row : List ℕ) (few : sum row ≤ most_ending_seeds) (m passed sums a
   two_are = rw (ranked.left, two_more) (two_sums _ _ _ two_less)
 
   -- the rank of two cells more
-  pub rank_next : (c : ℕ) → c ≡ choose (sums % 1024 % 32 + 2 * (m - passed - 1) + 1) (2 * (m - passed - 1) + 2) + choose
-      (sums % 1024 / 32 + 2 * (m - passed - 1)) (2 * (m - passed - 1) + 1) →
-      IsRanked row (passed + 1) (sums / 1024) (added + c)
+  pub rank_next : (c : ℕ)
+      → c ≡ choose (sums % 1024 % 32 + 2 * (m - passed - 1) + 1) (2 * (m - passed - 1) + 2) + choose
+      (sums % 1024 / 32 + 2 * (m - passed - 1)) (2 * (m - passed - 1) + 1) → IsRanked row (passed + 1) (sums / 1024) (added + c)
   rank_next c is_c =
       let past = m - passed - 1 in
       let rest = two_second ∷ two_past in
@@ -221,8 +217,8 @@ module _ (row : List ℕ) (few : sum row ≤ most_ending_seeds) (m passed sums a
       (omega (arith, two_are.first, two_less), omega (arith, two_are.second, two_less))
 
 -- what is added so far is small
-pub ranked_small : (row : List ℕ) (passed sums added : ℕ) → sum row ≤ most_ending_seeds → length row ≤ 12 → IsRanked row passed sums added
-    → added < 2 ^ 21
+pub ranked_small : (row : List ℕ) (passed sums added : ℕ) → sum row ≤ most_ending_seeds → length row ≤ 12
+    → IsRanked row passed sums added → added < 2 ^ 21
 ranked_small row passed sums added few long ranked =
     omega (arith, rank_below row, choose_small (sum row + length row) 21 (length row) (omega arith))
 
@@ -261,11 +257,11 @@ pub choice_small : (i : ℕ) → i < CHOICES → choice_at i ≤ 2 ^ 20
 choice_small i few = choose_small _ 20 _ (omega arith)
 
 -- one cell more is right
-pub choices_more : (choices : List ℕ) (i v : ℕ) → i < length choices → AreChoices i choices → v ≡ choice_at i →
-    AreChoices (i + 1) (slice_set choices i v)
+pub choices_more : (choices : List ℕ) (i v : ℕ) → i < length choices → AreChoices i choices → v ≡ choice_at i
+    → AreChoices (i + 1) (slice_set choices i v)
 choices_more choices i v inside before v_is k below = grind (arith, cases_eq, get_or-set_same, get_or-set_other)
 
 -- one pair more is right
-pub pairs_more : (pairs : List ℕ) (i v : ℕ) → i < length pairs → ArePairs i pairs → (i % 32 < COUNTS → v ≡ pair_at i) →
-    ArePairs (i + 1) (slice_set pairs i v)
+pub pairs_more : (pairs : List ℕ) (i v : ℕ) → i < length pairs → ArePairs i pairs → (i % 32 < COUNTS → v ≡ pair_at i)
+    → ArePairs (i + 1) (slice_set pairs i v)
 pairs_more pairs i v inside before v_is k below few = grind (arith, cases_eq, get_or-set_same, get_or-set_other)

@@ -29,8 +29,8 @@ pub bound_le_max : {beta number bound : ℕ} → IsSoftBound beta number bound �
 bound_le_max {beta} {number} {bound} bounded = grind arith
 
 -- the most of some bounds that fall short falls short too, unless it is 0
-pub short_stays : (beta most bound new : ℕ) → (beta ≤ most → most ≡ 0) → bound < beta → new ≡ max most bound → beta ≤ new
-    → new ≡ 0
+pub short_stays : (beta most bound new : ℕ) → (beta ≤ most → most ≡ 0) → bound < beta → new ≡ max most bound
+    → beta ≤ new → new ≡ 0
 short_stays beta most bound new low short new_is enough = omega arith
 
 -- what is left of all is bounded by what the bound of the other player leaves
@@ -42,20 +42,20 @@ bound_of_rest {beta} {number} {bound} all seeds gained all_is few b = elim (case
 ]
 
 -- a bound of a move that is enough is no more than best play wins
-pub enough_is_won : (a : HousesState) (beta h bound : ℕ) → IsWithinHouses a → IsLegal a h →
-    IsSoftBound beta (won_by_step (houses_step a h)) bound → beta ≤ bound → bound ≤ won a
+pub enough_is_won : (a : HousesState) (beta h bound : ℕ) → IsWithinHouses a → IsLegal a h
+    → IsSoftBound beta (won_by_step (houses_step a h)) bound → beta ≤ bound → bound ≤ won a
 enough_is_won a beta h bound limits legal bounded enough = omega (arith, won_at_most a limits h legal)
 
 -- if no legal move wins more than `most`, best play wins no more
-won_at_most_of_all : (a : HousesState) (most : ℕ) → IsWithinHouses a → is_over (storeless a) ≡ false →
-    ((h : ℕ) → IsLegal a h → WinsAtMost a most h) → won a ≤ most
+won_at_most_of_all : (a : HousesState) (most : ℕ) → IsWithinHouses a → is_over (storeless a) ≡ false
+    → ((h : ℕ) → IsLegal a h → WinsAtMost a most h) → won a ≤ most
 won_at_most_of_all a most limits going each = grind (arith, won_reached)
 
 -- ==== Turns, and what the reply to one leaves
 
 -- a turn leads on to the houses that it leaves
-turn_leads : {a b : HousesState} {h priority : ℕ} → IsWithinHouses a → IsTurnOf a h priority b →
-    LeadsTo a (seeds_in_houses (storeless a) - seeds_in_houses (storeless b)) b
+turn_leads : {a b : HousesState} {h priority : ℕ} → IsWithinHouses a → IsTurnOf a h priority b
+    → LeadsTo a (seeds_in_houses (storeless a) - seeds_in_houses (storeless b)) b
 turn_leads limits turn = leads_by _ _ limits turn.legal (sym turn.step)
 
 -- a turn that waited, of all `seeds`, by a bound of what the other player wins after it; `left` and one more were asked of that player
@@ -81,9 +81,8 @@ module _ {a b : HousesState} {h priority bound seeds left : ℕ} (beta : ℕ) (l
   turn_enough = enough_is_won _ _ _ _ limits turn.legal reply_left
 
 -- a legal house whose step is a turn, with a priority that names it, is a turn
-pub step_is_turn : {a : HousesState} {h priority gained : ℕ} {b : HousesState} → IsWithinHouses a
-    → IsLegal a h →
-    Turn gained b ≡ houses_step a h → priority % 8 + 1 ≡ h → IsTurnOf a h priority b
+pub step_is_turn : {a : HousesState} {h priority gained : ℕ} {b : HousesState} → IsWithinHouses a → IsLegal a h
+    → Turn gained b ≡ houses_step a h → priority % 8 + 1 ≡ h → IsTurnOf a h priority b
 step_is_turn {a} {h} {priority} {gained} {b} limits legal step_is house =
     let on = leads_by _ _ limits legal step_is in
     let brought : gained ≡ seeds_in_houses (storeless a) - seeds_in_houses (storeless b) = omega arith in
@@ -97,15 +96,14 @@ pub record AreTurns (a : HousesState) (priorities : List ℕ) (turns : List Hous
   pub each : (k : ℕ) → 0 < get_or priorities k 0 → (d : HousesState) → IsTurnOf a (k + 1) (get_or priorities k 0) (get_or turns k d)
 
 -- one house more
-turns_with_one_more : {a b : HousesState} {h v : ℕ} {priorities : List ℕ} {turns : List HousesState} → AreTurns a priorities turns →
-    length turns ≡ 6 → 1 ≤ h → h ≤ 6 → IsTurnOf a h v b →
-    AreTurns a (slice_set priorities (h - 1) v) (slice_set turns (h - 1) b)
-turns_with_one_more waiting six_turns low last turn =
-    grind (arith, length-set, cases_eq, get_or-set_same, get_or-set_other)
+turns_with_one_more : {a b : HousesState} {h v : ℕ} {priorities : List ℕ} {turns : List HousesState} → AreTurns a priorities turns
+    → length turns ≡ 6 → 1 ≤ h → h ≤ 6 → IsTurnOf a h v b
+    → AreTurns a (slice_set priorities (h - 1) v) (slice_set turns (h - 1) b)
+turns_with_one_more waiting six_turns low last turn = grind (arith, length-set, cases_eq, get_or-set_same, get_or-set_other)
 
 -- one that waits no more
-turns_without_one : {a : HousesState} {priorities : List ℕ} {turns : List HousesState} (at : ℕ) → AreTurns a priorities turns → at < 6 →
-    AreTurns a (slice_set priorities at 0) turns
+turns_without_one : {a : HousesState} {priorities : List ℕ} {turns : List HousesState} (at : ℕ) → AreTurns a priorities turns
+    → at < 6 → AreTurns a (slice_set priorities at 0) turns
 turns_without_one {priorities = priorities} at waiting place = let inside : at < length priorities = omega arith in record {
   cells = length-set _ at 0 ∙ waiting.cells;
   each = λ k high. elim (cases_eq k at) [
@@ -141,8 +139,8 @@ pub record ArePlayed (a : HousesState) (most marks : ℕ) (priorities : List ℕ
 module _ {a : HousesState} {most marks h : ℕ} {priorities : List ℕ} {turns : List HousesState} (played : ArePlayed a most marks priorities turns)
     (last : IsLastMark marks h) where
   -- the last marked house was played, and waits with a priority
-  pub played_and_waits : (v : ℕ) (b : HousesState) → 0 < v → IsTurnOf a h v b →
-      ArePlayed a most (without_mark marks h) (slice_set priorities (h - 1) v) (slice_set turns (h - 1) b)
+  pub played_and_waits : (v : ℕ) (b : HousesState) → 0 < v → IsTurnOf a h v b
+      → ArePlayed a most (without_mark marks h) (slice_set priorities (h - 1) v) (slice_set turns (h - 1) b)
   played_and_waits v b some turn = let inside : h - 1 < length priorities = omega arith in record {
     waiting = turns_with_one_more played.waiting played.six_turns last.first last.last turn;
     six_turns = length-set turns _ b ∙ played.six_turns;
@@ -164,9 +162,9 @@ module _ {a : HousesState} {most marks h : ℕ} {priorities : List ℕ} {turns :
 
 -- before any was played
 pub played_at_start : {a : HousesState} {most marks : ℕ} {priorities : List ℕ} {turns : List HousesState} → length priorities ≡ 8
-    → length turns ≡ 6 →
-    ((k : ℕ) → get_or priorities k 0 ≡ 0) →
-    ((i : ℕ) → (0 < cell marks i) ↔ ((0 < get_or a.own i 0) × ¬ EndsInStore a (i + 1))) → ArePlayed a most marks priorities turns
+    → length turns ≡ 6 → ((k : ℕ) → get_or priorities k 0 ≡ 0)
+    → ((i : ℕ) → (0 < cell marks i) ↔ ((0 < get_or a.own i 0) × ¬ EndsInStore a (i + 1)))
+    → ArePlayed a most marks priorities turns
 played_at_start {a} cells six_turns empty marked = record {
   waiting = record { cells = cells; each = λ k some. absurd (omega arith) };
   six_turns = six_turns;
@@ -185,8 +183,7 @@ UnmarkedIntoStoreWinAtMost a most marks = EachUnmarked a marks (λ h. EndsInStor
 
 -- as long as all of them are marked
 pub unmarked_at_start : (a : HousesState) (most marks : ℕ)
-    → ((i : ℕ) → (0 < cell marks i) ↔ ((i < length a.own) × EndsInStore a (i + 1))) →
-    UnmarkedIntoStoreWinAtMost a most marks
+    → ((i : ℕ) → (0 < cell marks i) ↔ ((i < length a.own) × EndsInStore a (i + 1))) → UnmarkedIntoStoreWinAtMost a most marks
 unmarked_at_start a most marks marked h legal unmarked ends = absurd (
     let holds = legal_holds (storeless a) h legal in
     let at : h ≡ h - 1 + 1 = omega arith in
@@ -195,8 +192,8 @@ unmarked_at_start a most marks marked h legal unmarked ends = absurd (
 
 -- the last of them was tried
 pub unmarked_without_last : (a : HousesState) (most : ℕ) {marks h : ℕ} (bound : ℕ) {new : ℕ}
-    → UnmarkedIntoStoreWinAtMost a most marks → IsLastMark marks h → WinsAtMost a bound h → new ≡ max most bound →
-    UnmarkedIntoStoreWinAtMost a new (without_mark marks h)
+    → UnmarkedIntoStoreWinAtMost a most marks → IsLastMark marks h → WinsAtMost a bound h → new ≡ max most bound
+    → UnmarkedIntoStoreWinAtMost a new (without_mark marks h)
 unmarked_without_last a most {marks} {h} bound {new} tried last at_most new_is =
     each_unmarked_without_last a (λ i. EndsInStore a i → WinsAtMost a new i) last (λ ends. omega arith)
     (λ i legal place unmarked ends. omega (arith, tried i legal unmarked ends))
@@ -209,8 +206,8 @@ pub record AreUntried (a : HousesState) (most : ℕ) (priorities : List ℕ) (tu
   pub tried : (h : ℕ) → IsLegal a h → get_or priorities (h - 1) 0 ≡ 0 → WinsAtMost a most h
 
 -- the move with a given priority waits with its turn
-pub next_waits : {a : HousesState} {most : ℕ} {priorities : List ℕ} {turns : List HousesState} {priority : ℕ} → IsWithinHouses a →
-    AreUntried a most priorities turns → Contains priorities priority → 0 < priority → WaitsWith a priorities turns priority
+pub next_waits : {a : HousesState} {most : ℕ} {priorities : List ℕ} {turns : List HousesState} {priority : ℕ} → IsWithinHouses a
+    → AreUntried a most priorities turns → Contains priorities priority → 0 < priority → WaitsWith a priorities turns priority
 next_waits {a} {most} {priorities} {turns} {priority} limits untried found some =
     let waiting = untried.waiting in
     let k = found.0 in
@@ -223,16 +220,15 @@ next_waits {a} {most} {priorities} {turns} {priority} limits untried found some 
 
 -- before any move with a priority was tried: all others were
 pub untried_at_start : {a : HousesState} {beta others new : ℕ} {priorities : List ℕ} {turns : List HousesState} (again : ℕ)
-    → length priorities ≡ 8 →
-    AreWaiting a beta others priorities turns → ((h : ℕ) → IsLegal a h → EndsInStore a h
-    → WinsAtMost a again h) →
-    others < beta → new ≡ max again others → AreUntried a new priorities turns
+    → length priorities ≡ 8 → AreWaiting a beta others priorities turns
+    → ((h : ℕ) → IsLegal a h → EndsInStore a h → WinsAtMost a again h) → others < beta → new ≡ max again others
+    → AreUntried a new priorities turns
 untried_at_start again cells waiting ends short new_is = grind arith
 
 -- one move more was tried
 pub untried_fewer : {a : HousesState} {most new : ℕ} {priorities : List ℕ} {turns : List HousesState} (at bound : ℕ)
-    → AreUntried a most priorities turns →
-    at < 6 → WinsAtMost a bound (at + 1) → new ≡ max most bound → AreUntried a new (slice_set priorities at 0) turns
+    → AreUntried a most priorities turns → at < 6 → WinsAtMost a bound (at + 1) → new ≡ max most bound
+    → AreUntried a new (slice_set priorities at 0) turns
 untried_fewer {a} {priorities = priorities} at bound untried place at_most new_is = record {
   waiting = turns_without_one at untried.waiting place;
   tried = λ h legal none. elim (cases_eq (h - 1) at) [
@@ -246,6 +242,6 @@ untried_fewer {a} {priorities = priorities} at bound untried place at_most new_i
 
 -- if no priority is left, best play wins at most as many
 pub none_untried : {a : HousesState} {most : ℕ} {priorities : List ℕ} {turns : List HousesState} (highest : ℕ) → IsWithinHouses a
-    → is_over (storeless a) ≡ false →
-    AreUntried a most priorities turns → ((k : ℕ) → get_or priorities k 0 ≤ highest) → highest ≡ 0 → won a ≤ most
+    → is_over (storeless a) ≡ false → AreUntried a most priorities turns → ((k : ℕ) → get_or priorities k 0 ≤ highest)
+    → highest ≡ 0 → won a ≤ most
 none_untried {a} {most} highest limits going untried above none = won_at_most_of_all a _ limits going (omega arith)

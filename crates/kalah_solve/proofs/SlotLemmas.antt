@@ -1,7 +1,6 @@
 -- What the slots of houses state stays true: a slot and a tag determine the key.
-use Rattle.std.proofs.Common.{ℕ, ◌≡◌, ◌+◌, ◌*◌, ◌/◌, ◌%◌, ◌^◌, ◌-◌, ◌<◌, ◌≤◌, inl, inr, arith, sym, refl, ap, List, length, ◌∙◌, pow_mono, slice_set}
+use Rattle.std.proofs.Common.{ℕ, ◌≡◌, ◌+◌, ◌*◌, ◌/◌, ◌%◌, ◌^◌, ◌-◌, ◌<◌, ◌≤◌, inl, inr, arith, sym, refl, ap, List, length, ◌∙◌, pow_mono, slice_set, pow_pos, pow-add}
 use Rattle.std.proofs.Math.Nat.{div-div-eq-div-mul, div-lt_iff_lt-mul}
-use Rattle.std.proofs.lemmas.Nat.{pow_pos, pow-add}
 use Rattle.std.proofs.lemmas.Bool.{cases_lt, cases_eq}
 use Rattle.std.proofs.lemmas.List.{get_or-set_same, get_or-set_other, get_or-replicate}
 use Rattle.std.proofs.Math.ListN.{replicate, length-replicate, length-set}
@@ -36,8 +35,7 @@ bits_among s n few =
 
 -- so two numbers with one slot that leave the same open are one
 slot_and_tag-injective : (s x y : ℕ) → s ≤ 54 → tag_of x ≡ tag_of y → slot_of s x ≡ slot_of s y → x ≡ y
-slot_and_tag-injective s x y few rest same =
-    omega (arith, bits_among s x few, bits_among s y few, ap (λ slot. slot / 2 ^ (54 - s)) same)
+slot_and_tag-injective s x y few rest same = omega (arith, bits_among s x few, bits_among s y few, ap (λ slot. slot / 2 ^ (54 - s)) same)
 
 -- a number has a slot
 pub slot_inside : (s n : ℕ) → s < 64 → n < 2 ^ 64 → slot_of s n < 2 ^ (64 - s)
@@ -47,9 +45,9 @@ slot_inside s n few small =
     (div-lt_iff_lt-mul (pow_pos s)).1 (rw worth small)
 
 -- houses with one slot and one tag are the same
-houses_by_slot_and_tag : (s : ℕ) (a b : HousesState) → s ≤ 54 → IsWithinHouses a → IsWithinHouses b →
-    tag_of (mixed (key_of a)) ≡ tag_of (mixed (key_of b)) →
-    slot_of s (mixed (key_of a)) ≡ slot_of s (mixed (key_of b)) → a ≡ b
+houses_by_slot_and_tag : (s : ℕ) (a b : HousesState) → s ≤ 54 → IsWithinHouses a → IsWithinHouses b
+    → tag_of (mixed (key_of a)) ≡ tag_of (mixed (key_of b)) → slot_of s (mixed (key_of a)) ≡ slot_of s (mixed (key_of b))
+    → a ≡ b
 houses_by_slot_and_tag s a b enough limits_a limits_b rest place = grind (arith, key-injective, mixed-injective, key_fits, slot_and_tag-injective)
 
 -- the greatest power of two of at least 1,024 has ten digits below its one
@@ -61,14 +59,11 @@ ten_bits bits n some next = elim (cases_lt bits 10) [
 
 -- slots stay true once one more is stored
 pub bounds_more : (s : ℕ) (slots : List Slot) {a : HousesState} {number at : ℕ} {p : Slot} → s ≤ 54 → AreTrueSlots s slots
-    → IsWithinHouses a →
-    number ≡ mixed (key_of a) → at ≡ slot_of s number → at < length slots
-    → stored_tag p ≡ tag_of number →
-    IsWithinSlot p (won a) → AreTrueSlots s (slice_set slots at p)
+    → IsWithinHouses a → number ≡ mixed (key_of a) → at ≡ slot_of s number → at < length slots
+    → stored_tag p ≡ tag_of number → IsWithinSlot p (won a) → AreTrueSlots s (slice_set slots at p)
 bounds_more s slots enough before limits number_is place inside rest known b number_b d limits_b number_b_is inside_b rest_b =
     grind (arith, length-set, cases_eq, get_or-set_same, houses_by_slot_and_tag, get_or-set_other)
 
 -- slots that all hold what is known of all houses
 pub bounds_unknown : (s count : ℕ) (p : Slot) → stored_least p ≡ 0 → stored_most p ≡ most_seeds → AreTrueSlots s (replicate count p)
-bounds_unknown s count p none all a number d limits number_is inside rest =
-    grind (arith, won_of_houses, get_or-replicate, length-replicate)
+bounds_unknown s count p none all a number d limits number_is inside rest = grind (arith, won_of_houses, get_or-replicate, length-replicate)

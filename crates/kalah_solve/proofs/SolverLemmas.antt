@@ -44,8 +44,7 @@ strategy_within {s} lawful = grind arith
 
 -- two strategies play a game to its end
 pub ends_within : (n : ℕ) (mine theirs : Strategy) → IsStrategy mine → IsStrategy theirs → (p : Position) → HasEqualSides p
-    → moves_left p ≤ n →
-    (houses : List ℕ) × (final : Position) × Game (follow mine) (follow theirs) p houses final
+    → moves_left p ≤ n → (houses : List ℕ) × (final : Position) × Game (follow mine) (follow theirs) p houses final
 ends_within zero mine theirs mine_lawful theirs_lawful p equal few = ([], p, is_at_end (over_at_end p (omega arith)))
 ends_within (suc n) mine theirs mine_lawful theirs_lawful p equal few = elim (cases_Bool _) [
   | inl over ↦ ([], p, is_at_end over)
@@ -94,8 +93,8 @@ follow_one s = grind arith
 
 -- two games without a choice are the same
 pub game_is_one : {mine theirs : Policy} {p : Position} {houses others : List ℕ} {final other : Position} → HasNoChoice mine
-    → HasNoChoice theirs →
-    Game mine theirs p houses final → Game mine theirs p others other → (houses ≡ others) × (final ≡ other)
+    → HasNoChoice theirs → Game mine theirs p houses final → Game mine theirs p others other
+    → (houses ≡ others) × (final ≡ other)
 game_is_one mine_forced theirs_forced (is_at_end over) (is_at_end over') = (refl, refl)
 game_is_one mine_forced theirs_forced (is_at_end over) (moves_on going chosen again rest) = cc
 game_is_one mine_forced theirs_forced (is_at_end over) (passes_turn going chosen turn rest) = cc
@@ -122,9 +121,8 @@ pub one_game_is_played : StrategiesPlayOneGame
 one_game_is_played mine theirs p houses others final other one two = game_is_one (follow_one mine) (follow_one theirs) one two
 
 -- a game is one of wider policies, too
-pub widened : {mine theirs mine' theirs' : Policy} {p : Position} {houses : List ℕ} {final : Position} → IsWithin mine mine' →
-    IsWithin theirs theirs' → HasEqualSides p →
-    Game mine theirs p houses final → Game mine' theirs' p houses final
+pub widened : {mine theirs mine' theirs' : Policy} {p : Position} {houses : List ℕ} {final : Position} → IsWithin mine mine'
+    → IsWithin theirs theirs' → HasEqualSides p → Game mine theirs p houses final → Game mine' theirs' p houses final
 widened mine_wider theirs_wider equal (is_at_end over) = is_at_end over
 widened {mine} {theirs} {mine'} {theirs'} {p} mine_wider theirs_wider equal (moves_on {h = h} going chosen again rest) =
     moves_on going (mine_wider.widens p h equal going chosen) again (widened mine_wider theirs_wider (after_equal_sides p h) rest)
@@ -250,8 +248,8 @@ move_worth_is_one {p} {h} {v} {w} a b = elim (cases_Bool _) [
 ]
 
 -- a legal house that attains the worth is a best move
-attaining_is_best : (p : Position) (h : ℕ) → HasEqualSides p → Contains (legal_houses p) h → value_of_move p h ≡ worth p →
-    IsBestMove p h (worth p)
+attaining_is_best : (p : Position) (h : ℕ) → HasEqualSides p → Contains (legal_houses p) h → value_of_move p h ≡ worth p
+    → IsBestMove p h (worth p)
 attaining_is_best p h equal legal attains = grind (arith, worth_is_best_play, worth, move_worth)
 
 -- each best move attains the worth
@@ -287,8 +285,8 @@ best_moves_attain p h equal going = (λ best. (best.legal, attains_if_best _ _ b
 -- ==== The verdict states best play, and no other does
 
 -- the verdict of a position that is not over, by its parts
-pub verdict_of_going : (p : Position) (margin : ℤ) (house : ℕ) → is_over p ≡ false → margin ≡ worth p → house ≡ best_house p →
-    Best margin house ≡ verdict_of p
+pub verdict_of_going : (p : Position) (margin : ℤ) (house : ℕ) → is_over p ≡ false → margin ≡ worth p → house ≡ best_house p
+    → Best margin house ≡ verdict_of p
 verdict_of_going p margin house going margin_at house_at = cc
 
 -- the verdict of a position that is over
@@ -297,8 +295,7 @@ verdict_of_over p margin over margin_is = cc
 
 -- a legal house with a margin that a player can have
 pub small_best : (p : Position) (margin : ℤ) (house : ℕ) → IsWithinLimits p → Contains (legal_houses p) house
-    → IsSmallMargin margin →
-    IsSmallBest margin house
+    → IsSmallMargin margin → IsSmallBest margin house
 small_best p margin house limits legal is_small =
     let holds = legal_holds p _ legal in
     record { small = is_small; first = holds.first; last = omega arith }
@@ -357,22 +354,21 @@ first_with p m (x ∷ xs) = elim (cases_Bool (int_eq (value_of_move p x) m)) [
 ]
 
 pub values_tell_verdict : ValuesTellVerdict
-values_tell_verdict p equal going =
-    grind (arith, map-map, worth_of_going, first_with)
+values_tell_verdict p equal going = grind (arith, map-map, worth_of_going, first_with)
 
 -- ==== The first house that attains the margin of best play, and the margin with the stores
 
 -- the first number that passes is found
-find_first : (p : ℕ → Bool) (xs : List ℕ) (i : ℕ) → i < length xs → ((k : ℕ) → k < i → p (get_or xs k 0) ≡ false) →
-    p (get_or xs i 0) ≡ true → find p xs ≡ Some (get_or xs i 0)
+find_first : (p : ℕ → Bool) (xs : List ℕ) (i : ℕ) → i < length xs → ((k : ℕ) → k < i → p (get_or xs k 0) ≡ false)
+    → p (get_or xs i 0) ≡ true → find p xs ≡ Some (get_or xs i 0)
 find_first p [] i within fails here = absurd (omega arith)
 find_first p (x ∷ xs) zero within fails here = rw here refl
 find_first p (x ∷ xs) (suc i) within fails here =
     rw (fails 0 (omega arith)) (find_first p xs i (omega arith) (λ k low. fails (suc k) (omega arith)) here)
 
 -- in the whole window the answer is the worth
-pub whole_window : {a : HousesState} (found lo hi : ℤ) → IsWithinHouses a → lo ≡ least_margin → hi ≡ most_margin →
-    found ≡ clamped lo hi (houses_worth a) → found ≡ houses_worth a
+pub whole_window : {a : HousesState} (found lo hi : ℤ) → IsWithinHouses a → lo ≡ least_margin → hi ≡ most_margin
+    → found ≡ clamped lo hi (houses_worth a) → found ≡ houses_worth a
 whole_window {a} found lo hi limits lo_is hi_is found_is = omega (arith, ints, clamps, worth_low a limits, worth_high a limits)
 
 -- the first i houses are worth less than the margin of best play
@@ -391,26 +387,25 @@ module _ (a : HousesState) (limits : IsWithinHouses a) where
   worth_less_if_short h legal less = grind (arith, won_of_move, won_of_houses)
 
   -- the first house worth the margin is the best house
-  first_is_best : (i : ℕ) → i < length (legal_houses (storeless a)) → FallShort a i →
-      value_of_move (storeless a) (get_or (legal_houses (storeless a)) i 0) ≡ houses_worth a →
-      get_or (legal_houses (storeless a)) i 0 ≡ best_house (storeless a)
+  first_is_best : (i : ℕ) → i < length (legal_houses (storeless a)) → FallShort a i
+      → value_of_move (storeless a) (get_or (legal_houses (storeless a)) i 0) ≡ houses_worth a
+      → get_or (legal_houses (storeless a)) i 0 ≡ best_house (storeless a)
   first_is_best i inside short attains = grind (arith, find_first)
 
   -- a house that wins enough, if those before it fall short
-  pub first_enough_is_best : (i : ℕ) → i < length (legal_houses (storeless a)) → FallShort a i →
-      won a ≤ won_by_step (houses_step a (get_or (legal_houses (storeless a)) i 0)) →
-      get_or (legal_houses (storeless a)) i 0 ≡ best_house (storeless a)
+  pub first_enough_is_best : (i : ℕ) → i < length (legal_houses (storeless a)) → FallShort a i
+      → won a ≤ won_by_step (houses_step a (get_or (legal_houses (storeless a)) i 0))
+      → get_or (legal_houses (storeless a)) i 0 ≡ best_house (storeless a)
   first_enough_is_best i inside short enough = first_is_best i inside short (worth_if_enough _ (Contains-get_or _ i 0 inside) enough)
 
   -- if a house wins fewer, the first i + 1 fall short
-  pub one_more_falls_short : (i : ℕ) → i < length (legal_houses (storeless a)) → FallShort a i →
-      won_by_step (houses_step a (get_or (legal_houses (storeless a)) i 0)) < won a →
-      FallShort a (i + 1)
+  pub one_more_falls_short : (i : ℕ) → i < length (legal_houses (storeless a)) → FallShort a i
+      → won_by_step (houses_step a (get_or (legal_houses (storeless a)) i 0)) < won a → FallShort a (i + 1)
   one_more_falls_short i inside short less k low = grind (arith, cases_eq, int_eq-lower, worth_less_if_short, Contains-get_or)
 
   -- if all but the last fall short, it is the last
-  pub last_is_best : (n : ℕ) → is_over (storeless a) ≡ false → length (legal_houses (storeless a)) ≡ n + 1 → FallShort a n →
-      get_or (legal_houses (storeless a)) n 0 ≡ best_house (storeless a)
+  pub last_is_best : (n : ℕ) → is_over (storeless a) ≡ false → length (legal_houses (storeless a)) ≡ n + 1 → FallShort a n
+      → get_or (legal_houses (storeless a)) n 0 ≡ best_house (storeless a)
   last_is_best n going many short =
       let one = greatest_reached (value_of_move _) _ (omega arith) in
       let inside = one.1.1 in

@@ -42,8 +42,8 @@ greatest_reached f (x ∷ xs) some = elim (fold-int_max_reached (f x) (map f xs)
 ]
 
 -- what a search finds is in the list, and passes
-pub find_passes : (t : ℕ → Bool) (xs : List ℕ) (k : ℕ) → Contains xs k → t k ≡ true →
-    Contains xs (unwrap_or (find t xs) 0) × (t (unwrap_or (find t xs) 0) ≡ true)
+pub find_passes : (t : ℕ → Bool) (xs : List ℕ) (k : ℕ) → Contains xs k → t k ≡ true
+    → Contains xs (unwrap_or (find t xs) 0) × (t (unwrap_or (find t xs) 0) ≡ true)
 find_passes t [] k member passes = absurd (omega arith)
 find_passes t (x ∷ xs) k member passes = elim (cases_Bool (t x)) [
   | inl here ↦ rw here (Contains-head x xs, here)
@@ -62,8 +62,8 @@ filter_low g a n h member =
     (All-contains InRange _ h (All-filter g InRange (range_with_len a n) (all_range a n)) member).0
 
 -- what a search finds in ascending numbers is the lowest that passes
-pub find_lowest : (t g : ℕ → Bool) (a n h : ℕ) → Contains (filter g (range_with_len a n)) h → t h ≡ true →
-    unwrap_or (find t (filter g (range_with_len a n))) 0 ≤ h
+pub find_lowest : (t g : ℕ → Bool) (a n h : ℕ) → Contains (filter g (range_with_len a n)) h → t h ≡ true
+    → unwrap_or (find t (filter g (range_with_len a n))) 0 ≤ h
 find_lowest t g a zero h member passes = omega arith
 find_lowest t g a (suc n) h member passes = elim (cases_Bool (g a)) [
   | inl kept ↦
@@ -119,8 +119,8 @@ map_same f g (x ∷ xs) same =
     cc rest
 
 -- a value depends only on the worth of what follows
-value_same : (v w : Position → ℤ) (p : Position) (h : ℕ) → v (after p h) ≡ w (after p h) →
-    v (swapped (after p h)) ≡ w (swapped (after p h)) → value_by v p h ≡ value_by w p h
+value_same : (v w : Position → ℤ) (p : Position) (h : ℕ) → v (after p h) ≡ w (after p h)
+    → v (swapped (after p h)) ≡ w (swapped (after p h)) → value_by v p h ≡ value_by w p h
 value_same v w p h again turn = cc
 
 -- one move more, if the game goes on
@@ -136,9 +136,9 @@ worth_within-over zero p over = refl
 worth_within-over (suc n) p over = cc
 
 -- two worths that agree on positions with fewer moves left give the moves the same values
-values_same : (v w : Position → ℤ) (p : Position) → HasEqualSides p →
-    ((q : Position) → HasEqualSides q → moves_left q < moves_left p → v q ≡ w q) →
-    map (value_by v p) (legal_houses p) ≡ map (value_by w p) (legal_houses p)
+values_same : (v w : Position → ℤ) (p : Position) → HasEqualSides p
+    → ((q : Position) → HasEqualSides q → moves_left q < moves_left p → v q ≡ w q)
+    → map (value_by v p) (legal_houses p) ≡ map (value_by w p) (legal_houses p)
 values_same v w p equal agree = map_same _ _ (legal_houses p) (λ h legal.
     let fewer = after_fewer p h (legal_holds p h legal) equal in
     let next_equal = after_equal_sides p h in
@@ -211,16 +211,14 @@ value_of_turn p h e step_is = grind arith
 
 -- how many moves a move leaves, if the mover moves again
 pub again_fewer : (p : Position) (h : ℕ) (e : Position) → HasEqualSides p → Contains (legal_houses p) h
-    → board.Again e ≡ step_of p h →
-    moves_left e < moves_left p
+    → board.Again e ≡ step_of p h → moves_left e < moves_left p
 again_fewer p h e equal legal step_is =
     let to = step_states (is_over (after p h)) (is_again p h) (after p h) (board.Again e) step_is in
     rw to.2 (after_fewer p h (legal_holds p h legal) equal)
 
 -- if the turn passes
 pub turn_fewer : (p : Position) (h : ℕ) (e : Position) → HasEqualSides p → Contains (legal_houses p) h
-    → board.Turn e ≡ step_of p h →
-    moves_left e < moves_left p
+    → board.Turn e ≡ step_of p h → moves_left e < moves_left p
 turn_fewer p h e equal legal step_is =
     let to = step_states (is_over (after p h)) (is_again p h) (after p h) (board.Turn e) step_is in
     let fewer = after_fewer p h (legal_holds p h legal) equal in
@@ -257,8 +255,8 @@ pub value_passing : (p : Position) (h : ℕ) → is_again p h ≡ false → valu
 value_passing p h turn = grind (arith, cases_Bool, worth_of_over, is_over-swapped, final_swapped)
 
 -- the best house is legal, and attains the worth
-pub best_found : (p : Position) → HasEqualSides p → is_over p ≡ false →
-    Contains (legal_houses p) (best_house p) × (int_eq (value_of_move p (best_house p)) (worth p) ≡ true)
+pub best_found : (p : Position) → HasEqualSides p → is_over p ≡ false
+    → Contains (legal_houses p) (best_house p) × (int_eq (value_of_move p (best_house p)) (worth p) ≡ true)
 best_found p equal going =
     let best = greatest_reached _ (legal_houses p) (legal_some p going) in
     let attains = best.2 ∙ sym (worth_of_going p equal going) in
@@ -304,8 +302,8 @@ map_shift f g d [] same = refl
 map_shift f g d (x ∷ xs) same = cc (same x, map_shift f g d xs same)
 
 -- the greatest of them is shifted
-greatest_shift : (f g : ℕ → ℤ) (d : ℤ) (xs : List ℕ) → 0 < length xs → ((h : ℕ) → f h ≡ g h +ℤ d) →
-    greatest (map f xs) ≡ greatest (map g xs) +ℤ d
+greatest_shift : (f g : ℕ → ℤ) (d : ℤ) (xs : List ℕ) → 0 < length xs → ((h : ℕ) → f h ≡ g h +ℤ d)
+    → greatest (map f xs) ≡ greatest (map g xs) +ℤ d
 greatest_shift f g d [] some same = absurd (omega arith)
 greatest_shift f g d (x ∷ xs) some same = rw (same x, map_shift f g d xs same) (fold_shift d (g x) (map g xs))
 
@@ -320,10 +318,10 @@ shift_turned : (a b : ℕ) (u' : ℤ) {u : ℤ} → u ≡ u' +ℤ (pos b -ℤ po
 shift_turned a b u' u_is = omega (arith, ints)
 
 -- a value by a worth that stores shift is shifted
-value-store_seeds : (v w : Position → ℤ) (a b : ℕ) (p : Position) (h : ℕ) →
-    v (with_store_seeds a b (after p h)) ≡ w (after p h) +ℤ (pos a -ℤ pos b) →
-    v (with_store_seeds b a (swapped (after p h))) ≡ w (swapped (after p h)) +ℤ (pos b -ℤ pos a) →
-    value_by v (with_store_seeds a b p) h ≡ value_by w p h +ℤ (pos a -ℤ pos b)
+value-store_seeds : (v w : Position → ℤ) (a b : ℕ) (p : Position) (h : ℕ)
+    → v (with_store_seeds a b (after p h)) ≡ w (after p h) +ℤ (pos a -ℤ pos b)
+    → v (with_store_seeds b a (swapped (after p h))) ≡ w (swapped (after p h)) +ℤ (pos b -ℤ pos a)
+    → value_by v (with_store_seeds a b p) h ≡ value_by w p h +ℤ (pos a -ℤ pos b)
 value-store_seeds v w a b p h again turn = grind (arith, after-store_seeds, shift_either, shift_turned, final-store_seeds)
 
 -- with no move left the worth is the final margin
@@ -377,8 +375,8 @@ pub best_of_houses : (p : Position) → best_house p ≡ best_house (storeless (
 best_of_houses p = ap best_house (storeless-store_seeds p) ∙ best-store_seeds p.own_store _ (storeless (houses_in p))
 
 -- the value of a move is that of the move of the houses, moved by the stores
-pub value_of_houses : (p : Position) (h : ℕ) → value_of_move p h ≡ value_of_move (storeless (houses_in p)) h +ℤ
-    (pos p.own_store -ℤ pos p.other_store)
+pub value_of_houses : (p : Position) (h : ℕ)
+    → value_of_move p h ≡ value_of_move (storeless (houses_in p)) h +ℤ (pos p.own_store -ℤ pos p.other_store)
 value_of_houses p h =
     let a = p.own_store in
     let b = p.other_store in
@@ -422,13 +420,13 @@ worth_again : (q : Position) → q.other_store ≡ 0 → worth q ≡ pos q.own_s
 worth_again q none = worth_of_houses q ∙ omega (arith, ints)
 
 -- the same if the turn passes
-worth_turn : (q : Position) → q.other_store ≡ 0 → neg_ℤ (worth (swapped q)) ≡ pos q.own_store -ℤ houses_worth
-    (houses_in (swapped q))
+worth_turn : (q : Position) → q.other_store ≡ 0
+    → neg_ℤ (worth (swapped q)) ≡ pos q.own_store -ℤ houses_worth (houses_in (swapped q))
 worth_turn q none = ap neg_ℤ (worth_of_houses _) ∙ omega (arith, ints)
 
 -- what a position after a move is worth, by its step
-worth_by_step : (q : Position) (again : Bool) → q.other_store ≡ 0 →
-    (if is_over q then final_margin q else (if again then worth q else neg_ℤ (worth (swapped q)))) ≡ worth_of_step
+worth_by_step : (q : Position) (again : Bool) → q.other_store ≡ 0
+    → (if is_over q then final_margin q else (if again then worth q else neg_ℤ (worth (swapped q)))) ≡ worth_of_step
     (houses_step_to q again)
 worth_by_step q again none = grind (arith, cases_Bool, worth_again, worth_turn)
 
@@ -465,9 +463,7 @@ leads_on a h limits legal =
     }))
 
 -- a step that was played leads there
-pub leads_by : {a : HousesState} (h : ℕ) (s : HousesStep) → IsWithinHouses a → IsLegal a h
-    → s ≡ houses_step a h
-    → LeadsOn a s
+pub leads_by : {a : HousesState} (h : ℕ) (s : HousesStep) → IsWithinHouses a → IsLegal a h → s ≡ houses_step a h → LeadsOn a s
 leads_by {a} h s limits legal step_is = grind (arith, leads_on)
 
 -- ---- what the search needs of a step
@@ -483,8 +479,7 @@ goes_on_of a variant (Again gained b) limits variant_is leads = goes_on_to limit
 goes_on_of a variant (Turn gained b) limits variant_is leads = goes_on_to limits variant_is leads
 
 -- the step of a legal move goes on in the variant
-pub goes_on : (a : HousesState) (variant h : ℕ) (s : HousesStep) → variant_of a ≡ variant → IsWithinHouses a
-    → IsLegal a h
+pub goes_on : (a : HousesState) (variant h : ℕ) (s : HousesStep) → variant_of a ≡ variant → IsWithinHouses a → IsLegal a h
     → s ≡ houses_step a h → GoesOn variant s
 goes_on a variant h s variant_is limits legal step_is = goes_on_of _ _ _ limits variant_is (leads_by _ _ limits legal step_is)
 
@@ -495,9 +490,8 @@ falls_if_leads_on a (Again gained b) some leads = leads.fewer
 falls_if_leads_on a (Turn gained b) some leads = leads.fewer
 
 -- the step of a legal move leaves fewer moves
-pub step_falls : (a : HousesState) (h : ℕ) (s : HousesStep) → IsWithinHouses a → IsLegal a h
-    → s ≡ houses_step a h →
-    moves_after s < moves_left (storeless a)
+pub step_falls : (a : HousesState) (h : ℕ) (s : HousesStep) → IsWithinHouses a → IsLegal a h → s ≡ houses_step a h
+    → moves_after s < moves_left (storeless a)
 step_falls a h s limits legal step_is =
     let fewer = after_fewer (storeless a) h (legal_holds (storeless a) h legal) (record { same = limits.same_side }) in
     falls_if_leads_on a s (omega (arith, fewer)) (leads_by _ _ limits legal step_is)

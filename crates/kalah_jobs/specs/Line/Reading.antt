@@ -41,8 +41,7 @@ store_at houses bytes = do
 -- what follows a house: the store after a slash, or more houses after a comma
 abbrev pub house_followed : (List ℕ → Option SideRead) → (List ℕ → Option SideRead) → List ℕ → Option SideRead
 house_followed store more [] = None
-house_followed store more (mark ∷ rest) =
-    if mark == slash then store rest else (if mark == comma then more rest else None)
+house_followed store more (mark ∷ rest) = if mark == slash then store rest else (if mark == comma then more rest else None)
 
 -- the side that begins with these houses and goes on, by at most `n` houses, at the front of the bytes
 abbrev pub side_from : ℕ → List ℕ → List ℕ → Option SideRead

@@ -41,7 +41,6 @@ pub record IsSplit (first second : List ℕ) : Type 0 where
 
 -- a file has its lines from number 0 on, is counted by its bytes alone, and can be cut between any two lines
 pub record FilesSplitBetweenLines : Type 0 where
-  pub whole : (question : Question) (file : NamedBytes) →
-      output_to question (file ∷ []) ≡ output_from 0 question file.name file.bytes
+  pub whole : (question : Question) (file : NamedBytes) → output_to question (file ∷ []) ≡ output_from 0 question file.name file.bytes
   pub counted : (file : NamedBytes) → tally_of (file ∷ []) ≡ tally_in file.bytes
   pub parts : (first second : List ℕ) → EndsWithItsLine first → IsSplit first second

@@ -1,6 +1,5 @@
 use Rattle.std.proofs.lemmas.Grind.{common_steps}
-use Rattle.std.proofs.Common.{◌∙◌, ap, arith, fold}
-use Rattle.std.proofs.lemmas.List.{take_all}
+use Rattle.std.proofs.Common.{◌∙◌, ap, arith, fold, take_all}
 use Rattle.kalah_cli.specs.Command.{program_app, with_listed}
 use Rattle.kalah_cli.proofs.CommandLemmas.{subcommand_added}
 use Rattle.kalah_cli.proofs.command.command.Goals as goal

@@ -1,5 +1,4 @@
-use Rattle.std.proofs.Common.{◌≡◌, ◌<◌, ◌≤◌, ◌+◌, ◌-◌, ◌^◌, ◌∙◌, ℕ, List, ap, arith, get_or, length, subst, suc, sym, take, Contains, sum_by}
-use Rattle.std.proofs.lemmas.List.{take_all}
+use Rattle.std.proofs.Common.{◌≡◌, ◌<◌, ◌≤◌, ◌+◌, ◌-◌, ◌^◌, ◌∙◌, ℕ, List, ap, arith, get_or, length, subst, suc, sym, take, Contains, sum_by, take_all}
 use Rattle.std.proofs.lemmas.List.Elements.{Contains-get_or}
 use Rattle.std.proofs.lemmas.List.Sums.{sum_by_more}
 use Rattle.std.proofs.Math.Nat.{le_trans, pow-le-pow_right}
@@ -16,8 +15,8 @@ use Rattle.kalah_jobs.proofs.SinkLemmas.{given_all, given_all_after_failure, giv
 use Rattle.kalah_cli.proofs.count.write_houses.Goals as goal
 
 -- the sum of the ways that begin with a legal move is the number of all
-all_counted : {depth total : ℕ} {moves : List ℕ} (p : Position) (n : ℕ) → depth ≡ n + 1 → moves ≡ legal_houses p
-    → (i : ℕ) → length moves ≤ i → total ≡ sum_by (ways_by n p) (take i moves) → total ≡ ways depth p
+all_counted : {depth total : ℕ} {moves : List ℕ} (p : Position) (n : ℕ) → depth ≡ n + 1 → moves ≡ legal_houses p → (i : ℕ)
+    → length moves ≤ i → total ≡ sum_by (ways_by n p) (take i moves) → total ≡ ways depth p
 all_counted {moves = moves} p n more same i complete sum =
     sum ∙ ap (sum_by (ways_by n p)) (take_all i moves complete ∙ same) ∙ sym (ways_more n p) ∙ ap (λ depth. ways depth p) (sym more)
 

@@ -1,5 +1,4 @@
-use Rattle.std.proofs.Common.{◌≡◌, refl}
-use Rattle.std.specs.Int.Bits.{bit_xor}
+use Rattle.std.proofs.Common.{◌≡◌, refl, bit_xor}
 use Rattle.kalah_rules.specs.Packed.{ones}
 use Rattle.kalah_solve.proofs.MarksLemmas.{marks_ending}
 use Rattle.kalah_solve.proofs.marks.ending_in_store.Goals as goal

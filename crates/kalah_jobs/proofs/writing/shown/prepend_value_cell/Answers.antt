@@ -2,8 +2,7 @@ use Rattle.kalah_jobs.proofs.WritingLemmas.{value_at_right, value_longer, value_
 use Rattle.kalah_jobs.proofs.writing.shown.prepend_value_cell.Goals as goal
 
 pub overflow_sub-end : goal.overflow_sub-end
-overflow_sub-end c =
-    value_room _ c.requires.small c.from.ensures c.prepend_margin.ensures.margin c.len-end.ensures c.len.ensures
+overflow_sub-end c = value_room _ c.requires.small c.from.ensures c.prepend_margin.ensures.margin c.len-end.ensures c.len.ensures
 
 pub returns-clause-cell : goal.returns-clause-cell
 returns-clause-cell c =

@@ -76,8 +76,7 @@ pub ways_by-new-requires-clause-first : goal.ways_by-new-requires-clause-first
 ways_by-new-requires-clause-first t c = (legal_holds (storeless c.args.self.now) c.args.h c.requires.legal).first
 
 pub ways_by-new-requires-clause-last : goal.ways_by-new-requires-clause-last
-ways_by-new-requires-clause-last t c =
-    omega (arith, (legal_holds (storeless c.args.self.now) c.args.h c.requires.legal).last)
+ways_by-new-requires-clause-last t c = omega (arith, (legal_holds (storeless c.args.self.now) c.args.h c.requires.legal).last)
 
 pub ways_by-returns-in-Over-clause-ways : goal.ways_by-returns-in-Over-clause-ways
 ways_by-returns-in-Over-clause-ways t c =

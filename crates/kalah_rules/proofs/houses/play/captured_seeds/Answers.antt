@@ -5,8 +5,7 @@ use Rattle.kalah_rules.proofs.houses.play.captured_seeds.Goals as goal
 
 -- a number under a mask of all bits or none
 masked : (holds : Bool) (bit mask x y : ℕ) → bit ≡ cond holds 1 0 → mask ≡ (0 + (2 ^ 64 - bit)) % 2 ^ 64 → x < 2 ^ 64
-    → y < 2 ^ 64 →
-    MatchBool holds ((bit_and x mask ≡ x) × (bit_and y mask ≡ y)) ((bit_and x mask ≡ 0) × (bit_and y mask ≡ 0))
+    → y < 2 ^ 64 → MatchBool holds ((bit_and x mask ≡ x) × (bit_and y mask ≡ y)) ((bit_and x mask ≡ 0) × (bit_and y mask ≡ 0))
 masked true bit mask x y bit_is mask_is x_fits y_fits =
     let all : mask ≡ 18446744073709551615 = omega arith in
     rw all (omega (arith, and_mask x 64, and_mask y 64))

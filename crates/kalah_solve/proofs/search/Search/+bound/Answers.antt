@@ -268,7 +268,7 @@ bound_by_moves-loop-priority-init g t c =
       next = next_waits c.seeds-seeds.ensures.limits untried c.highest-priority.ensures.found;
     }
 
-pub bound_by_search-learn_seeds-requires : goal.bound_by_search-learn-requires
+pub bound_by_search-learn_seeds-requires : goal.bound_by_search-learn_seeds-requires
 bound_by_search-learn_seeds-requires g c = grind (arith, common_steps)
 
 pub try_remaining-loop-untried-smaller-then-seeds-self : goal.try_remaining-loop-untried-smaller-then-seeds-self

@@ -15,8 +15,8 @@ interval_of-requires-clause-most g c =
     rw (to_z-of_z w32 c.clamp-answer.result (search rules), c.clamp-answer.ensures) ((clamped_within _ _ _ c.in-Some.narrow.ordered).1)
 
 -- the answer is the worth in the window
-found : (g : Over) (c : goal.After-intersection g) →
-    to_z w32 (of_z w32 c.clamp-answer.result) ≡ clamped c.in-Some.narrow.lo c.in-Some.narrow.hi (houses_worth c.args.houses.now)
+found : (g : Over) (c : goal.After-intersection g)
+    → to_z w32 (of_z w32 c.clamp-answer.result) ≡ clamped c.in-Some.narrow.lo c.in-Some.narrow.hi (houses_worth c.args.houses.now)
 found g c =
     let seeds = c.seeds-seeds.ensures in
     to_z-of_z w32 c.clamp-answer.result (search rules) ∙ rw (to_z-of_z w32 c.margin_of.result (search rules)) at c.clamp-answer.ensures

@@ -12,9 +12,8 @@ found_more xs most i new found inside new_is = elim (cases_lt most (get_or xs i 
 ]
 
 -- no priority up to the next one is greater
-highest_more : (xs : List ℕ) (most i new : ℕ) → ((k : ℕ) → k < i → get_or xs k 0 ≤ most)
-    → new ≡ max most (get_or xs i 0) →
-    (k : ℕ) → k < i + 1 → get_or xs k 0 ≤ new
+highest_more : (xs : List ℕ) (most i new : ℕ) → ((k : ℕ) → k < i → get_or xs k 0 ≤ most) → new ≡ max most (get_or xs i 0)
+    → (k : ℕ) → k < i + 1 → get_or xs k 0 ≤ new
 highest_more xs most i new highest new_is k below = grind arith
 
 pub loop-i-preserved : goal.loop-i-preserved

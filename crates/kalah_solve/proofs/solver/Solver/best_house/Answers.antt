@@ -16,14 +16,12 @@ get-requires g c = omega (arith, ap length c.legal-moves.ensures.moves, legal_so
 
 -- the house that is looked at is a legal house
 looked_at : (moves legal : List ℕ) (i count house : ℕ) → count ≡ length moves → i < count - 1 → house ≡ get_or moves i 0
-    → moves ≡ legal →
-    (i < length legal) × (house ≡ get_or legal i 0)
-looked_at moves legal i count house many before house_is are =
-    (omega (arith, ap length are), house_is ∙ ap (λ xs. get_or xs i 0) are)
+    → moves ≡ legal → (i < length legal) × (house ≡ get_or legal i 0)
+looked_at moves legal i count house many before house_is are = (omega (arith, ap length are), house_is ∙ ap (λ xs. get_or xs i 0) are)
 
 -- it is one of 1 to 6
-legal_within : {a : HousesState} {i h : ℕ} → IsWithinHouses a → (i < length (legal_houses (storeless a)))
-    × (h ≡ get_or (legal_houses (storeless a)) i 0) → (1 ≤ h) × (h ≤ 6)
+legal_within : {a : HousesState} {i h : ℕ} → IsWithinHouses a
+    → (i < length (legal_houses (storeless a))) × (h ≡ get_or (legal_houses (storeless a)) i 0) → (1 ≤ h) × (h ≤ 6)
 legal_within {a} {i} {h} limits place =
     let holds = legal_holds (storeless a) h (rw place.1 (Contains-get_or _ i 0 place.0)) in
     (holds.first, omega (arith, holds.last, limits.at_most_six))

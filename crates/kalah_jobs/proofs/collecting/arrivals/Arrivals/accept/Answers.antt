@@ -14,8 +14,7 @@ invariant_of-self c =
     (omega (arith, stops, c.loop-self.invariant.within), search rules, search rules)
 
 pub returns-clause-more_ready : goal.returns-clause-more_ready
-returns-clause-more_ready c =
-    omega (arith, (invariant_of-self c).0, c.loop-self.invariant.low, c.self.invariant.0, ap front c.self.view_is)
+returns-clause-more_ready c = omega (arith, (invariant_of-self c).0, c.loop-self.invariant.low, c.self.invariant.0, ap front c.self.view_is)
 
 pub loop-self-init : goal.loop-self-init
 loop-self-init c = grind (arith, front_set)

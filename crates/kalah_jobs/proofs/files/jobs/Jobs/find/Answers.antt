@@ -11,8 +11,7 @@ overflow_cast-result c =
     omega (arith, found.some, found.within, ap length c.self.view_is, c.self.invariant.0.few_files)
 
 pub index-requires-4 : goal.index-requires-4
-index-requires-4 c =
-    grind (arith, common_steps, lines_between c.args.self.now c.loop-past.file, c.self.invariant.1.before c.loop-past.file)
+index-requires-4 c = grind (arith, common_steps, lines_between c.args.self.now c.loop-past.file, c.self.invariant.1.before c.loop-past.file)
 
 pub returns : goal.returns
 returns c =

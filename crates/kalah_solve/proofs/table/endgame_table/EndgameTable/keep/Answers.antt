@@ -7,8 +7,7 @@ use Rattle.kalah_solve.proofs.BoundsLemmas.{won_of_houses}
 use Rattle.kalah_solve.proofs.table.endgame_table.EndgameTable.keep.Goals as goal
 
 pub with_stored-word-requires-clause-small : goal.with_stored-word-requires-clause-small
-with_stored-word-requires-clause-small g c =
-    omega (arith, (won_of_houses c.word_of-at.ensures.limits).few)
+with_stored-word-requires-clause-small g c = omega (arith, (won_of_houses c.word_of-at.ensures.limits).few)
 
 pub swap_new_seat-requires : goal.swap_new_seat-requires
 swap_new_seat-requires g c =

@@ -26,10 +26,9 @@ module _ {a : HousesState} {step sums rank : ℕ} (limits : IsWithinHouses a) (e
       (omega arith) ranked
 
   -- what the two cells add
-  ranked_here : (r : ℕ) →
-      r ≡ choose (sums % 1024 % 32 + 2 * (5 - step) + 1) (2 * (5 - step) + 2) + choose (sums % 1024 / 32 + 2 * (5 - step))
-      (2 * (5 - step) + 1) →
-      IsRanked (a.own ++ a.other) (step + 1 + length a.own - 6) (sums / 1024) (rank + r)
+  ranked_here : (r : ℕ)
+      → r ≡ choose (sums % 1024 % 32 + 2 * (5 - step) + 1) (2 * (5 - step) + 2) + choose (sums % 1024 / 32 + 2 * (5 - step))
+      (2 * (5 - step) + 1) → IsRanked (a.own ++ a.other) (step + 1 + length a.own - 6) (sums / 1024) (rank + r)
   ranked_here r r_is =
       let past : length a.own - (step + length a.own - 6) - 1 ≡ 5 - step = omega arith in
       let next : step + 1 + length a.own - 6 ≡ step + length a.own - 6 + 1 = omega arith in
