@@ -19,7 +19,7 @@ pub ways_none : (p : Position) → ways 0 p ≡ 1
 unfolding ways
 ways_none p = refl
 
-ways-suc : (n : ℕ) (p : Position) → ways (suc n) p ≡ sum_by (ways_by n p) (legal_houses p)
+pub ways-suc : (n : ℕ) (p : Position) → ways (suc n) p ≡ sum_by (ways_by n p) (legal_houses p)
 unfolding ways
 ways-suc n p = refl
 

@@ -1,4 +1,4 @@
-use Rattle.std.proofs.Common.{◌≡◌, ◌<◌, ◌≤◌, ◌+◌, ◌-◌, ◌^◌, ◌∙◌, ℕ, List, ap, arith, get_or, length, subst, suc, sym, take, Contains, sum_by, take_all}
+use Rattle.std.proofs.Common.{◌≡◌, ◌<◌, ◌≤◌, ◌+◌, ◌-◌, ◌^◌, ◌∙◌, ℕ, List, add-one, ap, arith, get_or, length, subst, suc, sym, take, Contains, sum_by, take_all}
 use Rattle.std.proofs.lemmas.List.Elements.{Contains-get_or}
 use Rattle.std.proofs.lemmas.List.Sums.{sum_by_more}
 use Rattle.std.proofs.Math.Nat.{le_trans, pow-le-pow_right}
@@ -6,7 +6,7 @@ use Rattle.kalah_rules.specs.Limits.{most_depth, most_houses}
 use Rattle.kalah_rules.specs.Play.{legal_houses}
 use Rattle.kalah_rules.specs.Position.{Position}
 use Rattle.kalah_rules.specs.Ways.{ways, ways_by}
-use Rattle.kalah_rules.proofs.WaysLemmas.{legal_few, ways_more}
+use Rattle.kalah_rules.proofs.WaysLemmas.{legal_few, ways-suc}
 use Rattle.kalah_solve.proofs.SolverLemmas.{house_small}
 use Rattle.kalah_jobs.specs.Writing.Counts.{ways_line}
 use Rattle.kalah_jobs.specs.Writing.Sink.{WasGiven}
@@ -18,7 +18,8 @@ use Rattle.kalah_cli.proofs.count.write_houses.Goals as goal
 all_counted : {depth total : ℕ} {moves : List ℕ} (p : Position) (n : ℕ) → depth ≡ n + 1 → moves ≡ legal_houses p → (i : ℕ)
     → length moves ≤ i → total ≡ sum_by (ways_by n p) (take i moves) → total ≡ ways depth p
 all_counted {moves = moves} p n more same i complete sum =
-    sum ∙ ap (sum_by (ways_by n p)) (take_all i moves complete ∙ same) ∙ sym (ways_more n p) ∙ ap (λ depth. ways depth p) (sym more)
+    sum ∙ ap (sum_by (ways_by n p)) (take_all i moves complete ∙ same) ∙ sym (ways-suc n p)
+    ∙ ap (λ depth. ways depth p) (sym (more ∙ add-one n))
 
 -- at most 6 ^ 19 ways begin with a house, so the sum of six fits sixty-four bits
 few_ways : (n depth : ℕ) → n ≤ most_houses ^ (depth - 1) → depth ≤ most_depth → n ≤ 6 ^ 19
