@@ -1,4 +1,4 @@
-//! The texts of the help that `clap` doesn't write itself, and the version.
+//! The texts of the help that `clap` doesn't write itself, the version, and the message about options that exclude each other.
 
 /// What `--version` prints. The contract (`version_line`) has the number too.
 pub(crate) const VERSION_LINE: &str = "kalah 1.4.0\n";

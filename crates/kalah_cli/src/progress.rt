@@ -40,7 +40,7 @@ fn share(answered: u64, lines: u64, parts: u64) -> u64 {
         .unwrap_or(parts)
 }
 
-// Returns a time in the largest unit that it has two or more of, rounded down.
+// Returns a time in seconds below two minutes, in minutes below two hours, and else in hours, rounded down.
 fn in_units(seconds: u64) -> (u64, &'static str) {
     if seconds < 120 {
         (seconds, "s")

@@ -10,7 +10,7 @@ mod line;
 pub(crate) use arguments::report_refused;
 pub(crate) use line::report_fault;
 
-// Returns whether a text has the form of one side of a position, as `1,1/0`.
+// Returns whether a text looks like one side of a position, as `1,1/0`: digits, commas and one slash.
 fn is_side(text: &str) -> bool {
     let mut slashes = 0u32;
     for byte in text.as_bytes() {

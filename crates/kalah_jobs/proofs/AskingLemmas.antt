@@ -54,7 +54,7 @@ answers_split : (question : Question) (lines more : List ℕ) → EndsWithItsLin
 unfolding answers_to
 answers_split question lines more ends = simp ((files_split_between_lines.parts lines more ends).lines, flat_map-append)
 
--- nothing is answered by nothing
+-- an empty text has no answers
 no_answers : (question : Question) → answers_to question [] ≡ []
 unfolding answers_to
 no_answers question = ap (flat_map (reply question)) (lines_of-empty [] refl)

@@ -83,7 +83,7 @@ lines_of-last bytes n some none =
 -- what cutting off the first line needs
 pub ruleset first_lines = (lines_of-cut, lines_of-last, take_all)
 
--- no bytes have no lines
+-- an empty file has no line
 pub lines_of-empty : (bytes : List ℕ) → length bytes ≡ 0 → lines_of bytes ≡ []
 unfolding lines_of
 lines_of-empty [] none = refl

@@ -90,7 +90,7 @@ line_is_read text p line =
       suffix_is_read p.rule,
     ) refl
 
--- no bytes write no position
+-- the empty line writes no position
 pub empty_is_no_line : (p : Position) → ¬ IsLineOf [] p
 unfolding position_of_text side_at
 empty_is_no_line p line = absurd (cc (line_is_read [] p line))

@@ -9,7 +9,7 @@ use Rattle.std.proofs.lemmas.Grind.{flat_map-append}
 
 -- ==== Prefixes of what was to be written
 
--- nothing is a prefix of everything
+-- the empty text is a prefix of every text
 pub prefix_none : (old : Option (List ℕ)) (bs : List ℕ) → AppendsPrefix old old bs
 prefix_none old bs = (0, Appends-nil old)
 

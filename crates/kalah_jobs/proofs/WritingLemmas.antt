@@ -37,16 +37,16 @@ use Rattle.kalah_jobs.proofs.FilesLemmas.{lines_of-feed, lines_of-byte, length-l
 -- ==== How long the parts of lines are at most
 
 -- a number of 64 bits has at most 20 digits
-pub number_length : (n : ℕ) → n < 2 ^ 64 → length (decimal n) ≤ 20
-number_length n low = length-decimal-le 20 n (omega arith) (omega arith) low
+pub u64_length : (n : ℕ) → n < 2 ^ 64 → length (decimal n) ≤ 20
+u64_length n low = length-decimal-le 20 n (omega arith) (omega arith) low
 
 -- one of 32 bits has at most 10
-pub margin_length : (n : ℕ) → n < 2 ^ 32 → length (decimal n) ≤ 10
-margin_length n low = length-decimal-le 10 n (omega arith) (omega arith) (omega arith)
+pub u32_length : (n : ℕ) → n < 2 ^ 32 → length (decimal n) ≤ 10
+u32_length n low = length-decimal-le 10 n (omega arith) (omega arith) (omega arith)
 
 -- one of 8 bits has at most 3
-pub byte_length : (n : ℕ) → n < 2 ^ 8 → length (decimal n) ≤ 3
-byte_length n low = length-decimal-le 3 n (omega arith) (omega arith) (omega arith)
+pub u8_length : (n : ℕ) → n < 2 ^ 8 → length (decimal n) ≤ 3
+u8_length n low = length-decimal-le 3 n (omega arith) (omega arith) (omega arith)
 
 -- ==== What is put together on the stack is text
 

@@ -49,7 +49,7 @@ own_house_of_rows rows k few = cases_to_five (λ k. rows / 32 ^ k % 32 ≡ rows 
     (omega arith) (omega arith) (omega arith) (omega arith) (omega arith) (omega arith)
 
 -- a power more is thirty-two times as much
-pub times_power : (k n : ℕ) → 32 ^ suc k * n ≡ 32 * (32 ^ k * n)
+times_power : (k n : ℕ) → 32 ^ suc k * n ≡ 32 * (32 ^ k * n)
 times_power k n = simp (pow-succ', mul_assoc)
 
 -- a row after another counts from its place
@@ -76,6 +76,7 @@ number_of-set (x ∷ xs) zero v inside = omega arith
 number_of-set (x ∷ xs) (suc k) v inside = omega (arith, number_of-set xs k v (omega arith), times_power)
 
 -- ---- rows that are given house by house
+
 -- one house more at the end
 number_of-suc : (n : ℕ) (f : ℕ → ℕ) → number_of (row_of (suc n) f) ≡ number_of (row_of n f) + 32 ^ n * f (suc n)
 number_of-suc n f =
@@ -84,7 +85,7 @@ number_of-suc n f =
     rw add-one at more
 
 -- rows are added house by house
-pub number_of-plus : (n : ℕ) (f g : ℕ → ℕ)
+number_of-plus : (n : ℕ) (f g : ℕ → ℕ)
     → number_of (row_of n (λ i. f i + g i)) ≡ number_of (row_of n f) + number_of (row_of n g)
 number_of-plus zero f g = refl
 number_of-plus (suc n) f g =
@@ -92,7 +93,7 @@ number_of-plus (suc n) f g =
     number_of-suc n (λ i. f i + g i) ∙ omega (arith, number_of-suc)
 
 -- a row with the same number of seeds in each house
-pub number_of-same : (n q : ℕ) → number_of (row_of n (λ i. q)) ≡ q * ones n
+number_of-same : (n q : ℕ) → number_of (row_of n (λ i. q)) ≡ q * ones n
 number_of-same zero q = omega arith
 number_of-same (suc n) q =
     let before = number_of-same n q in
@@ -114,20 +115,21 @@ number_of-up_to (suc n) x within = elim (cases_eq x (suc n)) [
 ]
 
 -- a row whose house h is emptied
-pub lifted_row : (xs : List ℕ) (h : ℕ) → 1 ≤ h → h ≤ length xs
+lifted_row : (xs : List ℕ) (h : ℕ) → 1 ≤ h → h ≤ length xs
     → row_of (length xs) (λ i. if i == h then 0 else seeds xs i) ≡ slice_set xs (h - 1) 0
 lifted_row xs h low high = grind (arith, same_as_row, length-set, seeds-set_same, seeds-set_other)
 
 -- the cells of the last lap, which begins past house h and has r seeds: it reaches a house after h at once, and one up to h on its way back
-pub own_lap : (m h r i : ℕ) → 1 ≤ h → h ≤ m → r < lap_length m → 1 ≤ i → i ≤ m
+own_lap : (m h r i : ℕ) → 1 ≤ h → h ≤ m → r < lap_length m → 1 ≤ i → i ≤ m
     → up_to r (own_distance m h i) + up_to h i ≡ up_to (h + r) i + up_to (h + r - lap_length m) i
 own_lap m h r i low high few i_low i_high = search rules
 
 -- the same for the other houses
-pub other_lap : (m h r j : ℕ) → 1 ≤ h → h ≤ m → 1 ≤ j → up_to r (other_distance m h j) ≡ up_to (h + r - (m + 1)) j
+other_lap : (m h r j : ℕ) → 1 ≤ h → h ≤ m → 1 ≤ j → up_to r (other_distance m h j) ≡ up_to (h + r - (m + 1)) j
 other_lap m h r j low high j_low = grind arith
 
 -- ---- what a sowing adds
+
 -- the own row after a sowing, by what was lifted and what it gains
 pub own_sown : (xs : List ℕ) (h c : ℕ) → 1 ≤ h → h ≤ length xs
     → number_of
@@ -202,12 +204,12 @@ pub moved_across_fits : (k x : ℕ) → k ≤ 5 → x < 32 → x * (2 ^ 30 * 32 
 moved_across_fits k x place few = cases_to_five (λ k. x * (2 ^ 30 * 32 ^ k) % 2 ^ 64 ≡ 2 ^ 30 * (32 ^ k * x)) k place
     (omega arith) (omega arith) (omega arith) (omega arith) (omega arith) (omega arith)
 
--- the seeds of a house are few bits of its row
+-- the seeds of a house, where they stand in its row, are below the end of the row
 pub placed_small : (k x : ℕ) → k ≤ 5 → x < 32 → 32 ^ k * x < 2 ^ 30
 placed_small k x place few = cases_to_five (λ k. 32 ^ k * x < 2 ^ 30) k place
     (omega arith) (omega arith) (omega arith) (omega arith) (omega arith) (omega arith)
 
--- a small multiple of a row with one seed in each house has few bits
+-- the product of two bounded numbers is at most that of their bounds
 pub product_small : (x y : ℕ) → x ≤ MOST_LAPS → y ≤ SIX_ONES → x * y ≤ MOST_LAPS * SIX_ONES
 product_small x y x_few y_few = mul-le x y _ _ x_few y_few
 
@@ -218,7 +220,7 @@ up_to_past m h x within past = grind (arith, number_of-up_to, ones_le, number_of
 -- ==== Padded rows, cells of a key, and the houses that it determines
 
 -- zeros past the houses are what a row is padded with
-pub padded_from_zeros : (m : ℕ) (cells : List ℕ) → length cells ≡ 6 → m ≤ 6 → All (λ x. x ≡ 0) (drop m cells)
+padded_from_zeros : (m : ℕ) (cells : List ℕ) → length cells ≡ 6 → m ≤ 6 → All (λ x. x ≡ 0) (drop m cells)
     → padded (take m cells) ≡ cells
 padded_from_zeros m cells long high zeros =
     let past = same_number_lists _ _ (length-drop m _ ∙ omega (arith, length-replicate {A = ℕ} (6 - m) 0))
@@ -227,7 +229,7 @@ padded_from_zeros m cells long high zeros =
     rw (length-take-le m cells (omega arith), ← past) (take-append-drop m _)
 
 -- empty houses have the number 0
-pub number_of-zeros : (n : ℕ) → number_of (replicate n 0) ≡ 0
+number_of-zeros : (n : ℕ) → number_of (replicate n 0) ≡ 0
 number_of-zeros zero = refl
 number_of-zeros (suc n) = omega (arith, number_of-zeros n)
 
@@ -236,11 +238,11 @@ number_of-append_zeros : (xs : List ℕ) (n : ℕ) → number_of (xs ++ replicat
 number_of-append_zeros xs n = rw (number_of-append, number_of-zeros) (omega arith)
 
 -- the cells past the houses do not count
-pub number_of-shown : (m : ℕ) (cells : List ℕ) → padded (take m cells) ≡ cells → number_of (take m cells) ≡ number_of cells
+number_of-shown : (m : ℕ) (cells : List ℕ) → padded (take m cells) ≡ cells → number_of (take m cells) ≡ number_of cells
 number_of-shown m cells same = grind (arith, number_of-append_zeros)
 
 -- thirty bits are six cells
-pub number_of-cells : (k : ℕ) → number_of (cells 6 k) + 2 ^ 30 * (k / 2 ^ 30) ≡ k
+number_of-cells : (k : ℕ) → number_of (cells 6 k) + 2 ^ 30 * (k / 2 ^ 30) ≡ k
 number_of-cells k = omega arith
 
 -- the number of cells that are read
@@ -249,7 +251,7 @@ length-cells zero k = refl
 length-cells (suc n) k = omega (arith, length-cells n (k / 32))
 
 -- the cells of a row's number are the row, with anything above it
-pub cells-number_of : (n : ℕ) (xs : List ℕ) (rest : ℕ) → length xs ≡ n → sum xs ≤ 31
+cells-number_of : (n : ℕ) (xs : List ℕ) (rest : ℕ) → length xs ≡ n → sum xs ≤ 31
     → cells n (number_of xs + 32 ^ n * rest) ≡ xs
 cells-number_of zero [] rest long few = refl
 cells-number_of zero (x ∷ xs) rest long few = cc
@@ -264,19 +266,19 @@ cells-number_of (suc n) (x ∷ xs) rest long few =
     rw (low, high) (ap (λ ys. x ∷ ys) (cells-number_of _ _ _ rest_long rest_few))
 
 -- a padded row has six cells
-pub length-padded : (xs : List ℕ) → length xs ≤ 6 → length (padded xs) ≡ 6
+length-padded : (xs : List ℕ) → length xs ≤ 6 → length (padded xs) ≡ 6
 length-padded xs few = rw (length-append, length-replicate) (omega arith)
 
 -- a padded row has the seeds of the row
-pub sum-padded : (xs : List ℕ) → sum (padded xs) ≡ sum xs
+sum-padded : (xs : List ℕ) → sum (padded xs) ≡ sum xs
 sum-padded xs = rw (sum_by-append, sum_by-replicate) (omega arith)
 
 -- its first cells are the row
-pub take-padded : (xs : List ℕ) → take (length xs) (padded xs) ≡ xs
+take-padded : (xs : List ℕ) → take (length xs) (padded xs) ≡ xs
 take-padded xs = take-append_seam xs _
 
 -- past the row its cells are empty
-pub drop-padded : (xs : List ℕ) → All (λ x. x ≡ 0) (drop (length xs) (padded xs))
+drop-padded : (xs : List ℕ) → All (λ x. x ≡ 0) (drop (length xs) (padded xs))
 drop-padded xs = rw (drop-append_seam xs _) (All-replicate (λ x. x ≡ 0) _ 0 refl)
 
 -- what a key determines of its houses
@@ -302,7 +304,7 @@ rule_bit-small Classic = omega arith
 rule_bit-small EmptyCapture = omega arith
 
 -- the key of houses holds them
-pub key_holds : {a : HousesState} {k : ℕ} → IsWithinHouses a → key_of a ≡ k → KeyHolds a k
+key_holds : {a : HousesState} {k : ℕ} → IsWithinHouses a → key_of a ≡ k → KeyHolds a k
 key_holds {a} {k} limits key_is =
     let other_long : length a.other ≤ 6 = omega arith in
     let own_few : sum a.own ≤ 31 = omega arith in
@@ -323,7 +325,7 @@ key_holds {a} {k} limits key_is =
     }
 
 -- the key of houses within the limits is a key
-pub key_is_key : {a : HousesState} {k : ℕ} → IsWithinHouses a → key_of a ≡ k → IsKey k
+key_is_key : {a : HousesState} {k : ℕ} → IsWithinHouses a → key_of a ≡ k → IsKey k
 key_is_key {a} limits key_is =
     let held = key_holds limits key_is in
     rw (held.side, held.own_cells, held.other_cells) (record {
@@ -342,11 +344,11 @@ rule_bit-injective EmptyCapture Classic same = cc
 rule_bit-injective EmptyCapture EmptyCapture same = refl
 
 -- houses with the same parts are the same
-pub same_houses_in : {a b : HousesState} → a.own ≡ b.own → a.other ≡ b.other → a.rule ≡ b.rule → a ≡ b
+same_houses_in : {a b : HousesState} → a.own ≡ b.own → a.other ≡ b.other → a.rule ≡ b.rule → a ≡ b
 same_houses_in x y z = grind arith
 
 -- the houses that have a key, by its parts
-pub houses_of_key : (a : HousesState) (k : ℕ) (rule : Rule) → IsWithinHouses a → key_of a ≡ k → rule_bit rule ≡ k / 2 ^ 63
+houses_of_key : (a : HousesState) (k : ℕ) (rule : Rule) → IsWithinHouses a → key_of a ≡ k → rule_bit rule ≡ k / 2 ^ 63
     → houses_from (side_at k) (cells 6 k) (cells 6 (k / 2 ^ 30)) rule ≡ a
 houses_of_key a k rule limits key_is bit =
     let held = key_holds limits key_is in
@@ -362,7 +364,7 @@ key_from_parts : {k side : ℕ} {own other : List ℕ} (rule : Rule) → number_
 key_from_parts rule own_is other_is own_padded other_padded long side_is bit = omega (arith, number_of-shown)
 
 -- the key of the houses that a key holds
-pub key_of_houses : {k : ℕ} (rule : Rule) → IsKey k → rule_bit rule ≡ k / 2 ^ 63
+key_of_houses : {k : ℕ} (rule : Rule) → IsKey k → rule_bit rule ≡ k / 2 ^ 63
     → key_of (houses_from (side_at k) (cells 6 k) (cells 6 (k / 2 ^ 30)) rule) ≡ k
 key_of_houses {k} rule is_key bit = search (rules, key_from_parts, number_of-cells, padded_from_zeros)
 
@@ -373,7 +375,7 @@ rule_at-bit (suc zero) small = refl
 rule_at-bit (suc (suc n)) small = omega arith
 
 -- the houses of a key are those whose key it is
-pub houses_at_key : {a : HousesState} → IsWithinHouses a → houses_at (key_of a) ≡ a
+houses_at_key : {a : HousesState} → IsWithinHouses a → houses_at (key_of a) ≡ a
 houses_at_key {a} limits =
     let held = key_holds limits refl in
     let bit : key_of a / 2 ^ 63 ≤ 1 = omega (arith, rule_bit-small) in

@@ -108,7 +108,7 @@ module _ {a : HousesState} {h : ℕ} (can : CanSow a h) where
   after_sowing = sown (storeless a) h
 
   -- a sowing loses no seed
-  pub sown_keeps : KeepsSeeds (storeless a) after_sowing
+  sown_keeps : KeepsSeeds (storeless a) after_sowing
   unfolding sow
   sown_keeps =
       let side = sow_side (storeless a) h (seeds a.own h) in
@@ -122,22 +122,22 @@ module _ {a : HousesState} {h : ℕ} (can : CanSow a h) where
       }
 
   -- the own row after the sowing
-  pub number_of-sown_own : number_of after_sowing.own + 32 ^ (h - 1) * seeds a.own h ≡ number_of a.own + own_gains (length a.own) h (seeds a.own h)
+  number_of-sown_own : number_of after_sowing.own + 32 ^ (h - 1) * seeds a.own h ≡ number_of a.own + own_gains (length a.own) h (seeds a.own h)
   unfolding sow
   number_of-sown_own = own_sown _ _ _ can.holds.first can.holds.last
 
   -- the other row
-  pub number_of-sown_other : number_of after_sowing.other ≡ number_of a.other + other_gains (length a.own) h (seeds a.own h)
+  number_of-sown_other : number_of after_sowing.other ≡ number_of a.other + other_gains (length a.own) h (seeds a.own h)
   unfolding sow
   number_of-sown_other = rw can.limits.same_side at (other_sown a.other h (seeds a.own h))
 
   -- what comes to the store
-  pub sown_own_store : after_sowing.own_store ≡ store_gains (length a.own) h (seeds a.own h)
+  sown_own_store : after_sowing.own_store ≡ store_gains (length a.own) h (seeds a.own h)
   unfolding sow
   sown_own_store = omega arith
 
   -- the row without the house's seeds
-  pub number_of-lifted : number_of (lifted (storeless a) h).own + 32 ^ (h - 1) * seeds a.own h ≡ number_of a.own
+  number_of-lifted : number_of (lifted (storeless a) h).own + 32 ^ (h - 1) * seeds a.own h ≡ number_of a.own
   number_of-lifted = omega (arith, number_of-set)
 
   -- the sowing leaves few seeds
@@ -153,20 +153,19 @@ module _ {a : HousesState} {h : ℕ} (can : CanSow a h) where
   other_small = number_of-small 6 after_sowing.other (omega (arith, sown_keeps.other_side, can.limits.same_side)) (omega (arith, few))
 
   -- both rows without the house's seeds, and with what they gain
-  pub sown_rows : (rows house gains : ℕ) → rows ≡ number_of a.own + 2 ^ 30 * number_of a.other
-      → house ≡ 32 ^ (h - 1) * seeds a.own h
+  sown_rows : (rows house gains : ℕ) → rows ≡ number_of a.own + 2 ^ 30 * number_of a.other → house ≡ 32 ^ (h - 1) * seeds a.own h
       → gains ≡ own_gains (length a.own) h (seeds a.own h) + 2 ^ 30 * other_gains (length a.own) h (seeds a.own h)
       → rows - house + gains ≡ number_of after_sowing.own + 2 ^ 30 * number_of after_sowing.other
   sown_rows rows house gains rows_are house_is gains_are = omega (arith, number_of-sown_own, number_of-sown_other, number_of-lifted)
 
   -- after a sowing the rows are both rows, less what they lose
-  pub sown_less : (rows loses : ℕ) → rows ≡ number_of a.own + 2 ^ 30 * number_of a.other → loses < 2 ^ 64
+  sown_less : (rows loses : ℕ) → rows ≡ number_of a.own + 2 ^ 30 * number_of a.other → loses < 2 ^ 64
       → (loses + (own_gains (length a.own) h (seeds a.own h) + 2 ^ 30 * other_gains (length a.own) h (seeds a.own h))) % 2 ^ 64 ≡ 32 ^
       (h - 1) * seeds a.own h → (rows + (2 ^ 64 - loses)) % 2 ^ 64 ≡ number_of after_sowing.own + 2 ^ 30 * number_of after_sowing.other
   sown_less rows loses rows_are loses_small loses_is = omega (arith, number_of-sown_own, number_of-sown_other, own_small, other_small)
 
   -- rows and a store with what a sowing adds show the position after it
-  pub rows_show : (rows store : ℕ) → rows ≡ number_of after_sowing.own + 2 ^ 30 * number_of after_sowing.other →
+  rows_show : (rows store : ℕ) → rows ≡ number_of after_sowing.own + 2 ^ 30 * number_of after_sowing.other →
       store ≡ store_gains (length a.own) h (seeds a.own h) → IsPackedPosition (record { rows = rows; store = store }) after_sowing
   rows_show rows store rows_are store_is' = omega (arith, own_small, sown_own_store)
 
@@ -180,15 +179,15 @@ module _ {a : HousesState} {h : ℕ} (can : CanSow a h) where
       rows_show _ 1 (sown_rows _ house _ rows_are house_is (omega arith)) (omega arith)
 
   -- a house read off the numbers
-  pub read_own : (r : RowNumbers) (i bit : ℕ) → IsPackedPosition r after_sowing → 1 ≤ i → i ≤ length a.own
-      → bit ≡ 5 * (i - 1) → r.rows / 2 ^ bit % 32 ≡ seeds after_sowing.own i
+  read_own : (r : RowNumbers) (i bit : ℕ) → IsPackedPosition r after_sowing → 1 ≤ i → i ≤ length a.own → bit ≡ 5 * (i - 1)
+      → r.rows / 2 ^ bit % 32 ≡ seeds after_sowing.own i
   read_own r i bit shows low high bit_is =
       let near : i - 1 ≤ 5 = omega arith in
       rw (bit_is, pow_five) (own_house_of_rows _ _ near ∙ ap (λ n. n / 32 ^ (i - 1) % 32) shows.own
       ∙ read_seeds _ _ (omega (arith, sown_keeps.side)) (omega (arith, few)))
 
   -- the house across
-  pub read_across : (r : RowNumbers) (i bit : ℕ) → IsPackedPosition r after_sowing → 1 ≤ i → i ≤ length a.own
+  read_across : (r : RowNumbers) (i bit : ℕ) → IsPackedPosition r after_sowing → 1 ≤ i → i ≤ length a.own
       → bit ≡ 30 + 5 * (opposite after_sowing i - 1) → r.rows / 2 ^ bit % 32 ≡ seeds after_sowing.other (opposite after_sowing i)
   read_across r i bit shows low high bit_is =
       let side = sown_keeps.side in
@@ -249,7 +248,7 @@ module _ {a : HousesState} {h : ℕ} (can : CanSow a h) where
         }
 
     -- so the rows that are left show the position after the capture
-    pub capture_shows : LeavesRows r taken count (captured after_sowing (Some i))
+    capture_shows : LeavesRows r taken count (captured after_sowing (Some i))
     capture_shows = elim (cases_Bool (can_capture after_sowing i)) [ inl alone ↦ rows_if_captured alone | inr kept ↦ rows_if_kept kept ]
 
 -- ---- the whole move
@@ -275,7 +274,7 @@ module _ (p : Position) (h : ℕ) (holds : HoldsSeeds p h) where
   last_high = omega arith
 
   -- the seeds of less than a lap go as far as there are of them
-  pub short_distance : seeds p.own h ≤ lap_length (side_length p) → last_distance p h ≡ seeds p.own h
+  short_distance : seeds p.own h ≤ lap_length (side_length p) → last_distance p h ≡ seeds p.own h
   short_distance few = omega (arith, mod-eq_of_lt)
 
   -- the place of a last seed that doesn't come round
@@ -294,7 +293,7 @@ module _ (p : Position) (h : ℕ) (holds : HoldsSeeds p h) where
   own_at own = grind (arith, cases_lt, place_round, own_distance_back, last_high, place_near, own_distance_past, last_low)
 
   -- it falls into an own house, and may capture
-  pub after_own : (r : RowNumbers) → last_place (side_length p) h (seeds p.own h) ≤ side_length p
+  after_own : (r : RowNumbers) → last_place (side_length p) h (seeds p.own h) ≤ side_length p
       → IsPackedPosition r (captured (sown p h) (Some (last_place (side_length p) h (seeds p.own h)))) → IsPackedPosition r (after p h)
   after_own r own shows = subst (λ z. IsPackedPosition r z)
       (after_at _ _ _ (last_house_own holds (omega arith) own (own_at own))) shows
@@ -305,7 +304,7 @@ module _ (p : Position) (h : ℕ) (holds : HoldsSeeds p h) where
   place_past past = grind (arith, place_round)
 
   -- it falls into the store or beyond
-  pub after_past : (r : RowNumbers) → side_length p < last_place (side_length p) h (seeds p.own h) → IsPackedPosition r (sown p h)
+  after_past : (r : RowNumbers) → side_length p < last_place (side_length p) h (seeds p.own h) → IsPackedPosition r (sown p h)
       → IsPackedPosition r (after p h)
   after_past r past shows =
       let at = place_past past in
@@ -325,7 +324,7 @@ module _ (p : Position) (h : ℕ) (holds : HoldsSeeds p h) where
   pub again_at : is_again p h ≡ (last_place (side_length p) h (seeds p.own h) == side_length p + 1)
   again_at = grind (arith, cases_eq, place_past, eq-eqb, place_near)
 
--- where no house has one seed, nothing is captured
+-- a last seed that falls into no own house captures nothing
 none_captured : (rule : Rule) (r : RowNumbers) (s : Sowing) {taken count : ℕ} {p : Position} → IsNoHouse s.last_mask s.last_seed s.across_bit →
     HasCaptured rule r s taken count → IsPackedPosition r p → LeavesRows r taken count p
 none_captured rule r s elsewhere has_captured shows =
@@ -375,18 +374,18 @@ captured_fits {m} h c x s sowing side small = elim (cases_lt m (last_place m h c
 
 -- ==== The result of a move on houses, as a board reports it
 
--- ---- the parts of a step
-pub step_over : (q : Position) (again : Bool) → is_over q ≡ true
+-- a step that ends the game sweeps the houses
+step_over : (q : Position) (again : Bool) → is_over q ≡ true
     → houses_step_to q again ≡ Over (q.own_store + sum q.own) (q.other_store + sum q.other)
 step_over q again over = rw over refl
 
 -- a game that goes on with the mover
-pub step_again : (q : Position) (again : Bool) → is_over q ≡ false → again ≡ true
+step_again : (q : Position) (again : Bool) → is_over q ≡ false → again ≡ true
     → houses_step_to q again ≡ Again q.own_store (houses_in q)
 step_again q again going more = cc
 
 -- a game that goes on with the other player
-pub step_turn : (q : Position) (again : Bool) → is_over q ≡ false → again ≡ false
+step_turn : (q : Position) (again : Bool) → is_over q ≡ false → again ≡ false
     → houses_step_to q again ≡ Turn q.own_store (houses_in (swapped q))
 step_turn q again going more = cc
 
@@ -506,7 +505,7 @@ with_board_stores-step_to p q false true side rule none over_is = grind arith
 with_board_stores-step_to p q false false side rule none over_is = grind arith
 
 -- the step of a board is that of its houses
-pub step_of_houses : (p : Position) (h : ℕ) → IsWithinHouses (houses_in p) → HoldsSeeds (storeless (houses_in p)) h
+step_of_houses : (p : Position) (h : ℕ) → IsWithinHouses (houses_in p) → HoldsSeeds (storeless (houses_in p)) h
     → with_board_stores p (houses_step (houses_in p) h) ≡ step_of p h
 step_of_houses p h limits holds =
     let q = after _ h in
@@ -515,7 +514,7 @@ step_of_houses p h limits holds =
     ∙ ap (λ x. step_to x (is_again p h)) (sym (after_of_houses p h))
 
 -- the step of a board is within the limits
-pub step_within : {p : Position} (h : ℕ) → IsWithinLimits p → HoldsSeeds (storeless (houses_in p)) h
+step_within : {p : Position} (h : ℕ) → IsWithinLimits p → HoldsSeeds (storeless (houses_in p)) h
     → IsStepWithin p (houses_step (houses_in p) h)
 step_within {p} h limits holds =
     let a = houses_in p in
@@ -579,7 +578,7 @@ module _ {a : HousesState} {h rows seeds variant : ℕ} {r : RowNumbers} (packed
   ends_at_store = eqb-true _ _ (sym (again_at _ h can_sow.holds) ∙ moves_again)
 
   -- nothing is captured
-  pub store_shows : IsPackedPosition r (after (storeless a) h)
+  store_shows : IsPackedPosition r (after (storeless a) h)
   store_shows = after_past _ h can_sow.holds r (omega (arith, ends_at_store)) shows
 
   -- the other player has seeds as before
@@ -587,7 +586,7 @@ module _ {a : HousesState} {h rows seeds variant : ℕ} {r : RowNumbers} (packed
   other_some none = grind (arith, legal_going, sum-zero, number_of-sown_other can_sow)
 
   -- the game goes on with the mover, if the mover has seeds left
-  pub store_packed : 0 < r.rows % 2 ^ 30 → IsPackedStep a h r.rows (seeds - r.store) variant (Again r.store)
+  store_packed : 0 < r.rows % 2 ^ 30 → IsPackedStep a h r.rows (seeds - r.store) variant (Again r.store)
   store_packed some = again_packed packed view_is legal store_shows (omega arith) other_some moves_again
 
 -- what comes of a move, by the rows after it, if its last seed falls into the store without a lap

@@ -15,10 +15,10 @@ use Rattle.std.proofs.lemmas.List.Elements.{filter-append, filter_passes, All-fi
 use Rattle.kalah_rules.specs.Play.{legal_houses}
 use Rattle.kalah_rules.specs.Measure.{row_distance, distance_to_stores, IsNearerEnd, moves_left}
 
--- ==== Numbers, sums and lists of them: nothing here is of Kalah
+-- ==== Numbers, sums and lists of them, as the sections below need them
 
 -- sums over a range are equal if their terms are
-pub sum_range_same : (f g : ℕ → ℕ) (a n : ℕ) → ((j : ℕ) → a ≤ j → f j ≡ g j)
+sum_range_same : (f g : ℕ → ℕ) (a n : ℕ) → ((j : ℕ) → a ≤ j → f j ≡ g j)
     → sum_by f (range_with_len a n) ≡ sum_by g (range_with_len a n)
 sum_range_same f g a zero same = refl
 sum_range_same f g a (suc n) same =
@@ -26,7 +26,7 @@ sum_range_same f g a (suc n) same =
     omega (arith, sum_by-cons)
 
 -- a sum over a range whose term changes at one place
-pub sum_range_change : (f g : ℕ → ℕ) (a n i : ℕ) → a ≤ i → i < a + n → ((j : ℕ) → a ≤ j → j ≢ i → f j ≡ g j)
+sum_range_change : (f g : ℕ → ℕ) (a n i : ℕ) → a ≤ i → i < a + n → ((j : ℕ) → a ≤ j → j ≢ i → f j ≡ g j)
     → sum_by f (range_with_len a n) + g i ≡ sum_by g (range_with_len a n) + f i
 sum_range_change f g a zero i low high same = omega arith
 sum_range_change f g a (suc n) i low high same =
@@ -42,7 +42,7 @@ sum_range_change f g a (suc n) i low high same =
     ]
 
 -- a sum bounded by k times d, with one more term of at most d
-pub fall_step : (w a b k d e : ℕ) {w' : ℕ} → w + a ≤ b + k * d → w' ≡ w + e → e ≤ d → w' + a ≤ b + (k + 1) * d
+fall_step : (w a b k d e : ℕ) {w' : ℕ} → w + a ≤ b + k * d → w' ≡ w + e → e ≤ d → w' + a ≤ b + (k + 1) * d
 fall_step w a b k d e before more near = omega arith
 
 -- a list with one number set to 0 has that much less
@@ -50,16 +50,15 @@ pub sum-set_zero : (xs : List ℕ) (k : ℕ) → sum (slice_set xs k 0) + slice_
 sum-set_zero xs k = grind (arith, sum_by-set, set_past, get_or_past)
 
 -- a weighted sum is bounded if its first term and the rest are
-pub distance_step : (fx r n x s : ℕ) {t sxs : ℕ} → t ≡ fx + r → fx ≤ x * n → r ≤ n * s → sxs ≡ x + s → t ≤ n * sxs
+distance_step : (fx r n x s : ℕ) {t sxs : ℕ} → t ≡ fx + r → fx ≤ x * n → r ≤ n * s → sxs ≡ x + s → t ≤ n * sxs
 distance_step fx r n x s whole first rest sum_is = rw sum_is (omega arith)
 
 -- past the first element an index counts in the rest
-pub slice_index-cons : (x : ℕ) (xs : List ℕ) (a j : ℕ) → a + 1 ≤ j
-    → slice_index (x ∷ xs) (j - a) ≡ slice_index xs (j - (a + 1))
+slice_index-cons : (x : ℕ) (xs : List ℕ) (a j : ℕ) → a + 1 ≤ j → slice_index (x ∷ xs) (j - a) ≡ slice_index xs (j - (a + 1))
 slice_index-cons x xs a j low = grind arith
 
 -- numbers times weights of at most n add up to at most n times their sum
-pub distance_range_le : (row : List ℕ) (a n : ℕ) (w : ℕ → ℕ) → ((i : ℕ) → a ≤ i → w i ≤ n)
+distance_range_le : (row : List ℕ) (a n : ℕ) (w : ℕ → ℕ) → ((i : ℕ) → a ≤ i → w i ≤ n)
     → sum_by (λ i. slice_index row (i - a) * w i) (range_with_len a (length row)) ≤ n * sum row
 distance_range_le [] a n w near = zero-le
 distance_range_le (x ∷ xs) a n w near =
@@ -70,7 +69,7 @@ distance_range_le (x ∷ xs) a n w near =
     (rw rest (distance_range_le xs _ n w (omega arith))) (sum_by-cons _ x xs)
 
 -- the measure falls if s does, for w' up to m * s'
-pub lower_by_seeds : (m s s' w w' : ℕ) → s' < s → w' ≤ m * s' → s' * (m * s' + 1) + w' < s * (m * s + 1) + w
+lower_by_seeds : (m s s' w w' : ℕ) → s' < s → w' ≤ m * s' → s' * (m * s' + 1) + w' < s * (m * s + 1) + w
 lower_by_seeds m s s' w w' fewer short =
     let grow : m * (s' + 1) + 1 ≤ m * s + 1 = omega (arith, mul-le m (s' + 1) m s (omega arith) (omega arith)) in
     let whole = mul-le (s' + 1) _ s _ (omega arith) grow in
@@ -83,31 +82,31 @@ sum-zeros n = omega (arith, sum_by-replicate)
 -- ==== Distances on a lap, and what one more seed adds
 
 -- a count and its successor, in whole laps and the rest
-pub div-mod-suc : (n k : ℕ) → 0 < n
+div-mod-suc : (n k : ℕ) → 0 < n
     → ((k % n + 1 < n) × ((k + 1) % n ≡ k % n + 1) × ((k + 1) / n ≡ k / n)) ⊎
     ((k % n + 1 ≡ n) × ((k + 1) % n ≡ 0) × ((k + 1) / n ≡ k / n + 1))
 div-mod-suc n k pos = grind arith
 
 -- the seed after k seeds goes to the cell at distance k % n + 1, and to no other
-pub gain_more : (n k d : ℕ) → 1 ≤ d → d ≤ n → d ≡ k % n + 1 → gain n (k + 1) d ≡ gain n k d + 1
+gain_more : (n k d : ℕ) → 1 ≤ d → d ≤ n → d ≡ k % n + 1 → gain n (k + 1) d ≡ gain n k d + 1
 gain_more n k d low high here = grind arith
 
 -- one seed more changes no cell at another distance
-pub gain_same : (n k d : ℕ) → 1 ≤ d → d ≤ n → d ≢ k % n + 1 → gain n (k + 1) d ≡ gain n k d
+gain_same : (n k d : ℕ) → 1 ≤ d → d ≤ n → d ≢ k % n + 1 → gain n (k + 1) d ≡ gain n k d
 gain_same n k d low high elsewhere = grind (arith, div-mod-suc)
 
 -- of no seeds no cell gets any
-pub gain_none : (n d : ℕ) → 0 < n → 1 ≤ d → gain n 0 d ≡ 0
+gain_none : (n d : ℕ) → 0 < n → 1 ≤ d → gain n 0 d ≡ 0
 gain_none n d pos low = grind arith
 
--- own house i at each side of house h
+-- the distance of own house i past house h, and of one that a lap comes back to
 pub own_distance_past : (m h i : ℕ) → h < i → own_distance m h i ≡ i - h
 own_distance_past m h i past = grind arith
 
 pub own_distance_back : (m h i : ℕ) → i ≤ h → own_distance m h i ≡ i + (2 * m + 1) - h
 own_distance_back m h i back = grind arith
 
--- ==== Rows of houses, house by house
+-- ==== Rows of houses, house by house: their length, the seeds of a house, and rows in which one house differs
 
 -- positions with the same parts are the same
 pub same_position : {p q : Position} → p.own ≡ q.own → p.own_store ≡ q.own_store → p.other ≡ q.other
@@ -117,11 +116,11 @@ same_position a b c d e = grind arith
 pub length-row_of : (n : ℕ) (f : ℕ → ℕ) → length (row_of n f) ≡ n
 length-row_of n f = length-map-range_with_len f 1 n
 
-pub seeds-row_of : (n : ℕ) (f : ℕ → ℕ) (i : ℕ) → 1 ≤ i → i ≤ n → seeds (row_of n f) i ≡ f i
+seeds-row_of : (n : ℕ) (f : ℕ → ℕ) (i : ℕ) → 1 ≤ i → i ≤ n → seeds (row_of n f) i ≡ f i
 seeds-row_of n f i low high = grind (arith, get_or-map-range_with_len)
 
 -- two rows with the same seeds in each house
-pub same_rows : (xs ys : List ℕ) → length xs ≡ length ys → ((i : ℕ) → 1 ≤ i → i ≤ length xs → seeds xs i ≡ seeds ys i)
+same_rows : (xs ys : List ℕ) → length xs ≡ length ys → ((i : ℕ) → 1 ≤ i → i ≤ length xs → seeds xs i ≡ seeds ys i)
     → xs ≡ ys
 same_rows xs ys long each = same_number_lists xs ys long (λ k h.
     let low : 1 ≤ k + 1 = omega arith in
@@ -139,14 +138,14 @@ seeds-set_same xs i v low high = get_or-set_same xs _ v 0 (omega arith)
 pub seeds-set_other : (xs : List ℕ) (i j v : ℕ) → 1 ≤ i → 1 ≤ j → j ≢ i → seeds (slice_set xs (i - 1) v) j ≡ seeds xs j
 seeds-set_other xs i j v i_low j_low other = grind (arith, get_or-set_other)
 
-pub sum-slice_set : (xs : List ℕ) (i v : ℕ) → 1 ≤ i → i ≤ length xs → sum (slice_set xs (i - 1) v) + seeds xs i ≡ sum xs + v
+sum-slice_set : (xs : List ℕ) (i v : ℕ) → 1 ≤ i → i ≤ length xs → sum (slice_set xs (i - 1) v) + seeds xs i ≡ sum xs + v
 sum-slice_set xs i v low high = grind (arith, sum_by-set)
 
 pub row_of_same : (n : ℕ) (f g : ℕ → ℕ) → ((j : ℕ) → 1 ≤ j → j ≤ n → g j ≡ f j) → row_of n g ≡ row_of n f
 row_of_same n f g each = same_as_row _ n f (length-row_of n g) (λ j low high. seeds-row_of n g j low high ∙ each j low high)
 
 -- one seed more in house i
-pub row_of_more : (n : ℕ) (f g : ℕ → ℕ) (i : ℕ) → 1 ≤ i → i ≤ n → g i ≡ f i + 1
+row_of_more : (n : ℕ) (f g : ℕ → ℕ) (i : ℕ) → 1 ≤ i → i ≤ n → g i ≡ f i + 1
     → ((j : ℕ) → 1 ≤ j → j ≤ n → j ≢ i → g j ≡ f j)
     → row_of n g ≡ slice_set (row_of n f) (i - 1) (seeds (row_of n f) i + 1)
 row_of_more n f g i low high here others =
@@ -162,16 +161,15 @@ row_of_more n f g i low high here others =
 
 -- ==== Sowing one seed more, and what it keeps
 
--- the cell of each distance is one
+-- an own house shares its distance with no other house and not with the store
 module _ (m h : ℕ) (h_low : 1 ≤ h) (h_high : h ≤ m) where
-  pub own_distance_apart : (i j : ℕ) → 1 ≤ i → i ≤ m → 1 ≤ j → j ≤ m → i ≢ j
-      → own_distance m h i ≢ own_distance m h j
+  own_distance_apart : (i j : ℕ) → 1 ≤ i → i ≤ m → 1 ≤ j → j ≤ m → i ≢ j → own_distance m h i ≢ own_distance m h j
   own_distance_apart i j i_low i_high j_low j_high other = grind arith
 
-  pub own_from_store : (i : ℕ) → 1 ≤ i → i ≤ m → own_distance m h i ≢ store_distance m h
+  own_from_store : (i : ℕ) → 1 ≤ i → i ≤ m → own_distance m h i ≢ store_distance m h
   own_from_store i low high = grind arith
 
-  pub own_from_other : (i j : ℕ) → 1 ≤ i → i ≤ m → 1 ≤ j → j ≤ m → own_distance m h i ≢ other_distance m h j
+  own_from_other : (i j : ℕ) → 1 ≤ i → i ≤ m → 1 ≤ j → j ≤ m → own_distance m h i ≢ other_distance m h j
   own_from_other i j i_low i_high j_low j_high = grind arith
 
 -- the formula of `sow`, over a fixed position and house
@@ -234,7 +232,7 @@ module _ (p : Position) (h : ℕ) (low : 1 ≤ h) (high : h ≤ side_length p) w
       refl refl
 
 -- some cell lies at each distance of a lap
-pub cell_at : (m h d : ℕ) → 1 ≤ h → h ≤ m → 1 ≤ d → d ≤ lap_length m
+cell_at : (m h d : ℕ) → 1 ≤ h → h ≤ m → 1 ≤ d → d ≤ lap_length m
     → (cell : Cell) × IsCellOf m cell × (distance m h cell ≡ d)
 cell_at m h d low high d_low d_high = elim (cases_lt (m + 1 - h) d) [
   | inr near ↦ elim (cases_eq _ d) [
@@ -262,7 +260,7 @@ pub record AddsOne (p q : Position) : Type 0 where
   pub houses : seeds_in_houses q ≤ seeds_in_houses p + 1
   pub play : q.own_store + seeds_in_houses q ≡ p.own_store + seeds_in_houses p + 1
 
-pub with_seed_adds : (p : Position) (cell : Cell) → length p.other ≡ side_length p → IsCellOf (side_length p) cell
+with_seed_adds : (p : Position) (cell : Cell) → length p.other ≡ side_length p → IsCellOf (side_length p) cell
     → AddsOne p (with_seed p cell)
 with_seed_adds p (Own i) equal is_cell = omega (arith, sum-slice_set)
 with_seed_adds p Store equal is_cell = omega arith
@@ -274,7 +272,7 @@ pub record HasSown (p : Position) (c k : ℕ) (q : Position) : Type 0 where
   pub play : q.own_store + seeds_in_houses q + c ≡ p.own_store + seeds_in_houses p + k
 
 -- one seed more sown is one more in the own store and the houses together
-pub sow_adds : (p : Position) (h : ℕ) → 1 ≤ h → h ≤ side_length p → (k : ℕ)
+sow_adds : (p : Position) (h : ℕ) → 1 ≤ h → h ≤ side_length p → (k : ℕ)
     → (cell : Cell) × IsCellOf (side_length p) cell × (distance (side_length p) h cell ≡ k % lap_length (side_length p) + 1)
     → AddsOne (sow p h k) (sow p h (k + 1))
 sow_adds p h low high k (cell, is_cell, next) =
@@ -282,7 +280,7 @@ sow_adds p h low high k (cell, is_cell, next) =
     rw (sow_suc p h low high k _ is_cell next) (with_seed_adds _ _ (omega arith) (rw side.0 is_cell))
 
 -- the cell of the next seed
-pub next_cell : (p : Position) (h : ℕ) → 1 ≤ h → h ≤ side_length p → (k : ℕ)
+next_cell : (p : Position) (h : ℕ) → 1 ≤ h → h ≤ side_length p → (k : ℕ)
     → (cell : Cell) × IsCellOf (side_length p) cell × (distance (side_length p) h cell ≡ k % lap_length (side_length p) + 1)
 next_cell p h low high k = grind (arith, cell_at)
 
@@ -305,7 +303,7 @@ range-suc a (suc n) = rw (add-one _)
     (ap (λ xs. a ∷ xs) (rw (add-one n) at (range-suc (a + 1) n) ∙ ap (λ x. range_with_len (a + 1) n ++ x ∷ []) (omega arith)))
 
 -- the first number of a range that passes
-pub find_in_range : (f : ℕ → Bool) (a n i : ℕ) → a ≤ i → i < a + n → f i ≡ true
+find_in_range : (f : ℕ → Bool) (a n i : ℕ) → a ≤ i → i < a + n → f i ≡ true
     → ((j : ℕ) → a ≤ j → j < i → f j ≡ false) → find f (range_with_len a n) ≡ Some i
 find_in_range f a zero i low high here before = absurd (omega arith)
 find_in_range f a (suc n) i low high here before = elim (cases_eq a i) [
@@ -317,7 +315,7 @@ find_in_range f a (suc n) i low high here before = elim (cases_eq a i) [
 ]
 
 -- if none of a range passes, none is found
-pub find_none : (f : ℕ → Bool) (a n : ℕ) → ((j : ℕ) → a ≤ j → j < a + n → f j ≡ false)
+find_none : (f : ℕ → Bool) (a n : ℕ) → ((j : ℕ) → a ≤ j → j < a + n → f j ≡ false)
     → find f (range_with_len a n) ≡ None
 find_none f a zero fails = refl
 find_none f a (suc n) fails =
@@ -424,7 +422,7 @@ after_of_houses p h = ap (λ q. after q h) (storeless-store_seeds p) ∙ after-s
 -- ==== Every move brings the game nearer to its end
 
 -- a write to one house
-pub row_distance-set : (row : List ℕ) (i v : ℕ) → 1 ≤ i → i ≤ length row
+row_distance-set : (row : List ℕ) (i v : ℕ) → 1 ≤ i → i ≤ length row
     → row_distance (slice_set row (i - 1) v) + seeds row i * (length row + 1 - i) ≡ row_distance row + v * (length row + 1 - i)
 unfolding row_distance
 row_distance-set row i v low high =
@@ -439,7 +437,7 @@ sown_store : (p : Position) (h : ℕ)
 unfolding sow
 sown_store p h = refl
 
-pub row_distance-more : (row : List ℕ) (i : ℕ) → 1 ≤ i → i ≤ length row
+row_distance-more : (row : List ℕ) (i : ℕ) → 1 ≤ i → i ≤ length row
     → row_distance (slice_set row (i - 1) (seeds row i + 1)) ≡ row_distance row + (length row + 1 - i)
 row_distance-more row i low high = omega (arith, row_distance-set)
 
@@ -467,18 +465,18 @@ module _ (p : Position) (h : ℕ) (holds : HoldsSeeds p h) (same : length p.othe
       ∙ ap (λ x. distance_to_stores (sow p h k) + (x + 1 - (h + (k + 1)))) side
 
   -- k seeds sown before the store bring each nearer by one or more
-  pub distance_falls : (k : ℕ) → k + h ≤ side_length p
+  distance_falls : (k : ℕ) → k + h ≤ side_length p
       → distance_to_stores (sow p h k) + seeds p.own h * (side_length p + 1 - h) ≤ distance_to_stores p + k * (side_length p - h)
   distance_falls zero near = grind (arith, sow_none, row_distance-set)
   distance_falls (suc k) near = rw (← add-one k) (fall_step _ _ _ _ _ _ (distance_falls k (omega arith))
       (distance_grows k (omega arith)) omega arith)
 
   -- if all seeds are sown before the store, the sum of the distances falls
-  pub distance_falls_all : seeds p.own h + h ≤ side_length p → distance_to_stores (sown p h) < distance_to_stores p
+  distance_falls_all : seeds p.own h + h ≤ side_length p → distance_to_stores (sown p h) < distance_to_stores p
   distance_falls_all near = grind (arith, distance_falls)
 
   -- a seed that reaches the store leaves fewer in houses
-  pub houses_fall : side_length p < seeds p.own h + h → seeds_in_houses (sown p h) < seeds_in_houses p
+  houses_fall : side_length p < seeds p.own h + h → seeds_in_houses (sown p h) < seeds_in_houses p
   houses_fall far = grind (arith, sow_keeps, sown_store)
 
 -- a capture leaves fewer seeds in houses
@@ -505,7 +503,7 @@ capture_side q None = omega arith
 capture_side q (Some i) = grind (arith, length-set)
 
 -- a move keeps the number of own houses
-pub after_side : (p : Position) (h : ℕ) → side_length (after p h) ≡ side_length p
+after_side : (p : Position) (h : ℕ) → side_length (after p h) ≡ side_length p
 unfolding after
 after_side p h = omega (arith, capture_side, sow_side)
 
@@ -522,7 +520,7 @@ distance_below : (p : Position) → HasEqualSides p → distance_to_stores p ≤
 distance_below p equal = grind (arith, row_distance_le)
 
 -- what is nearer to the end has fewer moves left
-pub moves_left_falls : (p q : Position) → HasEqualSides q → side_length q ≡ side_length p → IsNearerEnd q p
+moves_left_falls : (p q : Position) → HasEqualSides q → side_length q ≡ side_length p → IsNearerEnd q p
     → moves_left q < moves_left p
 moves_left_falls p q equal side (inl fewer) = rw side (lower_by_seeds _ _ _ _ _ fewer
     rw side at (distance_below _ equal))

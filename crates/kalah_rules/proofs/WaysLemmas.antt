@@ -14,7 +14,7 @@ use Rattle.kalah_rules.specs.declared.step.HousesStep.TheVariants.{Over, Again, 
 use Rattle.kalah_rules.specs.Ways.{ways, ways_by}
 use Rattle.kalah_rules.proofs.PlayLemmas.{sum-zeros, same_position, filter_range-suc, length-filter_range, with_store_seeds, after-store_seeds, storeless-store_seeds}
 
--- ---- by their definition
+-- by their definition
 pub ways_none : (p : Position) → ways 0 p ≡ 1
 unfolding ways
 ways_none p = refl
@@ -92,7 +92,7 @@ ways_by_of_houses n p h =
     ∙ ap (λ (o : Position). ways n (position_after (step_to o (is_again q h)))) (after-store_seeds a b q h)
     ∙ step-store_seeds n a b (after q h) _ _ refl (ways-store_seeds n))
 
--- ---- how many there are
+-- a position has at most one legal move for each house
 pub legal_few : (p : Position) → length (legal_houses p) ≤ side_length p
 legal_few p = grind (arith, length-filter_range)
 
@@ -109,13 +109,12 @@ seeded_next : (row : List ℕ) (h : ℕ) → 1 ≤ h
     → seeded_before row (h + 1) ≡ filter (λ i. nat_lt 0 (seeds row i)) (range_with_len 1 (h - 1 + 1))
 seeded_next row h low = grind arith
 
-pub seeded_more : (row : List ℕ) (h : ℕ) → 1 ≤ h → 0 < seeds row h
-    → seeded_before row (h + 1) ≡ seeded_before row h ++ h ∷ []
+seeded_more : (row : List ℕ) (h : ℕ) → 1 ≤ h → 0 < seeds row h → seeded_before row (h + 1) ≡ seeded_before row h ++ h ∷ []
 seeded_more row h low some = seeded_next row h low
     ∙ filter_range-suc _ 1 (h - 1) h (omega arith)
     ∙ rw (lt-ltb _ _ some) refl
 
-pub seeded_same : (row : List ℕ) (h : ℕ) → 1 ≤ h → seeds row h ≤ 0 → seeded_before row (h + 1) ≡ seeded_before row h
+seeded_same : (row : List ℕ) (h : ℕ) → 1 ≤ h → seeds row h ≤ 0 → seeded_before row (h + 1) ≡ seeded_before row h
 seeded_same row h low none = seeded_next row h low
     ∙ filter_range-suc _ 1 (h - 1) h (omega arith)
     ∙ rw (le-ltb _ _ none) (append-nil _)
@@ -127,7 +126,7 @@ pub record AreWaysBefore (n : ℕ) (p : Position) (h : ℕ) (total : ℕ) : Type
   pub small : total ≤ (h - 1) * most_houses ^ n
 
 -- a power of six more
-pub six_more : (n h : ℕ) → 1 ≤ h → (h + 1 - 1) * most_houses ^ n ≡ (h - 1) * most_houses ^ n + most_houses ^ n
+six_more : (n h : ℕ) → 1 ≤ h → (h + 1 - 1) * most_houses ^ n ≡ (h - 1) * most_houses ^ n + most_houses ^ n
 six_more n h low =
     let suc_of : h + 1 - 1 ≡ suc (h - 1) = omega arith in
     rw suc_of omega arith

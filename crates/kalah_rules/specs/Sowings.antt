@@ -26,7 +26,7 @@ pub record IsLastHouse (m i bits lowest begin : ℕ) : Type 0 where
   pub seed : lowest ≡ 32 ^ (i - 1)
   pub across : begin ≡ 30 + 5 * (m - i)
 
--- no house, in which no row has one seed
+-- no own house: the mask takes nothing of a row, so it never shows one seed
 pub record IsNoHouse (bits lowest begin : ℕ) : Type 0 where
   pub house : bits ≡ 0
   pub seed : lowest ≡ 1

@@ -13,7 +13,7 @@ pub enum Step {
     Over(Board),
 }
 
-/// The result of a move on houses, with the number of seeds that it brought to the mover's store.
+/// The result of a move on houses; while the game goes on, with the number of seeds that it brought to the mover's store.
 #[derive(Clone, Copy)]
 pub enum HousesStep {
     /// The game is over. The mover gets `own` seeds and the other player `other`, both with the sweep.

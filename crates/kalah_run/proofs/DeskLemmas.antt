@@ -82,7 +82,7 @@ all_from P [] each = All-nil P
 all_from P (x ∷ xs) each =
     All-append P (rows_in x) (all_rows xs) (each 0 x refl) (all_from P xs (λ seat view has_view. each (suc seat) view has_view))
 
--- a seat has no more rows than it stands for passes
+-- the rows of a seat are at most as many as its passes
 rows_within_one : (view : DeskView) → length (rows_in view) ≤ passes_in view
 rows_within_one (Opening total handed_out left) = omega arith
 rows_within_one (Drawing total number r) = omega arith

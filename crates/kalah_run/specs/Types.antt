@@ -1,4 +1,4 @@
--- The types that most definitions name, passed on from one place. Declares nothing.
+-- Types that definitions and proofs of several files name, passed on from one place. Declares nothing.
 pub use Rattle.kalah_jobs.specs.declared.files.question.Question.{Question}
 pub use Rattle.kalah_jobs.specs.declared.files.entry.Entry.{Entry}
 pub use Rattle.kalah_jobs.specs.declared.files.job.Job.{Job}

@@ -31,8 +31,7 @@ digits_from_next_place : (n k : ℕ) → n / 2 ^ (4 * suc k) ≡ n / 16 / 2 ^ (4
 digits_from_next_place n k = simp (power_of_next_place, div-div-eq-div-mul)
 
 -- a digit put at an empty place leaves all from a later place on
-pub same_digits_past : (k e n d : ℕ) → k < e → stored_at n k ≡ 0 → d < 16
-    → (n + d * 2 ^ (4 * k)) / 2 ^ (4 * e) ≡ n / 2 ^ (4 * e)
+same_digits_past : (k e n d : ℕ) → k < e → stored_at n k ≡ 0 → d < 16 → (n + d * 2 ^ (4 * k)) / 2 ^ (4 * e) ≡ n / 2 ^ (4 * e)
 same_digits_past k zero n d later none small = omega arith
 same_digits_past zero (suc e) n d later none small = grind (arith, digits_from_next_place)
 same_digits_past (suc k) (suc e) n d later none small =
@@ -42,11 +41,11 @@ same_digits_past (suc k) (suc e) n d later none small =
     (same_digits_past k e (n / 16) d (omega arith) (rw (digits_from_next_place n k) at none) small)
 
 -- a digit put at an empty place is found there
-pub put_digit_is_there : (k n d : ℕ) → stored_at n k ≡ 0 → d < 16 → stored_at (n + d * 2 ^ (4 * k)) k ≡ d
+put_digit_is_there : (k n d : ℕ) → stored_at n k ≡ 0 → d < 16 → stored_at (n + d * 2 ^ (4 * k)) k ≡ d
 put_digit_is_there k n d none small = omega (arith, add-mul-div_right, pow_pos)
 
 -- what is put at a later place leaves all digits before it
-pub same_digits_before : (j k n d : ℕ) → j < k → stored_at (n + d * 2 ^ (4 * k)) j ≡ stored_at n j
+same_digits_before : (j k n d : ℕ) → j < k → stored_at (n + d * 2 ^ (4 * k)) j ≡ stored_at n j
 same_digits_before j k n d before =
     let past = k - suc j in
     let exponent : 4 * k ≡ 4 * suc past + 4 * j = omega arith in
@@ -56,7 +55,7 @@ same_digits_before j k n d before =
     rw (all, add-mul-div_right n (d * (16 * 2 ^ (4 * past))) (pow_pos (4 * j))) (omega arith)
 
 -- a digit put at an empty place leaves each other digit
-pub same_digits_elsewhere : (j k n d : ℕ) → j ≢ k → stored_at n k ≡ 0 → d < 16
+same_digits_elsewhere : (j k n d : ℕ) → j ≢ k → stored_at n k ≡ 0 → d < 16
     → stored_at (n + d * 2 ^ (4 * k)) j ≡ stored_at n j
 same_digits_elsewhere j k n d other none small = grind (arith, cases_lt, same_digits_before, same_digits_past)
 
@@ -119,7 +118,7 @@ binomials_are (suc n) (suc k) few =
     let inside : suc k < length (binomials n) = omega (arith, length-binomials n, few) in
     omega (arith, next_binomials-suc, binomials_are n k (omega (arith, few)), binomials_are n (suc k) few)
 
--- the first word of those variants of the classic rule that have m houses a side
+-- the first word of the variant of the classic rule with m houses a side
 abbrev first_word : ℕ → ℕ
 first_word m = slice_index FIRST_WORDS m
 
@@ -138,7 +137,7 @@ first_word_rises : (m n : ℕ) → m ≤ n → n ≤ 7 → first_word m ≤ firs
 first_word_rises m n below most = grind arith
 
 -- an ending's word is one of its variant's
-pub word_is_of_variant : (a : HousesState) → IsWithinHouses a → IsEnding a
+word_is_of_variant : (a : HousesState) → IsWithinHouses a → IsEnding a
     → first_word (length a.own) + rank_of_houses a / 16 < first_word (suc (length a.own))
 word_is_of_variant a limits ending =
     let m = length a.own in
@@ -163,11 +162,11 @@ word_and_place-injective a b limits_a limits_b ending ending_b word place =
 -- ---- what the words state
 
 -- an empty word states nothing
-pub states_nothing : (i : ℕ) → HoldsWon i 0
+states_nothing : (i : ℕ) → HoldsWon i 0
 unfolding HoldsWon
 states_nothing i a limits ending word_is stored = omega arith
 
--- after one more ending is stored
+-- what a word states stays true when one more ending is stored in it
 pub states_one_more : (word : ℕ) (a : HousesState) → HoldsWon (word_of a) word → IsWithinHouses a → IsEnding a
     → stored_at word (rank_of_houses a % 16) ≡ 0 → won a ≤ most_ending_seeds
     → HoldsWon (word_of a) (word + suc (won a) * 2 ^ (4 * (rank_of_houses a % 16)))
@@ -192,8 +191,7 @@ words_stay_true : (words : List ℕ) (i word : ℕ) → HoldsWon i word → AreT
 words_stay_true words i word states holds j =
     grind (arith, cases_lt, cases_eq, get_or-set_same, get_or-set_other, get_or_past, length-set, states_nothing)
 
--- a new seat may write into each word what is true: the seat's view, an act that keeps all homes, that it may, the rule after the step, and
--- nothing more to know
+-- a new seat may write into a word what is true of its endings
 pub word_may_be_written : (slots i word : ℕ) → HoldsWon i word
     → Arrives (λ (s : State (Unit {0}) (Unit {0})). AreTrueWords s.words) slots i (λ n. word) (λ n me. Unit {0})
 word_may_be_written slots i word states s holds homes small = (tt, keeps, tt, words_stay_true s.words i word states holds, tt)

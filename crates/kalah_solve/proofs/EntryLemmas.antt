@@ -29,7 +29,7 @@ module _ (c : LruCache ℕ Interval) (a : HousesState) (k : ℕ) (i : Interval) 
   put_entry e value key_is = grind arith
 
   -- all entries after a put are true
-  pub put_keeps_true : AreTrueEntries (put_entries nat_eq c k i)
+  put_keeps_true : AreTrueEntries (put_entries nat_eq c k i)
   put_keeps_true = λ e h. elim (Contains-put_entries nat_eq c k i e h) [
     | inl was ↦ entries e was
     | inr put ↦ elim put.1 [

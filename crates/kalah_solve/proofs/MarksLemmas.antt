@@ -71,12 +71,12 @@ six_marks {marks} small single = record {
 -- ==== The last mark
 
 -- the highest cell holds something
-pub highest_cell_some : (q n : ℕ) → 32 ^ q ≤ n → n < 32 ^ suc q → 0 < cell n q
+highest_cell_some : (q n : ℕ) → 32 ^ q ≤ n → n < 32 ^ suc q → 0 < cell n q
 highest_cell_some zero n low high = omega arith
 highest_cell_some (suc q) n low high = highest_cell_some q _ (omega arith) (omega arith)
 
 -- one less in the highest cell leaves the others
-pub other_cells_kept : (q i n : ℕ) → 32 ^ q ≤ n → n < 32 ^ suc q → i ≢ q → cell (n - 32 ^ q) i ≡ cell n i
+other_cells_kept : (q i n : ℕ) → 32 ^ q ≤ n → n < 32 ^ suc q → i ≢ q → cell (n - 32 ^ q) i ≡ cell n i
 other_cells_kept zero zero n low high other = omega arith
 other_cells_kept zero (suc i) n low high other = grind arith
 other_cells_kept (suc q) zero n low high other = omega arith
@@ -101,15 +101,15 @@ below_twice_highest (suc q) n high single =
 -- without the last mark all other marks stay, and no mark is new
 module _ (marks h : ℕ) (last : IsLastMark marks h) where
   -- the last mark is one
-  pub last_marked : 0 < cell marks (h - 1)
+  last_marked : 0 < cell marks (h - 1)
   last_marked = highest_cell_some _ _ last.low last.high
 
   -- what is left was marked before
-  pub marked_before : (i : ℕ) → 0 < cell (without_mark marks h) i → 0 < cell marks i
+  marked_before : (i : ℕ) → 0 < cell (without_mark marks h) i → 0 < cell marks i
   marked_before i some = grind (arith, cases_eq, last_marked, other_cells_kept)
 
   -- each other unmarked house was unmarked before
-  pub unmarked_before : (i : ℕ) → i ≢ h - 1 → cell (without_mark marks h) i ≡ 0 → cell marks i ≡ 0
+  unmarked_before : (i : ℕ) → i ≢ h - 1 → cell (without_mark marks h) i ≡ 0 → cell marks i ≡ 0
   unmarked_before i other none = omega (arith, other_cells_kept)
 
 -- without the last mark the number is lower
@@ -161,12 +161,12 @@ pub last_mark_is_power : {marks bit : ℕ} → marks < 2 ^ 30 → IsLastMark mar
 last_mark_is_power {marks} {bit} small last begins = grind (arith, pow_five)
 
 -- the others are marks still
-pub without_last_marks : {marks h : ℕ} → AreMarks marks → IsLastMark marks h → AreMarks (without_mark marks h)
+without_last_marks : {marks h : ℕ} → AreMarks marks → IsLastMark marks h → AreMarks (without_mark marks h)
 without_last_marks {marks} {h} marked last = grind (arith, cases_eq, highest_cell_falls, other_cells_kept)
 
 -- ==== Cells that hold something
 
--- a cell holds something if its top bit is set once fifteen were added
+-- a cell holds something if and only if its top bit is set in it, or once fifteen is added to its four low bits
 top_bit_of_filled : (x : ℕ) → x < 32 → bit_or (bit_and x 15 + 15) x / 16 ≡ min 1 x
 top_bit_of_filled x small = elim (cases_eq x 0) [
   | inl none ↦ rw none refl
@@ -218,7 +218,7 @@ cell_of_filled (suc k) row (suc i) inside =
     let rest : filled_cells (suc k) row / 32 ≡ filled_cells k (row / 32) = omega (arith, filled_cells-suc k row) in
     ap (λ n. cell n i) rest ∙ cell_of_filled k _ i (omega arith)
 
--- the first six are marked
+-- of the first six cells those that hold something are marked
 pub marks_filled : (row : ℕ) → AreFilledMarks row (filled_cells 6 row)
 marks_filled row =
     let small = and_le_r (bit_or (bit_and row (each 6 15) + each 6 15) row / 16) (each 6 1) in

@@ -43,7 +43,7 @@ digit_of_its_value d some few =
 -- ==== The values in a number, digit by digit
 
 -- there is at most one for each digit
-pub length-values_in : (n k : ℕ) → length (values_in n k) ≤ n
+length-values_in : (n k : ℕ) → length (values_in n k) ≤ n
 length-values_in zero k = omega arith
 length-values_in (suc n) k = grind (arith, length-values_in n (k / BASE))
 
@@ -76,7 +76,7 @@ values_in-one_digit_more (suc n) k packed = elim (cases_eq k 0) [
 ]
 
 -- fewer digits are enough for fewer values
-pub values_in-fewer_digits : (n k : ℕ) → length (values_in (suc n) k) ≤ n → values_in n k ≡ values_in (suc n) k
+values_in-fewer_digits : (n k : ℕ) → length (values_in (suc n) k) ≤ n → values_in n k ≡ values_in (suc n) k
 values_in-fewer_digits zero k few = elim (cases_eq k 0) [
   | inl none ↦ rw none refl
   | inr other ↦

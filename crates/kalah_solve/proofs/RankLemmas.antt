@@ -39,11 +39,11 @@ choose_le_power zero (suc k) = omega arith
 choose_le_power (suc n) (suc k) = omega (arith, choose_le_power n k, choose_le_power n (suc k))
 
 -- of few things there are few choices
-pub choose_small : (n b k : ℕ) → n ≤ b → choose n k ≤ 2 ^ b
+choose_small : (n b k : ℕ) → n ≤ b → choose n k ≤ 2 ^ b
 choose_small n b k few = omega (arith, choose_rises n b k few, choose_le_power b k)
 
 -- there are as many ways to choose one as there are things
-pub choose_one : (n : ℕ) → choose n 1 ≡ n
+choose_one : (n : ℕ) → choose n 1 ≡ n
 unfolding choose
 choose_one zero = refl
 choose_one (suc n) = omega (arith, choose_one n)
@@ -56,7 +56,7 @@ choose_none zero (suc k) more = refl
 choose_none (suc n) (suc k) more = omega (arith, choose_none n k (omega arith), choose_none n (suc k) (omega arith))
 
 -- a thing is among those that are chosen, or it is not
-pub choose_next : (n k : ℕ) → choose (suc n) (suc k) ≡ choose n k + choose n (suc k)
+choose_next : (n k : ℕ) → choose (suc n) (suc k) ≡ choose n k + choose n (suc k)
 unfolding choose
 choose_next n k = refl
 
@@ -87,7 +87,7 @@ rank_seeds : (xs ys : List ℕ) → length xs ≡ length ys → row_rank xs ≡ 
 rank_seeds xs ys long same = grind (arith, rank_apart)
 
 -- rows with one rank are one row
-pub row_rank-injective : (xs ys : List ℕ) → length xs ≡ length ys → row_rank xs ≡ row_rank ys → xs ≡ ys
+row_rank-injective : (xs ys : List ℕ) → length xs ≡ length ys → row_rank xs ≡ row_rank ys → xs ≡ ys
 row_rank-injective [] [] long same = refl
 row_rank-injective [] (y ∷ ys) long same = absurd (omega arith)
 row_rank-injective (x ∷ xs) [] long same = absurd (omega arith)

@@ -33,7 +33,7 @@ bits_among s n few =
     let worth : 2 ^ s * 2 ^ (54 - s) ≡ 2 ^ 54 = rw (← pow-add 2 s (54 - s)) (ap (λ k. 2 ^ k) all) in
     rw (div-div-eq-div-mul n (2 ^ s) (2 ^ (54 - s)), worth) refl
 
--- so two numbers with one slot that leave the same open are one
+-- so two numbers with one slot and one tag are equal
 slot_and_tag-injective : (s x y : ℕ) → s ≤ 54 → tag_of x ≡ tag_of y → slot_of s x ≡ slot_of s y → x ≡ y
 slot_and_tag-injective s x y few rest same = omega (arith, bits_among s x few, bits_among s y few, ap (λ slot. slot / 2 ^ (54 - s)) same)
 

@@ -35,7 +35,7 @@ pub record IsWithin (policy wider : Policy) : Type 0 where
   pub widens : (p : Position) (h : ℕ) → HasEqualSides p → is_over p ≡ false → Contains (policy p) h → Contains (wider p) h
 
 -- a policy is as wide as itself
-pub same_policy : (policy : Policy) → IsWithin policy policy
+same_policy : (policy : Policy) → IsWithin policy policy
 same_policy policy = grind arith
 
 -- who follows a strategy keeps to the rules
@@ -43,7 +43,7 @@ pub strategy_within : {s : Strategy} → IsStrategy s → IsWithin (follow s) le
 strategy_within {s} lawful = grind arith
 
 -- two strategies play a game to its end
-pub ends_within : (n : ℕ) (mine theirs : Strategy) → IsStrategy mine → IsStrategy theirs → (p : Position) → HasEqualSides p
+ends_within : (n : ℕ) (mine theirs : Strategy) → IsStrategy mine → IsStrategy theirs → (p : Position) → HasEqualSides p
     → moves_left p ≤ n → (houses : List ℕ) × (final : Position) × Game (follow mine) (follow theirs) p houses final
 ends_within zero mine theirs mine_lawful theirs_lawful p equal few = ([], p, is_at_end (over_at_end p (omega arith)))
 ends_within (suc n) mine theirs mine_lawful theirs_lawful p equal few = elim (cases_Bool _) [
@@ -67,7 +67,7 @@ pub a_game_is_played : StrategiesPlayAGame
 a_game_is_played mine theirs mine_lawful theirs_lawful p equal = ends_within (moves_left p) mine theirs mine_lawful theirs_lawful p equal (omega arith)
 
 -- each move leaves fewer, and the last position is over
-pub ends_in_time : {mine theirs : Policy} {p : Position} {houses : List ℕ} {final : Position} → IsWithin mine legal_houses
+ends_in_time : {mine theirs : Policy} {p : Position} {houses : List ℕ} {final : Position} → IsWithin mine legal_houses
     → IsWithin theirs legal_houses → HasEqualSides p → Game mine theirs p houses final → EndsInTime p houses final
 ends_in_time mine_lawful theirs_lawful equal (is_at_end over) = grind arith
 ends_in_time {mine} {theirs} {p} mine_lawful theirs_lawful equal (moves_on {h = h} going chosen again rest) =
@@ -88,11 +88,11 @@ pub record HasNoChoice (policy : Policy) : Type 0 where
   pub one : (p : Position) (h k : ℕ) → Contains (policy p) h → Contains (policy p) k → h ≡ k
 
 -- who follows a strategy has no choice
-pub follow_one : (s : Strategy) → HasNoChoice (follow s)
+follow_one : (s : Strategy) → HasNoChoice (follow s)
 follow_one s = grind arith
 
 -- two games without a choice are the same
-pub game_is_one : {mine theirs : Policy} {p : Position} {houses others : List ℕ} {final other : Position} → HasNoChoice mine
+game_is_one : {mine theirs : Policy} {p : Position} {houses others : List ℕ} {final other : Position} → HasNoChoice mine
     → HasNoChoice theirs → Game mine theirs p houses final → Game mine theirs p others other
     → (houses ≡ others) × (final ≡ other)
 game_is_one mine_forced theirs_forced (is_at_end over) (is_at_end over') = (refl, refl)
@@ -171,11 +171,11 @@ pub best_plays : PlaysBest (follow best_house)
 best_plays = grind (arith, best_attains)
 
 -- it gets the mover at least the worth
-pub best_secures : (p : Position) → HasEqualSides p → Secures best_house p (worth p)
+best_secures : (p : Position) → HasEqualSides p → Secures best_house p (worth p)
 best_secures p equal = λ houses final game. (game_is_bounded (strategy_within best_is_strategy) (same_policy _) equal game).low best_plays
 
 -- the best house holds the mover to the worth when the other player moves it
-pub best_holds : (p : Position) → HasEqualSides p → HoldsTo best_house p (worth p)
+best_holds : (p : Position) → HasEqualSides p → HoldsTo best_house p (worth p)
 best_holds p equal = λ houses final game. (game_is_bounded (same_policy _) (strategy_within best_is_strategy) equal game).high best_plays
 
 pub best_house_is_best_play : BestHouseIsBestPlay
@@ -187,13 +187,13 @@ worth_is_best_play p equal = grind (arith, best_is_strategy, best_secures, best_
 -- a game of two strategies is one of either against any play
 module _ (mine theirs : Strategy) (mine_lawful : IsStrategy mine) (theirs_lawful : IsStrategy theirs) (p : Position) (equal : HasEqualSides p) (v : ℤ) where
   -- what a strategy secures, the game brings
-  pub ends_at_least : Secures mine p v → EndsWithAtLeast mine theirs p v
+  ends_at_least : Secures mine p v → EndsWithAtLeast mine theirs p v
   ends_at_least secures =
       let game = a_game_is_played mine _ mine_lawful theirs_lawful p equal in
       (game.0, game.1, game.2, secures _ game.1 (widened (same_policy _) (strategy_within theirs_lawful) equal game.2))
 
   -- what a strategy of the opponent allows is the most that the game brings
-  pub ends_at_most : HoldsTo theirs p v → EndsWithAtMost mine theirs p v
+  ends_at_most : HoldsTo theirs p v → EndsWithAtMost mine theirs p v
   ends_at_most holds =
       let game = a_game_is_played mine _ mine_lawful theirs_lawful p equal in
       (game.0, game.1, game.2, holds _ game.1 (widened (strategy_within mine_lawful) (same_policy _) equal game.2))
@@ -215,7 +215,7 @@ best_against_strategies = record {
 }
 
 -- of two margins of best play neither is above the other
-pub secured_at_most : (p : Position) (v w : ℤ) → HasEqualSides p → IsBestPlay p v → IsBestPlay p w → v ≤ℤ w
+secured_at_most : (p : Position) (v w : ℤ) → HasEqualSides p → IsBestPlay p v → IsBestPlay p w → v ≤ℤ w
 secured_at_most p v w equal a b =
     let low = ends_at_least _ b.held.0 a.secured.1 b.held.1 p equal v a.secured.2 in
     let high = ends_at_most _ b.held.0 a.secured.1 b.held.1 p equal w b.held.2 in
@@ -228,7 +228,7 @@ best_play_is_one p v w equal a b = omega (arith, ints, secured_at_most p v w equ
 -- ==== Which moves are best
 
 -- the value of a move is the margin of best play after it
-pub move_worth : (p : Position) (h : ℕ) → IsWorthOfMove p h (value_of_move p h)
+move_worth : (p : Position) (h : ℕ) → IsWorthOfMove p h (value_of_move p h)
 move_worth p h = record {
   again = λ more. subst (IsBestPlay _) (sym (value_moving_again _ _ more)) (worth_is_best_play _ (after_equal_sides p h));
   turn = λ passed.
@@ -238,7 +238,7 @@ move_worth p h = record {
 }
 
 -- no other number is the margin of best play after a move
-pub move_worth_is_one : {p : Position} {h : ℕ} {v w : ℤ} → IsWorthOfMove p h v → IsWorthOfMove p h w → v ≡ w
+move_worth_is_one : {p : Position} {h : ℕ} {v w : ℤ} → IsWorthOfMove p h v → IsWorthOfMove p h w → v ≡ w
 move_worth_is_one {p} {h} {v} {w} a b = elim (cases_Bool _) [
   | inl more ↦ best_play_is_one _ v w (after_equal_sides p h) (a.again more) (b.again more)
   | inr passed ↦
@@ -257,11 +257,11 @@ attains_if_best : (p : Position) (h : ℕ) → IsBestMove p h (worth p) → valu
 attains_if_best p h best = move_worth_is_one (move_worth p h) best.worth
 
 -- the best house is a best move
-pub best_move : (p : Position) → HasEqualSides p → is_over p ≡ false → IsBestMove p (best_house p) (worth p)
+best_move : (p : Position) → HasEqualSides p → is_over p ≡ false → IsBestMove p (best_house p) (worth p)
 best_move p equal going = attaining_is_best _ _ equal (best_found _ equal going).0 (best_attains equal going)
 
 -- the best house is the lowest legal house that attains the worth
-pub best_lowest : (p : Position) (h : ℕ) → is_over p ≡ false → Contains (legal_houses p) h → value_of_move p h ≡ worth p
+best_lowest : (p : Position) (h : ℕ) → is_over p ≡ false → Contains (legal_houses p) h → value_of_move p h ≡ worth p
     → best_house p ≤ h
 best_lowest p h going legal attains =
     let lowest = find_lowest (λ k. int_eq (value_of_move p k) (worth p)) (λ i. nat_lt 0 (seeds p.own i)) 1 (side_length p) h
@@ -276,7 +276,7 @@ best_is_lowest p equal going = record {
 }
 
 -- the best house is the lowest best move
-pub best_house_lowest : (p : Position) (h : ℕ) → is_over p ≡ false → IsBestMove p h (worth p) → best_house p ≤ h
+best_house_lowest : (p : Position) (h : ℕ) → is_over p ≡ false → IsBestMove p h (worth p) → best_house p ≤ h
 best_house_lowest p h going best = best_lowest _ _ going best.legal (attains_if_best _ _ best)
 
 pub best_moves_attain : BestMovesAttain
@@ -449,7 +449,7 @@ module _ (p : Position) {best : ℤ} {own other : ℕ} (limits : IsWithinLimits 
 -- ==== The value of a move, and its house, are numbers that a game can have
 
 -- the value of a move
-pub value_small : (p : Position) (h : ℕ) → IsWithinLimits p → Contains (legal_houses p) h → IsSmallMargin (value_of_move p h)
+value_small : (p : Position) (h : ℕ) → IsWithinLimits p → Contains (legal_houses p) h → IsSmallMargin (value_of_move p h)
 value_small p h limits legal =
     let bounds = won_of_move (houses_in p) (houses_within p limits) h legal in
     record {

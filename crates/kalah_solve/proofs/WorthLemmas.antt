@@ -42,7 +42,7 @@ greatest_reached f (x ∷ xs) some = elim (fold-int_max_reached (f x) (map f xs)
 ]
 
 -- what a search finds is in the list, and passes
-pub find_passes : (t : ℕ → Bool) (xs : List ℕ) (k : ℕ) → Contains xs k → t k ≡ true
+find_passes : (t : ℕ → Bool) (xs : List ℕ) (k : ℕ) → Contains xs k → t k ≡ true
     → Contains xs (unwrap_or (find t xs) 0) × (t (unwrap_or (find t xs) 0) ≡ true)
 find_passes t [] k member passes = absurd (omega arith)
 find_passes t (x ∷ xs) k member passes = elim (cases_Bool (t x)) [
@@ -56,7 +56,7 @@ find_passes t (x ∷ xs) k member passes = elim (cases_Bool (t x)) [
 ]
 
 -- a number of a range that passes is no lower than its start
-pub filter_low : (g : ℕ → Bool) (a n h : ℕ) → Contains (filter g (range_with_len a n)) h → a ≤ h
+filter_low : (g : ℕ → Bool) (a n h : ℕ) → Contains (filter g (range_with_len a n)) h → a ≤ h
 filter_low g a n h member =
     let InRange : ℕ → Type 0 = λ i. (a ≤ i) × (i < a + n) in
     (All-contains InRange _ h (All-filter g InRange (range_with_len a n) (all_range a n)) member).0
@@ -81,7 +81,7 @@ find_lowest t g a (suc n) h member passes = elim (cases_Bool (g a)) [
 -- ==== The greatest of some values, and the test whether two numbers are equal
 
 -- no value is above the greatest
-pub greatest_is_most : (f : ℕ → ℤ) (xs : List ℕ) (k : ℕ) → k < length xs → f (get_or xs k 0) ≤ℤ greatest (map f xs)
+greatest_is_most : (f : ℕ → ℤ) (xs : List ℕ) (k : ℕ) → k < length xs → f (get_or xs k 0) ≤ℤ greatest (map f xs)
 greatest_is_most f [] k within = absurd (omega arith)
 greatest_is_most f (x ∷ xs) zero within = (fold-int_max_bounds (f x) (map f xs) _ refl).0
 greatest_is_most f (x ∷ xs) (suc k) within =
@@ -124,13 +124,13 @@ value_same : (v w : Position → ℤ) (p : Position) (h : ℕ) → v (after p h)
 value_same v w p h again turn = cc
 
 -- one move more, if the game goes on
-pub worth_within-going : (n : ℕ) (p : Position) → is_over p ≡ false
+worth_within-going : (n : ℕ) (p : Position) → is_over p ≡ false
     → worth_within (suc n) p ≡ greatest (map (value_by (worth_within n) p) (legal_houses p))
 unfolding worth_within
 worth_within-going n p going = cc
 
 -- the final margin, if it does not
-pub worth_within-over : (n : ℕ) (p : Position) → is_over p ≡ true → worth_within n p ≡ final_margin p
+worth_within-over : (n : ℕ) (p : Position) → is_over p ≡ true → worth_within n p ≡ final_margin p
 unfolding worth_within
 worth_within-over zero p over = refl
 worth_within-over (suc n) p over = cc
@@ -145,7 +145,7 @@ values_same v w p equal agree = map_same _ _ (legal_houses p) (λ h legal.
     value_same v w p h (agree _ next_equal fewer) (agree _ (swapped_equal_sides _ next_equal) (omega (arith, fewer, moves_left-swapped _ next_equal))))
 
 -- two counts that are high enough give the same worth
-pub worth_same : (n k : ℕ) (p : Position) → HasEqualSides p → moves_left p ≤ n → moves_left p ≤ k
+worth_same : (n k : ℕ) (p : Position) → HasEqualSides p → moves_left p ≤ n → moves_left p ≤ k
     → worth_within n p ≡ worth_within k p
 worth_same zero k p equal n_high k_high = grind (arith, over_at_end, worth_within-over)
 worth_same (suc n) zero p equal n_high k_high = grind (arith, over_at_end, worth_within-over)

@@ -1,3 +1,3 @@
-//! What the tests of several modules share.
+//! Tests over several modules, and what they share.
 pub(crate) mod out_of_memory;
 pub(crate) mod plain;

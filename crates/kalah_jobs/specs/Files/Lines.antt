@@ -34,7 +34,7 @@ unfoldable pub lines_of : List ℕ → List (List ℕ)
 lines_of [] = []
 lines_of (byte ∷ bytes) = if byte == line_feed then [] ∷ lines_of bytes else onto_first byte (lines_of bytes)
 
--- all bytes have lines, and no others
+-- bytes have lines, and only one list of them
 pub record LinesAreOne : Type 0 where
   pub some : (bytes : List ℕ) → AreLines bytes (lines_of bytes)
   pub one : (bytes : List ℕ) (pieces : List (List ℕ)) → AreLines bytes pieces → pieces ≡ lines_of bytes

@@ -53,8 +53,8 @@ fn answer_each<I: Read + Drop, O: Sink>(
 
 /// Answers what is asked of each line of the reader, up to its end, and returns whether each line was read as a position. A line ends
 /// as in a file of positions: with a line feed, or at the end if it isn't empty. Each answer is written as a batch writes it, without
-/// the file's name and the line's number. Steps stand in one line, with `; ` between any two. The number and the length of the lines
-/// are unlimited: only the solver takes memory, and it keeps what it learns for later lines.
+/// the file's name and the line's number. Steps stand in one line, with `; ` between any two. Lines may be of any
+/// number and length, up to 2^64 - 1 bytes in all: only the solver takes memory, and it keeps what it learns for later lines.
 ///
 /// Before each read of the reader, all lines that it gave have been answered and the answers flushed. Answers are also flushed
 /// before a position with many seeds is solved. An interrupted read is repeated.

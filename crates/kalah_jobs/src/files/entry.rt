@@ -64,7 +64,7 @@ impl Entry {
 fn is_same_board(p: &Board, q: &Board) -> bool
     ensures { IsTrue result ↔ (p.now ≡ q.now) }
 {
-    // Their limits: by these, equal houses have equal keys.
+    // Their limits: within these, houses with equal keys are equal.
     let _ = (p.m(), q.m());
     *p == *q
 }

@@ -75,7 +75,7 @@ fn prepend_joined_text(text: &mut StackText, answer: &Answer)
 }
 
 // Puts what stands between the name of the file and the answer in words in front of the text.
-#[tactic(auto, using(crate::proofs::WritingLemmas::number_length))]
+#[tactic(auto, using(crate::proofs::WritingLemmas::u64_length))]
 #[inline]
 fn prepend_place(text: &mut StackText, line: u32)
     requires { length text.old + 22 ≤ ROOM }

@@ -13,7 +13,7 @@ use kalah_rules::Board;
 pub(crate) const COLUMN_WIDTH: usize = 4;
 
 // Puts a number, right-aligned in a column, in front of the text.
-#[tactic(auto, using(crate::proofs::WritingLemmas::byte_length))]
+#[tactic(auto, using(crate::proofs::WritingLemmas::u8_length))]
 fn prepend_cell(text: &mut StackText, number: u8)
     requires { length text.old + 4 ≤ ROOM }
     ensures cell { text.new ≡ cell number ++ text.old }

@@ -43,7 +43,7 @@ fn write_rest<W: Write>(writer: &mut W, bytes: &[u8]) -> io::Result<()>
 }
 
 /// Writes all the bytes, in as many calls as the writer needs, and doesn't flush it. A call that was interrupted has taken
-/// nothing, and is repeated. It fails if another call fails, or takes no byte: then a prefix of the bytes was
+/// nothing, and is repeated (2^64 - 1 calls at most). It fails if another call fails, or takes no byte: then a prefix of the bytes was
 /// written, and nothing else.
 #[inline(always)]
 pub fn write_pieces<W: Write>(writer: &mut W, bytes: &[u8]) -> io::Result<()>
@@ -121,7 +121,7 @@ impl<W: Write> Sink for Stream<W> {
         flushed
     }
 
-    // The writer is flushed at the end alone.
+    // A wait is no reason to flush: a batch flushes the writer once, at its end.
     fn before_waiting(&mut self) {}
 
     fn failed(&self) -> bool {

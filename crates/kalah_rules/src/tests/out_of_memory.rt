@@ -1,4 +1,4 @@
-//! Shows that no call of the rules requests memory: `tests/refuse` runs this test with its first request refused, and then
+//! Shows that boards, their moves and their end request no memory: `tests/refuse` runs this test with its first request refused, and then
 //! with its second, and these must be its two marks.
 use crate::{Board, Houses, Rule, Step};
 use std::alloc::Global;

@@ -61,7 +61,7 @@ fn open_desk(alloc: Global, total: u32, workers: u32, rest: Rest) -> Result<Open
 }
 
 // Makes a worker for each pair of passes, in their order, and leaves the lists empty. All workers share what they learn of endings.
-fn put_together(
+fn workers_of_passes(
     alloc: Global,
     passes: &mut Vec<Pass>,
     puts: &mut Vec<PutPass>,
@@ -88,7 +88,7 @@ fn put_together(
 }
 
 // Moves the passes of the workers, in their order, and then that of the calling thread, into two lists that have room for them.
-fn take_apart(
+fn passes_of_workers(
     workers: Vec<Worker>,
     rest_pass: Option<Pass>,
     passes: &mut Vec<Pass>,
@@ -143,7 +143,7 @@ impl<'a, G: Gate> OpenBatch<'a, G> {
             rest_pass,
         } = open_desk(alloc, total, count, request.rest)?;
         let (queue, mut puts, get_pass) = ResultsQueue::open(alloc, QUEUE_CAPACITY, count)?;
-        let workers = put_together(alloc, &mut passes, &mut puts, request.table)?;
+        let workers = workers_of_passes(alloc, &mut passes, &mut puts, request.table)?;
         Ok(OpenBatch {
             shared: SharedWork {
                 desk,
@@ -196,7 +196,7 @@ impl<'a, G: Gate> OpenBatch<'a, G> {
         };
         let receiver = Receiver::new(caller, &ended);
         let (workers, caller) = run_and_write(rt, crew, receiver, output, watch, out)?;
-        take_apart(workers, caller.rest_pass, &mut passes, &mut puts);
+        passes_of_workers(workers, caller.rest_pass, &mut passes, &mut puts);
         let SharedWork { desk, queue, .. } = shared;
         desk.close(passes);
         queue.close(rt, puts, caller.get_pass);

@@ -64,8 +64,8 @@ fn same_lines(rt: &impl Abort, alloc: Global, count: u32) -> [FileText; 1] {
     [file_of(alloc, "n", text.as_str()).expect(rt, "no memory")]
 }
 
-/// Counts the jobs that have begun, and those whose outcome is sent. No job begins before the outcome of the first is sent, so that one
-/// is got first.
+/// Counts the jobs that have begun, and those whose outcome is sent. No other job begins before the outcome of the first is sent, so that
+/// one is got first.
 #[derive(Drop)]
 struct Counting {
     begun: AtomicU32,

@@ -1,5 +1,5 @@
-//! Many small batches through queues small and large, which run full and empty in parallel, with more threads than
-//! processors: a wake-up that is lost leaves a thread asleep, and the test has no end.
+//! Many small batches through queues small and large, which run full and empty in parallel, with many threads: a wake-up
+//! that is lost leaves a thread asleep, and the test has no end.
 ghost use Rattle.std.specs.Prelude.{◌≡◌, ◌<◌, ◌≤◌, ◌*◌, All};
 
 use crate::tests::out_of_memory::two_outcomes;

@@ -16,7 +16,7 @@ mixed key = key * MIX % 2 ^ 64
 abbrev pub slot_of : ℕ → ℕ → ℕ
 slot_of shift number = number / 2 ^ shift
 
--- the tag of a mixed key: what its slot leaves open of it
+-- the tag of a mixed key: its lowest 54 bits, which are all that any slot leaves open
 abbrev pub tag_of : ℕ → ℕ
 tag_of number = number % 2 ^ 54
 

@@ -101,7 +101,7 @@ fn slot_of(mixed: u64, shift: u32) -> usize
     (mixed >> shift) as usize
 }
 
-// Returns the tag of a mixed key: what its slot leaves open of it.
+// Returns the tag of a mixed key: its lowest 54 bits, which are all that any slot leaves open.
 fn tag_of(mixed: u64) -> u64
     ensures tag { result ≡ tag_of mixed }
     ensures small { result < 2 ^ 54 }

@@ -122,7 +122,7 @@ const ORDERS: &[[(u8, u32); 3]] = &[
 ];
 
 #[test]
-fn releases_lines_in_order(rt: HostRuntime) {
+fn lines_become_ready_in_order(rt: HostRuntime) {
     for offers in ORDERS {
         let mut trial = Trial::new(&rt);
         for (line, ready) in offers {

@@ -1,4 +1,4 @@
-//! What counts how much for the order of turns. All numbers were found by hill climbing: positions took the fewest nodes with them.
+//! What counts how much for the order of turns. All numbers but `GAIN` were found by hill climbing: positions took the fewest nodes with them.
 
 /// What a seed counts that a turn brings to the store.
 pub(super) const GAIN: u32 = 64;
@@ -18,7 +18,7 @@ pub(super) static PLACE_PRIORITIES: [[u16; 31]; 2] = [
 ];
 
 /// What a house counts after a turn, by the number of its seeds modulo 16, as hardly any holds more. First come the houses of the player
-/// who is to move then, and after them those of the one who has moved. Each row begins with the house farthest from its store.
+/// who is to move then, and after them those of the one who has moved. Of each player the house farthest from the store comes first.
 pub(super) static HOUSES: [[u8; 16]; 12] = [
     [
         28, 1, 0, 6, 20, 52, 51, 123, 116, 116, 116, 116, 116, 116, 116, 116,

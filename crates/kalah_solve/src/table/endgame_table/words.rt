@@ -9,7 +9,7 @@ use atomic_table::{Play, Table, TableRule};
 use kalah_rules::{Houses, Rule};
 use std::alloc::{AllocError, Allocator};
 
-// The index of the first word of those variants of a rule that have m houses a side. A variant has an ending of up to 9 seeds for each way to
+// The index of the first word of the variant of a rule with m houses a side. A variant has an ending of up to 9 seeds for each way to
 // choose 2m of 2m + 9 things, and a word for each sixteen of them, rounded up. The last one is where they end; no
 // variant begins there.
 const FIRST_WORDS: [u32; 8] = [0, 0, 4, 49, 362, 1_882, 7_656, RULE_WORDS];

@@ -50,7 +50,7 @@ fn assert_jobs(rt: &impl Abort, trial: &Trial) {
     }
 }
 
-// The jobs and the collector need no memory.
+// Once they are made, the jobs and the collector request no memory.
 #[test]
 fn jobs_and_their_collector(rt: HostRuntime) -> Result<(), Fail> {
     let mut trial = trial_of(&rt)?;

@@ -28,27 +28,27 @@ run_and_write-requires-after_bounds g c κs within =
 
 -- ---- the passes come back
 
-pub take_apart-requires-clause-passes_room : goal.take_apart-requires-clause-passes_room
-take_apart-requires-clause-passes_room g c = passes_fit c.in_ok-workers.ensures.ran _ _
+pub passes_of_workers-requires-clause-passes_room : goal.passes_of_workers-requires-clause-passes_room
+passes_of_workers-requires-clause-passes_room g c = passes_fit c.in_ok-workers.ensures.ran _ _
     (c.in_ok-workers.ensures.collected.draws.rest ∙ ap (λ p. rest_by_pass p.rest_pass) c.new-receiver.ensures) c.in_ok-workers.workers.ok.0
     c.requires.ready.room.passes
 
-pub take_apart-requires-clause-puts_room : goal.take_apart-requires-clause-puts_room
-take_apart-requires-clause-puts_room g c =
+pub passes_of_workers-requires-clause-puts_room : goal.passes_of_workers-requires-clause-puts_room
+passes_of_workers-requires-clause-puts_room g c =
     rw (c.in_ok-workers.workers.ok.0 ∙ c.in_ok-workers.ensures.ran.as_many) c.requires.ready.room.puts
 
 pub close-requires-clause-all : goal.close-requires-clause-all
 close-requires-clause-all g c = passes_are_back c.in_ok-workers.ensures.ran _ _
-    (c.in_ok-workers.ensures.collected.draws.rest ∙ ap (λ p. rest_by_pass p.rest_pass) c.new-receiver.ensures) c.take_apart.ensures.passes
+    (c.in_ok-workers.ensures.collected.draws.rest ∙ ap (λ p. rest_by_pass p.rest_pass) c.new-receiver.ensures) c.passes_of_workers.ensures.passes
     c.requires.ready.passes
 
 pub close-requires-clause-own : goal.close-requires-clause-own
 close-requires-clause-own g c =
-    own_back c.in_ok-workers.ensures.ran _ c.in_ok-workers.ensures.collected.draws.own c.take_apart.ensures.passes
+    own_back c.in_ok-workers.ensures.ran _ c.in_ok-workers.ensures.collected.draws.own c.passes_of_workers.ensures.passes
 
 pub close-requires-2-clause-puts : goal.close-requires-2-clause-puts
 close-requires-2-clause-puts g c =
-    puts_back c.in_ok-workers.ensures.ran c.take_apart.new.puts.ok.0 c.take_apart.ensures.puts
+    puts_back c.in_ok-workers.ensures.ran c.passes_of_workers.new.puts.ok.0 c.passes_of_workers.ensures.puts
     (c.in_ok-workers.ensures.collected.workers ∙ ap (λ p. p.get_pass.workers) c.new-receiver.ensures
     ∙ ap (λ p. p.workers) c.requires.ready.get)
     c.requires.ready.puts
@@ -59,7 +59,7 @@ close-requires-2-clause-puts g c =
 dealt : (g : Over) (c : goal.After-drop-ended-2 g) → HasDrawnNothing c.in_ok-workers.caller.rest_pass
     → DealsEachOnce (job_count c.args.self.shared.jobs.now) c.close.result.drawn (drawn_rows (passes_of c.in_ok-workers.workers.items))
 dealt g c nothing = deals_to_others (passes_of c.in_ok-workers.workers.items) c.in_ok-workers.caller.rest_pass nothing
-    (rw c.args.self.shared.each_job at (rw c.take_apart.ensures.passes at c.close.ensures.deals))
+    (rw c.args.self.shared.each_job at (rw c.passes_of_workers.ensures.passes at c.close.ensures.deals))
 
 -- each job's outcome was got once, if as many were got as there are jobs
 each_got : (g : Over) (c : goal.After-drop-ended-2 g) → HasDrawnNothing c.in_ok-workers.caller.rest_pass
@@ -69,7 +69,7 @@ each_got g c nothing all =
     let workers = c.in_ok-workers.ensures.collected.workers ∙ ap (λ p. p.get_pass.workers) c.new-receiver.ensures
     ∙ ap (λ p. p.workers) c.requires.ready.get in
     each_job_got c.in_ok-workers.ensures.ran c.in_ok-workers.caller.get_pass.got workers (dealt g c nothing)
-    c.take_apart.ensures.puts c.close-2.ensures.whole c.requires.ready.jobs all
+    c.passes_of_workers.ensures.puts c.close-2.ensures.whole c.requires.ready.jobs all
 
 pub returns-clause-given : goal.returns-clause-given
 returns-clause-given g c =

@@ -2,7 +2,7 @@ use Rattle.std.proofs.lemmas.Grind.{common_steps}
 use Rattle.std.proofs.Common.{arith, ◌∙◌}
 use Rattle.kalah_run.specs.declared.batch.worker.Worker.{Worker}
 use Rattle.kalah_run.proofs.WorkerLemmas.{one_given, tables_more}
-use Rattle.kalah_run.proofs.batch.open_batch.put_together.Goals as goal
+use Rattle.kalah_run.proofs.batch.open_batch.workers_of_passes.Goals as goal
 
 pub loop-pass-preserved : goal.loop-pass-preserved
 loop-pass-preserved c =

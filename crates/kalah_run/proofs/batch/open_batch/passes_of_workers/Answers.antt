@@ -1,6 +1,6 @@
 use Rattle.kalah_run.specs.declared.batch.worker.Worker.{Worker}
 use Rattle.kalah_run.proofs.WorkerLemmas.{one_taken, room_for_one, room_still}
-use Rattle.kalah_run.proofs.batch.open_batch.take_apart.Goals as goal
+use Rattle.kalah_run.proofs.batch.open_batch.passes_of_workers.Goals as goal
 
 pub push_reserved-requires : goal.push_reserved-requires
 push_reserved-requires c = room_for_one _ c.in-Some.ensures.steps.0 c.loop-worker.invariant.passes_room

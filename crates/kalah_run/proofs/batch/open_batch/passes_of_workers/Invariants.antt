@@ -2,7 +2,7 @@ use Rattle.std.proofs.Common.{◌≡◌, ◌+◌, ◌≤◌, length, vec_len, ve
 use Rattle.std.specs.Vec.Iter.{into_iter_items}
 use Rattle.kalah_run.specs.Batch.AtWork.{passes_of, puts_of}
 use Rattle.kalah_run.specs.Batch.Leaving.{pass_list}
-use Rattle.kalah_run.proofs.batch.open_batch.take_apart.Given as goal
+use Rattle.kalah_run.proofs.batch.open_batch.passes_of_workers.Given as goal
 
 abbrev pub invariant-loop-worker : goal.invariant-loop-worker
 invariant-loop-worker l = record {

@@ -1,7 +1,7 @@
 use Rattle.std.proofs.Common.{◌≡◌, ◌≤◌, ◌+◌, ◌++◌, reverse, vec_len, vec_capacity}
 use Rattle.kalah_run.specs.Batch.AtWork.{passes_of, puts_of}
 use Rattle.kalah_run.specs.Batch.Running.{HaveOwnTables}
-use Rattle.kalah_run.proofs.batch.open_batch.put_together.Given as goal
+use Rattle.kalah_run.proofs.batch.open_batch.workers_of_passes.Given as goal
 
 abbrev pub invariant-loop-pass : goal.invariant-loop-pass
 invariant-loop-pass l = record {
