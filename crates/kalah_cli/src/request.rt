@@ -26,13 +26,13 @@ pub enum Request<'a> {
     Line { line: &'a str, command: LineCommand },
     /// Answer each line of files.
     Files(FilesRequest<'a>),
-    /// Answer each line of the standard input, by a solver with a table of `table` entries.
+    /// Answer each line of the standard input, by a solver with a table of `table` entries, 1 to 1,048,576.
     Ask { question: Question, table: u32 },
     /// Refuse options that exclude each other.
     Conflict,
 }
 
-/// What is printed of a position. A search has a table of `table` entries.
+/// What is printed of a position. A search has a table of `table` entries, 1 to 1,048,576.
 #[derive(Clone, Copy)]
 pub enum LineCommand {
     /// Its moves, with boards drawn or not.
