@@ -13,6 +13,7 @@ use Rattle.kalah_solve.proofs.BoundsLemmas.{won_of_houses}
 use Rattle.kalah_solve.proofs.search.Search.+bound.Goals as goal
 use Rattle.kalah_solve.proofs.search.Search.+bound.Goals.{try_remaining-in-Turn+else-gained-beta, try_remaining-in_default}
 
+-- ==== bound_step and bound_turn: the bound of one move
 pub bound_step-overflow_add-result : goal.bound_step-overflow_add-result
 bound_step-overflow_add-result g t c =
     let on = subst (GoesOn _) c.in-Again.is c.requires.on in
@@ -28,6 +29,11 @@ bound_turn-returns-else-all-beta g t c =
     let few = (won_of_houses c.requires.on.limits).few in
     bound_of_rest (c.args.gained + c.seeds.result) _ c.args.gained (omega arith) few c.bound.ensures
 
+-- ==== bound_by_search: what a table doesn't know is searched, and learned
+pub bound_by_search-learn_seeds-requires : goal.bound_by_search-learn_seeds-requires
+bound_by_search-learn_seeds-requires g t c = grind (arith, common_steps)
+
+-- ==== bound_by_moves: moves into the store, the remaining moves, and the turns that wait, by their priority
 pub bound_by_moves-bounds-priorities-at : goal.bound_by_moves-bounds-priorities-at
 bound_by_moves-bounds-priorities-at g t c = omega (arith, (c.loop-priority.invariant.next c.loop-priority-test.true).place)
 
@@ -85,14 +91,27 @@ bound_by_moves-loop-priority-smaller g t c =
 
 pub bound_by_moves-returns : goal.bound_by_moves-returns
 bound_by_moves-returns g t c =
-    let is = c.loop-priority.invariant in
+    let before = c.loop-priority.invariant in
     record {
       lower = λ enough. absurd (omega arith);
-      upper = λ short. none_untried
-          _ c.seeds-seeds.ensures.limits c.requires.going
-          is.untried is.highest (omega arith);
+      upper = λ short. none_untried _ c.seeds-seeds.ensures.limits c.requires.going before.untried before.highest (omega arith);
     }
 
+pub bound_by_moves-loop-priority-init : goal.bound_by_moves-loop-priority-init
+bound_by_moves-loop-priority-init g t c =
+    let others = c.try_remaining-remaining.ensures in
+    let most_is : c.max-most.result ≡ max c.bound_into_store-into_store.result c.try_remaining-remaining.result =
+    search (rules, c.max-most.ensures) in
+    let untried = untried_at_start _ (search rules) others
+    (c.bound_into_store-into_store.ensures.upper c.if-beta-into_store.false) c.if-beta-remaining.false most_is in
+    record {
+      short = omega arith;
+      highest = c.highest-priority.ensures.highest;
+      untried = untried;
+      next = next_waits c.seeds-seeds.ensures.limits untried c.highest-priority.ensures.found;
+    }
+
+-- ==== bound_into_store: moves that end in the store without a lap
 pub bound_into_store-loop-untried-init : goal.bound_into_store-loop-untried-init
 bound_into_store-loop-untried-init g t c =
     let marks = c.houses_into_store-untried.ensures in
@@ -146,14 +165,14 @@ bound_into_store-loop-untried-preserved g t c =
 
 pub bound_into_store-loop-untried-smaller : goal.bound_into_store-loop-untried-smaller
 bound_into_store-loop-untried-smaller g t c =
-    let split = c.split_last-house in
-    rw split.ensures.rest (without_last_less split.ensures.last)
+    rw c.split_last-house.ensures.rest (without_last_less c.split_last-house.ensures.last)
 
 pub bound_into_store-returns-clause-upper : goal.bound_into_store-returns-clause-upper
 bound_into_store-returns-clause-upper g t c = λ short h legal ends.
     let none : c.loop-untried.untried ≡ 0 = omega arith in
     c.loop-untried.invariant.tried h legal (rw none (cell_of_zero (h - 1))) ends
 
+-- ==== try_remaining: the remaining moves, of which turns wait
 pub try_remaining-loop-untried-init : goal.try_remaining-loop-untried-init
 try_remaining-loop-untried-init g t c =
     let marks = c.remaining_houses-untried.ensures in
@@ -188,29 +207,28 @@ try_remaining-bound_turn-bound-requires g t c κs within =
     let h = c.split_last-house.result.0 in
     let limits = c.remaining_houses-untried.ensures.limits in
     let legal = last_is_legal c.loop-untried.invariant.movable c.split_last-house.ensures.last in
-    let is = rw c.in-Turn.is at c.play_by-step.ensures.step in (
-      omega (arith, step_falls a h (Turn c.in-Turn.gained c.in-Turn.next) limits legal is),
-      (within, (search rules, goes_on _ _ _ _ c.requires.variant limits legal is)),
+    let step = rw c.in-Turn.is at c.play_by-step.ensures.step in (
+      omega (arith, step_falls a h (Turn c.in-Turn.gained c.in-Turn.next) limits legal step),
+      (within, (search rules, goes_on _ _ _ _ c.requires.variant limits legal step)),
     )
 
 pub try_remaining-returns-then-beta-bound : goal.try_remaining-returns-then-beta-bound
 try_remaining-returns-then-beta-bound g t c =
-    let is : IsSoftBound c.args.beta (won_by_step (houses_step c.args.houses.now c.split_last-house.result.0)) c.match-step.bound =
+    let bounded : IsSoftBound c.args.beta (won_by_step (houses_step c.args.houses.now c.split_last-house.result.0)) c.match-step.bound =
     elim c.match-step.branch [
       | try_remaining-in-Turn+else-gained-beta w ↦ rw (w.bound-is, ← c.play_by-step.ensures.step, w.in-Turn.is) w.bound_turn-bound.ensures
       | try_remaining-in_default w ↦ rw (w.bound-is, ← c.play_by-step.ensures.step) w.bound_step-bound.ensures
     ] in
     let legal = last_is_legal c.loop-untried.invariant.movable c.split_last-house.ensures.last in
     record {
-      lower = enough_is_won _ _ _ _ c.remaining_houses-untried.ensures.limits legal
-          is;
+      lower = enough_is_won _ _ _ _ c.remaining_houses-untried.ensures.limits legal bounded;
       waiting = c.loop-untried.invariant.played.waiting.each;
       others = λ short. absurd (omega arith);
     }
 
 pub try_remaining-loop-untried-preserved : goal.try_remaining-loop-untried-preserved
 try_remaining-loop-untried-preserved g t c =
-    let is : IsSoftBound c.args.beta (won_by_step (houses_step c.args.houses.now c.split_last-house.result.0)) c.match-step.bound =
+    let bounded : IsSoftBound c.args.beta (won_by_step (houses_step c.args.houses.now c.split_last-house.result.0)) c.match-step.bound =
     elim c.match-step.branch [
       | try_remaining-in-Turn+else-gained-beta w ↦ rw (w.bound-is, ← c.play_by-step.ensures.step, w.in-Turn.is) w.bound_turn-bound.ensures
       | try_remaining-in_default w ↦ rw (w.bound-is, ← c.play_by-step.ensures.step) w.bound_step-bound.ensures
@@ -218,8 +236,7 @@ try_remaining-loop-untried-preserved g t c =
     let last = c.split_last-house.ensures.last in
     let before = c.loop-untried.invariant in
     let new_is : c.max-most.result ≡ max c.loop-untried.most c.match-step.bound = search (rules, c.max-most.ensures) in
-    let takes : WinsAtMost c.args.houses.now c.match-step.bound c.split_last-house.result.0 =
-    is.upper c.if-beta-bound.false in
+    let takes : WinsAtMost c.args.houses.now c.match-step.bound c.split_last-house.result.0 = bounded.upper c.if-beta-bound.false in
     rw c.split_last-house.ensures.rest (record {
       short_or_zero = short_stays _ _ _ _ before.short_or_zero c.if-beta-bound.false new_is;
       movable = movable_before_last before.movable last;
@@ -242,8 +259,7 @@ try_remaining-loop-untried-preserved-then-seeds-self g t c =
 
 pub try_remaining-loop-untried-smaller : goal.try_remaining-loop-untried-smaller
 try_remaining-loop-untried-smaller g t c =
-    let split = c.split_last-house in
-    rw split.ensures.rest (without_last_less split.ensures.last)
+    rw c.split_last-house.ensures.rest (without_last_less c.split_last-house.ensures.last)
 
 pub try_remaining-returns : goal.try_remaining-returns
 try_remaining-returns g t c =
@@ -254,25 +270,8 @@ try_remaining-returns g t c =
       others = λ short h legal. c.loop-untried.invariant.played.others h legal (rw none (cell_of_zero (h - 1)));
     }
 
-pub bound_by_moves-loop-priority-init : goal.bound_by_moves-loop-priority-init
-bound_by_moves-loop-priority-init g t c =
-    let others = c.try_remaining-remaining.ensures in
-    let most_is : c.max-most.result ≡ max c.bound_into_store-into_store.result c.try_remaining-remaining.result =
-    search (rules, c.max-most.ensures) in
-    let untried = untried_at_start _ (search rules) others
-    (c.bound_into_store-into_store.ensures.upper c.if-beta-into_store.false) c.if-beta-remaining.false most_is in
-    record {
-      short = omega arith;
-      highest = c.highest-priority.ensures.highest;
-      untried = untried;
-      next = next_waits c.seeds-seeds.ensures.limits untried c.highest-priority.ensures.found;
-    }
-
-pub bound_by_search-learn_seeds-requires : goal.bound_by_search-learn_seeds-requires
-bound_by_search-learn_seeds-requires g c = grind (arith, common_steps)
-
 pub try_remaining-loop-untried-smaller-then-seeds-self : goal.try_remaining-loop-untried-smaller-then-seeds-self
-try_remaining-loop-untried-smaller-then-seeds-self g c = grind (arith, common_steps)
+try_remaining-loop-untried-smaller-then-seeds-self g t c = grind (arith, common_steps)
 
 pub try_remaining-listed : goal.try_remaining-listed
-try_remaining-listed g c = grind (arith, common_steps)
+try_remaining-listed g t c = grind (arith, common_steps)
