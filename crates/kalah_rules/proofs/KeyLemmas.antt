@@ -131,10 +131,9 @@ other_lap m h r j low high j_low = grind arith
 -- ---- what a sowing adds
 
 -- the own row after a sowing, by what was lifted and what it gains
-pub own_sown : (xs : List ℕ) (h c : ℕ) → 1 ≤ h → h ≤ length xs
-    → number_of
-    (row_of (length xs) (λ i. (if i == h then 0 else seeds xs i) + gain (lap_length (length xs)) c (own_distance (length xs) h i))) + 32 ^
-    (h - 1) * seeds xs h ≡ number_of xs + own_gains (length xs) h c
+pub own_sown : (xs : List ℕ) (h c : ℕ) → 1 ≤ h → h ≤ length xs → number_of
+    (row_of (length xs) (λ i. (if i == h then 0 else seeds xs i) + gain (lap_length (length xs)) c (own_distance (length xs) h i)))
+    + 32 ^ (h - 1) * seeds xs h ≡ number_of xs + own_gains (length xs) h c
 own_sown xs h c low high =
     let plus = number_of-plus (length xs) (λ i. if i == h then 0 else seeds xs i)
     (λ i. gain (lap_length (length xs)) c (own_distance (length xs) h i)) in

@@ -160,8 +160,8 @@ module _ {a : HousesState} {h : ℕ} (can : CanSow a h) where
 
   -- after a sowing the rows are both rows, less what they lose
   sown_less : (rows loses : ℕ) → rows ≡ number_of a.own + 2 ^ 30 * number_of a.other → loses < 2 ^ 64
-      → (loses + (own_gains (length a.own) h (seeds a.own h) + 2 ^ 30 * other_gains (length a.own) h (seeds a.own h))) % 2 ^ 64 ≡ 32 ^
-      (h - 1) * seeds a.own h → (rows + (2 ^ 64 - loses)) % 2 ^ 64 ≡ number_of after_sowing.own + 2 ^ 30 * number_of after_sowing.other
+      → (loses + (own_gains (length a.own) h (seeds a.own h) + 2 ^ 30 * other_gains (length a.own) h (seeds a.own h))) % 2 ^ 64
+      ≡ 32 ^ (h - 1) * seeds a.own h → (rows + (2 ^ 64 - loses)) % 2 ^ 64 ≡ number_of after_sowing.own + 2 ^ 30 * number_of after_sowing.other
   sown_less rows loses rows_are loses_small loses_is = omega (arith, number_of-sown_own, number_of-sown_other, own_small, other_small)
 
   -- rows and a store with what a sowing adds show the position after it
