@@ -29,10 +29,6 @@ bound_turn-returns-else-all-beta g t c =
     let few = (won_of_houses c.requires.on.limits).few in
     bound_of_rest (c.args.gained + c.seeds.result) _ c.args.gained (omega arith) few c.bound.ensures
 
--- ==== bound_by_search: what a table doesn't know is searched, and learned
-pub bound_by_search-learn_seeds-requires : goal.bound_by_search-learn_seeds-requires
-bound_by_search-learn_seeds-requires g t c = grind (arith, common_steps)
-
 -- ==== bound_by_moves: moves into the store, the remaining moves, and the turns that wait, by their priority
 pub bound_by_moves-bounds-priorities-at : goal.bound_by_moves-bounds-priorities-at
 bound_by_moves-bounds-priorities-at g t c = omega (arith, (c.loop-priority.invariant.next c.loop-priority-test.true).place)
