@@ -16,7 +16,7 @@ use base.Stored.{Gv, gnil, gnum, gcons}
 use Rattle.kalah_jobs.specs.Types.{Job, Entry}
 
 -- ==== What is got of jobs that were shared out: each job's result, once
--- Both are counted by classes (`by_class`): results by workers, each of which sent those of its row, and the numbers of rows one by one.
+-- Both are counted by classes (`by_class`): results by workers, who each sent those of their row, and the numbers of rows one by one.
 
 -- how many of the elements of a class pass a test
 abbrev in_class : {T : Type 0} → (T → ℕ) → (T → Bool) → ℕ → List T → ℕ

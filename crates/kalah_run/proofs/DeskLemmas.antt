@@ -82,7 +82,7 @@ all_from P [] each = All-nil P
 all_from P (x ∷ xs) each =
     All-append P (rows_in x) (all_rows xs) (each 0 x refl) (all_from P xs (λ seat view has_view. each (suc seat) view has_view))
 
--- the rows of a seat are at most as many as its passes
+-- a seat has at most one row for each of its passes
 rows_within_one : (view : DeskView) → length (rows_in view) ≤ passes_in view
 rows_within_one (Opening total handed_out left) = omega arith
 rows_within_one (Drawing total number r) = omega arith
@@ -272,7 +272,7 @@ module _ {S : Type 0} {plan : DeskPlan} {s : State S DeskView} (seat : ℕ) {tot
       let words = kept.word ∙ ap (◌∷ []) (sym word_is) in
       subst (IsLawful plan) (λ i. let t : State S DeskView = record { words = words i; homes = s.homes; views = sym same i } in t) kept
 
--- A step of a pass by f is allowed if from each lawful state it leaves a view that keeps the rule, and of which `known` holds.
+-- A step of a pass by f is allowed if from each lawful state it leaves a view that keeps the rule, and for that view `known` holds.
 allowed_step : {S : Type 0} {plan : DeskPlan} {slots seat : ℕ} {before : DeskView} (f : ℕ → ℕ) (known : ℕ → Me S DeskView → Type 0)
     → ((s : State S DeskView) (kept : IsLawful plan s) → get_elem? s.views seat ≡ some before → (after : DeskView)
     × IsLawful plan (after_step s (f (word_of kept) ∷ []) seat after) × known (word_of kept) (after, []))

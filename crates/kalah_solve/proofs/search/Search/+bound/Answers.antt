@@ -168,7 +168,7 @@ bound_into_store-returns-clause-upper g t c = λ short h legal ends.
     let none : c.loop-untried.untried ≡ 0 = omega arith in
     c.loop-untried.invariant.tried h legal (rw none (cell_of_zero (h - 1))) ends
 
--- ==== try_remaining: the remaining moves, of which turns wait
+-- ==== try_remaining: the remaining moves; turns wait
 pub try_remaining-loop-untried-init : goal.try_remaining-loop-untried-init
 try_remaining-loop-untried-init g t c =
     let marks = c.remaining_houses-untried.ensures in
