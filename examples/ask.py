@@ -14,13 +14,13 @@ def said(solver, line):
     try:
         answer = solver.best(line)
     except Fault as fault:
-        return str(fault)
+        return f"fault {fault.word}"
     return f"{answer.margin} over" if isinstance(answer, Over) else f"{answer.margin} house {answer.house}"
 
 
 def main():
     parser = arguments(__doc__)
-    parser.add_argument("line", nargs="+", metavar="LINE")
+    parser.add_argument("line", nargs="+", metavar="LINE", help="a position, in quotes")
     with Solver() as solver:
         for line in parser.parse_args().line:
             print(f"{line}: {said(solver, line)}")

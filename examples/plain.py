@@ -10,12 +10,12 @@ import sys
 from contextlib import nullcontext
 
 from kalah.rules import read, seen_of_moves
-from kalah.script import arguments, run
+from kalah.script import arguments, run, whole
 
 
 def main():
     parser = arguments(__doc__)
-    parser.add_argument("depth", type=int, choices=range(1, 21), metavar="N", help="1 to 20 moves")
+    parser.add_argument("depth", type=whole(1, 20, "a number from 1 to 20"), metavar="N", help="1 to 20 moves")
     parser.add_argument("file", nargs="?", metavar="FILE", help="a file of positions")
     asked = parser.parse_args()
     with open(asked.file) if asked.file else nullcontext(sys.stdin) as lines:

@@ -2,8 +2,10 @@
 
 import sys
 from importlib import import_module
+from typing import NoReturn
 
-from .script import run
+from . import __version__
+from .script import NOT_DONE, run
 
 TOOLS = {
     "grade": "grades the moves of an engine",
@@ -15,24 +17,31 @@ TOOLS = {
     "board": "draws a position",
     "positions": "makes positions",
     "table": "makes a table of positions and their values",
-    "certify": "writes a proof of a position's margin",
-    "check": "checks such a proof, without kalah",
+    "certify": "writes a certificate of a position's margin",
+    "check": "checks a certificate, without kalah",
     "duel": "plays against you in a terminal",
     "web": "serves a board to click in a browser",
 }
+# The modules of the tools that are not in `tools`.
+PLACES = {"check": ".check", "web": ".web.server"}
 USAGE = "usage: python3 -m kalah NAME ..\n\n" + "".join(f"  {name:10} {what}\n" for name, what in TOOLS.items())
-USAGE += "\n`python3 -m kalah NAME --help` says more. In Python, `import kalah` and `help(kalah)`.\n"
+USAGE += """
+`python3 -m kalah NAME --help` says more, and what the tool needs. For the package, `import kalah` and `help(kalah)` in Python; for the
+commands of the program, such as `kalah solve`, `kalah --help`.
+"""
 
 
-def main() -> None:
-    name, *words = sys.argv[1:] or ["--help"]
+def main() -> NoReturn:
+    name, *words = sys.argv[1:] or [""]
     if name in TOOLS:
         sys.argv = [f"python3 -m kalah {name}", *words]
-        run(import_module(f".{name}", __package__).main)
+        run(import_module(PLACES.get(name, f".tools.{name}"), __package__).main)
     if name in ("-h", "--help"):
-        print(USAGE, end="")
-    else:
-        sys.exit(f"python3 -m kalah: there is no tool {name!r}\n\n{USAGE}")
+        run(lambda: print(USAGE, end=""))
+    if name == "--version":
+        run(lambda: print(f"kalah {__version__} for Python"))
+    print(f"python3 -m kalah: there is no tool {name!r}\n\n" * bool(name) + USAGE, end="", file=sys.stderr)
+    sys.exit(NOT_DONE)
 
 
 if __name__ == "__main__":

@@ -5,29 +5,54 @@ from __future__ import annotations
 import re
 from collections.abc import Iterable
 from dataclasses import dataclass
-from typing import ClassVar, Optional
+from typing import TYPE_CHECKING, ClassVar, Optional
+
+if TYPE_CHECKING:
+    from .board import Board
 
 NUMBER = "(?:0|-?[1-9][0-9]{0,2})"
 SIDE = "[0-9]{1,2}(?:,[0-9]{1,2}){0,5}/[0-9]{1,3}"
 OVER = re.compile(f"({NUMBER}) over")
-FAULT = re.compile("fault (long|empty|shape|houses|seeds)")
 BEST = re.compile(f"({NUMBER}) house ([1-6])")
 VALUES = re.compile("".join(f"(?: {house}:({NUMBER}))?" for house in range(1, 7)))
 MOVE = re.compile(f"([1-6]) ({SIDE} {SIDE}(?: e)?) (again|turn|over)")
+# What is wrong with a line, by the word of its fault, and how many characters of the line an error shows.
+MEANINGS = {
+    "long": "has more than 80 bytes",
+    "empty": "is empty",
+    "shape": "is not of the form '1,2/3 4,5/6', or has a number above 99",
+    "houses": "has sides of different numbers of houses, or of more than 6",
+    "seeds": "has more than 31 seeds in houses",
+}
+FAULT = re.compile(f"fault ({'|'.join(MEANINGS)})")
+MOST_SHOWN = 40
 
 
-class Fault(ValueError):
-    """The line is not a position that `kalah` solves: `word` is `long`, `empty`, `shape`, `houses` or `seeds`."""
+class KalahError(Exception):
+    """Any error of this package, but for TypeError, ValueError and IndexError, which a wrong call gets."""
 
-    def __init__(self, word: str):
+
+class Fault(KalahError, ValueError):
+    """The line is not a position that `kalah` solves. `word` says why, and `line` is the line, if it is known:
+
+        long      it has more than 80 bytes
+        empty     it has no bytes
+        shape     it is not of the form `1,2/3 4,5/6` or `1,2/3 4,5/6 e`, with numbers of up to 99
+        houses    its sides have different numbers of houses, or more than 6
+        seeds     its houses have more than 31 seeds together
+    """
+
+    def __init__(self, word: str, line: Optional[str] = None):
         super().__init__(word)
-        self.word = word
+        self.word, self.line = word, line
 
     def __str__(self) -> str:
-        return f"fault {self.word}"
+        line = self.line or ""
+        shown = repr(line if len(line) <= MOST_SHOWN else f"{line[:MOST_SHOWN]}..") if line else "the line"
+        return f"fault {self.word}: {shown} {MEANINGS[self.word]}"
 
 
-class Gone(Exception):
+class Gone(KalahError):
     """`kalah` is missing, too old, fails, ends, takes too long, or writes something other than an answer."""
 
 
@@ -41,12 +66,12 @@ class Over:
 
     margin: int
 
-    def plus(self, lead: int) -> Over:
+    def _plus(self, lead: int) -> Over:
         """Returns the answer with this much more in the store of the player who is seen first."""
         return Over(self.margin + lead)
 
     @classmethod
-    def read(cls, text: str) -> Optional[Over]:
+    def _read(cls, text: str) -> Optional[Over]:
         form = OVER.fullmatch(text)
         return cls(int(form[1])) if form else None
 
@@ -58,14 +83,14 @@ class Best:
     margin: int
     house: int
 
-    OPTIONS: ClassVar[list[str]] = []
+    _options: ClassVar[list[str]] = []
 
-    def plus(self, lead: int) -> Best:
-        """As `Over.plus`."""
+    def _plus(self, lead: int) -> Best:
+        """As `Over._plus`."""
         return Best(self.margin + lead, self.house)
 
     @classmethod
-    def read(cls, text: str) -> Optional[Best]:
+    def _read(cls, text: str) -> Optional[Best]:
         form = BEST.fullmatch(text)
         return cls(int(form[1]), int(form[2])) if form else None
 
@@ -76,10 +101,10 @@ class Values:
 
     by_house: dict[int, int]
 
-    OPTIONS: ClassVar[list[str]] = ["--values"]
+    _options: ClassVar[list[str]] = ["--values"]
 
-    def plus(self, lead: int) -> Values:
-        """As `Over.plus`."""
+    def _plus(self, lead: int) -> Values:
+        """As `Over._plus`."""
         return Values({house: value + lead for house, value in self.by_house.items()})
 
     @property
@@ -93,7 +118,7 @@ class Values:
         return max(self.by_house, key=lambda house: (self.by_house[house], -house))
 
     @classmethod
-    def read(cls, text: str) -> Optional[Values]:
+    def _read(cls, text: str) -> Optional[Values]:
         form = VALUES.fullmatch(" " + text)
         return cls({house: int(value) for house, value in enumerate(form.groups(), 1) if value}) if form else None
 
@@ -107,6 +132,13 @@ class Move:
     position: str
     word: str
 
+    @property
+    def board(self) -> Board:
+        """The position as a `Board`."""
+        from .board import Board
+
+        return Board(self.position)
+
 
 @dataclass(frozen=True)
 class Steps:
@@ -114,10 +146,10 @@ class Steps:
 
     moves: list[Move]
 
-    OPTIONS: ClassVar[list[str]] = ["--steps"]
+    _options: ClassVar[list[str]] = ["--steps"]
 
     @classmethod
-    def read(cls, text: str) -> Optional[Steps]:
+    def _read(cls, text: str) -> Optional[Steps]:
         moves = read_moves(text.split("; "))
         return cls(moves) if moves and all(one.house < next.house for one, next in zip(moves, moves[1:])) else None
 

@@ -1,23 +1,19 @@
-"""Draws a position as a board in SVG, with the player to move below.
-
-    python3 -m kalah board [--values] LINE > board.svg
-
-Each house is a circle with its number of seeds, and a store stands at each end. The small numbers at the edges are those of the houses, as
-their owner counts them. There may be any number of seeds, up to 99 in a house. It needs no `kalah`, but for --values.
-"""
+"""Boards: positions of Kalah that are looked at, played on and drawn, by the rules alone."""
 
 from __future__ import annotations
 
-from collections.abc import Mapping
+from collections.abc import Iterable, Mapping
 from dataclasses import dataclass, field, replace
 from typing import Optional, Union
 
 from . import drawing, rules
-from .answers import Over, Values
-from .client import Client
-from .script import arguments, position
+from .answers import KalahError, Over, Values
 
 RULES = ["classic", "empty-capture"]
+
+
+class IllegalMove(KalahError, ValueError):
+    """A move that can't be made, and why."""
 
 
 @dataclass(frozen=True)
@@ -25,7 +21,7 @@ class Board:
     """A position of Kalah, made of its line. Boards of the same line are equal. The player to move sees it: in each pair that player's part
     comes first, and houses count from 1. There may be any number of seeds; numbers have at most three digits.
 
-    Fails with `Fault` if the line has one, with TypeError if it is no text, and with ValueError if it is more than one line."""
+    Fails with `Fault` if the line is not a position, with TypeError if it is no text, and with ValueError if it is more than one line."""
 
     line: str
     # What each move is worth, drawn below its house.
@@ -40,10 +36,20 @@ class Board:
     @classmethod
     def start(cls, houses: int = 6, seeds: int = 4, rule: str = "classic") -> Board:
         """Returns the board with this number of houses a side, and of seeds in each. The rule is `classic` or `empty-capture`."""
-        if houses not in range(1, rules.MOST_HOUSES + 1) or seeds not in range(rules.MOST_IN_A_HOUSE + 1) or rule not in RULES:
-            raise ValueError(f"there is no start of {houses} houses a side, {seeds} seeds in each and the rule {rule!r}")
-        side = rules.Side((seeds,) * houses, 0)
-        return cls(rules.text(rules.Position(side, side, rule != RULES[0])))
+        if houses not in range(1, rules.MOST_HOUSES + 1):
+            raise ValueError(f"a side has 1 to {rules.MOST_HOUSES} houses, not {houses!r}")
+        if seeds not in range(rules.MOST_IN_A_HOUSE + 1):
+            raise ValueError(f"a start has 0 to {rules.MOST_IN_A_HOUSE} seeds in each house, not {seeds!r}")
+        return cls.of((seeds,) * houses, (seeds,) * houses, rule=rule)
+
+    @classmethod
+    def of(cls, own: Iterable[int], other: Iterable[int], own_store: int = 0, other_store: int = 0, rule: str = "classic") -> Board:
+        """Returns the board with these seeds in the houses of the player to move, in those of the other player, and in their stores. The
+        same board is `Board.of(*board.houses, *board.stores, board.rule)`."""
+        if rule not in RULES:
+            raise ValueError(f"the rule is 'classic' or 'empty-capture', not {rule!r}")
+        sides = rules.Side(tuple(own), own_store), rules.Side(tuple(other), other_store)
+        return cls(rules.text(rules.Position(*sides, rule != RULES[0])))
 
     @property
     def houses(self) -> tuple[tuple[int, ...], tuple[int, ...]]:
@@ -54,11 +60,6 @@ class Board:
     def stores(self) -> tuple[int, int]:
         """The seeds in the store of the player to move, and in that of the other player."""
         return self._position.own.store, self._position.other.store
-
-    @property
-    def sides(self) -> tuple[rules.Side, rules.Side]:
-        """The houses and the store of the player to move, and those of the other player."""
-        return self._position.own, self._position.other
 
     @property
     def seeds(self) -> int:
@@ -87,28 +88,37 @@ class Board:
 
     def play(self, house: int) -> tuple[Board, bool]:
         """Returns the board after the move of a house, and whether the mover moves again. If the game is over then, the board is seen by
-        the mover, as `kalah moves` prints it. Fails with ValueError if the house can't be moved."""
+        the mover, as `kalah moves` prints it. Fails with `IllegalMove`, a ValueError, if the house can't be moved."""
         reached, word = self.after(house)
         return reached, word == "again"
 
     def after(self, house: int) -> tuple[Board, str]:
-        """Returns the board after the move of a house, and `again`, `turn` or `over`."""
-        position, word = rules.after(self._position, self.checked(house))
+        """As `play`, with `again`, `turn` or `over` in place of whether the mover moves again."""
+        self._check(house, f"house {house!r} can't be moved")
+        position, word = rules.after(self._position, house)
         return Board(rules.text(position)), word
 
-    def checked(self, house: int) -> int:
-        """Returns a house that can be moved. Fails with ValueError if it can't be."""
-        if house not in self.legal:
-            raise ValueError(f"house {house} can't be moved" + ": the game is over" * self.is_over)
-        return house
+    def _check(self, house: int, said: str) -> None:
+        """Fails with what is said if a house can't be moved, and with why it can't."""
+        if house in self.legal:
+            return
+        count = len(self._position.own.houses)
+        why = "the game is over" if self.is_over else "it is empty" if house in range(1, count + 1) else f"houses are 1 to {count}"
+        raise IllegalMove(f"{said}: {why}")
 
     def with_values(self, values: Union[Values, Over, Mapping[int, int], None]) -> Board:
-        """Returns this board, on which each move's value is drawn below its house."""
+        """Returns this board, on which each move's value is drawn below its house. The values are those of `Solver.values`, or by house."""
+        if not (values is None or isinstance(values, (Values, Over, Mapping))):
+            raise TypeError(f"values are what `Solver.values` returns, or numbers by house, not {values!r}")
         return replace(self, values=values.by_house if isinstance(values, Values) else None if isinstance(values, Over) else values)
 
     def svg(self, title: Optional[str] = None) -> str:
         """Returns the board drawn in SVG, with the player to move below."""
-        return drawing.svg(*self.sides, title=title or f"Kalah, the player below moves: {self}", values=self.values)
+        return drawing.svg(*self._position[:2], title=title or f"Kalah, the player below moves: {self}", values=self.values)
+
+    def picture(self) -> str:
+        """Returns the board drawn in text, with the player to move below, as `kalah show --plain` draws it."""
+        return drawing.picture(*self._position[:2])
 
     def __str__(self) -> str:
         return self.line
@@ -118,15 +128,3 @@ class Board:
 
     def _repr_html_(self) -> str:
         return self.svg()
-
-
-def main() -> None:
-    parser = arguments(__doc__)
-    parser.add_argument("--values", action="store_true", help="with what each move is worth below its house")
-    parser.add_argument("line", metavar="LINE")
-    asked = parser.parse_args()
-    board = Board(position(asked.line))
-    if asked.values:
-        with Client(Values) as client:
-            board = board.with_values(rules.ask(client, str(board)))
-    print(board.svg())

@@ -2,9 +2,9 @@
 
     python3 check.py FILE [LINE MARGIN]
 
-It needs no other program or file. It prints what the lines prove of the last one's position, or which line doesn't follow, and why. With
-LINE and MARGIN it fails unless they prove that this position has this margin. So it refuses a certificate that is cut, or another one.
-docs/RULES.md has the rules, docs/CERTIFICATES.md the form of a line.
+It needs no other program or file. It prints what the lines prove of the last one's position; or, with status 1, which line doesn't follow,
+and why. With LINE and MARGIN it fails unless they prove that this position has this margin. So it refuses a certificate that lacks a needed
+line, or another position's. docs/RULES.md has the rules, docs/CERTIFICATES.md the form of a line.
 """
 
 from __future__ import annotations
@@ -19,8 +19,8 @@ from typing import Optional, TextIO
 SEEDS, MARGIN = "(?:0|[1-9][0-9]?)", "(?:0|-?[1-9][0-9]{0,2})"
 SIDE = f"({SEEDS}(?:,{SEEDS}){{0,5}}/(?:0|[1-9][0-9]{{0,2}}))"
 LINE = re.compile(f"{SIDE} {SIDE}( e)? at (least|most) ({MARGIN})(?: house ([1-6]))?\n?")
-# No line is longer.
-LONGEST = 200
+# No line is longer. What is said of a line that is, or has no form of a line.
+LONGEST, OTHER_FORM = 200, "is neither `POSITION at least MARGIN house H` nor `POSITION at most MARGIN`"
 
 # A player's houses and then the store. A position has the cells of the player to move, those of the other player, and whether the
 # empty-capture rule holds. A claim has a position, whether its first player has a strategy, or else the other one, and the margin that this
@@ -96,7 +96,7 @@ def follow(lines: Iterable[str]) -> tuple[Known, Claim, int]:
         found, house = read(line)
         needed = needs(found, house) if found else []
         if not found or not needed:
-            raise ValueError(f"line {number} {'names no house that can be moved' if found else 'has another form'}")
+            raise ValueError(f"line {number} {'names no house that can be moved' if found else OTHER_FORM}")
         for lacking in needed:
             if not holds(lacking, known):
                 claims = ((below, read(line)[0]) for below, line in numbered)
@@ -154,7 +154,7 @@ def main() -> None:
         with open(asked.file, errors="replace") as file:
             print(check(lines_in(file), asked.line, asked.margin or ""), flush=True)
     except OSError as why:
-        sys.exit(f"check: cannot read {asked.file}: {why.strerror}")
+        parser.exit(2, f"check: cannot read {asked.file}: {why.strerror}\n")
     except ValueError as why:
         sys.exit(f"check: {why}")
 

@@ -35,6 +35,10 @@ LONGEST, MOST_PRINTED = 1000, 1 << 20
 Answer = TypeVar("Answer")
 Kind = TypeVar("Kind", Best, Values, Steps)
 Self = TypeVar("Self", bound="Run[Any]")
+# The path of a program, or its name on the path; None is the usual one.
+Program = Union[str, "os.PathLike[str]", None]
+# How long a question may take; None is any time.
+Seconds = Optional[float]
 
 
 class Run(Generic[Answer]):
@@ -43,7 +47,7 @@ class Run(Generic[Answer]):
 
     name = "kalah"
 
-    def __init__(self, timeout: Optional[float]):
+    def __init__(self, timeout: Seconds):
         self.timeout = timeout
         self._lock = threading.Lock()
         self._process: Optional[subprocess.Popen[bytes]] = None
@@ -78,6 +82,7 @@ class Run(Generic[Answer]):
                 raise
             self._process = process
         if isinstance(answer, Fault):
+            answer.line = line
             raise answer
         return answer
 
@@ -106,22 +111,22 @@ class Run(Generic[Answer]):
 class Client(Run[Union[Kind, Over]]):
     """A run of `kalah ask`. `kind` is the class of its answers, `Best`, `Values` or `Steps`."""
 
-    def __init__(self, kind: type[Kind], program: Optional[str] = None, timeout: Optional[float] = 60):
+    def __init__(self, kind: type[Kind], program: Program = None, timeout: Seconds = 60):
         super().__init__(timeout)
         self.kind: type[Kind] = kind
-        self.program, self.options = program, kind.OPTIONS
+        self.program, self.options = program, kind._options
 
     def _start(self) -> subprocess.Popen[bytes]:
         return subprocess.Popen([find(self.program), "ask", *self.options], stdin=subprocess.PIPE, stdout=subprocess.PIPE, bufsize=0)
 
     def _read(self, text: str) -> Union[Kind, Over, Fault]:
-        answer = Over.read(text) or read_fault(text) or self.kind.read(text)
+        answer = Over._read(text) or read_fault(text) or self.kind._read(text)
         if answer is None:
             raise Gone(f"kalah writes {text!r}, which isn't an answer")
         return answer
 
 
-def play(line: str, first: Optional[int] = None, program: Optional[str] = None, timeout: Optional[float] = 60) -> list[Move]:
+def game_of_best_play(line: str, first: Optional[int] = None, program: Program = None, timeout: Seconds = 60) -> list[Move]:
     """Returns the moves of a game of best play, which begins with house `first` if there is one. Fails as `Run.ask` does."""
     options = [] if first is None else [f"--first={first}"]
     text = printed([find(program), "play", *options, "--", one_line(line)], timeout)
@@ -132,15 +137,21 @@ def play(line: str, first: Optional[int] = None, program: Optional[str] = None, 
     return moves
 
 
+def find(program: Program = None) -> str:
+    """Returns the path of `kalah`: of this program, or else of the one that the environment variable KALAH names now, or else of the first
+    one that is found. Fails with `Gone` if there is none, or an older one than this package needs."""
+    name = program or os.environ.get("KALAH")
+    return found(os.fspath(name) if name else None)
+
+
 @functools.lru_cache(maxsize=None)
-def find(program: Optional[str] = None) -> str:
-    """Returns the path of `kalah`. Fails with `Gone` if there is none, or an older one than this package needs."""
-    name, folder = program or os.environ.get("KALAH"), Path(__file__).resolve().parent
+def found(name: Optional[str]) -> str:
+    folder = Path(__file__).resolve().parent
     # On the path; in a checkout; and where `make install`, a package or pip puts it.
     places = [name] if name else ["kalah", str(folder / "../../kalah"), str(folder / "../../../../bin/kalah")]
     path = next((path for place in places if (path := shutil.which(place))), None)
     if not path:
-        raise Gone(f"there is no program {name or 'kalah'}: put it on the path, or name it in KALAH")
+        raise Gone(f"there is no program {name or 'kalah'}: put it on the path, or name it in the environment variable KALAH")
     said = printed([path, "--version"], 10)
     version = re.fullmatch(r"kalah ([0-9]+)\.([0-9]+)\.([0-9]+)\n", said)
     if not version or tuple(map(int, version.groups())) < OLDEST:
@@ -148,7 +159,7 @@ def find(program: Optional[str] = None) -> str:
     return os.path.abspath(path)
 
 
-def printed(words: list[str], timeout: Optional[float]) -> str:
+def printed(words: list[str], timeout: Seconds) -> str:
     """Returns what `kalah` prints for these words. Fails with `Fault` if it reports one, and with `Gone` if it fails."""
     try:
         with subprocess.Popen(words, stdin=subprocess.DEVNULL, stdout=subprocess.PIPE, stderr=subprocess.STDOUT) as process:
@@ -177,7 +188,7 @@ def printed(words: list[str], timeout: Optional[float]) -> str:
     return said
 
 
-def exchange(process: subprocess.Popen[bytes], question: bytes, timeout: Optional[float], name: str) -> str:
+def exchange(process: subprocess.Popen[bytes], question: bytes, timeout: Seconds, name: str) -> str:
     """Writes a question to a process and returns the line that answers it. An error names the program."""
     assert process.stdin and process.stdout
     questions, answers, poller, rest, answer = process.stdin.fileno(), process.stdout.fileno(), select.poll(), memoryview(question), b""

@@ -8,7 +8,7 @@ import html
 from collections.abc import Mapping
 from typing import Optional
 
-from .rules import Side, read
+from .rules import Side
 
 CELL, STORE, MARGIN, EDGE = 60, 54, 10, 16
 # The room for values below the board.
@@ -73,8 +73,7 @@ def svg(
     return "\n".join([*parts, "</svg>"])
 
 
-def picture(line: str) -> str:
-    """The board in text, with the player to move below, as `kalah show --plain` draws it."""
-    own, other, _ = read(line)
-    above, below = ("".join(f"{seeds:4}" for seeds in houses) for houses in (other.houses[::-1], own.houses))
-    return f"    {above}\n{other.store:4}{' ' * len(below)}{own.store:4}\n    {below}\n"
+def picture(below: Side, above: Side) -> str:
+    """The board with these sides in text, as `kalah show --plain` draws it."""
+    rows = ["".join(f"{seeds:4}" for seeds in houses) for houses in (above.houses[::-1], below.houses)]
+    return f"    {rows[0]}\n{above.store:4}{' ' * len(rows[0])}{below.store:4}\n    {rows[1]}"

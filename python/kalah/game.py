@@ -13,7 +13,7 @@ from dataclasses import dataclass
 from typing import NamedTuple, Optional, Union
 from urllib.parse import unquote_plus, urlsplit
 
-from .board import Board
+from .board import Board, IllegalMove
 
 PLAYERS = ["South", "North"]
 LETTERS = "ABCDEF"
@@ -37,22 +37,26 @@ class Written(NamedTuple):
 
 
 class Game:
-    """A game from a position, in which South moves first, and its moves so far."""
+    """A game from a position, in which South moves first, and the houses that were moved so far. The same game is
+    `Game(game.start, game.houses)`. Games of the same start and the same moves are equal."""
 
     def __init__(self, start: Union[Board, str] = USUAL, moves: Iterable[int] = ()):
         self.start = start if isinstance(start, Board) else Board(start)
-        self._boards, self._players, self._houses = [self.start], [0], list[int]()
+        # Tuples, so that a copy goes on alone.
+        self._boards: tuple[Board, ...] = (self.start,)
+        self._players: tuple[int, ...] = (0,)
+        self._houses: tuple[int, ...] = ()
         for house in moves:
             self.push(house)
 
     @classmethod
     def read(cls, record: str) -> Game:
-        """Returns the game of a record, which begins with a position, or else at the usual board. Fails with ValueError at a move that
-        can't be made, or is another player's."""
+        """Returns the game of a record, which begins with a position, or else at the usual board. Fails with `Fault` if that is no
+        position, and with `IllegalMove` at a move that can't be made, or is another player's."""
         start, moves = split(record)
         game = cls(start)
         for move in written(moves):
-            game.push_written(move)
+            game._push_written(move)
         return game
 
     @property
@@ -81,7 +85,13 @@ class Game:
         return [(PLAYERS[player], house) for player, house in zip(self._players, self._houses)]
 
     @property
+    def houses(self) -> list[int]:
+        """The houses that were moved so far."""
+        return [*self._houses]
+
+    @property
     def is_over(self) -> bool:
+        """Whether a player's houses are all empty."""
         return self.board.is_over
 
     @property
@@ -91,36 +101,29 @@ class Game:
         return -margin if margin is not None and self.player else margin
 
     def push(self, house: int) -> None:
-        """Moves a house. Fails with ValueError if it can't be moved."""
-        number = len(self._houses) + 1
-        if self.is_over:
-            raise ValueError(f"move {number}, house {house}: the game is over")
-        if house not in self.board.legal:
-            raise ValueError(f"move {number}: {self.mover} can't move house {house}")
+        """Moves a house. Fails with `IllegalMove`, a ValueError, if it can't be moved."""
+        self._check(Written(repr(house), house, None))
         board, word = self.board.after(house)
-        self._boards.append(board)
-        self._players.append(self.player ^ (word == "turn"))
-        self._houses.append(house)
+        self._boards += (board,)
+        self._players += (self.player ^ (word == "turn"),)
+        self._houses += (house,)
 
     def pop(self) -> int:
         """Takes the last move back, and returns its house. Fails with IndexError if there is none."""
-        house = self._houses.pop()
-        self._boards.pop()
-        self._players.pop()
+        house = self._houses[-1]
+        self._boards, self._players, self._houses = self._boards[:-1], self._players[:-1], self._houses[:-1]
         return house
 
-    def push_written(self, move: Written) -> None:
-        """Moves what is written, if the mover may. Fails with ValueError as `push` does."""
-        number, board = len(self._houses) + 1, self.board
-        if board.is_over:
-            raise ValueError(f"move {number}, house {move.word}: the game is over")
-        if move.player not in (None, self.player):
-            raise ValueError(f"move {number}: {self.mover} moves, and {move.word} is a move of {PLAYERS[1 - self.player]}")
-        if move.house not in board.legal:
-            raise ValueError(f"move {number}: {self.mover} can't move house {move.word}")
-        if move.beside not in (None, move.house, board.houses[0][move.house - 1]):
-            seeds = board.houses[0][move.house - 1]
-            raise ValueError(f"move {number}: house {move.word[0]} has {seeds} seeds, and its number is {move.house}")
+    def _check(self, move: Written) -> None:
+        """Fails with `IllegalMove` if the next move can't be this one."""
+        try:
+            check_move(self.board, self.player, move)
+        except IllegalMove as why:
+            raise IllegalMove(f"move {len(self._houses) + 1}: {why}") from None
+
+    def _push_written(self, move: Written) -> None:
+        """Moves what is written, if the mover may. Fails as `push` does."""
+        self._check(move)
         self.push(move.house)
 
     def record(self, numbers: bool = False) -> str:
@@ -137,14 +140,27 @@ class Game:
             texts.append(turn if player else f"{number // 2 + 1}. {turn}")
         return " ".join(texts)
 
+    def __eq__(self, other: object) -> bool:
+        return isinstance(other, Game) and (self.start, self._houses) == (other.start, other._houses)
+
     def __str__(self) -> str:
         return f"{self.start} {self.record()}".strip()
 
     def __repr__(self) -> str:
-        return f"Game({str(self.start)!r}, {self._houses})"
+        return f"Game({str(self.start)!r}, {self.houses})"
 
     def _repr_html_(self) -> str:
         return self.board.svg(f"{self.mover} sits below: {self.board}")
+
+
+def check_move(board: Board, player: int, move: Written) -> None:
+    """Fails with `IllegalMove` if a move can't be made on the board of a player, or is written as no move of this player there."""
+    if not board.is_over and move.player not in (None, player):
+        raise IllegalMove(f"{PLAYERS[player]} moves, and {move.word} is a move of {PLAYERS[1 - player]}")
+    board._check(move.house, f"{PLAYERS[player]} can't move house {move.word}")
+    seeds = board.houses[0][move.house - 1]
+    if move.beside not in (None, move.house, seeds):
+        raise IllegalMove(f"house {move.word[0]} has {seeds} seed{'s' * (seeds != 1)}, and its number is {move.house}")
 
 
 def of_address(text: str) -> str:
@@ -187,9 +203,9 @@ def written(text: str) -> Iterator[Written]:
 
 
 def moves_of(word: str, player: Optional[int]) -> Iterator[Written]:
-    """Yields the moves of a turn, which is written as one word. Fails with ValueError if a number before it is of the other player."""
+    """Yields the moves of a turn, which is written as one word. Fails with `IllegalMove` if a number before it is of the other player."""
     if player is not None and LETTERED.fullmatch(word) and word[0].islower() != player:
-        raise ValueError(f"{word} is a move of {PLAYERS[1 - player]}, and `...` before it says {PLAYERS[player]}")
+        raise IllegalMove(f"{word} is a move of {PLAYERS[1 - player]}, and `...` before it says {PLAYERS[player]}")
     if beside := re.fullmatch("([A-Fa-f])([0-9]+)", word):
         yield Written(word, number_of(beside[1]), int(beside[1].islower()), int(beside[2]))
     elif re.fullmatch("[A-Fa-f]+", word):

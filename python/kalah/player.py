@@ -20,12 +20,12 @@ from shutil import which
 from typing import Union
 
 from . import rules
-from .answers import Best, Gone, Over
+from .answers import Best, Gone, KalahError, Over
 from .client import Client, Run, find
 from .guard import Guarded
 
 
-class NoMove(ValueError):
+class NoMove(KalahError, ValueError):
     """An engine has named no house that can be moved, or has not answered in time."""
 
 

@@ -1,12 +1,12 @@
-"""The rules of Kalah for boards of any number of seeds, and the values of moves as soon as `kalah` solves them.
+"""The rules of Kalah for boards of any number of seeds, the values of moves as soon as `kalah` solves them, and before that a plain search.
 
     steps("4,4,4,4,4,4/0 4,4,4,4,4,4/0")    # Steps(moves=[Move(house=1, ..), ..])
     with Client(Values) as client:
         ask(client, "1,1/200 1,1/0")        # Values(by_house={1: 198, 2: 202})
         ask(client, "17,0/0 0,17/0")        # raises TooMany("34 seeds in houses: no values above 31 seeds")
 
-There may be any number of seeds, and, in the course of a game, numbers of three digits; in all else a line is one that `kalah` reads. What
-these functions find is tested, but proved of no position: what `kalah` answers is.
+There may be any number of seeds, and, in the course of a game, numbers of three digits; in all else a line is one that `kalah` reads.
+Nothing here is proved; the answers of `kalah` are.
 """
 
 from __future__ import annotations
@@ -15,7 +15,7 @@ import os
 import re
 from dataclasses import replace
 from functools import lru_cache
-from typing import NamedTuple, Union
+from typing import NamedTuple, Optional, Union
 
 from .answers import Fault, Move, Over, Steps, one_line
 from .client import Client, Kind
@@ -47,32 +47,32 @@ class Position(NamedTuple):
 class TooMany(Fault):
     """There are more seeds in houses than `kalah` solves."""
 
-    def __init__(self, seeds: int):
-        super().__init__("seeds")
-        self.args = (seeds,)
+    def __init__(self, seeds: int, line: Optional[str] = None):
+        super().__init__("seeds", line)
+        self.args, self.seeds = (seeds,), seeds
 
     def __str__(self) -> str:
-        return f"{self.args[0]} seeds in houses: no values above {MOST_SEEDS} seeds"
+        return f"{self.seeds} seeds in houses: no values above {MOST_SEEDS} seeds"
 
 
 def read(line: str, largest: int = 999) -> Position:
     """Returns the position that a line writes, with no number above the largest. Fails with `Fault`, as `kalah` does but for the number of
     seeds, and with TypeError or ValueError if it isn't one line of text."""
-    line = one_line(line)[: 4 * MOST_BYTES].removesuffix("\r")
-    form = FORM.fullmatch(line)
-    if len(os.fsencode(line)) > MOST_BYTES:
-        raise Fault("long")
-    if not line:
-        raise Fault("empty")
-    if not form or any(int(number) > largest for number in re.findall("[0-9]+", line)):
-        raise Fault("shape")
+    start = one_line(line)[: 4 * MOST_BYTES].removesuffix("\r")
+    form = FORM.fullmatch(start)
+    if len(os.fsencode(start)) > MOST_BYTES:
+        raise Fault("long", line)
+    if not start:
+        raise Fault("empty", line)
+    if not form or any(int(number) > largest for number in re.findall("[0-9]+", start)):
+        raise Fault("shape", line)
     own, other = (Side(tuple(map(int, form[houses].split(","))), int(form[houses + 1])) for houses in (1, 3))
     if len(own.houses) != len(other.houses) or len(own.houses) > MOST_HOUSES:
-        raise Fault("houses")
+        raise Fault("houses", line)
     return Position(own, other, form[5] is not None)
 
 
-def start(line: str) -> str:
+def start_line(line: str) -> str:
     """Returns a line in which a game may start: one whose numbers have at most two digits. Fails as `read` does."""
     return text(read(line, MOST_IN_A_HOUSE))
 
@@ -136,18 +136,26 @@ def with_stores(position: Position, own: int, other: int) -> Position:
     return Position(Side(position.own.houses, own), Side(position.other.houses, other), position.takes_empty)
 
 
+def end_of(position: Position) -> Optional[Over]:
+    """Returns the answer to a game that is over, for which nobody asks `kalah`; None if it goes on. Fails with `TooMany` if it goes on with
+    too many seeds."""
+    if is_over(position):
+        return Over(final_margin(position))
+    if seeds_in(position) > MOST_SEEDS:
+        raise TooMany(seeds_in(position), text(position))
+    return None
+
+
 def ask(client: Client[Kind], line: str) -> Union[Kind, Over]:
     """Returns the answer of a client, which is asked with empty stores, as a store may have three digits: what was in them is added. Fails
     as `read` and the client do, and with `TooMany` if there are too many seeds."""
     position = read(line)
-    if is_over(position):
-        return Over(final_margin(position))
-    if seeds_in(position) > MOST_SEEDS:
-        raise TooMany(seeds_in(position))
+    if over := end_of(position):
+        return over
     answer, lead = client.ask(text(with_stores(position, 0, 0))), position.own.store - position.other.store
     if isinstance(answer, Steps):
         return Steps([filled(move, position, move.word == "turn") for move in answer.moves])
-    return answer.plus(lead)
+    return answer._plus(lead)
 
 
 def filled(move: Move, start: Position, is_other: bool) -> Move:

@@ -9,11 +9,13 @@ import signal
 import sys
 from collections.abc import Iterator
 from itertools import islice
-from typing import Any, Callable, NoReturn, Optional, TextIO, TypeVar
+from typing import Callable, NoReturn, Optional, TextIO, TypeVar
 
 from . import rules
 from .answers import Fault, Gone
 
+# The statuses of a tool: it has done all, or it has done but for some lines, or it has done nothing.
+DONE, SOME_FAILED, NOT_DONE = 0, 1, 2
 # The most characters of a line that are read, and the most lines of a file.
 LONGEST, MOST_LINES = 4096, 1_000_000
 # A side of a position.
@@ -26,14 +28,15 @@ class FileForLine(Fault):
     """A file stands in the place of a position."""
 
     def __str__(self) -> str:
-        return f"fault {self.word}: {self.name} is a file, and LINE a position, as '1,1/0 1,1/0'"
-
-    def __init__(self, word: str, name: str):
-        super().__init__(word)
-        self.name = name
+        return f"fault {self.word}: {self.line} is a file, and LINE a position, as '1,1/0 1,1/0'"
 
 
 class Arguments(argparse.ArgumentParser):
+    def add_line(self) -> None:
+        """Adds the argument LINE."""
+        form = "'1,2/3 4,5/6' has 1 and 2 seeds in the houses of the player to move and 3 in that store, then the other player's"
+        self.add_argument("line", metavar="LINE", help=f"a position, in quotes: {form}")
+
     def error(self, message: str) -> NoReturn:
         """Names a position that has no quotes, as the shell passes it in parts."""
         for own, other in zip(sys.argv[1:], sys.argv[2:]):
@@ -52,29 +55,29 @@ def name() -> str:
     return os.path.basename(sys.argv[0]).rpartition(" ")[2]
 
 
-def run(main: Callable[[], Any]) -> NoReturn:
-    """Runs a tool, which may return its status. Ctrl-C ends it, and so does a reader that has seen enough, as `head`. If it fails,
-    standard error says why, and the status is 1 for a line that is not a position, otherwise 2."""
+def run(main: Callable[[], Optional[bool]]) -> NoReturn:
+    """Runs a tool, which returns whether some line has failed: the status is then 1. Ctrl-C ends it, and so does a reader that has seen
+    enough, as `head`. If the tool fails, standard error says why, and the status is 1 for a line that is not a position, otherwise 2."""
     try:
-        status = main()
+        has_failed = main()
         print(end="", flush=True)
-        sys.exit(status)
+        sys.exit(SOME_FAILED if has_failed else DONE)
     except KeyboardInterrupt:
         end_by(signal.SIGINT)
     except BrokenPipeError:
         end_by(signal.SIGPIPE)
     except (Gone, OSError, ValueError) as why:
-        said = f"{why.filename}: {str(why.strerror).lower()}" if isinstance(why, OSError) and why.filename else why
-        print(f"{name()}: {said}", file=sys.stderr, flush=True)
+        reasons = [why.filename, str(why.strerror or why).lower()] if isinstance(why, OSError) else [why]
+        print(name(), *filter(None, reasons), sep=": ", file=sys.stderr, flush=True)
         # What is still in a buffer can't be written either.
-        os._exit(1 if isinstance(why, Fault) else 2)
+        os._exit(SOME_FAILED if isinstance(why, Fault) else NOT_DONE)
 
 
 def end_by(number: int) -> NoReturn:
     """Ends this process by a signal, as a program ends that doesn't handle it."""
     signal.signal(number, signal.SIG_DFL)
     signal.raise_signal(number)
-    os._exit(2)
+    os._exit(NOT_DONE)
 
 
 def say(why: object) -> None:
@@ -96,7 +99,7 @@ def whole(least: int, most: int, what: str, step: int = 1) -> Callable[[str], in
 def position(text: str) -> str:
     """Returns the line of a position that was typed, in which a game may start. Fails with `Fault`."""
     try:
-        return rules.start(text)
+        return rules.start_line(text)
     except Fault as fault:
         if os.path.exists(text):
             raise FileForLine(fault.word, text) from None
@@ -109,9 +112,10 @@ def opened(name: str) -> TextIO:
         return open(name, newline="\n", errors="replace")
     except OSError as why:
         reasons: dict[type[OSError], str] = {FileNotFoundError: "there is no such file", IsADirectoryError: "it is a folder"}
-        is_position = rules.FORM.fullmatch(name)
-        reason = "it is a position, and FILE has one in each line" if is_position else reasons.get(type(why), str(why.strerror).lower())
-        raise ValueError(f"cannot read {name}: {reason}") from None
+        reason = reasons.get(type(why), str(why.strerror).lower())
+        if rules.FORM.fullmatch(name):
+            reason = "it is a position, and FILE has one in each line"
+        raise ValueError(f"cannot read {name}: {reason}" + "; standard input is /dev/stdin" * (name == "-")) from None
 
 
 def lines_in(file: TextIO) -> Iterator[str]:

@@ -6,12 +6,12 @@ from collections.abc import Sequence
 from dataclasses import dataclass
 from typing import Optional
 
-from . import rules
-from .answers import Values
-from .board import Board
-from .drawing import signed
-from .game import PLAYERS, Game
-from .solver import Solver
+from .. import rules
+from ..answers import Values
+from ..board import Board
+from ..drawing import signed
+from ..game import PLAYERS, Game
+from ..solver import Solver
 
 UNPROVED = f"With more than {rules.MOST_SEEDS} seeds in houses nothing is proved, and no move has a value."
 

@@ -4,10 +4,11 @@
     python3 -m kalah table --json FILE > table.jsonl
     python3 -m kalah table --sqlite DATABASE [--name NAME] FILE
 
-The columns are position, seeds (in houses), margin, best, and house1 to house6; where there is nothing to say, they are empty. With --json
-each line of FILE gets an object in one line: position, seeds, margin, house and values, by house; or position and fault. In the database
-the table NAME, or `kalah`, is made anew. With --answers ANSWERS the answers are read from there, in the form of `kalah values`, as another
-engine may have printed them. A line without values, such as one with a fault, has no row; standard error has it, and the status is 1.
+The columns are position, seeds (in houses), margin, best (the house), and house1 to house6; where there is nothing to say, they are empty.
+With --json each line of FILE gets an object in one line: position, seeds, margin, best (and house, its older name) and values, by house; or
+position and fault. In the database the table NAME, or `kalah`, is made anew. With --answers ANSWERS the answers are read from there, in the
+form of `kalah values`, as another engine may have printed them. A line without values, such as one with a fault, has no row; standard error
+has it, and the status is 1.
 
 It needs `kalah`, as `help(kalah)` says, except with --answers.
 """
@@ -24,10 +25,10 @@ from collections.abc import Iterable, Iterator, Sequence
 from contextlib import closing
 from typing import Any, NamedTuple, Optional, Union
 
-from . import rules
-from .answers import Fault, Gone, Over, Values, read_fault
-from .client import find
-from .script import arguments, opened, say, whole
+from .. import rules
+from ..answers import Fault, Gone, Over, Values, read_fault
+from ..client import find
+from ..script import arguments, opened, say, whole
 
 HOUSES = range(1, 7)
 # The most bytes of a file that `kalah` reads.
@@ -60,7 +61,7 @@ class Row(NamedTuple):
         if isinstance(self.answer, (Over, Values)):
             values = self.answer.by_house if isinstance(self.answer, Values) else {}
             house = self.answer.house if isinstance(self.answer, Values) else None
-            known.update(seeds=self.seeds, margin=self.answer.margin, house=house, values=values)
+            known.update(seeds=self.seeds, margin=self.answer.margin, best=house, house=house, values=values)
         else:
             known["fault"] = self.answer.word if isinstance(self.answer, Fault) else self.answer
         return json.dumps(known)
@@ -89,20 +90,22 @@ def read(name: str, most: int) -> bytes:
     return data
 
 
-def answer_of(text: str) -> Union[Values, Over, Fault, str]:
-    values = Values.read(text) if text else None
-    return values or Over.read(text) or read_fault(text) or text
+def answer_of(line: str, text: str) -> Union[Values, Over, Fault, str]:
+    values, fault = Values._read(text) if text else None, read_fault(text)
+    if fault:
+        fault.line = line
+    return values or Over._read(text) or fault or text
 
 
-def rows(lines: Sequence[str], answers: Sequence[str]) -> Iterator[Row]:
-    """Yields the rows of the lines of a file."""
+def rows(file: str, lines: Sequence[str], source: str, answers: Sequence[str]) -> Iterator[Row]:
+    """Yields the rows of the lines of a file, whose answers come from this source."""
     if len(answers) != len(lines):
-        raise ValueError(f"{len(answers)} answers to {len(lines)} lines")
+        raise ValueError(f"{source} has {len(answers)} answers, and {file} {len(lines)} lines")
     for number, (line, answer) in enumerate(zip(lines, answers), 1):
         _, place, words = answer.partition(f":{number} ")
         if not place:
-            raise ValueError(f"answer {number} is not that to line {number}: {answer}")
-        yield Row(number, line, answer_of(words))
+            raise ValueError(f"answer {number} of {source} is not that to {file}:{number}: {answer}")
+        yield Row(number, line, answer_of(line, words))
 
 
 def store(found: Iterable[list[Any]], database: str, name: str) -> None:
@@ -119,20 +122,23 @@ def store(found: Iterable[list[Any]], database: str, name: str) -> None:
 
 def main() -> bool:
     parser = arguments(__doc__)
-    parser.add_argument("--json", action="store_true", help="an object a line, in place of a table")
-    parser.add_argument("--sqlite", metavar="DATABASE", help="a file of SQLite that gets the table, in place of standard output")
+    form = parser.add_mutually_exclusive_group()
+    form.add_argument("--json", action="store_true", help="an object a line, in place of a table")
+    form.add_argument("--sqlite", metavar="DATABASE", help="a file of SQLite that gets the table, in place of standard output")
     parser.add_argument("--name", default="kalah", help="the name of the table in the database")
     parser.add_argument("--answers", metavar="ANSWERS", help="a file of answers, in place of those of kalah")
     parser.add_argument("--workers", type=whole(1, 64, "a number from 1 to 64"), default=4, metavar="N", help="workers of kalah (4)")
     parser.add_argument("file", metavar="FILE", help="has a position in each line")
     asked = parser.parse_args()
     data = read(asked.file, MOST_BYTES)
-    found = [*rows(lines_of(data), lines_of(read(asked.answers, 4 * MOST_BYTES)) if asked.answers else answers_to(data, asked.workers))]
+    answers = lines_of(read(asked.answers, 4 * MOST_BYTES)) if asked.answers else answers_to(data, asked.workers)
+    found = [*rows(asked.file, lines_of(data), asked.answers or "kalah", answers)]
     made = [(row, row.cells()) for row in found]
     if asked.sqlite:
         store([cells for _, cells in made if cells], asked.sqlite, asked.name)
     elif asked.json:
-        print(*[row.json() for row in found], sep="\n")
+        for row in found:
+            print(row.json())
     else:
         csv.writer(sys.stdout, lineterminator="\n").writerows([COLUMNS, *(cells for _, cells in made if cells)])
     rest = [row for row, cells in made if not cells]

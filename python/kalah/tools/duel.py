@@ -12,14 +12,13 @@ from __future__ import annotations
 import sys
 from typing import Optional
 
-from .answers import Over
-from .board import Board
-from .client import find
-from .drawing import picture
-from .game import Game
-from .rules import TooMany, guess, guessed
-from .script import arguments, position
-from .solver import Solver
+from ..answers import Over
+from ..board import Board
+from ..client import find
+from ..game import Game
+from ..rules import TooMany, guess, guessed
+from ..script import arguments, position
+from ..solver import Solver
 
 
 def typed(possible: list[int]) -> Optional[int]:
@@ -51,7 +50,7 @@ def duel(solver: Solver, game: Game, person: int) -> None:
     while not game.is_over:
         is_person = game.player == person
         if is_person:
-            print(picture(str(game.board)), end="")
+            print(game.board.picture())
         house, said = (typed(game.board.legal), "") if is_person else answered(solver, game.board)
         if house is None:
             return
@@ -64,7 +63,7 @@ def duel(solver: Solver, game: Game, person: int) -> None:
 def main() -> None:
     parser = arguments(__doc__)
     parser.add_argument("--second", action="store_true", help="the solver begins")
-    parser.add_argument("line", metavar="LINE")
+    parser.add_line()
     asked = parser.parse_args()
     line = position(asked.line)
     find()

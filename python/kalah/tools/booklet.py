@@ -17,15 +17,15 @@ from dataclasses import dataclass
 from itertools import groupby
 from typing import TypeVar
 
-from .answers import Over
-from .board import Board
-from .game import POSITION, Game
+from ..answers import Over
+from ..board import Board
+from ..game import POSITION, Game
+from ..rules import read
+from ..script import arguments, of_lines
+from ..solver import Solver
 from .page import page
 from .played import result
 from .puzzles import DEPTH, how_far, level_of
-from .rules import read
-from .script import arguments, of_lines
-from .solver import Solver
 
 # How many puzzles and how many solutions a page has.
 PUZZLES, SOLUTIONS = 4, 10
@@ -75,7 +75,7 @@ def outcome(house: int, value: int) -> str:
 
 def best_play(solver: Solver, board: Board) -> str:
     """The houses that the players move in best play, and the end."""
-    game = Game(board, [move.house for move in solver.line(board)])
+    game = Game(board, [move.house for move in solver.best_play(board)])
     turns = [f"{name} {', '.join(str(house) for _, house in turn)}" for name, turn in groupby(game.moves, key=lambda one: one[0])]
     return f"{'; '.join(turns)}. {result(game)}"
 
@@ -121,12 +121,14 @@ def pages(title: str, puzzles: Sequence[Puzzle]) -> Iterator[str]:
 
 def main() -> bool:
     parser = arguments(__doc__)
-    parser.add_argument("--title", default="Kalah puzzles")
+    parser.add_argument("--title", default="Kalah puzzles", help="stands on the first page (Kalah puzzles)")
     parser.add_argument("--paper", choices=PAPERS, default="A4", help="A4 or Letter (A4)")
     parser.add_argument("file", metavar="FILE", help="has a position in each line")
     asked = parser.parse_args()
     with Solver() as solver:
         made, has_failed = of_lines(asked.file, lambda line: puzzle(line, solver))
+    if not made:
+        raise ValueError(f"{asked.file} has no position for a puzzle")
     puzzles = sorted(made, key=lambda one: one.level)
     numbered = enumerate(pages(asked.title, puzzles), 1)
     body = "\n".join(f'<div class="page">\n<div>\n{text}\n</div>\n<footer>{number}</footer>\n</div>' for number, text in numbered)

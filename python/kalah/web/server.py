@@ -20,7 +20,6 @@ the page, which takes no answer of another. It needs `kalah`, as `help(kalah)` s
 
 from __future__ import annotations
 
-import argparse
 import hashlib
 import html
 import io
@@ -37,21 +36,21 @@ from pathlib import Path
 from typing import Any, Callable, Optional
 from urllib.parse import quote, unquote
 
-from . import __version__, rules
-from .answers import Best, Fault, Gone, Late, Values
-from .client import Client, Run, find
-from .script import arguments, position
-from .web_answers import Busy, Pool, ahead, as_dict, best, best_play, opened, review
-from .web_limits import Connections, Notices, Quota, Timed, host
+from .. import __version__, rules
+from ..answers import Best, Fault, Gone, Late, Values
+from ..client import Client, Run, find
+from ..script import arguments, position, whole
+from .answers import Busy, Pool, ahead, as_dict, best, best_play, opened, review
+from .limits import Connections, Notices, Quota, Timed, host
 
 # The files of the page, each with its kind.
 FILES = {
     "/": ("web.html", "text/html"),
-    "/rules": ("web_rules.html", "text/html"),
+    "/rules": ("rules.html", "text/html"),
     "/web.css": ("web.css", "text/css"),
-    "/web_board.js": ("web_board.js", "text/javascript"),
+    "/board.js": ("board.js", "text/javascript"),
     "/web.js": ("web.js", "text/javascript"),
-    "/web_rules.js": ("web_rules.js", "text/javascript"),
+    "/rules.js": ("rules.js", "text/javascript"),
 }
 PAGES = {path: Path(__file__).with_name(name).read_bytes() for path, (name, _) in FILES.items()}
 # A page that was kept takes no answers of a program that serves another one.
@@ -286,29 +285,27 @@ def as_json(answer: Any) -> bytes:
     return json.dumps(answer).encode()
 
 
-def whole(least: int, most: int) -> Callable[[str], int]:
-    """Returns what reads a number from an argument."""
-
-    def number(text: str) -> int:
-        if not least <= int(text) <= most:
-            raise ValueError
-        return int(text)
-
-    return number
+def served_at(port: int, host: str, most: int) -> Server:
+    """Returns a server that listens. Fails with `Gone` if the port can't be had."""
+    try:
+        return Server(port, host=host, most=most)
+    except OSError as why:
+        raise Gone(f"port {port}: {str(why.strerror).lower()}; with --port 0 it takes one that is free") from None
 
 
 def main() -> None:
     parser = arguments(__doc__)
     of_class = "the questions of one address in a minute (300 with --host)"
     of_port = "the port of the address (8000); with 0 any that is free"
+    questions, ports = whole(1, 1_000_000, "a number from 1 to 1000000"), whole(0, 65_535, "a port from 0 to 65535")
     parser.add_argument("--host", type=host, metavar="ADDRESS", help="the address of this machine, or its name, for a class")
-    parser.add_argument("--per-minute", type=whole(1, 1_000_000), default=0, metavar="N", help=of_class)
-    parser.add_argument("--port", type=whole(0, 65_535), default=8000, metavar="N", help=of_port)
-    parser.add_argument("line", metavar="LINE")
+    parser.add_argument("--per-minute", type=questions, default=0, metavar="N", help=of_class)
+    parser.add_argument("--port", type=ports, default=8000, metavar="N", help=of_port)
+    parser.add_line()
     asked = parser.parse_args()
     line = position(asked.line)
     find()
-    with Server(asked.port, host=asked.host or "", most=asked.per_minute) as server:
+    with served_at(asked.port, asked.host or "", asked.per_minute) as server:
         server.begin_with(line)
         print(server.address(line), flush=True)
         server.serve_forever()

@@ -1,7 +1,7 @@
 """A small engine, as a user might write it: the value of each move of a position, by recursion over all that can follow. It has a mistake,
 which docs/COOKBOOK.md finds. It answers lines of both rules with up to 16 seeds in houses; of a larger position it says so.
 
-    python3 examples/engine.py FILE
+    python3 examples/buggy_engine.py FILE
 
 It needs no other program.
 """
@@ -74,7 +74,7 @@ def answer(line):
 
 def main():
     parser = argparse.ArgumentParser(description=__doc__, formatter_class=argparse.RawDescriptionHelpFormatter)
-    parser.add_argument("file", metavar="FILE")
+    parser.add_argument("file", metavar="FILE", help="a file of positions")
     name = parser.parse_args().file
     # Ctrl-C ends it, and so does a reader that has seen enough, as `head`.
     for number in (signal.SIGINT, signal.SIGPIPE):
@@ -85,9 +85,9 @@ def main():
                 try:
                     print(f"{name}:{number} {answer(line)}")
                 except (ValueError, IndexError):
-                    sys.exit(f"engine.py: {name}:{number} is not a position")
+                    sys.exit(f"buggy_engine.py: {name}:{number} is not a position")
     except OSError as why:
-        sys.exit(f"engine.py: {why}")
+        sys.exit(f"buggy_engine.py: {why}")
 
 
 main()

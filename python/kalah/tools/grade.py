@@ -6,7 +6,8 @@
 FILE has a position in each line. The command is started once, gets these lines, and answers each with a line that has a house, which it
 flushes; or HOUSES has these lines. Printed are, by the number of seeds in houses: the share of best moves, the share that random moves
 would have on average, and the margin that the moves lose on average, with an error that covers 95 %. They count the positions with a
-choice: those in which some move is not a best one. The ten worst moves follow. CSV gets a row for each position.
+choice: those in which some move is not a best one. The ten worst moves follow. CSV gets a row for each position, with the engine's house
+and the best one.
 
 An answer that is illegal, missing or late is named on standard error. It counts as no best move, and the run goes on. So it does after a
 line with a fault, or of more than 31 seeds. In both cases the status is 1. A terminal shows how many lines are done. The engine and all
@@ -23,12 +24,13 @@ from math import sqrt
 from statistics import mean, stdev
 from typing import NamedTuple, Optional, TextIO, Union
 
-from . import rules
-from .answers import Over, Values
-from .client import Client
-from .drawing import picture, signed
-from .player import NoMove, Player, player, seconds
-from .script import arguments, lines_of, of_lines
+from .. import rules
+from ..answers import Over, Values
+from ..board import Board
+from ..client import Client
+from ..drawing import signed
+from ..player import NoMove, Player, player, seconds
+from ..script import arguments, lines_of, of_lines
 
 WORST = 10
 COLUMNS = ["line", "position", "seeds", "moves", "house", "value", "best", "margin", "lost", "chance"]
@@ -131,7 +133,7 @@ def summary(name: str, graded: list[Graded], over: int) -> Iterator[str]:
     worst = sorted((-one.lost, one.number, one) for one in graded if one.lost)[:WORST]
     for _, _, one in worst:
         assert one.house
-        yield f"\n{name}:{one.number} {one.line}\n{picture(one.line)}" + (
+        yield f"\n{name}:{one.number} {one.line}\n{Board(one.line).picture()}\n" + (
             f"house {one.house} is worth {signed(one.values[one.house])}, which loses {one.lost}; "
             f"house {one.best} is worth {signed(one.margin)}"
         )

@@ -5,9 +5,9 @@ from __future__ import annotations
 import html
 from typing import Optional
 
-from . import drawing
-from .board import Board
-from .game import Game
+from .. import drawing
+from ..board import Board
+from ..game import Game
 from .played import Played, caption
 
 PAGE = """<!DOCTYPE html>
@@ -43,7 +43,7 @@ def page(title: str, body: str, style: str = STYLE) -> str:
 
 def drawn(board: Board, player: int, marked: Optional[int] = None) -> str:
     """The board of a position, with South below, and a house of the player to move marked."""
-    sides, rows = board.sides, ["below", "above"]
+    sides, rows = board._position[:2], ["below", "above"]
     return drawing.svg(*(sides[::-1] if player else sides), marked=marked and (rows[player], marked) or None, title=str(board))
 
 

@@ -1,7 +1,7 @@
 """A move generator, as somebody might write it, that prints what each move leads to in the form of `kalah steps`. It has a mistake, which
 docs/COOKBOOK.md finds. It takes lines of both rules.
 
-    python3 examples/generator.py FILE
+    python3 examples/buggy_generator.py FILE
 
 It needs no other program.
 """
@@ -62,7 +62,7 @@ def steps(line):
 
 def main():
     parser = argparse.ArgumentParser(description=__doc__, formatter_class=argparse.RawDescriptionHelpFormatter)
-    parser.add_argument("file", metavar="FILE")
+    parser.add_argument("file", metavar="FILE", help="a file of positions")
     name = parser.parse_args().file
     # Ctrl-C ends it, and so does a reader that has seen enough, as `head`.
     for number in (signal.SIGINT, signal.SIGPIPE):
@@ -74,9 +74,9 @@ def main():
                     for words in steps(line):
                         print(f"{name}:{number} {words}")
                 except (ValueError, IndexError):
-                    sys.exit(f"generator.py: {name}:{number} is not a position")
+                    sys.exit(f"buggy_generator.py: {name}:{number} is not a position")
     except OSError as why:
-        sys.exit(f"generator.py: {why}")
+        sys.exit(f"buggy_generator.py: {why}")
 
 
 main()

@@ -11,10 +11,10 @@ from __future__ import annotations
 from collections.abc import Iterator
 from typing import Optional
 
-from .answers import Over, Values
-from .check import Claim, Known, Position, holds, is_over, needs, read, said
-from .client import Client
-from .script import arguments, position
+from ..answers import Over, Values
+from ..check import Claim, Known, Position, holds, is_over, needs, read, said
+from ..client import Client
+from ..script import arguments, position
 
 
 def values(client: Client[Values], position: Position) -> dict[int, int]:
@@ -23,7 +23,7 @@ def values(client: Client[Values], position: Position) -> dict[int, int]:
     sides = (",".join(map(str, houses)) + "/0" for houses in (own, other))
     answer = client.ask(" ".join(sides) + " e" * takes_empty)
     assert isinstance(answer, Values)
-    return answer.plus(own_store - other_store).by_house
+    return answer._plus(own_store - other_store).by_house
 
 
 def house_of(claim: Claim, known: Known, client: Client[Values]) -> int:
@@ -59,7 +59,7 @@ def certificate(line: str, client: Client[Values]) -> Iterator[str]:
 
 def main() -> None:
     parser = arguments(__doc__)
-    parser.add_argument("line", metavar="LINE")
+    parser.add_line()
     line = position(parser.parse_args().line)
     with Client(Values, timeout=None) as client:
         for text in certificate(line, client):

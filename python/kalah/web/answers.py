@@ -8,13 +8,14 @@ import time
 from dataclasses import asdict, dataclass, field
 from typing import Any, Union
 
-from . import rules
-from .answers import Best, Gone, Move, Over, Values
-from .client import Client, Kind, Run
-from .game import Record, split, written
-from .page import page
-from .review import Review, body
-from .solver import Position, Solver, line_of
+from .. import rules
+from ..answers import Best, Gone, Move, Over, Values
+from ..board import Board, IllegalMove
+from ..client import Client, Kind, Run
+from ..game import Record, check_move, split, written
+from ..solver import BoardOrLine, Solver, line_of
+from ..tools.page import page
+from ..tools.review import Review, body
 
 # How many moves the weakest of the solver's strengths looks ahead.
 AHEAD = 2
@@ -96,7 +97,7 @@ class Shared(Solver):
         super().__init__()
         self.pool = pool
 
-    def values(self, board: Position) -> Union[Values, Over]:
+    def values(self, board: BoardOrLine) -> Union[Values, Over]:
         return rules.ask(self.pool, line_of(board))
 
 
@@ -143,14 +144,15 @@ def opened(text: str) -> Opened:
     does if `NORTH_FIRST` stands at the end, or `NORTH_MOVES` at the first move."""
     record, north, _ = " ".join(text.split()).partition(NORTH_FIRST)
     line, moves = split(record)
-    game = Opened([place(rules.start(line), int(bool(north) or moves.strip().startswith(NORTH_MOVES)))])
+    game = Opened([place(rules.start_line(line), int(bool(north) or moves.strip().startswith(NORTH_MOVES)))])
     for move in written(moves):
         now = game.positions[-1]
-        found = next((one for one in now.moves if one.house == move.house), None)
-        if not found or move.player not in (None, now.player):
-            why = "the game is over" if now.is_over else f"house {move.word} can't be moved"
+        try:
+            check_move(Board(now.line), now.player, move)
+        except IllegalMove as why:
             game.flaw = f"move {len(game.houses) + 1}: {why}"
             break
+        found = next(one for one in now.moves if one.house == move.house)
         game.houses.append(move.house)
         game.positions.append(place(found.position, now.player ^ (found.word == "turn")))
     return game

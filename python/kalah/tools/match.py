@@ -28,11 +28,10 @@ from math import log
 from statistics import mean
 from typing import NamedTuple, Optional, TextIO
 
-from . import rules
-from .answers import Gone
+from .. import rules
+from ..player import Kalah, NoMove, Player, player, seconds
+from ..script import arguments, of_lines, say, whole
 from .grade import error
-from .player import Kalah, NoMove, Player, player, seconds
-from .script import arguments, of_lines, say, whole
 
 # The log-likelihood ratio at which the test of --sprt is decided, if each error has 5 %.
 DECIDED = log(0.95 / 0.05)
@@ -48,7 +47,7 @@ class Played(NamedTuple):
     why: str = ""
 
 
-def play(players: list[Player], line: str, stopped: threading.Event) -> Played:
+def played_game(players: list[Player], line: str, stopped: threading.Event) -> Played:
     """Returns the game of two players from a position, as far as it goes until it is stopped."""
     position, word, mover, houses = rules.read(line), "", 0, list[int]()
     while word != "over" and not stopped.is_set():
@@ -171,7 +170,7 @@ def run_games(match: Match, players: Players, games: int, concurrency: int, elo:
 
     def game(number: int) -> Played:
         both = players.get()
-        return play(both[::-1] if number % 2 else both, match.position(number)[1], stopped)
+        return played_game(both[::-1] if number % 2 else both, match.position(number)[1], stopped)
 
     try:
         for number in range(games):
@@ -205,7 +204,7 @@ def main() -> bool:
     numbers = iter(range(1, sys.maxsize))
     positions, has_failed = of_lines(asked.positions, lambda line: (next(numbers), playable(line)))
     if not positions:
-        raise Gone(f"{asked.positions} has no position to play")
+        raise ValueError(f"{asked.positions} has no position to play")
     with ExitStack() as stack:
         record = stack.enter_context(open(asked.record, "w")) if asked.record else None
         match, players = Match(asked.positions, positions, record), Players([asked.a, asked.b], asked.timeout)

@@ -23,12 +23,12 @@ from collections.abc import Callable, Iterable, Iterator, Sequence
 from functools import lru_cache
 from itertools import islice
 from math import comb
-from typing import Any, Optional
+from typing import Optional, Union, overload
 
-from . import rules
-from .answers import Best
-from .client import Client
-from .script import arguments, position, whole
+from .. import rules
+from ..answers import Best
+from ..client import Client
+from ..script import arguments, position, whole
 
 # How often a good game has the move that the search finds best, and how far that looks.
 GOOD, AHEAD = 3 / 4, 2
@@ -61,17 +61,28 @@ class Positions(Sequence[str]):
     def __init__(self, houses: int, seeds: int):
         self.houses = houses
         self.splits = [(own, seeds - own, ways(houses, own) * ways(houses, seeds - own)) for own in range(1, seeds)]
+        self.ranks = range(sum(count for _, _, count in self.splits))
 
     def __len__(self) -> int:
-        return sum(count for _, _, count in self.splits)
+        return len(self.ranks)
 
-    def __getitem__(self, rank: Any) -> Any:
-        for own, other, count in self.splits:
-            if rank < count:
-                own_rank, other_rank = divmod(rank, ways(self.houses, other))
-                return f"{side(self.houses, own, own_rank)} {side(self.houses, other, other_rank)}"
+    @overload
+    def __getitem__(self, rank: int) -> str: ...
+    @overload
+    def __getitem__(self, rank: slice) -> list[str]: ...
+    def __getitem__(self, rank: Union[int, slice]) -> Union[str, list[str]]:
+        ranks = self.ranks[rank]
+        return self.at(ranks) if isinstance(ranks, int) else [self.at(one) for one in ranks]
+
+    def at(self, rank: int) -> str:
+        """Returns the position of a rank, counted from 0, which there is."""
+        splits = iter(self.splits)
+        own, other, count = next(splits)
+        while rank >= count:
             rank -= count
-        raise IndexError("there is no position of this rank")
+            own, other, count = next(splits)
+        own_rank, other_rank = divmod(rank, ways(self.houses, other))
+        return f"{side(self.houses, own, own_rank)} {side(self.houses, other, other_rank)}"
 
 
 def drawn(chance: random.Random, houses: int, sizes: Sequence[int]) -> Iterator[str]:
@@ -131,12 +142,12 @@ def sample(asked: argparse.Namespace, is_wanted: Callable[[str], bool]) -> list[
         start, often = start_of(asked.start, asked.houses, asked.seeds), GOOD if asked.games == "good" else 0
         lines: Iterator[Optional[str]] = of_games(chance, start, asked.seeds, often)
     elif asked.sample > count:
-        raise ValueError(f"there are {count} positions")
+        raise ValueError(f"--sample {asked.sample}: there are only {count} positions")
     else:
         lines = drawn(chance, asked.houses, asked.seeds)
     found = [*islice(different(lines, is_wanted), asked.sample)]
     if len(found) < asked.sample:
-        raise ValueError(f"only {len(found)} positions are found")
+        raise ValueError(f"--sample {asked.sample}: only {len(found)} positions are found")
     return found
 
 

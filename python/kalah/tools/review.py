@@ -23,14 +23,14 @@ import re
 import sys
 from collections.abc import Iterator
 
-from . import rules
-from .client import find
-from .drawing import signed
-from .game import PLAYERS, Game, Record, records, split, written
+from .. import rules
+from ..client import find
+from ..drawing import signed
+from ..game import PLAYERS, Game, Record, records, split, written
+from ..script import arguments, lines_of, name
+from ..solver import Solver
 from .page import page, steps
 from .played import UNPROVED, Played, caption, played_in, result, unvalued
-from .script import arguments, lines_of, name
-from .solver import Solver
 
 # The curve: how wide a move is and how high the whole, and the room around it.
 WIDE, HIGH, LEFT, EDGE = 24, 160, 44, 24
@@ -45,9 +45,9 @@ class Review:
         self.line, moves = split(record.text)
         self.game, self.played = None, list[Played]()
         try:
-            self.game = Game(rules.start(self.line))
+            self.game = Game(rules.start_line(self.line))
             for move in written(moves):
-                self.game.push_written(move)
+                self.game._push_written(move)
         except ValueError as why:
             self.flaw = str(why)
         if self.game:
@@ -149,6 +149,8 @@ def main() -> bool:
     if len(asked.words) == 1 and os.path.exists(asked.words[0]):
         parser.error(f"{asked.words[0]} is a file: --games {asked.words[0]}")
     games = [*records(lines_of(asked.games))] if asked.games else [Record(1, {}, " ".join(asked.words))]
+    if not games:
+        raise ValueError(f"{asked.games} has no game")
     reviews = []
     find()
     with Solver() as solver:

@@ -13,13 +13,13 @@ from __future__ import annotations
 import html
 from typing import Optional
 
-from . import rules
-from .client import find
-from .game import Game
+from .. import rules
+from ..client import find
+from ..game import Game
+from ..script import arguments, position
+from ..solver import Solver
 from .page import page, steps
 from .played import UNPROVED, Played, played_in, result, unvalued, values_of
-from .script import arguments, position
-from .solver import Solver
 
 
 def best_game(solver: Solver, line: str, first: Optional[int]) -> Game:
@@ -27,7 +27,7 @@ def best_game(solver: Solver, line: str, first: Optional[int]) -> Game:
     so."""
     game = Game(line)
     if first is not None:
-        game.push(game.board.checked(first))
+        game.push(first)
     while not game.is_over:
         values = values_of(solver, game.board)
         game.push(rules.best_of(values) if values else rules.guess(str(game.board)))
@@ -46,7 +46,7 @@ def intro(moves: list[Played], first: Optional[int]) -> str:
 def main() -> None:
     parser = arguments(__doc__)
     parser.add_argument("--first", type=int, metavar="H", help="the house that South moves first")
-    parser.add_argument("line", metavar="LINE")
+    parser.add_line()
     asked = parser.parse_args()
     line, title = position(asked.line), f"Kalah: {asked.line}"
     find()

@@ -18,10 +18,10 @@ from __future__ import annotations
 
 from typing import NamedTuple, Optional
 
-from .answers import Over, Values
-from .client import Client
-from .rules import Position, after, ask, read, seen, seen_of_moves
-from .script import arguments, of_lines
+from ..answers import Over, Values
+from ..client import Client
+from ..rules import Position, after, ask, read, seen, seen_of_moves
+from ..script import arguments, of_lines, whole
 
 DEPTH = 8
 # The greatest sums of the levels but for the last one.
@@ -49,8 +49,6 @@ def how_far(position: Position, values: dict[int, int], most: int) -> Optional[i
     far, best = 1, {house for house, value in values.items() if value == max(values.values())}
     for depth in range(1, most + 1):
         found = seen_of_moves(position, depth)
-        if found == values:
-            break
         if not {house for house, value in found.items() if value == max(found.values())} <= best:
             far = depth + 1
     return far if far <= most else None
@@ -90,7 +88,7 @@ def puzzle_of(line: str, client: Client[Values], most: int, with_again: bool, wi
 
 def main() -> bool:
     parser = arguments(__doc__)
-    parser.add_argument("--depth", type=int, choices=range(1, 41), default=DEPTH, metavar="N", help="how far the search looks (8)")
+    parser.add_argument("--depth", type=whole(1, 40, "a number from 1 to 40"), default=DEPTH, metavar="N", help="how far it looks (8)")
     parser.add_argument("--again", action="store_true", help="with winning moves after which the player moves again")
     parser.add_argument("--greedy", action="store_true", help="with winning moves that take most at once")
     parser.add_argument("file", metavar="FILE", help="a file of positions")

@@ -1,0 +1,1 @@
+"""The tool `web`: a server and the files of its page."""
