@@ -96,6 +96,7 @@ SatisfyAll subs name rows = (id : Text) (a : Rule) → arg_in subs name id ≡ S
 abbrev pub Enters : App → Option (Text × List Row) → Type 0
 Enters a o = (is_some o ≡ true) × IfSome o (λ e. SatisfyAll a.subs e.0 e.1)
 
+-- if a subcommand is entered, its rows satisfy its arguments
 entered_satisfies : (a : App) (stop : Option (Text × List Text)) → AllOf (IsUsableIn a.subs) a.subs → entered_fault a stop ≡ []
     → IfSome (entered a stop) (λ e. SatisfyAll a.subs e.0 e.1)
 entered_satisfies a None usable no_fault = tt

@@ -87,12 +87,14 @@ use_has_value a (v ∷ vs) valued in_range = omega arith
 -- ---- the walk over the arguments of a command without subcommands
 
 module _ (s : Shape) (all_usable : AllOf (IsUsable s.rules) s.rules) where
+  -- its arguments, and whether one may be given again
   abbrev rules : List Rule
   rules = s.rules
 
   abbrev again : Bool
   again = s.args_override_self
 
+  -- each row fits its argument
   abbrev Fit : List Row → Type 0
   Fit rows = AllOf (FitsIn rules) rows
 
@@ -186,11 +188,12 @@ module _ (s : Shape) (all_usable : AllOf (IsUsable s.rules) s.rules) where
   kept_long (Some a) usable (Some v) h = at_test (takes_values a) _ _ _ (kept_option a usable (Some v) h) (λ _ fit. fit)
   kept_long (Some a) usable None h = at_test (takes_values a) _ _ _ (kept_option a usable None h) (kept_reacted a usable [] h)
 
-  -- an argument of short names, from one on
+  -- what the next lemma shows of an argument of short names
   abbrev KeepsFlags : ℕ → Type 0
   KeepsFlags k = (flags : Text) (skip : ℕ) (so_far : Outcome) (h : Held)
       → Keeps (flags_fault rules again k flags skip h) h.rows (bundle_met rules k flags skip so_far h).0.rows
 
+  -- an argument of short names, from one on
   kept_flags : (k : ℕ) → KeepsFlags k
   unfolding bundle_met flags_fault
   kept_flags zero flags skip so_far h = λ _ fit. fit

@@ -5,9 +5,9 @@ use Rattle.clap.specs.Words.{AddsArg, AddsSubcommand, App, app_of, new_app, with
 use Rattle.clap.specs.declared.builder.arg.Arg.{Arg}
 use Rattle.clap.specs.declared.builder.command.Command.{Command}
 use Rattle.clap.proofs.SimpleLemmas.{plain_fields}
-use Rattle.kalah_cli.specs.Command.{IsReadBy, argument_rule, subcommand_app, with_argument, with_listed}
-use Rattle.kalah_cli.specs.declared.subcommands.Argument.{Argument}
-use Rattle.kalah_cli.specs.declared.subcommands.Subcommand.{Subcommand}
+use Rattle.kalah_cli.specs.Arguments.Command.{IsReadBy, argument_rule, subcommand_app, with_argument, with_listed}
+use Rattle.kalah_cli.specs.declared.arguments.subcommands.Argument.{Argument}
+use Rattle.kalah_cli.specs.declared.arguments.subcommands.Subcommand.{Subcommand}
 
 -- one argument more
 pub argument_added : (start : App) (arguments : List Argument) (i : ℕ) (argument : Argument) {arg : Arg} {old new : Command}

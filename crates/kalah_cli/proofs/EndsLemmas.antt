@@ -6,12 +6,10 @@ use Rattle.kalah_jobs.specs.Line.Line.{Reads}
 use Rattle.kalah_jobs.specs.Writing.Sink.{SinkState, WasGiven}
 use Rattle.kalah_jobs.proofs.LineLemmas.{no_line_reads_twice}
 use Rattle.kalah_jobs.proofs.SinkLemmas.{given_then_flush, prefix_none, prefix_then}
-use Rattle.kalah_cli.specs.Ends.{Ends, IsPrinted, WritesNoPosition, PrintsByStatus, ended_by}
-use Rattle.kalah_cli.specs.declared.failure.Failure.{Failure}
-use Rattle.kalah_cli.specs.Line.{MayPrint, command_output}
-use Rattle.kalah_cli.specs.Status.{ExitStatus, Failed, LineFaults, Clean}
-use Rattle.kalah_cli.specs.Sources.{any_bytes, MayBeLeft, Source, file_named}
-use Rattle.kalah_cli.specs.Request.{about_line, Question, LineCommand}
+use Rattle.kalah_cli.specs.Exit.Ends.{Ends, IsPrinted, WritesNoPosition, PrintsByStatus, ExitStatus, Failed, LineFaults, Clean}
+use Rattle.kalah_cli.specs.Commands.LineCommand.{MayPrint, command_output}
+use Rattle.kalah_cli.specs.System.Sources.{AreFilesOf, any_bytes, MayBeLeft, Source}
+use Rattle.kalah_cli.specs.Arguments.Request.{about_line, Question, LineCommand}
 use Rattle.kalah_cli.specs.Runs.{Does}
 use Rattle.kalah_jobs.specs.declared.asking.ask_fault.AskFault.{AskFault}
 use Rattle.kalah_jobs.specs.declared.asking.ask_fault.AskFault.TheVariants.{Read, Write}
@@ -23,25 +21,20 @@ use Rattle.kalah_jobs.specs.declared.writing.tally.Tally.{Tally}
 use Rattle.kalah_run.specs.Batch.Answering.{AnswersAll, AnswersBatch}
 use Rattle.kalah_run.specs.declared.batch.run_fault.RunFault.{RunFault}
 use Rattle.kalah_run.specs.declared.batch.run_fault.RunFault.TheVariants as fault
-use Rattle.kalah_cli.specs.SolveFiles.{AnswersFiles, has_line_feed}
+use Rattle.kalah_cli.specs.Commands.AnswerFiles.{AnswersFiles, has_line_feed}
 use Rattle.std.specs.Io.Buffered.{reader_buffer, reader_capacity, reader_inner, reader_remaining}
 use Rattle.std.specs.Io.KnownBytes.{Consumes, IsAtEnd, prepend_known}
 use Rattle.std.specs.declared.io.buffered.BufReader.{BufReader}
 use Rattle.std.proofs.KnownBytes.{Keeps-refl}
 use Rattle.kalah_jobs.specs.Asking.{IsAnswered, IsBegun, IsCutOff}
 use Rattle.kalah_jobs.proofs.AskingLemmas.{begun_so_far, cut_off, nothing_read}
-use Rattle.kalah_cli.specs.Ask.{AnswersInput, StopsBetweenLines}
+use Rattle.kalah_cli.specs.Commands.Ask.{AnswersInput, StopsBetweenLines}
 
 -- ---- how any run ends
 
 -- no two statuses are the same
 pub statuses_differ : (Clean ≢ Failed) × (LineFaults ≢ Failed) × (LineFaults ≢ Clean)
 statuses_differ = ((λ same. cc), (λ same. cc), (λ same. cc))
-
--- an error is a failure
-pub ended_err : (ended : Result ExitStatus Failure) → IsErr ended → ended_by ended ≡ Failed
-ended_err (Ok status) failed = cc
-ended_err (Err failure) failed = refl
 
 -- the text was given, and then flushed
 pub printed_flushed : {O : Type 0} (state : O → SinkState) {old between new : O} {text : List ℕ} → WasGiven state old between text
@@ -136,6 +129,7 @@ texts_have_line_feed names = list_any-map has_line_feed (λ name. name.now) name
 empty_files : List (List ℕ) → List NamedBytes
 empty_files names = map (λ name. let file : NamedBytes = record { name = name; bytes = [] } in file) names
 
+-- they have these names
 their_names : (names : List (List ℕ)) → map (λ (file : NamedBytes). file.name) (empty_files names) ≡ names
 unfolding empty_files
 their_names [] = refl
@@ -156,16 +150,15 @@ module _ {O : Type 0} (state : O → SinkState) {status : ExitStatus} {may_give 
     ends = ends_unchanged state sound;
   }
 
-  module _ {old new : O} (files : List NamedBytes) (named : map (λ file. file.name) files ≡ names)
-      (given : All (λ file. may_give (file_named file.name) file.bytes) files) where
+  module _ {old new : O} (files : List NamedBytes) (read : AreFilesOf may_give names files) where
     -- each line was answered
     pub files_answered : {tally : Tally} → AnswersAll state (output_to question files) files old new tally
         → list_any has_line_feed names ≡ false → status ≢ Failed → (status ≡ Clean) ↔ (tally.faults ≡ 0)
         → AnswersFiles state old new status may_give question names
     files_answered answered no_line_feed not_failed clean = record {
       files = files;
-      named = named;
-      given = inr given;
+      named = read.0;
+      given = inr read.1;
       printed = record {
         start = prefix_then _ _ _ _ _ [] (sym (append-nil _)) answered.written (prefix_none _ []);
         whole = λ _. answered.written;
@@ -196,8 +189,8 @@ module _ {O : Type 0} (state : O → SinkState) {status : ExitStatus} {may_give 
         by_fault fault.NoWorker answered = untouched answered.2.0
         by_fault fault.Write answered = record {
           files = files;
-          named = named;
-          given = inr given;
+          named = read.0;
+          given = inr read.1;
           printed = record { start = answered.1; whole = λ not_failed. absurd (not_failed failed) };
           no_line_feed = λ not_failed. absurd (not_failed failed);
           clean = λ not_failed. absurd (not_failed failed);

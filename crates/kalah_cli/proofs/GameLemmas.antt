@@ -18,8 +18,8 @@ use Rattle.std.proofs.lemmas.List.Elements.{Contains-push}
 use Rattle.kalah_solve.proofs.SolverLemmas.{best_is_strategy, best_plays, game_is_bounded, strategy_within, widened}
 use Rattle.kalah_rules.proofs.PackedLemmas.{is_over-swapped}
 use Rattle.kalah_solve.proofs.WorthLemmas.{final_swapped, value_moving_again, value_of_again, value_of_turn, value_passing, worth_of_over, again_fewer, over_at_end, over_ends, step_states, swapped_equal_sides, turn_fewer}
-use Rattle.kalah_cli.specs.Game.{IsNextMove, PlaysBestGames, VariationsEndWithTheirValue, best_game, best_moves, game_played, game_text, move_text, value_shown, Form}
-use Rattle.kalah_cli.specs.Play.{MayBegin}
+use Rattle.kalah_cli.specs.Commands.Game.{IsNextMove, PlaysBestGames, VariationsEndWithTheirValue, best_game, best_moves, game_played, game_text, move_text, printed_value, MoveForm}
+use Rattle.kalah_cli.specs.Commands.Play.{MayBegin}
 
 -- both players always move the lowest best house
 abbrev pub BestGame : Position → List ℕ → Position → Type 0
@@ -67,44 +67,51 @@ fewer_left {p} {h} (step.Again q) equal legal step_is = again_fewer p h q equal 
 fewer_left {p} {h} (step.Turn q) equal legal step_is = turn_fewer p h q equal legal step_is
 fewer_left {p} {h} (step.Over q) equal legal step_is = omega (arith, none_after p h q step_is, some_left p (legal_going p h legal))
 
--- A move in front of a game from the position after it, by a policy that both players share. If that game ends with the worth of its
--- position, the longer one ends with the value of the move
+-- a game of a policy that both players share, with the move of h in front of another, which goes on at `next` and ends at `final`. If that
+-- one ends with the worth of `next`, the longer one ends with the value of the move
+record LongerGame (policy : Policy) (p : Position) (h : ℕ) (houses : List ℕ) (next final : Position) : Type 0 where
+  end : Position
+  game : Game policy policy p (h ∷ houses) end
+  margin : final_margin final ≡ worth next → final_margin end ≡ value_of_move p h
+
+-- a game from the position after a move can have that move in front
 game_before : {policy : Policy} {p : Position} {h : ℕ} {houses : List ℕ} {final : Position} (s : Step) → is_over p ≡ false
     → Contains (policy p) h → s ≡ step_of p h → Game policy policy (position_after s) houses final
-    → (end : Position) × Game policy policy p (h ∷ houses) end ×
-    (final_margin final ≡ worth (position_after s) → final_margin end ≡ value_of_move p h)
+    → LongerGame policy p h houses (position_after s) final
 game_before {policy} {p} {h} {houses} {final} (step.Again q) going allowed step_is game =
-    let states = step_states (is_over (after p h)) (is_again p h) (after p h) (step.Again q) step_is in (
-      final,
-      moves_on going allowed states.1 (subst (λ r. Game policy policy r houses final) states.2 game),
-      λ margin. margin ∙ value_of_again p h q step_is,
-    )
+    let states = step_states (is_over (after p h)) (is_again p h) (after p h) (step.Again q) step_is in
+    record {
+      end = final;
+      game = moves_on going allowed states.1 (subst (λ r. Game policy policy r houses final) states.2 game);
+      margin = λ margin. margin ∙ value_of_again p h q step_is;
+    }
 game_before {policy} {p} {h} {houses} {final} (step.Turn q) going allowed step_is game =
-    let states = step_states (is_over (after p h)) (is_again p h) (after p h) (step.Turn q) step_is in (
-      swapped final,
-      passes_turn going allowed states.1 (subst (λ r. Game policy policy r houses final) states.2 game),
-      λ margin. omega (arith, ints, final_swapped final, margin, value_of_turn p h q step_is),
-    )
+    let states = step_states (is_over (after p h)) (is_again p h) (after p h) (step.Turn q) step_is in
+    record {
+      end = swapped final;
+      game = passes_turn going allowed states.1 (subst (λ r. Game policy policy r houses final) states.2 game);
+      margin = λ margin. omega (arith, ints, final_swapped final, margin, value_of_turn p h q step_is);
+    }
 game_before {p = p} {h = h} (step.Over q) going allowed step_is (is_at_end _) =
     let over = (step_states (is_over (after p h)) (is_again p h) (after p h) (step.Over q) step_is).0 in
     let over_swapped = is_over-swapped (after p h) ∙ over in
     elim (cases_Bool (is_again p h)) [
-      | inl again ↦ (
-        after p h,
-        moves_on going allowed again (is_at_end over),
-        λ _. sym (value_moving_again p h again ∙ worth_of_over (after p h) over),
-      )
-      | inr turn ↦ (
-        swapped (swapped (after p h)),
-        passes_turn going allowed turn (is_at_end over_swapped),
-        λ _. omega (
+      | inl again ↦ record {
+        end = after p h;
+        game = moves_on going allowed again (is_at_end over);
+        margin = λ _. sym (value_moving_again p h again ∙ worth_of_over (after p h) over);
+      }
+      | inr turn ↦ record {
+        end = swapped (swapped (after p h));
+        game = passes_turn going allowed turn (is_at_end over_swapped);
+        margin = λ _. omega (
           arith,
           ints,
           final_swapped (swapped (after p h)),
           value_passing p h turn,
           worth_of_over (swapped (after p h)) over_swapped,
-        ),
-      )
+        );
+      }
     ]
 game_before {p = p} {h = h} (step.Over q) going allowed step_is (moves_on goes_on chosen again rest) =
     absurd (let over = over_ends p h q step_is in cc)
@@ -165,34 +172,35 @@ played_next first p h equal going house_is = first_of first ∙ ap (λ k. k ∷ 
     first_of None = game_goes_on p equal going
     first_of (Some f) = refl
 
-module _ {form : Form} {first : Option ℕ} {p : Position} {value : Option ℤ} {h : ℕ} {s : Step} (next : IsNextMove form first p value h)
+module _ {form : MoveForm} {first : Option ℕ} {p : Position} {value : Option ℤ} {h : ℕ} {s : Step} (next : IsNextMove form first p value h)
     (step_is : s ≡ step_of p h) where
   -- its text has the value of best play, if values are shown
-  pub next_text : move_text form value h s ≡ move_text form (value_shown form (worth p)) h (step_of p h)
-  next_text = ap (λ v. move_text form v h s) next.shown ∙ ap (move_text form (value_shown form (worth p)) h) step_is
+  pub next_text : move_text form value h s ≡ move_text form (printed_value form (worth p)) h (step_of p h)
+  next_text = ap (λ v. move_text form v h s) next.shown ∙ ap (move_text form (printed_value form (worth p)) h) step_is
 
-  -- the text of a game is that of its next move, and the text from the position after it
-  pub text_goes_on : HasEqualSides p → game_text form p (game_played first p)
-      ≡ move_text form value h s ++ game_text form (position_after s) (best_game (position_after s))
-  text_goes_on equal = ap (game_text form p) (played_next first p h equal (legal_going p h next.legal) next.house)
-      ∙ ap (λ s. move_text form (value_shown form (worth p)) h s ++ game_text form (position_after s) (best_game (position_after s)))
+  -- the text of a game is that of its next move, and the text from the position after it on
+  pub text_goes_on : {of_move of_rest : MoveForm} {q : Position} → HasEqualSides p → of_move ≡ form → of_rest ≡ form → q ≡ position_after s
+      → game_text form p (game_played first p) ≡ move_text of_move value h s ++ game_text of_rest q (best_game q)
+  text_goes_on equal of_move_is of_rest_is after_move = rw (of_move_is, of_rest_is, after_move)
+      (ap (game_text form p) (played_next first p h equal (legal_going p h next.legal) next.house)
+      ∙ ap (λ s. move_text form (printed_value form (worth p)) h s ++ game_text form (position_after s) (best_game (position_after s)))
       (sym step_is)
-      ∙ ap (λ v. move_text form v h s ++ game_text form (position_after s) (best_game (position_after s))) (sym next.shown)
+      ∙ ap (λ v. move_text form v h s ++ game_text form (position_after s) (best_game (position_after s))) (sym next.shown))
 
 -- if it is over, it has none
-pub no_text : (form : Form) (first : Option ℕ) (p : Position) → MayBegin first p → is_over p ≡ true
+pub no_text : (form : MoveForm) (first : Option ℕ) (p : Position) → MayBegin first p → is_over p ≡ true
     → game_text form p (game_played first p) ≡ []
 no_text form None p may_begin over = ap (game_text form p) (no_best_moves (moves_left p) p over)
 no_text form (Some h) p may_begin over = absurd (both_ways _ (legal_going p h may_begin) over)
 
 -- the verdict determines the next move, by a margin of thirty-two bits
-pub next_of_verdict : (form : Form) (first : Option ℕ) (p : Position) {margin : ℤ} {house : ℕ} → MayBegin first p
+pub next_of_verdict : (form : MoveForm) (first : Option ℕ) (p : Position) {margin : ℤ} {house : ℕ} → MayBegin first p
     → IsSmallBest margin house → StatesBestMove p margin house → Best margin house ≡ verdict_of p
-    → IsNextMove form first p (value_shown form (to_z w32 (of_z w32 margin))) (unwrap_or first house)
+    → IsNextMove form first p (printed_value form (to_z w32 (of_z w32 margin))) (unwrap_or first house)
 next_of_verdict form first p {margin} {house} may_begin small states verdict =
     let best = best_of_verdict p margin house states.going verdict in
     let unwrapped = to_z-of_z w32 margin (omega (arith, ints, small.small.low, small.small.high)) in
-    record { legal = legal first may_begin; house = ap (unwrap_or first) best.1; shown = ap (value_shown form) (unwrapped ∙ best.0) }
+    record { legal = legal first may_begin; house = ap (unwrap_or first) best.1; shown = ap (printed_value form) (unwrapped ∙ best.0) }
   where
     legal : (f : Option ℕ) → MayBegin f p → Contains (legal_houses p) (unwrap_or f house)
     legal None may_begin = states.best.legal
@@ -212,7 +220,7 @@ is_game (suc n) p equal low = elim (cases_Bool (is_over p)) [
   | inr going ↦
       let next = is_game n _ (equal_after p (best_house p)) (omega (arith, low, fewer_next p equal going)) in
       let game = game_before {policy = follow best_house} _ going (Contains-push [] (best_house p)) refl next.1 in
-      (game.0, subst (λ houses. BestGame p houses game.0) (sym (best_move_first n p going)) game.1)
+      (game.end, subst (λ houses. BestGame p houses game.end) (sym (best_move_first n p going)) game.game)
 ]
 
 -- of one that ends with the margin of best play
@@ -231,4 +239,4 @@ variations_end p h equal legal =
     let best = plays_best (position_after (step_of p h)) (equal_after p h) in
     let by_rules = widened (strategy_within best_is_strategy) (strategy_within best_is_strategy) (equal_after p h) best.1.game in
     let game = game_before (step_of p h) (legal_going p h legal) legal refl by_rules in
-    (game.0, record { game = game.1; margin = game.2 best.1.margin })
+    (game.end, record { game = game.game; margin = game.margin best.1.margin })

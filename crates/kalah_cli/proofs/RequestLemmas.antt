@@ -7,9 +7,9 @@ use Rattle.clap.specs.Words.{Accepts, Row, Rule, Text, reading_of, IsUnsignedIn,
 use Rattle.clap.specs.Simple.{Shape, built, filled, with_index}
 use Rattle.clap.specs.declared.builder.value_parser.ValueParser.TheVariants.{Unsigned}
 use Rattle.clap.proofs.OnLiterals.{clap_on_literals}
-use Rattle.kalah_cli.specs.Command.{file_rule, kalah_app, table_rule, workers_rule}
-use Rattle.kalah_cli.specs.Request.{AreMatches, MayHaveNumber, name_of_question, number_written, is_set, number_given, Asked, IsAcceptedAs, about_line, Question, BestMove, Steps, Values, Moves}
-use Rattle.kalah_cli.specs.Runs.{IsPlainWord}
+use Rattle.kalah_cli.specs.Arguments.Command.{file_rule, kalah_app, table_rule, workers_rule}
+use Rattle.kalah_cli.specs.Arguments.Request.{AreMatches, MayHaveNumber, name_of_question, number_written, is_set, number_given, Task, IsAcceptedAs, about_line, Question, BestMove, Steps, Values, Moves}
+use Rattle.kalah_cli.specs.Runs.{IsNoFlag}
 use Rattle.kalah_cli.proofs.ClapLemmas.{Given, IsUsableIn, SatisfyAll, accepted_satisfies, arg_in, required_is_given, row_by_id, text_is_accepted}
 use Rattle.std.proofs.lemmas.Bool.{and_parts, false_from_ne_true, ne_eqb}
 use Rattle.std.proofs.lemmas.Slice.Eq.{bytes_eq-Decides}
@@ -149,15 +149,15 @@ flag_read E f id r absent value = elim (cases_Option (one_of id (rows_of f))) [
 -- ---- how the command line reads arguments, as laws over the definitions
 
 -- equal arguments ask for the same
-pub accepted_at : {words given : List Text} {a : Asked} → words ≡ given → IsAcceptedAs given a → IsAcceptedAs words a
+pub accepted_at : {arguments given : List Text} {a : Task} → arguments ≡ given → IsAcceptedAs given a → IsAcceptedAs arguments a
 accepted_at {a = a} same accepted = subst (λ ws. IsAcceptedAs ws a) (sym same) accepted
 
 -- arguments are accepted as one request
-pub accepted_once : (words : List Text) (a b : Asked) → IsAcceptedAs words a → IsAcceptedAs words b → a ≡ b
-accepted_once words a b one other = same_Some a b (sym one.1 ∙ other.1)
+pub accepted_once : (arguments : List Text) (a b : Task) → IsAcceptedAs arguments a → IsAcceptedAs arguments b → a ≡ b
+accepted_once arguments a b one other = same_Some a b (sym one.1 ∙ other.1)
 
 -- `moves` and a plain argument are accepted as the moves of that line, with no boards
-pub moves_accepted : (name line : Text) → IsPlainWord line
+pub moves_accepted : (name line : Text) → IsNoFlag line
     → IsAcceptedAs (name ∷ codes "moves" ∷ line ∷ []) (about_line (Moves false) line)
 unfolding clap_on_literals
 moves_accepted name [] plain = absurd plain
@@ -173,37 +173,41 @@ unfolding clap_on_literals
 app_is_simple = refl
 
 -- what is known of a parse that succeeds: the arguments have no fault, the matches are theirs, and they have a subcommand
-pub record IsParsed (words : List Text) (o : Option (Text × List Row)) : Type 0 where
-  pub no_fault : fault_of kalah_app words ≡ []
-  pub matches : o ≡ subcommand_of kalah_app words
+pub record IsParsed (arguments : List Text) (o : Option (Text × List Row)) : Type 0 where
+  pub no_fault : fault_of kalah_app arguments ≡ []
+  pub matches : o ≡ subcommand_of kalah_app arguments
   pub entered : is_some o ≡ true
 
-pub parsed : {X : Type 0} {a : App} {words : List Text} {o : Option (Text × List Row)} → a ≡ kalah_app
-    → (is_simple_and_free a ≡ true → fault_of a words ≡ []) → (is_simple a ≡ true → X × (o ≡ subcommand_of a words)) → IsParsed words o
-parsed {a} {words} same faultless rows =
+-- a parse that succeeds is one
+pub parsed : {X : Type 0} {a : App} {arguments : List Text} {o : Option (Text × List Row)} → a ≡ kalah_app
+    → (is_simple_and_free a ≡ true → fault_of a arguments ≡ []) → (is_simple a ≡ true → X × (o ≡ subcommand_of a arguments))
+    → IsParsed arguments o
+parsed {a} {arguments} same faultless rows =
     let simple = ap is_simple_and_free same ∙ app_is_simple in
-    let no_fault : fault_of kalah_app words ≡ [] = subst (λ b. fault_of b words ≡ []) same (faultless simple) in
-    let matches = (rows (and_parts (is_simple a) _ simple).0).1 ∙ ap (λ b. subcommand_of b words) same in
+    let no_fault : fault_of kalah_app arguments ≡ [] = subst (λ b. fault_of b arguments ≡ []) same (faultless simple) in
+    let matches = (rows (and_parts (is_simple a) _ simple).0).1 ∙ ap (λ b. subcommand_of b arguments) same in
     record {
       no_fault = no_fault;
       matches = matches;
-      entered = ap is_some matches ∙ (accepted_satisfies kalah_app words usable refl no_fault).0;
+      entered = ap is_some matches ∙ (accepted_satisfies kalah_app arguments usable refl no_fault).0;
     }
 
 -- if it fails, the error has a kind of the arguments' fault
-pub faulty : (a : App) (words : List Text) (e : Error) → a ≡ kalah_app
-    → (is_simple_and_free a ≡ true → HasKind (fault_of a words) e) → HasKind (fault_of kalah_app words) e
-faulty a words e same has_kind = subst (λ b. HasKind (fault_of b words) e) same (has_kind (ap is_simple_and_free same ∙ app_is_simple))
+pub faulty : (a : App) (arguments : List Text) (e : Error) → a ≡ kalah_app
+    → (is_simple_and_free a ≡ true → HasKind (fault_of a arguments) e) → HasKind (fault_of kalah_app arguments) e
+faulty a arguments e same has_kind =
+    subst (λ b. HasKind (fault_of b arguments) e) same (has_kind (ap is_simple_and_free same ∙ app_is_simple))
 
--- ---- a line that is read is no flag, as no number begins with a dash
+-- ---- lines
 
-pub read_is_plain : (line : List ℕ) (p : Position) → Reads line p → IsPlainWord line
+-- a line that is read is no flag, as no number begins with a dash
+pub read_is_no_flag : (line : List ℕ) (p : Position) → Reads line p → IsNoFlag line
 unfolding position_of_text side_at
-read_is_plain [] p reads = empty_is_no_line p reads.form
-read_is_plain (byte ∷ []) p reads = λ dash.
+read_is_no_flag [] p reads = empty_is_no_line p reads.form
+read_is_no_flag (byte ∷ []) p reads = λ dash.
     let none : None ≡ Some p = line_is_read (45 ∷ []) p (subst (λ b. Reads (b ∷ []) p) dash reads).form in
     cc
-read_is_plain (byte ∷ more ∷ rest) p reads = λ dash.
+read_is_no_flag (byte ∷ more ∷ rest) p reads = λ dash.
     let none : None ≡ Some p =
     line_is_read (45 ∷ without_cr (more ∷ rest)) p (subst (λ b. Reads (b ∷ more ∷ rest) p) dash reads).form in
     cc

@@ -1,5 +1,5 @@
 -- What stands in the output before a position of a game is solved.
-use Rattle.std.proofs.Common.{◌≡◌, ℕ, List, [], ◌∷◌, ◌++◌, Bool, refl, sym, subst, ap, append_assoc, ◌∙◌, append-nil}
+use Rattle.std.proofs.Common.{◌≡◌, ℕ, ℤ, List, Option, [], ◌∷◌, ◌++◌, Bool, refl, sym, subst, ap, append_assoc, ◌∙◌, append-nil}
 use Rattle.kalah_rules.specs.Position.{Position}
 use Rattle.kalah_rules.specs.Play.{position_after, step_of}
 use Rattle.kalah_rules.specs.declared.step.Step.{Step}
@@ -9,30 +9,31 @@ use Rattle.kalah_jobs.specs.Writing.Shown.{shown_of, values_line}
 use Rattle.kalah_jobs.specs.Writing.Variation.{variation_start}
 use Rattle.kalah_jobs.proofs.SinkLemmas.{given_then_flush, given_then}
 use Rattle.kalah_solve.specs.declared.solver.move_values.MoveValue.{MoveValue}
-use Rattle.kalah_cli.specs.Game.{move_text, value_shown, Form, Houses, Lines}
-use Rattle.kalah_cli.specs.Moves.{board_lines}
-use Rattle.kalah_cli.specs.Solver.{Begins, GameStart, IsOfVariations, IsShown}
-use Rattle.kalah_cli.specs.Solver.IsShown.{shown_after_move, shown_at_start}
+use Rattle.kalah_cli.specs.Commands.Game.{IsNextMove, move_text, printed_value, MoveForm, Houses, Lines}
+use Rattle.kalah_cli.specs.Commands.Moves.{board_lines}
+use Rattle.kalah_cli.specs.Commands.GameSolver.{Begins, GameStart, ShowsValues, IsReached}
+use Rattle.kalah_cli.specs.Commands.GameSolver.IsReached.{reached_by_move, reached_at_start}
+use Rattle.kalah_cli.proofs.GameLemmas.{next_text}
 use Rattle.kalah_jobs.specs.Files.Lines.{line_feed}
 use Rattle.kalah_jobs.specs.Writing.Picture.{picture_of}
 
 module _ {O : Type 0} (state : O → SinkState) where
   -- the first position of a game is shown, once it was given
-  pub shown_first : {game : GameStart O} {boards values : Bool} {p : Position} {old new : O}
+  pub first_is_reached : {game : GameStart O} {boards values : Bool} {p : Position} {old new : O}
       → game ≡ record { form = Lines boards values; first = p; sink = old } → WasGiven state old new (board_lines boards p)
-      → IsShown state game new p
-  shown_first {p = p} {new = new} begun given = subst (λ game. IsShown state game new p) (sym begun) (shown_at_start (refl, given))
+      → IsReached state game new p
+  first_is_reached {p = p} {new = new} begun given = subst (λ game. IsReached state game new p) (sym begun) (reached_at_start (refl, given))
 
-  -- the position after the first move of a variation is shown, once the line of that move began
-  pub shown_after : {game now : GameStart O} {p q : Position} {between new : O} (v : MoveValue) → IsOfVariations state game p between
+  -- the position after the first move of a variation is reached, once the line of that move began
+  pub variation_is_reached : {game now : GameStart O} {p q : Position} {between new : O} (v : MoveValue) → ShowsValues state game p between
       → WasGiven state between new (variation_start v) → q ≡ position_after (step_of p v.house) → now ≡ game
-      → IsShown state now new q
-  shown_after {game} {now} {p} {q} {between} {new} v below given after_move same_game =
-      subst (λ game. IsShown state game new q) (sym same_game)
-      (shown_at_start (subst (λ f. Begins state game f new q) (sym below.form) (record {
+      → IsReached state now new q
+  variation_is_reached {game} {now} {p} {q} {between} {new} v below given after_move same_game =
+      subst (λ game. IsReached state game new q) (sym same_game)
+      (reached_at_start (subst (λ f. Begins state game f new q) (sym below.form) (record {
         between = between;
         move = v;
-        below = subst (λ r. IsOfVariations state game r between) (sym below.first) below;
+        below = subst (λ r. ShowsValues state game r between) (sym below.first) below;
         line = given;
         after = after_move ∙ ap (λ r. position_after (step_of r v.house)) (sym below.first);
       })))
@@ -40,10 +41,10 @@ module _ {O : Type 0} (state : O → SinkState) where
   -- the picture and the line below it were given, and variations may follow
   pub variations_begin : {game now : GameStart O} {p : Position} {old between new : O}
       → game ≡ record { form = Houses; first = p; sink = old } → now ≡ game → WasGiven state old between (picture_of p)
-      → WasGiven state between new (values_line p ++ line_feed ∷ []) → IsOfVariations state now p new
+      → WasGiven state between new (values_line p ++ line_feed ∷ []) → ShowsValues state now p new
   unfolding shown_of
   variations_begin {p = p} {old = old} {between = between} {new = new} begun same_game picture values =
-      subst (λ game. IsOfVariations state game p new) (sym (same_game ∙ begun)) (record {
+      subst (λ game. ShowsValues state game p new) (sym (same_game ∙ begun)) (record {
         form = refl;
         first = refl;
         more = [];
@@ -52,7 +53,7 @@ module _ {O : Type 0} (state : O → SinkState) where
 
   -- more of the variations was given
   pub variations_go_on : {game now : GameStart O} {p : Position} {between new : O} (text : List ℕ) → now ≡ game
-      → IsOfVariations state game p between → WasGiven state between new text → IsOfVariations state now p new
+      → ShowsValues state game p between → WasGiven state between new text → ShowsValues state now p new
   variations_go_on {game} {now} {p} {between} {new} text same_game below given = rw same_game (record {
     form = below.form;
     first = below.first;
@@ -62,7 +63,7 @@ module _ {O : Type 0} (state : O → SinkState) where
   })
 
   -- how a game began, after a flush
-  begins_flushed : (game : GameStart O) (form : Form) (p : Position) (between new : O) → Begins state game form between p
+  begins_flushed : (game : GameStart O) (form : MoveForm) (p : Position) (between new : O) → Begins state game form between p
       → WasGiven state between new [] → Begins state game form new p
   begins_flushed game (Lines boards values) p between new (at_first, given) flushed =
       (at_first, given_then_flush state _ _ _ _ given flushed)
@@ -74,20 +75,21 @@ module _ {O : Type 0} (state : O → SinkState) where
     after = begun.after;
   }
 
-  -- ---- a position that was shown
+  -- ---- a position that was reached
 
-  module _ {game : GameStart O} {p : Position} {between new : O} (shown : IsShown state game between p) where
-    -- it is still shown after a flush
-    pub shown_flushed : WasGiven state between new [] → IsShown state game new p
-    shown_flushed flushed = go shown flushed where
-      go : {q : Position} {o : O} → IsShown state game o q → WasGiven state o new [] → IsShown state game new q
-      go (shown_at_start begun) flushed = shown_at_start (begins_flushed game game.form _ _ _ begun flushed)
-      go (shown_after_move o q h shown given) flushed = shown_after_move o q h shown (given_then_flush state _ _ _ _ given flushed)
+  module _ {game : GameStart O} {p : Position} {between new : O} (reached : IsReached state game between p) where
+    -- it is still reached after a flush
+    pub reached_after_flush : WasGiven state between new [] → IsReached state game new p
+    reached_after_flush flushed = go reached flushed where
+      go : {q : Position} {o : O} → IsReached state game o q → WasGiven state o new [] → IsReached state game new q
+      go (reached_at_start begun) flushed = reached_at_start (begins_flushed game game.form _ _ _ begun flushed)
+      go (reached_by_move o q h before given) flushed = reached_by_move o q h before (given_then_flush state _ _ _ _ given flushed)
 
-    -- the next position is shown, once its move was given
-    pub shown_next : {now : GameStart O} {form : Form} {s : Step} {q : Position} (h : ℕ) → game.form ≡ form → s ≡ step_of p h
-        → q ≡ position_after s → now ≡ game
-        → WasGiven state between new (move_text form (value_shown form (worth p)) h (step_of p h)) → IsShown state now new q
-    shown_next h written_in step_is after_move same_game given = rw (same_game, after_move, step_is)
-        (shown_after_move between p h shown
-        (subst (λ f. WasGiven state between new (move_text f (value_shown f (worth p)) h (step_of p h))) (sym written_in) given))
+    -- the next position is reached, once its move was given
+    pub next_is_reached : {now : GameStart O} {form : MoveForm} {first : Option ℕ} {value : Option ℤ} {h : ℕ} {s : Step} {q : Position}
+        → form ≡ game.form → IsNextMove game.form first p value h → s ≡ step_of p h → q ≡ position_after s → now ≡ game
+        → WasGiven state between new (move_text form value h s) → IsReached state now new q
+    next_is_reached {form} {first} {value} {h} {s} form_is next step_is after_move same_game given =
+        let text : move_text form value h s ≡ move_text game.form (printed_value game.form (worth p)) h (step_of p h) =
+        ap (λ f. move_text f value h s) form_is ∙ next_text next step_is in
+        rw (same_game, after_move, step_is) (reached_by_move between p h reached (subst (WasGiven state between new) text given))

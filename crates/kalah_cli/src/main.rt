@@ -1,47 +1,32 @@
 //! Solves small positions of Kalah. `SUBCOMMANDS` lists what can be asked.
 #![tactic(auto)]
 
-mod ask;
-#[cfg(test)]
-mod calling;
-mod command;
-mod count;
-mod failure;
-mod files;
-mod fused;
-mod game;
-mod help;
-mod line;
-mod moves;
-mod play;
-mod progress;
-mod prompt_stream;
-mod request;
+mod arguments;
+mod commands;
+mod exit;
 mod run;
-mod show;
-mod solve_files;
-mod solver;
-mod sources;
-mod status;
-mod subcommands;
-mod terminal;
-mod tips;
+mod system;
+#[cfg(test)]
+mod tests;
 
-use failure::{Failure, report_end};
-use fused::Fused;
-use prompt_stream::PromptStream;
+use exit::failure::{Failure, report_end};
+use exit::status::ExitStatus;
+use kalah_run::RunFault;
 use run::run_words;
-use status::ExitStatus;
 use std::io::{BufWriter, ErrorKind};
 use std::process::ExitCode;
 use std::{env, io};
+use system::fused::Fused;
+use system::prompt_stream::PromptStream;
 
 // Returns the arguments. The first is the program's name.
-fn words_of(rt: &HostRuntime) -> Result<Vec<String>, Failure<'static>> {
+fn arguments_of(rt: &HostRuntime) -> Result<Vec<String>, Failure<'static>> {
     match env::args(rt) {
-        Ok(words) => words.collect(rt.alloc()).or(Err(Failure::OutOfMemory)),
+        Ok(arguments) => arguments
+            .collect(rt.alloc())
+            .or(Err(Failure::Run(RunFault::OutOfMemory))),
         Err(error) => match error.kind() {
-            ErrorKind::OutOfMemory => Err(Failure::OutOfMemory),
+            ErrorKind::OutOfMemory => Err(Failure::Run(RunFault::OutOfMemory)),
             _ => Err(Failure::NotText),
         },
     }
@@ -49,15 +34,15 @@ fn words_of(rt: &HostRuntime) -> Result<Vec<String>, Failure<'static>> {
 
 fn main(rt: HostRuntime) -> ExitCode {
     let mut err = rt.stderr();
-    let ended = match words_of(&rt) {
+    let ended = match arguments_of(&rt) {
         // There is not even the program's name: it ends without a message.
-        Ok(words) if words.is_empty() => Ok(ExitStatus::Failed),
-        Ok(words) => match BufWriter::new(rt.alloc(), Fused::new(io::writer(&rt))) {
+        Ok(arguments) if arguments.is_empty() => Ok(ExitStatus::Failed),
+        Ok(arguments) => match BufWriter::new(rt.alloc(), Fused::new(io::writer(&rt))) {
             Ok(out) => {
                 let mut out = PromptStream::new(out);
-                Ok(run_words(&rt, rt.alloc(), words, &mut out, &mut err))
+                Ok(run_words(&rt, rt.alloc(), arguments, &mut out, &mut err))
             }
-            Err(_) => Err(Failure::OutOfMemory),
+            Err(_) => Err(Failure::Run(RunFault::OutOfMemory)),
         },
         Err(failure) => Err(failure),
     };

@@ -4,25 +4,26 @@ ghost use Rattle.std.specs.Io.KnownBytes.{Appends};
 ghost use Rattle.clap.specs.Values.{kind_of};
 ghost use Rattle.clap.specs.declared.error.kind.ErrorKind.TheVariants.{DisplayHelp, DisplayVersion};
 ghost use Rattle.kalah_jobs.specs.declared.files.question.Question.{Question};
-ghost use Rattle.kalah_cli.specs.Ask.{StopsBetweenLines};
-ghost use Rattle.kalah_cli.specs.Ends.{FailsWithoutOutput, IsPrinted, ended_by};
-ghost use Rattle.kalah_cli.specs.Game.{PlaysBestGames, VariationsEndWithTheirValue};
-ghost use Rattle.kalah_cli.specs.Request.{Asked, IsInRange, IsAcceptedAs, ask, request_asks, texts_of};
-ghost use Rattle.kalah_cli.specs.Runs.{Does, DoesWhatIsAsked, IsOfNoInput, MovesByItsWords, RefusesArguments, version_line};
+ghost use Rattle.kalah_cli.specs.Commands.Ask.{StopsBetweenLines};
+ghost use Rattle.kalah_cli.specs.Exit.Ends.{FailsWithoutOutput, IsPrinted, exit_status_of};
+ghost use Rattle.kalah_cli.specs.Commands.Game.{PlaysBestGames, VariationsEndWithTheirValue};
+ghost use Rattle.kalah_cli.specs.Arguments.Request.{Task, IsInRange, IsAcceptedAs, about_input, task_of, texts_of};
+ghost use Rattle.kalah_cli.specs.Runs.{Does, DoesWhatIsAsked, NeedsNoInput, MovesByItsArguments, EndsWithoutRequest, version_line};
 
-use crate::ask::run_ask;
-use crate::failure::{Failure, report_end, status_of_sink};
-use crate::help::VERSION_LINE;
-use crate::line::run_line;
-use crate::request::{Request, parse};
-use crate::solve_files::run_files;
-use crate::sources::Sources;
-use crate::status::ExitStatus;
-use crate::terminal::Terminal;
-use crate::tips::report_refused;
+use crate::arguments::help::VERSION_LINE;
+use crate::arguments::request::{Request, parse};
+use crate::commands::answer_files::run_files;
+use crate::commands::ask::run_ask;
+use crate::commands::line_command::run_line;
+use crate::exit::failure::{Failure, report_end, status_of_sink};
+use crate::exit::status::ExitStatus;
+use crate::exit::tips::report_refused;
+use crate::system::sources::Sources;
+use crate::system::terminal::Terminal;
 use clap::Error;
 use clap::error::ErrorKind;
 use kalah_jobs::{Sink, flush_unless_failed, write_unless_failed};
+use kalah_run::RunFault;
 use std::alloc::Global;
 use std::io::Write;
 use std::rt::Clock;
@@ -37,10 +38,10 @@ fn print_text<O: Sink>(text: &str, out: &mut O)
     flush_unless_failed(out);
 }
 
-// Reports a parse that made no request: help or the version on `out`, a mistake in the arguments on `err`.
-fn refuse<'a, O: Sink, E: Write>(
+// Ends a run whose arguments make no request: help or the version goes to `out`, a mistake in the arguments to `err`.
+fn end_without_request<'a, O: Sink, E: Write>(
     alloc: Global,
-    words: &'a [String],
+    arguments: &'a [String],
     error: &Error,
     on_terminal: bool,
     out: &mut O,
@@ -48,23 +49,23 @@ fn refuse<'a, O: Sink, E: Write>(
 ) -> Result<ExitStatus, Failure<'a>>
     requires { (O.state out.old).has_failed ≡ false }
     ensures mistake { kind_of error.now ≢ DisplayHelp → kind_of error.now ≢ DisplayVersion
-        → FailsWithoutOutput out.old out.new (ended_by result) }
-    ensures failed { (O.state out.new).has_failed ≡ true → ended_by result ≡ ExitStatus.Failed }
-    ensures unchanged { ended_by result ≡ ExitStatus.Failed → (O.state out.new).has_failed ≡ false → out.new ≡ out.old }
-    ensures no_line { ended_by result ≢ ExitStatus.LineFaults }
-    ensures version { kind_of error.now ≢ DisplayHelp → ended_by result ≡ ExitStatus.Clean
+        → FailsWithoutOutput out.old out.new (exit_status_of result) }
+    ensures failed { (O.state out.new).has_failed ≡ true → exit_status_of result ≡ ExitStatus.Failed }
+    ensures unchanged { exit_status_of result ≡ ExitStatus.Failed → (O.state out.new).has_failed ≡ false → out.new ≡ out.old }
+    ensures no_line { exit_status_of result ≢ ExitStatus.LineFaults }
+    ensures version { kind_of error.now ≢ DisplayHelp → exit_status_of result ≡ ExitStatus.Clean
         → Appends (O.state out.old).written (O.state out.new).written version_line }
-    ensures all_flushed { ended_by result ≢ ExitStatus.Failed → (O.state out.new).is_flushed ≡ true }
+    ensures all_flushed { exit_status_of result ≢ ExitStatus.Failed → (O.state out.new).is_flushed ≡ true }
 {
     let Ok(text) = error.to_string(alloc) else {
-        return Err(Failure::OutOfMemory);
+        return Err(Failure::Run(RunFault::OutOfMemory));
     };
     match error.kind() {
         ErrorKind::DisplayHelp => print_text(text.as_str(), out),
         ErrorKind::DisplayVersion => print_text(VERSION_LINE, out),
-        ErrorKind::OutOfMemory => return Err(Failure::OutOfMemory),
+        ErrorKind::OutOfMemory => return Err(Failure::Run(RunFault::OutOfMemory)),
         _ => {
-            report_refused(words, text.as_str(), on_terminal, err);
+            report_refused(arguments, text.as_str(), on_terminal, err);
             return Ok(ExitStatus::Failed);
         }
     }
@@ -82,22 +83,23 @@ fn run_request<'a, R: Sources + Clock + Terminal + Threads + Wait + Sync, O: Sin
 ) -> Result<ExitStatus, Failure<'a>>
     requires range { IsInRange request.now }
     requires sink { (O.state out.old).has_failed ≡ false }
-    ensures { Does O.state out.old out.new (ended_by result) (R.may_give rt.now) (request_asks request.now) }
+    ensures { Does O.state out.old out.new (exit_status_of result) (R.may_give rt.now) (task_of request.now) }
 {
     match request {
         Request::Line { line, command } => run_line(alloc, line, command, on_terminal, out, err),
-        Request::Files(files) => run_files(rt, alloc, files, out, err),
-        Request::Ask { question, table } => {
-            run_ask(
-                alloc,
-                rt.standard_input(),
-                rt.is_typed(),
-                *question,
-                *table,
-                out,
-                err,
-            )
-        }
+        Request::Files(files) => run_files(rt, alloc, files, on_terminal, out, err),
+        Request::Ask {
+            question,
+            table_entries,
+        } => run_ask(
+            alloc,
+            rt.standard_input(),
+            rt.is_typed(),
+            *question,
+            *table_entries,
+            out,
+            err,
+        ),
         Request::Conflict => Err(Failure::Conflict),
     }
 }
@@ -116,30 +118,31 @@ pub fn run_words<R: Sources + Clock + Terminal + Threads + Wait + Sync, O: Sink,
 ) -> ExitStatus
     requires sink { (O.state out.old).has_failed ≡ false }
     requires named { 0 < vec_len words }
-    // Accepted arguments, in general; those of `moves LINE` also by their words.
+    // Arguments that make a request: the program does what they ask for, or fails and writes nothing. What it does for `moves LINE` is
+    // also promised without a parse.
     ensures accepted { DoesWhatIsAsked O.state out.old out.new result (R.may_give rt.now) (texts_of words.items) }
-    ensures by_words { MovesByItsWords O.state (texts_of words.items) out.old out.new result }
-    // The game of `play` is one of best play (from the second move on, if the first is given), and a line of `show --lines` ends with
+    ensures by_arguments { MovesByItsArguments O.state (texts_of words.items) out.old out.new result }
+    // The game that `play` prints is one of best play, from the second move on if the first is given. A line of `show --lines` ends with
     // the value of its move.
     ensures best_play { PlaysBestGames }
     ensures variations { VariationsEndWithTheirValue }
-    // Arguments that are refused, as those that ask for help or for the version.
-    ensures refused { RefusesArguments O.state (texts_of words.items) out.old out.new result }
-    // If a write failed, the program failed. If it failed for another cause, nothing was written, except for answers of `ask`.
+    // Arguments that make no request: the program prints help or the version, or fails.
+    ensures no_request { EndsWithoutRequest O.state (texts_of words.items) out.old out.new result }
+    // Any arguments: if a write fails, the program fails. If it fails for another cause, it writes nothing, except for answers of `ask`.
     ensures failed { (O.state out.new).has_failed ≡ true → result ≡ ExitStatus.Failed }
-    ensures unchanged { ((a : Asked) → IsAcceptedAs (texts_of words.items) a → IsOfNoInput a) → result ≡ ExitStatus.Failed
+    ensures unchanged { ((task : Task) → IsAcceptedAs (texts_of words.items) task → NeedsNoInput task) → result ≡ ExitStatus.Failed
         → (O.state out.new).has_failed ≡ false → out.new ≡ out.old }
-    ensures stopped { (question : Question) (table : ℕ) → IsAcceptedAs (texts_of words.items) (ask question table)
+    ensures stopped { (question : Question) (table_entries : ℕ) → IsAcceptedAs (texts_of words.items) (about_input question table_entries)
         → result ≡ ExitStatus.Failed → (O.state out.new).has_failed ≡ false
         → StopsBetweenLines question (O.state out.old).written (O.state out.new).written }
-    // If it did not, all that was written is flushed.
+    // If it doesn't fail, all that it writes is flushed.
     ensures all_flushed { result ≢ ExitStatus.Failed → (O.state out.old).is_flushed ≡ true → (O.state out.new).is_flushed ≡ true }
 {
     let on_terminal = rt.shows_errors(); // Tips go only to a terminal.
     let arguments = words.as_slice();
     let ended = match parse(alloc, arguments) {
         Ok(request) => run_request(rt, alloc, &request, on_terminal, out, err),
-        Err(error) => refuse(alloc, arguments, &error, on_terminal, out, err),
+        Err(error) => end_without_request(alloc, arguments, &error, on_terminal, out, err),
     };
     report_end(ended, on_terminal, err)
 }

@@ -1,32 +1,30 @@
 -- Lines that come as a stream: what is answered of them, and how far.
-use Rattle.kalah_rules.specs.Position as position
 use Rattle.std.proofs.Common.{◌≡◌, ◌≢◌, ◌∙◌, ℕ, zero, suc, ◌+◌, ◌≤◌, Bool, true, false, List, [], ◌∷◌, ◌++◌, length, take, inl, inr, refl, sym, ap, ap₂, arith, append-nil, append_assoc, Err, not, ◌||◌, ◌&&◌, subst, length-take-le, take_all, Result, Ok, Option, IsErrOf}
-use Rattle.std.specs.List.{flat_map, enumerate_from}
-use Rattle.std.proofs.lemmas.Bool.{cases_lt, cond_both}
+use Rattle.std.proofs.KnownBytes.{Appends-kept, Appends-nil, Appends-trans, Consumes-kept, Consumes-nil, Consumes-trans, Consumes-whole, Keeps-refl}
 use Rattle.std.proofs.Math.Bool.{and-true}
+use Rattle.std.proofs.lemmas.Bool.{cases_lt, cond_both}
 use Rattle.std.proofs.lemmas.Grind.{flat_map-append}
+use Rattle.std.proofs.lemmas.List.Elements.{All-nil, All-push}
 use Rattle.std.proofs.lemmas.List.Folds.{list_any-append}
+use Rattle.std.specs.Io.KnownBytes.{Appends, Consumes, IsAtEnd, Keeps}
+use Rattle.std.specs.List.{flat_map, enumerate_from}
+use Rattle.kalah_rules.specs.Position as position
 use Rattle.kalah_rules.specs.Position.{is_over}
-use Rattle.kalah_jobs.specs.Types.{AskFault, Question, LineFault}
-use Rattle.kalah_jobs.specs.declared.files.question.Question.TheVariants.{BestMove, Values, Steps}
-use Rattle.kalah_jobs.specs.declared.asking.ask_fault.AskFault.TheVariants.{Read, Write}
-use Rattle.kalah_jobs.specs.Asking.{kept_bytes, reply, last_reply, is_last_read, answers_to, are_all_read, AnswersAreThoseOfAFile, AnswersLines, AreAnswered, Asking, IsAnswered, IsBegun, IsCutOff}
-use Rattle.kalah_jobs.specs.Files.Entry.{entry_of_reading, entry_to}
-use Rattle.kalah_jobs.specs.declared.files.entry.Entry.TheVariants.{Bad}
-use Rattle.kalah_jobs.specs.Files.Lines.{line_feed, lines_of, HasNoLineFeed}
+use Rattle.kalah_jobs.specs.Asking.{kept_bytes, reply, last_reply, is_last_read, answers_to, are_all_read, AnswersAreThoseOfAFile, AnswersLines, AreAnswered, IsAnswered, IsBegun, IsCutOff, LeavesBy, StreamStart}
+use Rattle.kalah_jobs.specs.Files.Entry.{entry_of_reading, entry_to, is_faulty, is_faulty_entry}
+use Rattle.kalah_jobs.specs.Files.Lines.{line_feed, lines_of, EndsWithItsLine, HasNoLineFeed}
 use Rattle.kalah_jobs.specs.Line.Line.{without_cr}
 use Rattle.kalah_jobs.specs.Line.Reading.{reading_of}
-use Rattle.kalah_jobs.specs.declared.line.line_fault.LineFault.TheVariants.{Long}
-use Rattle.kalah_jobs.specs.Writing.Answer.{answer_of, joined_text, is_fault, place_text, IsOfOneLine}
-use Rattle.kalah_jobs.specs.Writing.Output.{is_faulty, line_output}
-use Rattle.kalah_jobs.specs.Writing.Splitting.{EndsWithItsLine}
-use Rattle.std.specs.Io.KnownBytes.{Appends, Consumes, IsAtEnd, Keeps}
-use Rattle.std.proofs.KnownBytes.{Appends-kept, Appends-nil, Appends-trans, Consumes-kept, Consumes-nil, Consumes-trans, Consumes-whole, Keeps-refl}
-use Rattle.std.proofs.lemmas.List.Elements.{All-nil, All-push}
+use Rattle.kalah_jobs.specs.Types.{AskFault, Question, LineFault, Read, Write, Long}
+use Rattle.kalah_jobs.specs.Writing.Answer.{answer_of, joined_text, place_text, HasOneText}
+use Rattle.kalah_jobs.specs.Writing.Output.{line_output}
 use Rattle.kalah_jobs.specs.Writing.Sink.{AppendsPrefix, SinkState}
-use Rattle.kalah_jobs.proofs.FilesLemmas.{IsNoFeed, lines_of-ended, lines_of-open, lines_of-empty}
-use Rattle.kalah_jobs.proofs.WritingLemmas.{files_split_between_lines, one_line_parts}
+use Rattle.kalah_jobs.specs.declared.files.entry.Entry.TheVariants.{Bad}
+use Rattle.kalah_jobs.specs.declared.files.question.Question.TheVariants.{BestMove, Values, Steps}
+use Rattle.kalah_jobs.proofs.FileLinesLemmas.{IsNoFeed, lines_of-ended, lines_of-open, lines_of-empty}
 use Rattle.kalah_jobs.proofs.LineLemmas.{long_is_read}
+use Rattle.kalah_jobs.proofs.TextLemmas.{one_line_parts}
+use Rattle.kalah_jobs.proofs.WritingLemmas.{files_split_between_lines}
 
 -- ==== What is answered, line by line
 
@@ -110,7 +108,7 @@ kept_reply question line = ap (λ entry. joined_text (answer_of entry) ++ line_f
 
 -- they are answered by a fault if and only if the line is
 kept_faulty : (line : List ℕ) → is_faulty (take kept_bytes line) ≡ is_faulty line
-kept_faulty line = ap (λ entry. is_fault (answer_of entry)) (kept_bytes_have_the_entry BestMove line)
+kept_faulty line = ap is_faulty_entry (kept_bytes_have_the_entry BestMove line)
 
 -- of the first n bytes and one more the first n are those of all and one more
 take_more_kept : (n : ℕ) (line : List ℕ) (byte : ℕ) → take n (take n line ++ byte ∷ []) ≡ take n (line ++ byte ∷ [])
@@ -135,36 +133,32 @@ last_read lines (byte ∷ piece) ends none =
 
 -- ---- the law
 
--- where no steps are asked an answer is of one line
-one_line_read : (question : Question) → question ≢ Steps → (r : Result position.Position LineFault)
-    → IsOfOneLine (answer_of (entry_of_reading question r))
+-- if no steps are asked, an answer is of one line
+answer_is_of_one_line : (question : Question) → question ≢ Steps → (r : Result position.Position LineFault)
+    → HasOneText (answer_of (entry_of_reading question r))
 unfolding answer_of
-one_line_read BestMove other (Ok p) = cond_both (is_over p) _ _ IsOfOneLine (λ _. tt) (λ _. tt)
-one_line_read BestMove other (Err fault) = tt
-one_line_read Values other (Ok p) = cond_both (is_over p) _ _ IsOfOneLine (λ _. tt) (λ _. tt)
-one_line_read Values other (Err fault) = tt
-one_line_read Steps other r = absurd (other refl)
+answer_is_of_one_line BestMove other (Ok p) = cond_both (is_over p) _ _ HasOneText (λ _. tt) (λ _. tt)
+answer_is_of_one_line BestMove other (Err fault) = tt
+answer_is_of_one_line Values other (Ok p) = cond_both (is_over p) _ _ HasOneText (λ _. tt) (λ _. tt)
+answer_is_of_one_line Values other (Err fault) = tt
+answer_is_of_one_line Steps other r = absurd (other refl)
 
--- where no steps are asked an answer line is the place, and then the answer
-line_parts : (question : Question) → question ≢ Steps → (name : List ℕ) (number : ℕ) (line : List ℕ)
+-- then an answer line is the place and the answer
+line_output_parts : (question : Question) → question ≢ Steps → (name : List ℕ) (number : ℕ) (line : List ℕ)
     → line_output question name (number, line) ≡ place_text name number ++ reply question line
 unfolding entry_to
-line_parts question other name number line =
+line_output_parts question other name number line =
     let answer = answer_of (entry_to question line) in
-    ap (◌++ (line_feed ∷ [])) (one_line_parts name number answer (one_line_read question other (reading_of line)))
+    ap (◌++ (line_feed ∷ [])) (one_line_parts name number answer (answer_is_of_one_line question other (reading_of line)))
     ∙ append_assoc (place_text name number) (joined_text answer) (line_feed ∷ [])
 
--- so is each answer line of a file
-lines_parts : (question : Question) → question ≢ Steps → (name : List ℕ) (number : ℕ) (lines : List (List ℕ))
-    → flat_map (line_output question name) (enumerate_from number lines) ≡ flat_map (λ p. place_text name p.0 ++ reply question p.1)
-    (enumerate_from number lines)
-lines_parts question other name number lines = λ i. flat_map (λ p. line_parts question other name p.0 p.1 i) (enumerate_from number lines)
-
+-- a stream is answered as a file with its bytes is
 pub answers_are_those_of_a_file : AnswersAreThoseOfAFile
 answers_are_those_of_a_file = record {
-  lines = line_parts;
+  lines = line_output_parts;
   file = λ question other file.
-      files_split_between_lines.whole question file ∙ lines_parts question other file.name 0 (lines_of file.bytes);
+      files_split_between_lines.whole question file
+      ∙ (λ i. flat_map (λ p. line_output_parts question other file.name p.0 p.1 i) (enumerate_from 0 (lines_of file.bytes)));
   texts = λ question line. refl;
   placed = λ question name number line. refl;
   parts = answers_split;
@@ -198,49 +192,50 @@ nothing_read question before old line empty = record {
   status = refl;
 }
 
--- what is underway goes on, or ends
+-- what happens next, once lines are answered so far
 module _ {question : Question} {before now old new : Option (List ℕ)} {line : List ℕ} {all_read : Bool}
-    (u : IsAnsweredSoFar question before now old new line all_read) where
+    (so_far : IsAnsweredSoFar question before now old new line all_read) where
   -- what was written is kept
-  answers_kept : (kept : Option (List ℕ)) → Keeps new kept → Appends old kept (answers_to question u.lines)
-  answers_kept kept keeps = Appends-kept old new kept (answers_to question u.lines) u.written keeps
+  answers_kept : (kept : Option (List ℕ)) → Keeps new kept → Appends old kept (answers_to question so_far.lines)
+  answers_kept kept keeps = Appends-kept old new kept (answers_to question so_far.lines) so_far.written keeps
 
   -- what was written is kept, and more is written
   more_written : (kept more : Option (List ℕ)) (bytes : List ℕ) → Keeps new kept → Appends kept more bytes
-      → Appends old more (answers_to question u.lines ++ bytes)
+      → Appends old more (answers_to question so_far.lines ++ bytes)
   more_written kept more bytes keeps appends =
-      Appends-trans old kept more (answers_to question u.lines) bytes (answers_kept kept keeps) appends
+      Appends-trans old kept more (answers_to question so_far.lines) bytes (answers_kept kept keeps) appends
 
   -- more bytes are taken after those of the lines and of the part
-  more_taken : (next : Option (List ℕ)) (bytes : List ℕ) → Consumes now next bytes → Consumes before next (u.lines ++ (u.part ++ bytes))
+  more_taken : (next : Option (List ℕ)) (bytes : List ℕ) → Consumes now next bytes
+      → Consumes before next (so_far.lines ++ (so_far.part ++ bytes))
   more_taken next bytes taken =
-      subst (Consumes before next) (append_assoc u.lines u.part bytes)
-      (Consumes-trans _ _ _ (u.lines ++ u.part) bytes u.taken taken)
+      subst (Consumes before next) (append_assoc so_far.lines so_far.part bytes)
+      (Consumes-trans _ _ _ (so_far.lines ++ so_far.part) bytes so_far.taken taken)
 
   -- at the end the bytes of the lines and of the part are all
-  all_taken : (next : Option (List ℕ)) → Consumes now next [] → Consumes before next (u.lines ++ u.part)
-  all_taken next end = subst (λ l. Consumes before next (u.lines ++ l)) (append-nil u.part) (more_taken _ _ end)
+  all_taken : (next : Option (List ℕ)) → Consumes now next [] → Consumes before next (so_far.lines ++ so_far.part)
+  all_taken next end = subst (λ l. Consumes before next (so_far.lines ++ l)) (append-nil so_far.part) (more_taken _ _ end)
 
   -- what was kept of the line is answered as the whole of it
-  reply_whole : reply question line ≡ reply question u.part
-  reply_whole = ap (reply question) u.kept ∙ kept_reply question u.part
+  reply_whole : reply question line ≡ reply question so_far.part
+  reply_whole = ap (reply question) so_far.kept ∙ kept_reply question so_far.part
 
   -- what was kept of what stands after the last line feed is answered as its lines
-  reply_part : last_reply question line ≡ answers_to question u.part
-  reply_part = ap (last_reply question) u.kept ∙ sym (last_reply_is question u.part u.unended)
+  reply_part : last_reply question line ≡ answers_to question so_far.part
+  reply_part = ap (last_reply question) so_far.kept ∙ sym (last_reply_is question so_far.part so_far.unended)
 
   -- a byte more was read, which ends no line
   pub byte_read : {next kept : Option (List ℕ)} (byte : ℕ) → byte ≢ line_feed → Consumes now next (byte ∷ []) → Keeps new kept
       → IsAnsweredSoFar question before next old kept (take kept_bytes (line ++ byte ∷ [])) all_read
   byte_read {next} {kept} byte other taken keeps = record {
-    lines = u.lines;
-    part = u.part ++ byte ∷ [];
-    ended = u.ended;
-    unended = All-push IsNoFeed u.part byte u.unended other;
-    kept = ap (λ l. take kept_bytes (l ++ byte ∷ [])) u.kept ∙ take_more_kept kept_bytes u.part byte;
+    lines = so_far.lines;
+    part = so_far.part ++ byte ∷ [];
+    ended = so_far.ended;
+    unended = All-push IsNoFeed so_far.part byte so_far.unended other;
+    kept = ap (λ l. take kept_bytes (l ++ byte ∷ [])) so_far.kept ∙ take_more_kept kept_bytes so_far.part byte;
     taken = more_taken _ _ taken;
     written = answers_kept kept keeps;
-    status = u.status;
+    status = so_far.status;
   }
 
   -- a line feed was read, and the line that it ends was answered
@@ -248,54 +243,54 @@ module _ {question : Question} {before now old new : Option (List ℕ)} {line : 
       → Keeps new kept → Appends kept more (reply question line) → is_read ≡ not (is_faulty line)
       → IsAnsweredSoFar question before next old more [] (all_read && is_read)
   line_read {next} {more} {is_read} kept fed keeps answered read =
-      let whole : List ℕ = u.part ++ line_feed ∷ [] in
-      let one = feed_ends_one_line u.part u.unended in
+      let whole : List ℕ = so_far.part ++ line_feed ∷ [] in
+      let one = feed_ends_one_line so_far.part so_far.unended in
       record {
-        lines = u.lines ++ whole;
+        lines = so_far.lines ++ whole;
         part = [];
-        ended = inr (u.lines ++ u.part, sym (append_assoc u.lines u.part (line_feed ∷ [])));
+        ended = inr (so_far.lines ++ so_far.part, sym (append_assoc so_far.lines so_far.part (line_feed ∷ [])));
         unended = All-nil IsNoFeed;
         kept = refl;
-        taken = subst (Consumes before next) (sym (append-nil (u.lines ++ whole))) (more_taken _ _ fed);
+        taken = subst (Consumes before next) (sym (append-nil (so_far.lines ++ whole))) (more_taken _ _ fed);
         written = subst (Appends old more)
-            (ap (answers_to question u.lines ++◌) reply_whole
-            ∙ sym (answers_to_more question u.lines whole u.part u.ended one))
+            (ap (answers_to question so_far.lines ++◌) reply_whole
+            ∙ sym (answers_to_more question so_far.lines whole so_far.part so_far.ended one))
             (more_written _ _ _ keeps answered);
-        status = ap₂ (λ a b. a && b) u.status (read ∙ ap (λ l. not (is_faulty l)) u.kept ∙ ap not (kept_faulty u.part))
-            ∙ sym (all_read_more u.lines whole u.part u.ended one);
+        status = ap₂ (λ a b. a && b) so_far.status (read ∙ ap (λ l. not (is_faulty l)) so_far.kept ∙ ap not (kept_faulty so_far.part))
+            ∙ sym (all_read_more so_far.lines whole so_far.part so_far.ended one);
       }
 
   -- a read failed
   pub cut_off : {next kept : Option (List ℕ)} → Keeps now next → Keeps new kept → IsCutOff question before next old kept
   cut_off {next} {kept} left keeps = record {
-    lines = u.lines;
-    part = u.part;
-    ended = u.ended;
-    unended = u.unended;
-    taken = Consumes-kept _ _ _ (u.lines ++ u.part) u.taken left;
+    lines = so_far.lines;
+    part = so_far.part;
+    ended = so_far.ended;
+    unended = so_far.unended;
+    taken = Consumes-kept _ _ _ (so_far.lines ++ so_far.part) so_far.taken left;
     written = answers_kept kept keeps;
   }
 
   -- nothing more was read or written
   pub begun_so_far : {next kept : Option (List ℕ)} → Keeps now next → Keeps new kept → IsBegun question before next old kept
   begun_so_far {next} {kept} left keeps = record {
-    lines = u.lines;
-    last = u.part;
-    ended = u.ended;
-    one = one_line u.part u.unended;
-    taken = Consumes-kept _ _ _ (u.lines ++ u.part) u.taken left;
+    lines = so_far.lines;
+    last = so_far.part;
+    ended = so_far.ended;
+    one = one_line so_far.part so_far.unended;
+    taken = Consumes-kept _ _ _ (so_far.lines ++ so_far.part) so_far.taken left;
     count = 0;
-    written = subst (Appends old kept) (sym (append-nil (answers_to question u.lines))) (answers_kept kept keeps);
+    written = subst (Appends old kept) (sym (append-nil (answers_to question so_far.lines))) (answers_kept kept keeps);
   }
 
   -- as much was read as makes one line at most, and its answer was begun
   begun : {next more : Option (List ℕ)} (kept : Option (List ℕ)) (last answer : List ℕ) → length (lines_of last) ≤ 1
-      → Consumes before next (u.lines ++ last) → answer ≡ answers_to question last → Keeps new kept
+      → Consumes before next (so_far.lines ++ last) → answer ≡ answers_to question last → Keeps new kept
       → AppendsPrefix kept more answer → IsBegun question before next old more
   begun {next} {more} kept last answer one taken answer_is keeps start = record {
-    lines = u.lines;
+    lines = so_far.lines;
     last = last;
-    ended = u.ended;
+    ended = so_far.ended;
     one = one;
     taken = taken;
     count = start.0;
@@ -307,35 +302,43 @@ module _ {question : Question} {before now old new : Option (List ℕ)} {line : 
   pub begun_line : {next more : Option (List ℕ)} (kept : Option (List ℕ)) → Consumes now next (line_feed ∷ []) → Keeps new kept
       → AppendsPrefix kept more (reply question line) → IsBegun question before next old more
   begun_line {next} kept end =
-      let one = feed_ends_one_line u.part u.unended in
-      begun kept (u.part ++ line_feed ∷ []) (reply question line) (rw one (omega arith)) (more_taken _ _ end)
-      (reply_whole ∙ sym (answers_to_one question (u.part ++ line_feed ∷ []) u.part one))
+      let one = feed_ends_one_line so_far.part so_far.unended in
+      begun kept (so_far.part ++ line_feed ∷ []) (reply question line) (rw one (omega arith)) (more_taken _ _ end)
+      (reply_whole ∙ sym (answers_to_one question (so_far.part ++ line_feed ∷ []) so_far.part one))
 
-  -- of what stands after the last line feed, where nothing is left
+  -- of what stands after the last line feed, if nothing is left
   pub begun_last : {next more : Option (List ℕ)} (kept : Option (List ℕ)) → Consumes now next [] → Keeps new kept
       → AppendsPrefix kept more (last_reply question line) → IsBegun question before next old more
-  begun_last {next} kept end = begun kept u.part (last_reply question line) (one_line u.part u.unended) (all_taken next end) reply_part
+  begun_last {next} kept end =
+      begun kept so_far.part (last_reply question line) (one_line so_far.part so_far.unended) (all_taken next end) reply_part
 
-  -- of all that was read, where the whole was written
-  pub all_answered : {next more : Option (List ℕ)} {is_read : Bool} (kept : Option (List ℕ)) → Consumes now next [] → IsAtEnd now
+  -- of all that was read, if the whole was written
+  all_answered : {next more : Option (List ℕ)} {is_read : Bool} (kept : Option (List ℕ)) → Consumes now next [] → IsAtEnd now
       → Keeps new kept → Appends kept more (last_reply question line) → is_read ≡ is_last_read line
       → IsAnswered question before next old more (all_read && is_read)
   all_answered {next} {more} {is_read} kept end at_end keeps answered read = record {
-    read = u.lines ++ u.part;
+    read = so_far.lines ++ so_far.part;
     taken = all_taken next end;
-    all = Consumes-whole before now (u.lines ++ u.part) (λ bytes. u.lines ++ u.part ≡ bytes) u.taken at_end refl;
-    written = subst (Appends old more) (sym (answers_split question u.lines u.part u.ended))
+    all = Consumes-whole before now (so_far.lines ++ so_far.part) (λ bytes. so_far.lines ++ so_far.part ≡ bytes) so_far.taken at_end refl;
+    written = subst (Appends old more) (sym (answers_split question so_far.lines so_far.part so_far.ended))
         (more_written _ _ _ keeps (subst (Appends kept more) reply_part answered));
-    status = ap₂ (λ a b. a && b) u.status (read ∙ ap is_last_read u.kept) ∙ sym (last_read u.lines u.part u.ended u.unended);
+    status = ap₂ (λ a b. a && b) so_far.status (read ∙ ap is_last_read so_far.kept)
+        ∙ sym (last_read so_far.lines so_far.part so_far.ended so_far.unended);
   }
 
--- a failed write is no failed read
-pub no_read_failed : {result : Result Bool AskFault} → result ≡ Err Write → IsErrOf result Read → ⊥
-no_read_failed is failed = cc
-
--- an answer is no failure
-pub no_failure : {all_read : Bool} {fault : AskFault} → IsErrOf (Ok all_read) fault → ⊥
-no_failure failed = cc
+-- what holds if all was read, answered and flushed
+pub reading_done : {question : Question} {before now next new : Option (List ℕ)} {old out : SinkState} {line : List ℕ}
+    {all_read is_read : Bool} (kept : Option (List ℕ)) → IsAnsweredSoFar question before now old.written new line all_read
+    → Consumes now next [] → IsAtEnd now → Keeps new kept → AppendsPrefix kept out.written (last_reply question line)
+    → Appends kept out.written (last_reply question line) → is_read ≡ is_last_read line → out.has_failed ≡ false → out.is_flushed ≡ true
+    → AnswersLines question before next old out (Ok (all_read && is_read))
+reading_done kept so_far end at_end keeps start written read sound flushed = record {
+  answered = all_answered so_far kept end at_end keeps written read;
+  cut_off = λ failed. absurd (cc failed);
+  begins = begun_last so_far kept end keeps start;
+  failed = (λ failed. absurd (cc (sound, failed)), λ failed. absurd (cc failed));
+  all_flushed = λ _. flushed;
+}
 
 -- what holds if a write failed
 pub write_failed : {question : Question} {before after : Option (List ℕ)} {old new : SinkState} → new.has_failed ≡ true
@@ -348,13 +351,26 @@ write_failed has_failed begins = record {
   all_flushed = λ sound. absurd cc;
 }
 
+-- what holds if this fault ended the reading
+pub reading_ended : {question : Question} {before now next new : Option (List ℕ)} {old out : SinkState} {line : List ℕ} {all_read : Bool}
+    (budget : ℕ) (fault : AskFault) → IsAnsweredSoFar question before now old.written new line all_read → Keeps now next
+    → Keeps new out.written → LeavesBy fault out budget → AnswersLines question before next old out (Err fault)
+reading_ended budget Read so_far left keeps leaves = record {
+  answered = tt;
+  cut_off = λ _. cut_off so_far left keeps;
+  begins = begun_so_far so_far left keeps;
+  failed = (λ failed. absurd (cc (leaves.0, failed)), λ failed. absurd (cc failed));
+  all_flushed = λ _. leaves.1;
+}
+reading_ended budget Write so_far left keeps leaves = write_failed leaves (begun_so_far so_far left keeps)
+
 -- what holds of the bytes that a prompt reader has left holds of those that its reader has left
 pub of_reader : {question : Question} {first last before after : Option (List ℕ)} {old new : SinkState} {result : Result Bool AskFault}
     → first ≡ before → last ≡ after → AnswersLines question first last old new result → AnswersLines question before after old new result
 of_reader first_is last_is holds = rw (sym first_is, sym last_is) holds
 
 -- while lines are underway, all whole lines are answered
-pub answered_so_far : {asking : Asking} {question : Question} {before now old new : Option (List ℕ)} {line : List ℕ} {all_read : Bool}
-    → asking ≡ record { question = question; before = before; old = old } → IsAnsweredSoFar question before now old new line all_read
-    → AreAnswered asking now new
-answered_so_far {now = now} {new = new} asking_is u = rw asking_is (cut_off u (Keeps-refl now) (Keeps-refl new))
+pub answered_so_far : {start : StreamStart} {question : Question} {before now old new : Option (List ℕ)} {line : List ℕ} {all_read : Bool}
+    → start ≡ record { question = question; before = before; old = old } → IsAnsweredSoFar question before now old new line all_read
+    → AreAnswered start now new
+answered_so_far {now = now} {new = new} start_is so_far = rw start_is (cut_off so_far (Keeps-refl now) (Keeps-refl new))

@@ -1,24 +1,24 @@
 -- The collector: how far each file has come, and what any list of offers and takes makes of it.
-use Rattle.std.proofs.Common.{◌≡◌, ℕ, zero, suc, ◌+◌, ◌<◌, ◌≤◌, List, [], ◌∷◌, length, set, get_or, replicate, true, false, refl, arith, ap, eq-eqb, ◌≢◌, inl, inr, cond, ◌++◌, map, ◌∙◌, sym, ne_eqb, subst, length-set, get_or-set_other, get_or-set_same, take, Option, Some, None, is_some, IsSome, Contains, Result, Ok, Err, IsOk}
+use Rattle.std.proofs.Common.{◌≡◌, ℕ, zero, suc, ◌+◌, ◌<◌, ◌≤◌, List, [], ◌∷◌, length, set, get_or, replicate, true, false, refl, arith, ap, eq-eqb, ◌≢◌, inl, inr, cond, ◌++◌, map, ◌∙◌, sym, ne_eqb, length-set, get_or-set_other, get_or-set_same, take, Option, Some, None, is_some, IsSome, Contains, Result, Ok, Err, IsOk}
 use Rattle.std.proofs.lemmas.Bool.{cases_eq}
-use Rattle.kalah_jobs.specs.Types.{Answer, Job, Entry, Refusal, Taken}
-use Rattle.kalah_jobs.specs.Collecting.CollectorState.{front_of, ArrivalsState, no_file, state_of, line_count, arrived_for, HasLinesOf, with_answer, with_one_taken, after_offer, after_take, new_files, front, IsNext, HasEnded}
-use Rattle.std.specs.List.{enumerate_from}
-use Rattle.std.proofs.lemmas.List.Sums.{sum_by-append}
-use Rattle.std.proofs.lemmas.List.Elements.{Contains-append_left, Contains-push, Contains-push_cases}
-use Rattle.std.proofs.lemmas.List.{length-map, get_or_default, length-replicate, get_or-replicate, get_or_past, append-nil, append_assoc, take_all, take_more, get_or-map}
 use Rattle.std.proofs.lemmas.Bool.Decides.{nat_tests}
-use Rattle.std.proofs.lemmas.Option.{slice_get_within, get_or_from_slice_get, slice_get-get_or}
-use Rattle.kalah_jobs.specs.Writing.Answer.{answer_of}
-use Rattle.kalah_jobs.specs.Files.JobList.{entries_of, entry_at, line_job, no_job}
-use Rattle.kalah_jobs.specs.Collecting.Refusals.{IsWanted, IsRefusedFor, AnswersInOneWay}
-use Rattle.kalah_jobs.specs.Collecting.Held.{IsOffered, HoldsOffered, AreInStep}
+use Rattle.std.proofs.lemmas.List.{length-map, get_or_default, length-replicate, get_or-replicate, get_or_past, append-nil, append_assoc, take_all, take_more, get_or-map}
+use Rattle.std.proofs.lemmas.List.Elements.{Contains-append_left, Contains-push, Contains-push_cases}
 use Rattle.std.proofs.lemmas.List.FromFn.{length-enumerate_from, get_or-enumerate_from}
+use Rattle.std.proofs.lemmas.List.Sums.{sum_by-append}
+use Rattle.std.proofs.lemmas.Option.{slice_get_within, get_or_from_slice_get, slice_get-get_or}
+use Rattle.std.specs.List.{enumerate_from}
+use Rattle.kalah_jobs.specs.Collecting.AnyOrder.{AreJobsInSomeOrder, AcceptsEachJob, MakesEveryLineReady}
 use Rattle.kalah_jobs.specs.Collecting.CollectorEvents.{Event, Offered, Took, Offers, Gives, offered_in, taken_in, with_taken, HasArrived, answered_line, answered_lines}
 use Rattle.kalah_jobs.specs.Collecting.CollectorLaw.{Runs, KeepsItsLaw}
-use Rattle.kalah_jobs.specs.Collecting.AnyOrder.{AreJobsInSomeOrder, AcceptsEachJob, MakesEveryLineReady}
-use Rattle.kalah_jobs.proofs.ListLemmas.{count_by-cons, some_value}
+use Rattle.kalah_jobs.specs.Collecting.CollectorState.{front_of, ArrivalsState, no_file, state_of, line_count, arrived_for, HasLinesOf, with_answer, with_one_taken, after_offer, after_take, new_files, front, IsNext, HasEnded}
+use Rattle.kalah_jobs.specs.Collecting.Held.{IsOffered, HoldsOffered, AreInStep}
+use Rattle.kalah_jobs.specs.Collecting.Refusals.{IsWanted, IsRefusedFor, AnswersInOneWay}
+use Rattle.kalah_jobs.specs.Files.JobList.{entries_of, entry_at, line_job, no_job}
+use Rattle.kalah_jobs.specs.Types.{Answer, Job, Entry, Refusal, Taken}
+use Rattle.kalah_jobs.specs.Writing.Answer.{answer_of}
 use Rattle.kalah_jobs.proofs.CountingLemmas.{same_job, same_entry_itself, times_offered, contains_from_times, times_from_contains, hits, hit, times_in_jobs}
+use Rattle.kalah_jobs.proofs.ListLemmas.{count_by-cons, some_value}
 
 -- ==== How many of the first lines of a file have come without a gap
 
@@ -29,10 +29,10 @@ front_within (None ∷ xs) = omega arith
 front_within (Some a ∷ xs) = omega (arith, front_within xs)
 
 -- each line below the front has come
-pub front_came : (xs : List (Option Answer)) (k : ℕ) (d : Option Answer) → k < front_of xs → is_some (get_or xs k d) ≡ true
-front_came (Some a ∷ xs) zero d low = refl
-front_came (Some a ∷ xs) (suc k) d low = front_came xs k d (omega arith)
-front_came xs k d low = absurd (omega arith)
+pub front_arrived : (xs : List (Option Answer)) (k : ℕ) (d : Option Answer) → k < front_of xs → is_some (get_or xs k d) ≡ true
+front_arrived (Some a ∷ xs) zero d low = refl
+front_arrived (Some a ∷ xs) (suc k) d low = front_arrived xs k d (omega arith)
+front_arrived xs k d low = absurd (omega arith)
 
 -- the front does not pass a gap
 pub front_stops : (xs : List (Option Answer)) (k : ℕ) → is_some (get_or xs k None) ≡ false → front_of xs ≤ k
@@ -56,7 +56,7 @@ front_set (None ∷ xs) k a = omega arith
 front_set (Some b ∷ xs) zero a = omega arith
 front_set (Some b ∷ xs) (suc k) a = omega (arith, front_set xs k a)
 
--- if nothing came, the front is at the first line
+-- if nothing has arrived, the front is at the first line
 pub front_none : (n : ℕ) → front_of (replicate n None) ≡ 0
 front_none zero = refl
 front_none (suc n) = refl
@@ -66,7 +66,7 @@ front_least : (xs : List (Option Answer)) (m : ℕ) → ((k : ℕ) → k < m →
 front_least xs m all = grind (arith, front_more xs (front_of xs), all (front_of xs))
 
 -- the lemmas for accepting and for taking an answer
-pub ruleset fronts = (front_within, front_came, front_more, front_set)
+pub ruleset fronts = (front_within, front_arrived, front_more, front_set)
 
 -- ==== Each offer and each take keeps the state that the offers determine
 
@@ -123,7 +123,7 @@ counts_set [] f s same = refl
 counts_set (x ∷ files) zero s same = ap (◌∷ map line_count files) same
 counts_set (x ∷ files) (suc f) s same = ap (line_count x ∷◌) (counts_set files f s same)
 
--- ---- what came
+-- ---- what has arrived
 
 -- what was offered is offered with one offer more
 still_offered : {jobs : List (List Entry)} {past : List Job} {f k : ℕ} {a : Answer} (o : Job) → IsOffered jobs past f k a
@@ -139,7 +139,7 @@ still_offered {jobs} {past} {f} {k} o old = record {
 file_there : (files : List ArrivalsState) (f k : ℕ) → k < line_count (state_of files f) → f < length files
 file_there files f k low = grind (arith, get_or_past files f no_file)
 
--- what came before an offer or a take
+-- what had arrived before an offer or a take
 module _ {jobs : List (List Entry)} {past : List Job} {files : List ArrivalsState} (holds : HoldsOffered jobs past files) where
   -- an accepted offer keeps what holds
   holds_accepted : (o : Job) → IsWanted jobs files o
@@ -149,54 +149,55 @@ module _ {jobs : List (List Entry)} {past : List Job} {files : List ArrivalsStat
       record {
         counts = counts_set files o.file (with_answer (state_of files o.file) o.line a)
             (length-set (state_of files o.file).arrived o.line (Some a)) ∙ holds.counts;
-        came = each_line files o a wanted.file_there wanted.line_there
+        arrived = each_line files o a wanted.file_there wanted.line_there
             (λ f k now. (e : Entry) → entry_at jobs f k ≡ Some e → Contains (past ++ o ∷ []) (line_job f k e)
             → now ≡ Some (answer_of e))
             (λ e entry_is offered. cc (wanted.entry_is, entry_is))
-            (λ f k apart e entry_is offered. grind (arith, apart, Contains-push_cases past o (line_job f k e) offered, holds.came f k e entry_is));
+            (λ f k apart e entry_is offered.
+            grind (arith, apart, Contains-push_cases past o (line_job f k e) offered, holds.arrived f k e entry_is));
         only = each_line files o a wanted.file_there wanted.line_there
             (λ f k now. (b : Answer) → now ≡ Some b → IsOffered jobs (past ++ o ∷ []) f k b)
             (λ b same. record { entry = o.entry; entry_is = wanted.entry_is; answer_is = cc; offered = Contains-push past o })
-            (λ f k apart b came. still_offered o (holds.only f k b came));
+            (λ f k apart b arrived. still_offered o (holds.only f k b arrived));
       }
 
   -- if a line is offered with its entry and refused, it had come before
-  refused_came : (f k : ℕ) (e : Entry) (r : Refusal) → entry_at jobs f k ≡ Some e → IsRefusedFor jobs files (line_job f k e) r
+  refused_had_arrived : (f k : ℕ) (e : Entry) (r : Refusal) → entry_at jobs f k ≡ Some e → IsRefusedFor jobs files (line_job f k e) r
       → IsSome (arrived_for (state_of files f) k)
-  refused_came f k e r entry_is refused =
+  refused_had_arrived f k e r entry_is refused =
       grind (
         arith,
         lines_are jobs files holds.counts f,
         slice_get_within (entries_of jobs f) k e entry_is,
         file_there files f k,
-        front_came (state_of files f).arrived k None,
+        front_arrived (state_of files f).arrived k None,
       )
 
   -- a refused offer changes nothing, and what holds stays true with one more offer
   holds_refused : (o : Job) (r : Refusal) → IsRefusedFor jobs files o r → HoldsOffered jobs (past ++ o ∷ []) files
   holds_refused o r refused = record {
     counts = holds.counts;
-    came = λ f k e entry_is offered. elim (Contains-push_cases past o (line_job f k e) offered) [
-      | inl old ↦ holds.came f k e entry_is old
+    arrived = λ f k e entry_is offered. elim (Contains-push_cases past o (line_job f k e) offered) [
+      | inl old ↦ holds.arrived f k e entry_is old
       | inr new ↦
-          let came = refused_came f k e r entry_is (rw new at refused) in
-          let answer = some_value (arrived_for (state_of files f) k) came in
+          let arrived = refused_had_arrived f k e r entry_is (rw new at refused) in
+          let answer = some_value (arrived_for (state_of files f) k) arrived in
           let offer = holds.only f k answer.0 answer.1 in
           cc (answer.1, offer.answer_is, offer.entry_is, entry_is)
     ];
-    only = λ f k a came. still_offered o (holds.only f k a came);
+    only = λ f k a arrived. still_offered o (holds.only f k a arrived);
   }
 
-  -- a take changes nothing of what came, so what holds stays true
+  -- a take changes nothing of what has arrived, so what holds stays true
   holds_take : (f : ℕ) → f < length files → HoldsOffered jobs past (after_take files f)
   holds_take f low =
       let taken : ArrivalsState = with_one_taken (state_of files f) in
       record {
         counts = counts_set files f taken refl ∙ holds.counts;
-        came = each_file files f taken low
+        arrived = each_file files f taken low
             (λ g new. (k : ℕ) (e : Entry) → entry_at jobs g k ≡ Some e → Contains past (line_job g k e)
             → arrived_for new k ≡ Some (answer_of e))
-            (holds.came f) (λ g other. holds.came g);
+            (holds.arrived f) (λ g other. holds.arrived g);
         only = each_file files f taken low (λ g new. (k : ℕ) (a : Answer) → arrived_for new k ≡ Some a → IsOffered jobs past g k a)
             (holds.only f) (λ g other. holds.only g);
       }
@@ -206,6 +207,7 @@ pub ruleset counts = (counts_set, get_or_default, length-set, lines_are)
 
 -- ==== An offer is accepted or meets one refusal, and never both
 
+-- none of the refusals holds together with another, or of an offer that is wanted
 pub answers_in_one_way : AnswersInOneWay
 answers_in_one_way = record { wanted = λ jobs files o r wanted refused. grind arith; one = λ jobs files o q r first second. grind arith }
 
@@ -309,10 +311,10 @@ runs_keep jobs past (Took g (Some t) ∷ events) files after run kept =
 -- ---- new files
 
 -- no answer has come for new files
-none_came_at_first : (jobs : List (List Entry)) (f k : ℕ) → arrived_for (state_of (new_files jobs) f) k ≡ None
-none_came_at_first [] f k = refl
-none_came_at_first (entries ∷ jobs) zero k = grind (arith, get_or-replicate, get_or_past, length-replicate)
-none_came_at_first (entries ∷ jobs) (suc f) k = none_came_at_first jobs f k
+none_arrived_at_first : (jobs : List (List Entry)) (f k : ℕ) → arrived_for (state_of (new_files jobs) f) k ≡ None
+none_arrived_at_first [] f k = refl
+none_arrived_at_first (entries ∷ jobs) zero k = grind (arith, get_or-replicate, get_or_past, length-replicate)
+none_arrived_at_first (entries ∷ jobs) (suc f) k = none_arrived_at_first jobs f k
 
 -- new files have the jobs' lines
 pub new_lines : (jobs : List (List Entry)) → HasLinesOf jobs (new_files jobs)
@@ -330,8 +332,8 @@ pub new_files_are_in_step : (jobs : List (List Entry)) → AreInStep jobs [] (ne
 new_files_are_in_step jobs = record {
   offered = record {
     counts = new_lines jobs;
-    came = λ f k e entry_is offered. absurd (omega (arith, offered.1));
-    only = λ f k a came. absurd (let none_came : None ≡ Some a = sym (none_came_at_first jobs f k) ∙ came in cc none_came);
+    arrived = λ f k e entry_is offered. absurd (omega (arith, offered.1));
+    only = λ f k a arrived. absurd (let none_arrived : None ≡ Some a = sym (none_arrived_at_first jobs f k) ∙ arrived in cc none_arrived);
   };
   within = λ f. omega (arith, new_taken jobs f);
 }
@@ -343,24 +345,25 @@ offers_held : (jobs : List (List Entry)) (events : List Event) (files : List Arr
     → HoldsOffered jobs (offered_in events) files
 offers_held jobs events files run = (runs_keep jobs [] events (new_files jobs) files run (new_files_are_in_step jobs)).0.offered
 
+-- any list of offers and takes leads to the state that it determines
 pub keeps_its_law : KeepsItsLaw
 keeps_its_law jobs events files run =
     let all = runs_keep jobs [] events (new_files jobs) files run (new_files_are_in_step jobs) in
     let holds = all.0.offered in
-    let came : (f k : ℕ) → HasArrived jobs events f k → IsSome (arrived_for (state_of files f) k) =
-    λ f k arrived. grind (arith, arrived, holds.came f k) in
+    let arrived : (f k : ℕ) → HasArrived jobs events f k → IsSome (arrived_for (state_of files f) k) =
+    λ f k has_arrived. grind (arith, has_arrived, holds.arrived f k) in
     let only : (f k : ℕ) → IsSome (arrived_for (state_of files f) k) → HasArrived jobs events f k =
-    λ f k has_come.
-    let answer = some_value (arrived_for (state_of files f) k) has_come in
+    λ f k has_arrived.
+    let answer = some_value (arrived_for (state_of files f) k) has_arrived in
     let offer = holds.only f k answer.0 answer.1 in
     rw offer.entry_is offer.offered in
     record {
       counts = holds.counts;
-      came = λ f k. (only f k, came f k);
+      arrived = λ f k. (only f k, arrived f k);
       furthest = λ f. record {
         within = omega (arith, front_within (state_of files f).arrived, lines_are jobs files holds.counts f);
-        below = λ k low. only f k (front_came (state_of files f).arrived k None low);
-        greatest = λ m low all. front_least (state_of files f).arrived m (λ k k_low. came f k (all k k_low));
+        below = λ k low. only f k (front_arrived (state_of files f).arrived k None low);
+        greatest = λ m low all. front_least (state_of files f).arrived m (λ k k_low. arrived f k (all k k_low));
       };
       taken = λ f. ap (λ n. take n (answered_lines_of jobs f) ++ taken_in f events) (sym (new_taken jobs f)) ∙ all.1 f;
       taken_within = all.0.within;
@@ -374,9 +377,9 @@ pub ruleset new_counts = (new_lines, take_all)
 -- ---- each job once, in any order
 
 -- each line was offered with its entry
-each_came : (jobs : List (List Entry)) (got : List Job) → AreJobsInSomeOrder jobs got → (f k : ℕ) (e : Entry)
+each_arrived : (jobs : List (List Entry)) (got : List Job) → AreJobsInSomeOrder jobs got → (f k : ℕ) (e : Entry)
     → entry_at jobs f k ≡ Some e → Contains got (line_job f k e)
-each_came jobs got each_once f k e entry_is =
+each_arrived jobs got each_once f k e entry_is =
     let o : Job = line_job f k e in
     contains_from_times o got (grind (arith, each_once.same_counts (same_job o), times_in_jobs o jobs, same_entry_itself e, entry_is))
 
@@ -397,8 +400,8 @@ module _ {jobs : List (List Entry)} {past : List Job} {files : List ArrivalsStat
         times_in_jobs o jobs,
       ) in
       let is_hit = hit o.entry (entry_at jobs o.file o.line) (omega (arith, once)) in
-      let came = refused_came holds o.file o.line o.entry r is_hit.0 refused in
-      let answer = some_value (arrived_for (state_of files o.file) o.line) came in
+      let arrived = refused_had_arrived holds o.file o.line o.entry r is_hit.0 refused in
+      let answer = some_value (arrived_for (state_of files o.file) o.line) arrived in
       let offer = holds.only o.file o.line answer.0 answer.1 in
       let same : offer.entry ≡ o.entry = cc (offer.entry_is, is_hit.0) in
       omega (arith, once, is_hit.1, times_from_contains o past (rw same at offer.offered))
@@ -417,14 +420,17 @@ fronts_full jobs past files each_once holds f =
     let e : Entry = get_or (entries_of jobs f) k no_job.entry in
     let entry_is : entry_at jobs f k ≡ Some e =
     slice_get-get_or (entries_of jobs f) k no_job.entry (omega (arith, lines_are jobs files holds.counts f)) in
-    ap is_some (holds.came f k e entry_is (each_came jobs past each_once f k e entry_is))) in
+    ap is_some (holds.arrived f k e entry_is (each_arrived jobs past each_once f k e entry_is))) in
     omega (arith, all, front_within arrived)
 
--- ---- the three laws
+-- ---- the two laws
 
+-- each offer is accepted
 pub accepts_each_job : AcceptsEachJob
 accepts_each_job jobs past o rest files after gave each_once run step =
     each_accepted o rest each_once (offers_held jobs past files run) after gave step
 
+-- in the end every line is ready
 pub makes_every_line_ready : MakesEveryLineReady
-makes_every_line_ready jobs events files each_once run = fronts_full jobs (offered_in events) files each_once (offers_held jobs events files run)
+makes_every_line_ready jobs events files each_once run =
+    fronts_full jobs (offered_in events) files each_once (offers_held jobs events files run)

@@ -1,19 +1,19 @@
 -- Jobs counted by tests: what is got of jobs that were shared out, and how often a job stands in a list.
 use Rattle.std.proofs.Common.{◌≡◌, ℕ, ◌+◌, ◌<◌, List, [], ◌∷◌, length, set, get_or, true, refl, arith, Bool, ◌&&◌, ◌==◌, ap, eq-eqb, if◌then◌else◌, cond, ◌++◌, map, slice_index_or, ◌∙◌, sym, subst, length-set, get_or-set_other, get_or-set_same, lt-ltb, sum_by, count_by, nat_lt, sum, ◌⊎◌, suc, ◌-◌, ◌≤◌, false, ◌≢◌, inl, inr, Option, Some, None, Contains, not, slice_get}
-use Rattle.std.specs.List.{All, flat_map, range_with_len}
-use Rattle.std.proofs.lemmas.List.Sums.{get_or-le-sum_by, sum_by-le, sum_by-set, sum-map, sum_by-append}
-use Rattle.std.proofs.lemmas.List.Elements.{All-head, All-tail, Contains-append_right}
-use Rattle.std.proofs.lemmas.List.{length-map, length-append, nil_from_length, get_or_default, append-nil, get_or-map}
-use Rattle.kalah_jobs.specs.Collecting.Shares.{times_in, sent_by_worker, AreShared}
-use Rattle.std.proofs.lemmas.Bool.Decides.{nat_tests}
-use Rattle.kalah_jobs.specs.Files.JobList.{line_job, no_job, job_list, entry_at, file_jobs, jobs_from}
-use Rattle.std.proofs.lemmas.List.FromFn.{fill_by_all, length-range_with_len, length-map-range_with_len, get_or-map-range_with_len}
-use Rattle.kalah_jobs.specs.Collecting.AnyOrder.{job, GetsEachJobOnce}
-use Rattle.kalah_jobs.proofs.ListLemmas.{count_by-cons, count_map, count_flat}
 use Rattle.std.proofs.lemmas.Bool.{cases_eq, cases_Bool}
+use Rattle.std.proofs.lemmas.Bool.Decides.{nat_tests}
+use Rattle.std.proofs.lemmas.List.{length-map, length-append, nil_from_length, get_or_default, append-nil, get_or-map}
+use Rattle.std.proofs.lemmas.List.Elements.{All-head, All-tail, Contains-append_right}
+use Rattle.std.proofs.lemmas.List.FromFn.{fill_by_all, length-range_with_len, length-map-range_with_len, get_or-map-range_with_len}
+use Rattle.std.proofs.lemmas.List.Sums.{get_or-le-sum_by, sum_by-le, sum_by-set, sum-map, sum_by-append}
 use Rattle.std.specs.Coded.{Coded, codes}
+use Rattle.std.specs.List.{All, flat_map, range_with_len}
 use base.Stored.{Gv, gnil, gnum, gcons}
+use Rattle.kalah_jobs.specs.Collecting.AnyOrder.{job, GetsEachJobOnce}
+use Rattle.kalah_jobs.specs.Collecting.Shares.{times_in, sent_by_worker, AreShared}
+use Rattle.kalah_jobs.specs.Files.JobList.{line_job, no_job, job_list, entry_at, file_jobs, jobs_from}
 use Rattle.kalah_jobs.specs.Types.{Job, Entry}
+use Rattle.kalah_jobs.proofs.ListLemmas.{count_by-cons, count_map, count_flat}
 
 -- ==== What is got of jobs that were shared out: each job's result, once
 -- Both are counted by classes (`by_class`): results by workers, who each sent those of their row, and the numbers of rows one by one.
@@ -109,6 +109,7 @@ as_many_as_numbers {X} n f rows got shared =
     ∙ got_all_once (λ (x : X). true) n f rows got shared
     ∙ count_true (range_with_len 0 n) ∙ length-range_with_len 0 n
 
+-- if each job was drawn once and all results were received, each job's was received once
 pub gets_each_job_once : GetsEachJobOnce
 gets_each_job_once jobs rows got rest shared whole =
     let n : ℕ = length (job_list jobs) in

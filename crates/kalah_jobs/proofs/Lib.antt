@@ -1,9 +1,12 @@
 pub mod AskingLemmas
 pub mod CollectingLemmas
 pub mod CountingLemmas
+pub mod FileLinesLemmas
 pub mod FilesLemmas
 pub mod LineLemmas
+pub mod LineTextLemmas
 pub mod ListLemmas
 pub mod SideLemmas
 pub mod SinkLemmas
+pub mod TextLemmas
 pub mod WritingLemmas

@@ -1,13 +1,13 @@
 -- Numbers and sides of a line: what writes them is read, and what is read is written.
 use Rattle.std.proofs.Common.{◌≡◌, ℕ, ◌+◌, ◌-◌, ◌<◌, ◌≤◌, inl, inr, true, List, [], ◌∷◌, ◌++◌, length, Some, refl, sym, ap, ◌∙◌, length-append, arith, zero, suc, pred, ◌==◌, Bool, cond, Option, None, append_assoc, eqb-true}
-use Rattle.std.specs.Prelude.{decimal, ◌&&◌, nat_lt, ⊤}
-use Rattle.std.specs.Char.{is_ascii_digit, IsAsciiDigit}
 use Rattle.std.proofs.lemmas.Bool.{cases_Bool, cond-true, cond-false}
 use Rattle.std.proofs.lemmas.Bool.Decides.{nat_tests}
-use Rattle.std.proofs.lemmas.Option.{cond_some}
 use Rattle.std.proofs.lemmas.Fmt.{decimal_digit, decimal_step}
+use Rattle.std.proofs.lemmas.Option.{cond_some}
+use Rattle.std.specs.Char.{is_ascii_digit, IsAsciiDigit}
+use Rattle.std.specs.Prelude.{decimal, ◌&&◌, nat_lt, ⊤}
 use Rattle.kalah_jobs.specs.Line.Line.{IsNumber, zero_digit, comma, slash, AreHouses, IsSide}
-use Rattle.kalah_jobs.specs.Line.Reading.{number_from, number_at, ◌>>=◌, SideRead, store_at, house_followed, side_from, side_at}
+use Rattle.kalah_jobs.specs.Line.Reading.{number_from, number_at, ◌>>=◌, SideRead, store_at, after_house, side_from, side_at}
 use Rattle.kalah_jobs.specs.Line.Side.{AreKept}
 use Rattle.kalah_jobs.specs.declared.line.side.Side.{Side}
 
@@ -62,16 +62,16 @@ rest_is_shorter bytes found read =
 -- ---- the text of a number
 
 -- a text that writes a number is its decimal digits
-pub number_text : (text : List ℕ) (n : ℕ) → IsNumber text n → text ≡ decimal n
-number_text text n written = grind (arith, decimal_digit, decimal_step)
+pub number_has_one_text : (text : List ℕ) (n : ℕ) → IsNumber text n → text ≡ decimal n
+number_has_one_text text n written = grind (arith, decimal_digit, decimal_step)
 
 -- a number of a line is at most 99
 pub number_at_most_99 : (text : List ℕ) (n : ℕ) → IsNumber text n → n ≤ 99
 number_at_most_99 text n written = grind arith
 
 -- the decimal digits of a number of at most two write it
-pub decimal_is_number : (n : ℕ) → n ≤ 99 → IsNumber (decimal n) n
-decimal_is_number n low = grind (arith, decimal_digit, decimal_step)
+pub decimal_writes_number : (n : ℕ) → n ≤ 99 → IsNumber (decimal n) n
+decimal_writes_number n low = grind (arith, decimal_digit, decimal_step)
 
 -- ==== What writes a side, and how it is read, house by house
 
@@ -166,7 +166,7 @@ module _ {houses bytes : List ℕ} {n : ℕ} where
   -- what is read after a house is its store, or a comma and more houses
   house_written : (i : ℕ) (rest : List ℕ) (found : SideRead) → WritesNumber bytes n rest →
       ((next : List ℕ) → side_from i (houses ++ n ∷ []) next ≡ Some found → WritesSide (houses ++ n ∷ []) next found) →
-      house_followed (store_at (houses ++ n ∷ [])) (side_from i (houses ++ n ∷ [])) rest ≡ Some found → WritesSide houses bytes found
+      after_house (store_at (houses ++ n ∷ [])) (side_from i (houses ++ n ∷ [])) rest ≡ Some found → WritesSide houses bytes found
   house_written i [] found house further after_house = absurd cc
   house_written i (mark ∷ rest) found house further after_house = elim (cases_Bool (mark == slash)) [
     | inl stored ↦
@@ -185,7 +185,7 @@ side_from_written : (i : ℕ) (houses bytes : List ℕ) (found : SideRead) → s
 side_from_written zero houses bytes found side_read = absurd cc
 side_from_written (suc i) houses bytes found side_read =
     let after = λ (house : ℕ × List ℕ).
-    house_followed (store_at (houses ++ house.0 ∷ [])) (side_from i (houses ++ house.0 ∷ [])) house.1 in
+    after_house (store_at (houses ++ house.0 ∷ [])) (side_from i (houses ++ house.0 ∷ [])) house.1 in
     let read = both_succeed (number_at bytes) after found side_read in
     house_written i read.value.1 found (number_is_written bytes read.value read.first)
     (λ next. side_from_written i (houses ++ read.value.0 ∷ []) next found) read.second
@@ -281,7 +281,7 @@ module _ {bytes : List ℕ} {side : Side} {rest : List ℕ} {n : ℕ} {after : L
   houses = so_far.houses ++ n ∷ []
 
   -- the side goes on with what follows this house
-  goes_on_after : side_at bytes ≡ house_followed (store_at houses) (side_from (pred so_far.steps) houses) after
+  goes_on_after : side_at bytes ≡ after_house (store_at houses) (side_from (pred so_far.steps) houses) after
   goes_on_after =
       let shorter = rest_is_shorter rest (n, after) house in
       grind (arith, shorter, so_far.goes_on, so_far.enough)
@@ -290,6 +290,10 @@ module _ {bytes : List ℕ} {side : Side} {rest : List ℕ} {n : ℕ} {after : L
   pub store_follows : {more following : List ℕ} {store : ℕ} → after ≡ slash ∷ more → number_at more ≡ Some (store, following) →
       side_at bytes ≡ Some (record { houses = houses; store = store; rest = following })
   store_follows slash_next stored = goes_on_after ∙ rw (slash_next, stored) refl
+
+  -- if a slash and no number follow it, there is no side
+  pub no_store_follows : {more : List ℕ} → after ≡ slash ∷ more → number_at more ≡ None → side_at bytes ≡ None
+  no_store_follows slash_next no_number = goes_on_after ∙ rw (slash_next, no_number) refl
 
   -- if a comma follows it, more houses are taken
   pub house_follows : {new : Side} {more : List ℕ} → after ≡ comma ∷ more → AreKept houses new.kept new.left_out

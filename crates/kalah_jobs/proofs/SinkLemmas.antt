@@ -1,41 +1,37 @@
 -- What a sink is given: prefixes of bytes, bytes that are written in part, and texts one after the other.
 use Rattle.std.proofs.Common.{ℕ, ◌<◌, ◌≤◌, length, arith, ◌≡◌, List, ◌++◌, subst, sym, refl, ◌+◌, [], ap, ◌∙◌, take, drop, append_assoc, ◌∷◌, get_or, flat_map, append-nil, Bool, true, false, ◌-◌, Option, ◌↔◌, IsErr, Ok, Err, OnOk, Result}
-use Rattle.std.specs.Io.KnownBytes.{Appends, Keeps}
 use Rattle.std.proofs.KnownBytes.{Appends-kept, Appends-nil, Appends-trans}
 use Rattle.std.proofs.Math.Seq.{take-append-add}
-use Rattle.std.proofs.lemmas.List.{take-append-drop, length-drop, flat_map_more, take_more, take_all}
-use Rattle.kalah_jobs.specs.Writing.Sink.{AppendsPrefix, SinkState, WasGiven}
 use Rattle.std.proofs.lemmas.Grind.{flat_map-append}
+use Rattle.std.proofs.lemmas.List.{take-append-drop, length-drop, flat_map_more, take_more, take_all}
+use Rattle.std.specs.Io.KnownBytes.{Appends, Keeps}
+use Rattle.kalah_jobs.specs.Writing.Sink.{AppendsPrefix, SinkState, WasGiven}
 
 -- ==== Prefixes of what was to be written
 
 -- the empty text is a prefix of every text
-pub prefix_none : (old : Option (List ℕ)) (bs : List ℕ) → AppendsPrefix old old bs
-prefix_none old bs = (0, Appends-nil old)
-
--- if the bytes are left as they were
-pub prefix_kept_all : (old new : Option (List ℕ)) (bs : List ℕ) → Keeps old new → AppendsPrefix old new bs
-prefix_kept_all old new bs kept = (0, Appends-kept old old new [] (Appends-nil old) kept)
+pub prefix_none : (old : Option (List ℕ)) (text : List ℕ) → AppendsPrefix old old text
+prefix_none old text = (0, Appends-nil old)
 
 -- a first part of the bytes, and then a prefix of the rest
-pub prefix_then : (old between new : Option (List ℕ)) (bs done rest : List ℕ) → bs ≡ done ++ rest → Appends old between done
-    → AppendsPrefix between new rest → AppendsPrefix old new bs
-prefix_then old between new bs done rest parts first start =
-    let split : take (length done + start.0) bs ≡ done ++ take start.0 rest = ap (take (length done + start.0)) parts
+pub prefix_then : (old between new : Option (List ℕ)) (text done rest : List ℕ) → text ≡ done ++ rest → Appends old between done
+    → AppendsPrefix between new rest → AppendsPrefix old new text
+prefix_then old between new text done rest parts first start =
+    let split : take (length done + start.0) text ≡ done ++ take start.0 rest = ap (take (length done + start.0)) parts
     ∙ take-append-add done rest start.0 in
     (length done + start.0, subst (Appends old new) (sym split) (Appends-trans _ _ _ done (take start.0 rest) first start.1))
 
 -- a prefix is also one of what is longer
-pub prefix_longer : (old new : Option (List ℕ)) (bs cs : List ℕ) → AppendsPrefix old new bs → AppendsPrefix old new (bs ++ cs)
-prefix_longer old new bs cs start =
-    let all : bs ++ cs ≡ take start.0 bs ++ (drop start.0 bs ++ cs) =
-    ap (◌++ cs) (sym (take-append-drop start.0 bs)) ∙ append_assoc (take start.0 bs) (drop start.0 bs) cs in
-    prefix_then _ _ _ (bs ++ cs) (take start.0 bs) (drop start.0 bs ++ cs) all start.1 (prefix_none new (drop start.0 bs ++ cs))
+pub prefix_longer : (old new : Option (List ℕ)) (text more : List ℕ) → AppendsPrefix old new text → AppendsPrefix old new (text ++ more)
+prefix_longer old new text more start =
+    let all : text ++ more ≡ take start.0 text ++ (drop start.0 text ++ more) =
+    ap (◌++ more) (sym (take-append-drop start.0 text)) ∙ append_assoc (take start.0 text) (drop start.0 text) more in
+    prefix_then _ _ _ (text ++ more) (take start.0 text) (drop start.0 text ++ more) all start.1 (prefix_none new (drop start.0 text ++ more))
 
 -- what keeps the bytes keeps the prefix
-pub prefix_kept : (old between new : Option (List ℕ)) (bs : List ℕ) → AppendsPrefix old between bs → Keeps between new
-    → AppendsPrefix old new bs
-prefix_kept old between new bs start kept = (start.0, Appends-kept old between new (take start.0 bs) start.1 kept)
+pub prefix_kept : (old between new : Option (List ℕ)) (text : List ℕ) → AppendsPrefix old between text → Keeps between new
+    → AppendsPrefix old new text
+prefix_kept old between new text start kept = (start.0, Appends-kept old between new (take start.0 text) start.1 kept)
 
 -- ==== Bytes that are written in part
 
@@ -78,7 +74,11 @@ pub ruleset parts_written = (left_all, left_whole, left_part)
 module _ {O : Type 0} (state : O → SinkState) where
   -- no text is given by no call
   pub given_none : (out : O) → WasGiven state out out []
-  given_none out = record { start = prefix_none (state out).written []; whole = λ sound. (sound, Appends-nil (state out).written); quiet = λ failed. refl }
+  given_none out = record {
+    start = prefix_none (state out).written [];
+    whole = λ sound. (sound, Appends-nil (state out).written);
+    quiet = λ failed. refl;
+  }
 
   -- a text by one call, which is not made after a failure
   pub given_once : {A E : Type 0} (r : Result A E) (old new : O) (text : List ℕ) → (state old).has_failed ≡ false
@@ -92,14 +92,15 @@ module _ {O : Type 0} (state : O → SinkState) where
   pub flush_gives_nothing : (old new : O) → (state old).has_failed ≡ false → Keeps (state old).written (state new).written
       → WasGiven state old new []
   flush_gives_nothing old new sound keeps = record {
-    start = prefix_kept_all _ _ [] keeps;
+    start = prefix_kept _ _ _ [] (prefix_none _ []) keeps;
     whole = λ still. (sound, Appends-kept _ _ _ [] (Appends-nil (state old).written) keeps);
     quiet = λ failed. cc;
   }
 
   -- a sink that has failed is given any text
   pub given_after_failure : (out : O) (text : List ℕ) → (state out).has_failed ≡ true → WasGiven state out out text
-  given_after_failure out text failed = record { start = prefix_none (state out).written text; whole = λ sound. absurd cc; quiet = λ _. refl }
+  given_after_failure out text failed =
+      record { start = prefix_none (state out).written text; whole = λ sound. absurd cc; quiet = λ _. refl }
 
   -- a text, and then another
   pub given_then : (old between new : O) (text more : List ℕ) → WasGiven state old between text → WasGiven state between new more

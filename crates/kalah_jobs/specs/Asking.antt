@@ -1,43 +1,37 @@
 -- What is written if lines come as a stream, and each is answered. A reader is seen as the bytes that it has left, and a
 -- sink as those that were written to it, before and after, if these are known.
-use Rattle.std.specs.Prelude.{◌≡◌, ◌≢◌, ◌↔◌, ℕ, ◌+◌, ◌<◌, ◌≤◌, List, [], ◌∷◌, ◌++◌, Bool, true, false, not, IfSome, IfOk, IsErrOf, Option, None, Some, Result, length, take, map}
-use Rattle.std.specs.List.{flat_map, enumerate_from, join_with_byte, list_any}
 use Rattle.std.specs.Io.Buffered.{reader_remaining}
 use Rattle.std.specs.Io.KnownBytes.{Appends, Consumes}
+use Rattle.std.specs.List.{flat_map, enumerate_from, join_with_byte, list_any}
+use Rattle.std.specs.Prelude.{◌≡◌, ◌≢◌, ◌↔◌, ℕ, ◌+◌, ◌<◌, ◌≤◌, List, [], ◌∷◌, ◌++◌, Bool, true, false, not, IfSome, IfOk, IsErrOf, Option, Result, length, take, map}
 use Rattle.kalah_rules.specs.Position.{seeds_in_houses}
-use Rattle.kalah_jobs.specs.declared.asking.ask_fault.AskFault.TheVariants.{Read, Write}
+use Rattle.kalah_jobs.specs.Files.Entry.{entry_to, is_faulty}
+use Rattle.kalah_jobs.specs.Files.Lines.{line_feed, lines_of, EndsWithItsLine, HasNoLineFeed}
+use Rattle.kalah_jobs.specs.Files.NamedBytes.{NamedBytes}
+use Rattle.kalah_jobs.specs.Limits.{most_line_bytes}
+use Rattle.kalah_jobs.specs.Types.{AskFault, Entry, Question, Read, Write}
+use Rattle.kalah_jobs.specs.Writing.Answer.{answer_of, answer_texts, joined_text, in_one_line, place_text}
+use Rattle.kalah_jobs.specs.Writing.Output.{output_to, line_output}
+use Rattle.kalah_jobs.specs.Writing.Sink.{SinkState}
 use Rattle.kalah_jobs.specs.declared.asking.prompt_reader.PromptReader.{PromptReader}
-use Rattle.kalah_jobs.specs.Types.{AskFault, Entry, Question}
+use Rattle.kalah_jobs.specs.declared.asking.prompt_solver.TheConstants.{QUICK_SEEDS}
 use Rattle.kalah_jobs.specs.declared.files.entry.Entry.TheVariants.{Position, ValuesOf}
 use Rattle.kalah_jobs.specs.declared.files.question.Question.TheVariants.{Steps}
-use Rattle.kalah_jobs.specs.Limits.{most_line_bytes}
-use Rattle.kalah_jobs.specs.Files.Lines.{line_feed, lines_of, HasNoLineFeed}
-use Rattle.kalah_jobs.specs.Files.NamedBytes.{NamedBytes}
-use Rattle.kalah_jobs.specs.Files.Entry.{entry_to}
-use Rattle.kalah_jobs.specs.Writing.Answer.{answer_of, answer_texts, joined_text, in_one_line, place_text}
-use Rattle.kalah_jobs.specs.Writing.Output.{is_faulty, output_to, line_output}
-use Rattle.kalah_jobs.specs.declared.asking.prompt_solver.TheConstants.{QUICK_SEEDS}
-use Rattle.kalah_jobs.specs.Writing.Sink.{SinkState}
-use Rattle.kalah_jobs.specs.Writing.Splitting.{EndsWithItsLine}
 
 -- the bytes of a line that are kept, enough to determine its entry: a line with that many, with its CR or not, is too long
 abbrev pub kept_bytes : ℕ
 kept_bytes = most_line_bytes + 2
 
--- a byte, or none, as a list
-abbrev pub bytes_of : Option ℕ → List ℕ
-bytes_of None = []
-bytes_of (Some byte) = byte ∷ []
-
 -- the answer to a line, and a line feed
 abbrev pub reply : Question → List ℕ → List ℕ
 reply question line = joined_text (answer_of (entry_to question line)) ++ line_feed ∷ []
 
--- the answer to what stands after the last line feed, if anything does, and whether it is read
+-- the answer to what stands after the last line feed, if anything does
 abbrev pub last_reply : Question → List ℕ → List ℕ
 last_reply question [] = []
 last_reply question (byte ∷ line) = reply question (byte ∷ line)
 
+-- what stands there is read, or nothing does
 abbrev pub is_last_read : List ℕ → Bool
 is_last_read [] = true
 is_last_read (byte ∷ line) = not (is_faulty (byte ∷ line))
@@ -68,22 +62,29 @@ pub record IsCutOff (question : Question) (before after old new : Option (List �
   pub written : Appends old new (answers_to question lines)
 
 -- what is asked of the lines of a reader, with the reader and the sink as they were then
-pub record Asking : Type 0 where
+pub record StreamStart : Type 0 where
   pub question : Question
   pub before : Option (List ℕ)
   pub old : Option (List ℕ)
 
--- what a prompt reader has left, and what is asked of its lines, with the reader and the sink as they were when it was made
 module _ {I O : Type 0} (remaining : I → Option (List ℕ)) where
+  -- the bytes that a prompt reader has left
   abbrev pub unread : PromptReader I O → Option (List ℕ)
   unread r = reader_remaining remaining r.input.now
 
-  abbrev pub asking_of : (O → SinkState) → PromptReader I O → Asking
-  asking_of state r = record { question = r.question; before = reader_remaining remaining r.first.value; old = (state r.sink.value).written }
+  -- what is asked of its lines, with the reader and the sink as they were when it was made
+  abbrev pub start_of : (O → SinkState) → PromptReader I O → StreamStart
+  start_of state r =
+      record { question = r.question; before = reader_remaining remaining r.first.value; old = (state r.sink.value).written }
 
 -- all lines that were read since then are answered
-abbrev pub AreAnswered : Asking → Option (List ℕ) → Option (List ℕ) → Type 0
-AreAnswered a after new = IsCutOff a.question a.before after a.old new
+abbrev pub AreAnswered : StreamStart → Option (List ℕ) → Option (List ℕ) → Type 0
+AreAnswered start after new = IsCutOff start.question start.before after start.old new
+
+-- how a fault leaves the sink, and how many bytes may still be given. Before a read all was flushed; after a failed one none is given
+abbrev pub LeavesBy : AskFault → SinkState → ℕ → Type 0
+LeavesBy Read out budget = (out.has_failed ≡ false) × (out.is_flushed ≡ true) × (budget ≡ 0)
+LeavesBy Write out budget = out.has_failed ≡ true
 
 -- the most seeds in houses of a position that is solved in no time
 abbrev pub quick_seeds : ℕ

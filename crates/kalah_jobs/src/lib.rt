@@ -1,4 +1,4 @@
-//! Position lines, and the jobs, outcomes and answers of a batch.
+//! Position lines and files, the answers to them, and how both are written.
 #![tactic(auto)]
 
 mod asking;

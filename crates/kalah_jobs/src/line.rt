@@ -1,4 +1,4 @@
-//! The text of a line: how it is read, and how it is written.
+//! Position lines: how they are read, and their faults.
 pub(crate) mod laws;
 pub(crate) mod line_fault;
 pub(crate) mod reading;

@@ -11,7 +11,6 @@ pub(crate) mod shown;
 pub(crate) mod sink;
 pub(crate) mod stack_text;
 pub(crate) mod steps;
-pub(crate) mod steps_in_line;
 pub(crate) mod stream;
 pub(crate) mod tally;
 pub(crate) mod variation;

@@ -1,24 +1,13 @@
 -- Rows as numbers, and what a key determines of its houses.
 use Rattle.std.proofs.Common.{zero, suc, ◌≡◌, ℕ, ◌+◌, ◌-◌, ◌*◌, ◌/◌, ◌%◌, ◌^◌, ◌<◌, ◌≤◌, inl, inr, List, [], ◌∷◌, ◌++◌, length, get_or, arith, ap, sym, ◌∙◌, refl, add-one, take, drop, replicate, rules, Option, Some, None, length-take-le, length-append, slice_set, sum, nat_lt, if◌then◌else◌, ◌==◌, nat_eq, All, IsSome, IfSome, ◌↔◌, length-set}
-use Rattle.std.proofs.lemmas.Nat.{pow-add, mul-le}
+use Rattle.std.proofs.lemmas.{Nat.pow-add, Nat.mul-le, List.map_push, List.length-drop, List.length-replicate, List.get_or-replicate, List.take-append-drop, List.Sums.sum_by-cons, List.Sums.sum_by-append, Bool.cases_eq, Grind.same_number_lists, List.Folds.sum_by-replicate, List.Elements.All-replicate}
 use Rattle.std.proofs.Math.Nat.{pow-succ', mul_assoc, div-div-eq-div-mul}
-use Rattle.std.proofs.lemmas.List.{map_push, length-drop, length-replicate, get_or-replicate, take-append-drop}
-use Rattle.std.proofs.lemmas.List.Sums.{sum_by-cons, sum_by-append}
-use Rattle.std.proofs.lemmas.Bool.{cases_eq}
-use Rattle.kalah_rules.specs.Position.{seeds, HousesState, IsWithinHouses, seeds_in_houses, storeless, without_seeds}
-use Rattle.kalah_rules.specs.Sowing.{row_of, lap_length, gain, own_distance, other_distance}
+use Rattle.kalah_rules.specs.{seeds, HousesState, AreWithinLimits, seeds_in_houses, storeless, without_seeds, row_of, lap_length, gain, own_distance, other_distance, row_number, cells, rule_bit, rows_number, key_of, variant_of, side_in_key, houses_in_key, IsKey, ones, up_to, houses_of_fields, AreFieldsOf, AreFields, AreRowFields, own_gains, other_gains, store_gains, padded, houses_from, CanBeHouses}
 use Rattle.kalah_rules.proofs.PlayLemmas.{range-suc, length-row_of, same_as_row, row_of_same, seeds-set_same, seeds-set_other, sum-zeros}
-use Rattle.kalah_rules.specs.Key.{number_of, cells, rule_bit, rows_number, key_of, variant_of, side_at, houses_at, IsKey}
-use Rattle.kalah_rules.specs.Packed.{ones, up_to, unpacked, IsPackOf, IsPacked, IsPackedRow}
-use Rattle.kalah_rules.specs.Sowings.{own_gains, other_gains, store_gains}
-use Rattle.std.proofs.lemmas.Grind.{same_number_lists}
 use Rattle.std.proofs.Math.Seq.{take-append_seam, drop-append_seam}
-use Rattle.std.proofs.lemmas.List.Folds.{sum_by-replicate}
-use Rattle.std.proofs.lemmas.List.Elements.{All-replicate}
 use Rattle.kalah_rules.specs.declared.rule.Rule.{Rule}
 use Rattle.kalah_rules.specs.declared.rule.Rule.TheVariants.{Classic, EmptyCapture}
-use Rattle.kalah_rules.specs.Cells.{padded, houses_from, CanBeHouses}
-use Rattle.kalah_rules.specs.declared.houses.numbers.TheConstants.{MOST_LAPS, SIX_ONES}
+use Rattle.kalah_rules.specs.declared.houses.numbers.TheConstants.{MOST_LAPS, ONE_EACH}
 
 -- ==== Rows as numbers: houses read and written, and rows of seeds added
 
@@ -53,65 +42,65 @@ times_power : (k n : ℕ) → 32 ^ suc k * n ≡ 32 * (32 ^ k * n)
 times_power k n = simp (pow-succ', mul_assoc)
 
 -- a row after another counts from its place
-pub number_of-append : (xs ys : List ℕ) → number_of (xs ++ ys) ≡ number_of xs + 32 ^ length xs * number_of ys
-number_of-append [] ys = omega arith
-number_of-append (x ∷ xs) ys = omega (arith, number_of-append xs ys, times_power)
+pub row_number-append : (xs ys : List ℕ) → row_number (xs ++ ys) ≡ row_number xs + 32 ^ length xs * row_number ys
+row_number-append [] ys = omega arith
+row_number-append (x ∷ xs) ys = omega (arith, row_number-append xs ys, times_power)
 
 -- a house is read off a row's number
-pub read_seeds : (xs : List ℕ) (k : ℕ) → k < length xs → sum xs ≤ 31 → number_of xs / 32 ^ k % 32 ≡ get_or xs k 0
+pub read_seeds : (xs : List ℕ) (k : ℕ) → k < length xs → sum xs ≤ 31 → row_number xs / 32 ^ k % 32 ≡ get_or xs k 0
 read_seeds [] k inside few = omega arith
 read_seeds (x ∷ xs) zero inside few = omega (arith, sum_by-cons)
 read_seeds (x ∷ xs) (suc k) inside few =
     let cons = sum_by-cons (λ (y : ℕ). y) x xs in
-    let high : (x + 32 * number_of xs) / 32 ≡ number_of xs = omega arith in
-    let past : (x + 32 * number_of xs) / 32 ^ suc k ≡ number_of xs / 32 ^ k =
+    let high : (x + 32 * row_number xs) / 32 ≡ row_number xs = omega arith in
+    let past : (x + 32 * row_number xs) / 32 ^ suc k ≡ row_number xs / 32 ^ k =
     rw (pow-succ', ← div-div-eq-div-mul _ 32 _, high) refl in
     rw past (read_seeds xs k (omega arith) (omega arith))
 
 -- a house is written into a row's number
-pub number_of-set : (xs : List ℕ) (k v : ℕ) → k < length xs
-    → number_of (slice_set xs k v) + 32 ^ k * get_or xs k 0 ≡ number_of xs + 32 ^ k * v
-number_of-set [] k v inside = omega arith
-number_of-set (x ∷ xs) zero v inside = omega arith
-number_of-set (x ∷ xs) (suc k) v inside = omega (arith, number_of-set xs k v (omega arith), times_power)
+pub row_number-set : (xs : List ℕ) (k v : ℕ) → k < length xs
+    → row_number (slice_set xs k v) + 32 ^ k * get_or xs k 0 ≡ row_number xs + 32 ^ k * v
+row_number-set [] k v inside = omega arith
+row_number-set (x ∷ xs) zero v inside = omega arith
+row_number-set (x ∷ xs) (suc k) v inside = omega (arith, row_number-set xs k v (omega arith), times_power)
 
 -- ---- rows that are given house by house
 
 -- one house more at the end
-number_of-suc : (n : ℕ) (f : ℕ → ℕ) → number_of (row_of (suc n) f) ≡ number_of (row_of n f) + 32 ^ n * f (suc n)
-number_of-suc n f =
-    let more : number_of (row_of (n + 1) f) ≡ number_of (row_of n f) + 32 ^ n * f (n + 1) =
-    grind (arith, range-suc, map_push, number_of-append, length-row_of) in
+row_number-suc : (n : ℕ) (f : ℕ → ℕ) → row_number (row_of (suc n) f) ≡ row_number (row_of n f) + 32 ^ n * f (suc n)
+row_number-suc n f =
+    let more : row_number (row_of (n + 1) f) ≡ row_number (row_of n f) + 32 ^ n * f (n + 1) =
+    grind (arith, range-suc, map_push, row_number-append, length-row_of) in
     rw add-one at more
 
 -- rows are added house by house
-number_of-plus : (n : ℕ) (f g : ℕ → ℕ)
-    → number_of (row_of n (λ i. f i + g i)) ≡ number_of (row_of n f) + number_of (row_of n g)
-number_of-plus zero f g = refl
-number_of-plus (suc n) f g =
-    let before = number_of-plus n f g in
-    number_of-suc n (λ i. f i + g i) ∙ omega (arith, number_of-suc)
+row_number-plus : (n : ℕ) (f g : ℕ → ℕ)
+    → row_number (row_of n (λ i. f i + g i)) ≡ row_number (row_of n f) + row_number (row_of n g)
+row_number-plus zero f g = refl
+row_number-plus (suc n) f g =
+    let before = row_number-plus n f g in
+    row_number-suc n (λ i. f i + g i) ∙ omega (arith, row_number-suc)
 
 -- a row with the same number of seeds in each house
-number_of-same : (n q : ℕ) → number_of (row_of n (λ i. q)) ≡ q * ones n
-number_of-same zero q = omega arith
-number_of-same (suc n) q =
-    let before = number_of-same n q in
-    number_of-suc n (λ i. q) ∙ omega arith ∙ sym (ap (λ z. q * z) (number_of-suc n (λ i. 1)))
+row_number-same : (n q : ℕ) → row_number (row_of n (λ i. q)) ≡ q * ones n
+row_number-same zero q = omega arith
+row_number-same (suc n) q =
+    let before = row_number-same n q in
+    row_number-suc n (λ i. q) ∙ omega arith ∙ sym (ap (λ z. q * z) (row_number-suc n (λ i. 1)))
 
 -- one seed in each house, if x lies past them all
-pub number_of-all : (n x : ℕ) → n ≤ x → number_of (row_of n (up_to x)) ≡ ones n
-number_of-all n x past = grind (arith, row_of_same)
+pub row_number-all : (n x : ℕ) → n ≤ x → row_number (row_of n (up_to x)) ≡ ones n
+row_number-all n x past = grind (arith, row_of_same)
 
 -- one seed in each house up to x
-pub number_of-up_to : (n x : ℕ) → x ≤ n → number_of (row_of n (up_to x)) ≡ ones x
-number_of-up_to zero x within = grind arith
-number_of-up_to (suc n) x within = elim (cases_eq x (suc n)) [
-  | inl all ↦ number_of-all (suc n) x (omega arith) ∙ ap (λ k. ones k) (sym all)
+pub row_number-up_to : (n x : ℕ) → x ≤ n → row_number (row_of n (up_to x)) ≡ ones x
+row_number-up_to zero x within = grind arith
+row_number-up_to (suc n) x within = elim (cases_eq x (suc n)) [
+  | inl all ↦ row_number-all (suc n) x (omega arith) ∙ ap (λ k. ones k) (sym all)
   | inr less ↦
       let past : up_to x (suc n) ≡ 0 = grind arith in
-      let before = number_of-up_to n x (omega arith) in
-      number_of-suc n (up_to x) ∙ rw past (omega arith)
+      let before = row_number-up_to n x (omega arith) in
+      row_number-suc n (up_to x) ∙ rw past (omega arith)
 ]
 
 -- a row whose house h is emptied
@@ -131,28 +120,28 @@ other_lap m h r j low high j_low = grind arith
 -- ---- what a sowing adds
 
 -- the own row after a sowing, by what was lifted and what it gains
-pub own_sown : (xs : List ℕ) (h c : ℕ) → 1 ≤ h → h ≤ length xs → number_of
+pub own_sown : (xs : List ℕ) (h c : ℕ) → 1 ≤ h → h ≤ length xs → row_number
     (row_of (length xs) (λ i. (if i == h then 0 else seeds xs i) + gain (lap_length (length xs)) c (own_distance (length xs) h i)))
-    + 32 ^ (h - 1) * seeds xs h ≡ number_of xs + own_gains (length xs) h c
+    + 32 ^ (h - 1) * seeds xs h ≡ row_number xs + own_gains (length xs) h c
 own_sown xs h c low high =
-    let plus = number_of-plus (length xs) (λ i. if i == h then 0 else seeds xs i)
+    let plus = row_number-plus (length xs) (λ i. if i == h then 0 else seeds xs i)
     (λ i. gain (lap_length (length xs)) c (own_distance (length xs) h i)) in
-    let lifted = ap number_of (lifted_row xs h low high) in
-    let set = number_of-set xs (h - 1) 0 (omega arith) in
+    let lifted = ap row_number (lifted_row xs h low high) in
+    let set = row_number-set xs (h - 1) 0 (omega arith) in
     omega arith
 
 -- what it adds to the other row
 pub other_sown : (ys : List ℕ) (h c : ℕ)
-    → number_of (row_of (length ys) (λ j. seeds ys j + gain (lap_length (length ys)) c (other_distance (length ys) h j))) ≡ number_of
+    → row_number (row_of (length ys) (λ j. seeds ys j + gain (lap_length (length ys)) c (other_distance (length ys) h j))) ≡ row_number
     ys + other_gains (length ys) h c
 other_sown ys h c =
-    let plus = number_of-plus (length ys) (seeds ys) (λ j. gain (lap_length (length ys)) c (other_distance (length ys) h j)) in
-    let kept = ap number_of (sym (same_as_row ys _ (seeds ys) refl (omega arith))) in
+    let plus = row_number-plus (length ys) (seeds ys) (λ j. gain (lap_length (length ys)) c (other_distance (length ys) h j)) in
+    let kept = ap row_number (sym (same_as_row ys _ (seeds ys) refl (omega arith))) in
     omega arith
 
 module _ (m h c : ℕ) (low : 1 ≤ h) (high : h ≤ m) where
   -- what the own row gains, and one seed more in each house up to the one that is emptied
-  pub own_gain : own_gains m h c + ones h ≡ c / lap_length m * ones m + number_of (row_of m (up_to (h + c % lap_length m))) + number_of
+  pub own_gain : own_gains m h c + ones h ≡ c / lap_length m * ones m + row_number (row_of m (up_to (h + c % lap_length m))) + row_number
       (row_of m (up_to (h + c % lap_length m - lap_length m)))
   own_gain =
       let q = c / lap_length m in
@@ -161,24 +150,24 @@ module _ (m h c : ℕ) (low : 1 ≤ h) (high : h ≤ m) where
       let round = up_to (h + c % lap_length m - lap_length m) in
       let each = row_of_same m (λ i. q + past i + round i) (λ i. gains i + up_to h i)
       (λ i i_low i_high. omega (arith, own_lap)) in
-      let left = number_of-plus m gains (up_to h) in
-      let first = number_of-plus m (λ i. q) past in
-      let second = number_of-plus m (λ i. q + past i) round in
-      let whole = number_of-same m q in
-      let until = number_of-up_to _ _ high in
-      let rows = ap number_of each in
+      let left = row_number-plus m gains (up_to h) in
+      let first = row_number-plus m (λ i. q) past in
+      let second = row_number-plus m (λ i. q + past i) round in
+      let whole = row_number-same m q in
+      let until = row_number-up_to _ _ high in
+      let rows = ap row_number each in
       omega arith
 
   -- what the other row gains
-  pub other_gain : other_gains m h c ≡ c / lap_length m * ones m + number_of (row_of m (up_to (h + c % lap_length m - (m + 1))))
+  pub other_gain : other_gains m h c ≡ c / lap_length m * ones m + row_number (row_of m (up_to (h + c % lap_length m - (m + 1))))
   other_gain =
       let q = c / lap_length m in
       let gains : ℕ → ℕ = λ j. gain (lap_length m) c (other_distance m h j) in
       let past = up_to (h + c % lap_length m - (m + 1)) in
       let each = row_of_same m (λ j. q + past j) gains (λ j j_low j_high. omega (arith, other_lap)) in
-      let first = number_of-plus m (λ j. q) past in
-      let whole = number_of-same m q in
-      let rows = ap number_of each in
+      let first = row_number-plus m (λ j. q) past in
+      let whole = row_number-same m q in
+      let rows = ap row_number each in
       omega arith
 
   -- what the store gains
@@ -190,7 +179,7 @@ pub ones_le : (a b : ℕ) → a ≤ b → ones a ≤ ones b
 ones_le a zero fewer = grind arith
 ones_le a (suc b) fewer = elim (cases_eq a (suc b)) [
   | inl same ↦ rw same (omega arith)
-  | inr less ↦ let on = ones_le a b (omega arith) in omega (arith, number_of-suc)
+  | inr less ↦ let on = ones_le a b (omega arith) in omega (arith, row_number-suc)
 ]
 
 -- a row moved up by a few houses fits sixty-four bits
@@ -209,12 +198,18 @@ placed_small k x place few = cases_to_five (λ k. 32 ^ k * x < 2 ^ 30) k place
     (omega arith) (omega arith) (omega arith) (omega arith) (omega arith) (omega arith)
 
 -- the product of two bounded numbers is at most that of their bounds
-pub product_small : (x y : ℕ) → x ≤ MOST_LAPS → y ≤ SIX_ONES → x * y ≤ MOST_LAPS * SIX_ONES
+pub product_small : (x y : ℕ) → x ≤ MOST_LAPS → y ≤ ONE_EACH → x * y ≤ MOST_LAPS * ONE_EACH
 product_small x y x_few y_few = mul-le x y _ _ x_few y_few
 
+-- few seeds make few laps, of at least three cells each
+pub laps_few : (m c : ℕ) → 1 ≤ m → c < 32 → c / (2 * m + 1) ≤ MOST_LAPS
+laps_few m c some few =
+    let q = c / (2 * m + 1) in
+    omega (arith, mul-le 3 q (2 * m + 1) q (omega arith) (omega arith))
+
 -- what lies up to x holds what lies up to h
-pub up_to_past : (m h x : ℕ) → h ≤ m → h ≤ x → ones h ≤ number_of (row_of m (up_to x))
-up_to_past m h x within past = grind (arith, number_of-up_to, ones_le, number_of-all)
+pub up_to_past : (m h x : ℕ) → h ≤ m → h ≤ x → ones h ≤ row_number (row_of m (up_to x))
+up_to_past m h x within past = grind (arith, row_number-up_to, ones_le, row_number-all)
 
 -- ==== Padded rows, cells of a key, and the houses that it determines
 
@@ -228,21 +223,21 @@ padded_from_zeros m cells long high zeros =
     rw (length-take-le m cells (omega arith), ← past) (take-append-drop m _)
 
 -- empty houses have the number 0
-number_of-zeros : (n : ℕ) → number_of (replicate n 0) ≡ 0
-number_of-zeros zero = refl
-number_of-zeros (suc n) = omega (arith, number_of-zeros n)
+row_number-zeros : (n : ℕ) → row_number (replicate n 0) ≡ 0
+row_number-zeros zero = refl
+row_number-zeros (suc n) = omega (arith, row_number-zeros n)
 
 -- empty houses at the end of a row do not count
-number_of-append_zeros : (xs : List ℕ) (n : ℕ) → number_of (xs ++ replicate n 0) ≡ number_of xs
-number_of-append_zeros xs n = rw (number_of-append, number_of-zeros) (omega arith)
+row_number-append_zeros : (xs : List ℕ) (n : ℕ) → row_number (xs ++ replicate n 0) ≡ row_number xs
+row_number-append_zeros xs n = rw (row_number-append, row_number-zeros) (omega arith)
 
 -- the cells past the houses do not count
-number_of-shown : (m : ℕ) (cells : List ℕ) → padded (take m cells) ≡ cells → number_of (take m cells) ≡ number_of cells
-number_of-shown m cells same = grind (arith, number_of-append_zeros)
+row_number-shown : (m : ℕ) (cells : List ℕ) → padded (take m cells) ≡ cells → row_number (take m cells) ≡ row_number cells
+row_number-shown m cells same = grind (arith, row_number-append_zeros)
 
 -- thirty bits are six cells
-number_of-cells : (k : ℕ) → number_of (cells 6 k) + 2 ^ 30 * (k / 2 ^ 30) ≡ k
-number_of-cells k = omega arith
+row_number-cells : (k : ℕ) → row_number (cells 6 k) + 2 ^ 30 * (k / 2 ^ 30) ≡ k
+row_number-cells k = omega arith
 
 -- the number of cells that are read
 pub length-cells : (n k : ℕ) → length (cells n k) ≡ n
@@ -250,19 +245,19 @@ length-cells zero k = refl
 length-cells (suc n) k = omega (arith, length-cells n (k / 32))
 
 -- the cells of a row's number are the row, with anything above it
-cells-number_of : (n : ℕ) (xs : List ℕ) (rest : ℕ) → length xs ≡ n → sum xs ≤ 31
-    → cells n (number_of xs + 32 ^ n * rest) ≡ xs
-cells-number_of zero [] rest long few = refl
-cells-number_of zero (x ∷ xs) rest long few = cc
-cells-number_of (suc n) [] rest long few = cc
-cells-number_of (suc n) (x ∷ xs) rest long few =
+cells-row_number : (n : ℕ) (xs : List ℕ) (rest : ℕ) → length xs ≡ n → sum xs ≤ 31
+    → cells n (row_number xs + 32 ^ n * rest) ≡ xs
+cells-row_number zero [] rest long few = refl
+cells-row_number zero (x ∷ xs) rest long few = cc
+cells-row_number (suc n) [] rest long few = cc
+cells-row_number (suc n) (x ∷ xs) rest long few =
     let cons = sum_by-cons (λ (y : ℕ). y) x xs in
     let rest_few : sum xs ≤ 31 = omega arith in
     let rest_long : length xs ≡ n = omega arith in
     let power = times_power n rest in
-    let low : (x + 32 * number_of xs + 32 ^ suc n * rest) % 32 ≡ x = omega arith in
-    let high : (x + 32 * number_of xs + 32 ^ suc n * rest) / 32 ≡ number_of xs + 32 ^ n * rest = omega arith in
-    rw (low, high) (ap (λ ys. x ∷ ys) (cells-number_of _ _ _ rest_long rest_few))
+    let low : (x + 32 * row_number xs + 32 ^ suc n * rest) % 32 ≡ x = omega arith in
+    let high : (x + 32 * row_number xs + 32 ^ suc n * rest) / 32 ≡ row_number xs + 32 ^ n * rest = omega arith in
+    rw (low, high) (ap (λ ys. x ∷ ys) (cells-row_number _ _ _ rest_long rest_few))
 
 -- a padded row has six cells
 length-padded : (xs : List ℕ) → length xs ≤ 6 → length (padded xs) ≡ 6
@@ -288,13 +283,13 @@ pub record KeyHolds (a : HousesState) (k : ℕ) : Type 0 where
   pub rule : k / 2 ^ 63 ≡ rule_bit a.rule
 
 -- a row with few seeds has a small number
-pub number_of-small : (n : ℕ) (xs : List ℕ) → length xs ≤ n → sum xs ≤ 31 → number_of xs < 32 ^ n
-number_of-small zero [] long few = omega arith
-number_of-small zero (x ∷ xs) long few = omega arith
-number_of-small (suc n) [] long few = omega (arith, number_of-small n [] (omega arith) few)
-number_of-small (suc n) (x ∷ xs) long few =
+pub row_number-small : (n : ℕ) (xs : List ℕ) → length xs ≤ n → sum xs ≤ 31 → row_number xs < 32 ^ n
+row_number-small zero [] long few = omega arith
+row_number-small zero (x ∷ xs) long few = omega arith
+row_number-small (suc n) [] long few = omega (arith, row_number-small n [] (omega arith) few)
+row_number-small (suc n) (x ∷ xs) long few =
     let cons = sum_by-cons (λ (y : ℕ). y) x xs in
-    let here = number_of-small n xs (omega arith) (omega arith) in
+    let here = row_number-small n xs (omega arith) (omega arith) in
     omega arith
 
 -- a rule has one bit
@@ -303,28 +298,28 @@ rule_bit-small Classic = omega arith
 rule_bit-small EmptyCapture = omega arith
 
 -- the key of houses holds them
-key_holds : {a : HousesState} {k : ℕ} → IsWithinHouses a → key_of a ≡ k → KeyHolds a k
+key_holds : {a : HousesState} {k : ℕ} → AreWithinLimits a → key_of a ≡ k → KeyHolds a k
 key_holds {a} {k} limits key_is =
     let other_long : length a.other ≤ 6 = omega arith in
     let own_few : sum a.own ≤ 31 = omega arith in
     let other_few : sum a.other ≤ 31 = omega arith in
-    let own_small = number_of-small _ _ limits.at_most_six own_few in
-    let other_small = number_of-small _ _ other_long other_few in
-    let own_same = number_of-append_zeros a.own (6 - length a.own) in
-    let other_same = number_of-append_zeros a.other (6 - length a.other) in
-    let own_number : k ≡ number_of (padded a.own) + 32 ^ 6 * (number_of a.other + 2 ^ 30 * length a.own + 2 ^ 33 * rule_bit a.rule) =
+    let own_small = row_number-small _ _ limits.at_most_six own_few in
+    let other_small = row_number-small _ _ other_long other_few in
+    let own_same = row_number-append_zeros a.own (6 - length a.own) in
+    let other_same = row_number-append_zeros a.other (6 - length a.other) in
+    let own_number : k ≡ row_number (padded a.own) + 32 ^ 6 * (row_number a.other + 2 ^ 30 * length a.own + 2 ^ 33 * rule_bit a.rule) =
     omega arith in
-    let other_number : k / 2 ^ 30 ≡ number_of (padded a.other) + 32 ^ 6 * (length a.own + 8 * rule_bit a.rule) = omega arith in
+    let other_number : k / 2 ^ 30 ≡ row_number (padded a.other) + 32 ^ 6 * (length a.own + 8 * rule_bit a.rule) = omega arith in
     record {
-      own_cells = rw own_number (cells-number_of _ _ _ (length-padded _ limits.at_most_six) (omega (arith, sum-padded)));
+      own_cells = rw own_number (cells-row_number _ _ _ (length-padded _ limits.at_most_six) (omega (arith, sum-padded)));
       other_cells =
-          rw other_number (cells-number_of _ _ _ (length-padded _ other_long) (omega (arith, sum-padded)));
+          rw other_number (cells-row_number _ _ _ (length-padded _ other_long) (omega (arith, sum-padded)));
       side = omega arith;
       rule = omega arith;
     }
 
 -- the key of houses within the limits is a key
-key_is_key : {a : HousesState} {k : ℕ} → IsWithinHouses a → key_of a ≡ k → IsKey k
+key_is_key : {a : HousesState} {k : ℕ} → AreWithinLimits a → key_of a ≡ k → IsKey k
 key_is_key {a} limits key_is =
     let held = key_holds limits key_is in
     rw (held.side, held.own_cells, held.other_cells) (record {
@@ -347,89 +342,89 @@ same_houses_in : {a b : HousesState} → a.own ≡ b.own → a.other ≡ b.other
 same_houses_in x y z = grind arith
 
 -- the houses that have a key, by its parts
-houses_of_key : (a : HousesState) (k : ℕ) (rule : Rule) → IsWithinHouses a → key_of a ≡ k → rule_bit rule ≡ k / 2 ^ 63
-    → houses_from (side_at k) (cells 6 k) (cells 6 (k / 2 ^ 30)) rule ≡ a
+houses_of_key : (a : HousesState) (k : ℕ) (rule : Rule) → AreWithinLimits a → key_of a ≡ k → rule_bit rule ≡ k / 2 ^ 63
+    → houses_from (side_in_key k) (cells 6 k) (cells 6 (k / 2 ^ 30)) rule ≡ a
 houses_of_key a k rule limits key_is bit =
     let held = key_holds limits key_is in
-    let other_shown : take (side_at k) (cells 6 (k / 2 ^ 30)) ≡ a.other =
+    let other_shown : take (side_in_key k) (cells 6 (k / 2 ^ 30)) ≡ a.other =
     rw (held.side, held.other_cells, sym limits.same_side) (take-padded _) in
     same_houses_in (rw (held.side, held.own_cells) (take-padded _)) other_shown (rule_bit-injective _ _ (omega arith))
 
 -- the parts of a key make the key
-key_from_parts : {k side : ℕ} {own other : List ℕ} (rule : Rule) → number_of own + 2 ^ 30 * (k / 2 ^ 30) ≡ k
-    → number_of other + 2 ^ 30 * (k / 2 ^ 30 / 2 ^ 30) ≡ k / 2 ^ 30 → padded (take side own) ≡ own
+key_from_parts : {k side : ℕ} {own other : List ℕ} (rule : Rule) → row_number own + 2 ^ 30 * (k / 2 ^ 30) ≡ k
+    → row_number other + 2 ^ 30 * (k / 2 ^ 30 / 2 ^ 30) ≡ k / 2 ^ 30 → padded (take side own) ≡ own
     → padded (take side other) ≡ other → length (take side own) ≡ side → side ≡ k / 2 ^ 60 % 8 → rule_bit rule ≡ k / 2 ^ 63
     → key_of (houses_from side own other rule) ≡ k
-key_from_parts rule own_is other_is own_padded other_padded long side_is bit = omega (arith, number_of-shown)
+key_from_parts rule own_is other_is own_padded other_padded long side_is bit = omega (arith, row_number-shown)
 
 -- the key of the houses that a key holds
 key_of_houses : {k : ℕ} (rule : Rule) → IsKey k → rule_bit rule ≡ k / 2 ^ 63
-    → key_of (houses_from (side_at k) (cells 6 k) (cells 6 (k / 2 ^ 30)) rule) ≡ k
-key_of_houses {k} rule is_key bit = search (rules, key_from_parts, number_of-cells, padded_from_zeros)
+    → key_of (houses_from (side_in_key k) (cells 6 k) (cells 6 (k / 2 ^ 30)) rule) ≡ k
+key_of_houses {k} rule is_key bit = search (rules, key_from_parts, row_number-cells, padded_from_zeros)
 
 -- the rule that a key names has the key's bit
-rule_at-bit : (bit : ℕ) → bit ≤ 1 → rule_bit (if bit == 0 then Classic else EmptyCapture) ≡ bit
-rule_at-bit zero small = refl
-rule_at-bit (suc zero) small = refl
-rule_at-bit (suc (suc n)) small = omega arith
+rule_in_key-bit : (bit : ℕ) → bit ≤ 1 → rule_bit (if bit == 0 then Classic else EmptyCapture) ≡ bit
+rule_in_key-bit zero small = refl
+rule_in_key-bit (suc zero) small = refl
+rule_in_key-bit (suc (suc n)) small = omega arith
 
 -- the houses of a key are those whose key it is
-houses_at_key : {a : HousesState} → IsWithinHouses a → houses_at (key_of a) ≡ a
-houses_at_key {a} limits =
+houses_in_key_of : {a : HousesState} → AreWithinLimits a → houses_in_key (key_of a) ≡ a
+houses_in_key_of {a} limits =
     let held = key_holds limits refl in
     let bit : key_of a / 2 ^ 63 ≤ 1 = omega (arith, rule_bit-small) in
-    houses_of_key a _ _ limits refl (rule_at-bit _ bit)
+    houses_of_key a _ _ limits refl (rule_in_key-bit _ bit)
 
 -- a key fits sixty-four bits
-pub key_fits : (b : HousesState) → IsWithinHouses b → key_of b < 2 ^ 64
-key_fits b limits = grind (arith, number_of-small)
+pub key_fits : (b : HousesState) → AreWithinLimits b → key_of b < 2 ^ 64
+key_fits b limits = grind (arith, row_number-small)
 
--- the parts of the key of houses, with their number of seeds, are those houses packed
-pub packed_as : (b : HousesState) (rows seeds variant : ℕ) → IsWithinHouses b → rows ≡ rows_number b
+-- the parts of the key of houses, with their number of seeds, are their fields
+pub are_fields : (b : HousesState) (rows seeds variant : ℕ) → AreWithinLimits b → rows ≡ rows_number b
     → seeds ≡ seeds_in_houses (storeless b) → variant ≡ variant_of b
-    → IsPacked rows seeds variant × (unpacked rows variant ≡ b)
-packed_as b rows seeds variant limits rows_are seeds_are variant_is =
+    → AreFields rows seeds variant × (houses_of_fields rows variant ≡ b)
+are_fields b rows seeds variant limits rows_are seeds_are variant_is =
     let key_is : rows + 2 ^ 60 * variant ≡ key_of b = omega arith in
-    let same : unpacked rows variant ≡ b = ap houses_at key_is ∙ houses_at_key limits in
+    let same : houses_of_fields rows variant ≡ b = ap houses_in_key key_is ∙ houses_in_key_of limits in
     grind arith
 
--- the fields of packed houses are those of their value
-pub pack_of : {a : HousesState} {rows seeds variant : ℕ} → IsPacked rows seeds variant → unpacked rows variant ≡ a
-    → IsPackOf a rows seeds variant
-pack_of packed view_is = rw view_is at packed
+-- the fields of some houses are those of the value that they stand for
+pub fields_of : {a : HousesState} {rows seeds variant : ℕ} → AreFields rows seeds variant → houses_of_fields rows variant ≡ a
+    → AreFieldsOf a rows seeds variant
+fields_of fields view_is = rw view_is at fields
 
 -- both rows fit sixty bits, the own row thirty
 pub record AreRows (a : HousesState) (rows : ℕ) : Type 0 where
   pub fit : rows < 2 ^ 60
-  pub own : number_of a.own ≡ rows % 2 ^ 30
-  pub other : number_of a.other ≡ rows / 2 ^ 30
+  pub own : row_number a.own ≡ rows % 2 ^ 30
+  pub other : row_number a.other ≡ rows / 2 ^ 30
 
--- both rows are read off the packed rows
-pub rows_of_pack : {a : HousesState} {rows seeds variant : ℕ} → IsPackOf a rows seeds variant → AreRows a rows
-rows_of_pack {a} pack =
-    let own_small = number_of-small 6 a.own pack.limits.at_most_six (omega (arith, pack.limits.few_seeds)) in
-    let other_small = number_of-small 6 a.other (omega (arith, pack.limits.same_side)) (omega (arith, pack.limits.few_seeds)) in
-    omega (arith, pack.rows_are)
+-- both rows are read off the field
+pub rows_of_fields : {a : HousesState} {rows seeds variant : ℕ} → AreFieldsOf a rows seeds variant → AreRows a rows
+rows_of_fields {a} fields =
+    let own_small = row_number-small 6 a.own fields.limits.at_most_six (omega (arith, fields.limits.few_seeds)) in
+    let other_small = row_number-small 6 a.other (omega (arith, fields.limits.same_side)) (omega (arith, fields.limits.few_seeds)) in
+    omega (arith, fields.rows_are)
 
 -- a row with the number 0 has no seeds
-pub sum-zero : (xs : List ℕ) → number_of xs ≡ 0 → sum xs ≡ 0
+pub sum-zero : (xs : List ℕ) → row_number xs ≡ 0 → sum xs ≡ 0
 sum-zero [] none = refl
 sum-zero (x ∷ xs) none = let rest = sum-zero xs (omega arith) in let cons = sum_by-cons (λ (y : ℕ). y) x xs in omega arith
 
 -- a row without seeds has the number 0
-pub number_of-zero : (xs : List ℕ) → sum xs ≡ 0 → number_of xs ≡ 0
-number_of-zero [] none = refl
-number_of-zero (x ∷ xs) none = let cons = sum_by-cons (λ (y : ℕ). y) x xs in let rest = number_of-zero xs (omega arith) in omega arith
+pub row_number-zero : (xs : List ℕ) → sum xs ≡ 0 → row_number xs ≡ 0
+row_number-zero [] none = refl
+row_number-zero (x ∷ xs) none = let cons = sum_by-cons (λ (y : ℕ). y) x xs in let rest = row_number-zero xs (omega arith) in omega arith
 
 -- a row's number is 0 exactly when it has no seeds
-pub number_of-is_zero : (xs : List ℕ) → nat_eq (number_of xs) 0 ≡ nat_eq (sum xs) 0
-number_of-is_zero xs = grind (arith, number_of-zero, sum-zero)
+pub row_number-is_zero : (xs : List ℕ) → nat_eq (row_number xs) 0 ≡ nat_eq (sum xs) 0
+row_number-is_zero xs = grind (arith, row_number-zero, sum-zero)
 
 -- what `Houses::new` answers at the parts of a key
 module _ (k : ℕ) (rule : Rule) (bit : rule_bit rule ≡ k / 2 ^ 63) where
   -- the parts of a key as houses
   abbrev parts : HousesState
-  parts = houses_from (side_at k) (cells 6 k) (cells 6 (k / 2 ^ 30)) rule
+  parts = houses_from (side_in_key k) (cells 6 k) (cells 6 (k / 2 ^ 30)) rule
 
   -- what is found has the key
   pub of_key_same : (o : Option HousesState) → (IsSome o ↔ IsKey k) → IfSome o (λ a. a ≡ parts) → IfSome o (λ a. key_of a ≡ k)
@@ -438,37 +433,38 @@ module _ (k : ℕ) (rule : Rule) (bit : rule_bit rule ≡ k / 2 ^ 63) where
 
   -- the houses of a key are found
   pub of_key_found : (o : Option HousesState) → (IsSome o ↔ IsKey k) → IfSome o (λ a. a ≡ parts) → (a : HousesState)
-      → IsWithinHouses a → key_of a ≡ k → o ≡ Some a
+      → AreWithinLimits a → key_of a ≡ k → o ≡ Some a
   of_key_found None valid value a limits key_is = grind (arith, key_is_key)
   of_key_found (Some b) valid value a limits key_is = ap Some (value ∙ houses_of_key _ _ _ limits key_is bit)
 
 -- two values of houses with one key are one
-pub key-injective : (a b : HousesState) → IsWithinHouses a → IsWithinHouses b → key_of a ≡ key_of b → a ≡ b
+pub key-injective : (a b : HousesState) → AreWithinLimits a → AreWithinLimits b → key_of a ≡ key_of b → a ≡ b
 key-injective a b limits_a limits_b same =
     let bit = sym (key_holds limits_a same).rule in
     sym (houses_of_key _ _ _ limits_a same bit) ∙ houses_of_key _ _ _ limits_b refl bit
 
 -- without seeds only the variant is left
-pub without_seeds_packed : {a : HousesState} {rows seeds variant : ℕ} → IsPackOf a rows seeds variant
-    → IsPacked 0 0 variant × (unpacked 0 variant ≡ without_seeds a)
-without_seeds_packed {a} pack =
+pub fields_without_seeds : {a : HousesState} {rows seeds variant : ℕ} → AreFieldsOf a rows seeds variant
+    → AreFields 0 0 variant × (houses_of_fields 0 variant ≡ without_seeds a)
+fields_without_seeds {a} fields =
     let side = length-replicate {A = ℕ} (length a.own) 0 in
     let none = sum-zeros (length a.own) in
-    packed_as _ 0 0 _
+    are_fields _ 0 0 _
     (omega arith)
-    (omega (arith, number_of-zeros))
+    (omega (arith, row_number-zeros))
     (omega arith)
-    (omega (arith, pack.variant_is))
+    (omega (arith, fields.variant_is))
 
 -- ==== The houses of one side in one number
 
 -- a row's number has thirty bits
-pub row_is_small : {count number seeds : ℕ} → IsPackedRow count number seeds → number < 32 ^ 6
-row_is_small {count} {number} {seeds} row = grind (arith, length-cells, number_of-small)
+pub row_is_small : {count number seeds : ℕ} → AreRowFields count number seeds → number < 32 ^ 6
+row_is_small {count} {number} {seeds} row = grind (arith, length-cells, row_number-small)
 
 -- ---- one house more
 
-module _ {count number seeds : ℕ} (x : ℕ) (row : IsPackedRow count number seeds) (few : seeds + x ≤ 31) where
+module _ {count number seeds : ℕ} (x : ℕ) (row : AreRowFields count number seeds) (few : seeds + x ≤ 31) where
+  -- the houses so far
   abbrev pub houses : List ℕ
   houses = cells count number
 
@@ -477,30 +473,30 @@ module _ {count number seeds : ℕ} (x : ℕ) (row : IsPackedRow count number se
   sum_more = omega (arith, sum_by-append)
 
   -- it stands above the others
-  number_more : number_of (houses ++ x ∷ []) ≡ number + 32 ^ count * x
-  number_more = rw (number_of-append, length-cells) (omega arith)
+  number_more : row_number (houses ++ x ∷ []) ≡ number + 32 ^ count * x
+  number_more = rw (row_number-append, length-cells) (omega arith)
 
   -- one house more stands after the others
   pub houses_pushed : cells (count + 1) (number + 32 ^ count * x) ≡ houses ++ x ∷ []
   houses_pushed =
       let long : length (houses ++ x ∷ []) ≡ count + 1 = omega (arith, length-append houses (x ∷ []), length-cells) in
-      let same : number_of (houses ++ x ∷ []) + 32 ^ (count + 1) * 0 ≡ number + 32 ^ count * x = omega (arith, number_more) in
-      ap (cells _) (sym same) ∙ cells-number_of _ _ _ long (omega (arith, sum_more))
+      let same : row_number (houses ++ x ∷ []) + 32 ^ (count + 1) * 0 ≡ number + 32 ^ count * x = omega (arith, number_more) in
+      ap (cells _) (sym same) ∙ cells-row_number _ _ _ long (omega (arith, sum_more))
 
-  -- a row with one house more is packed
-  pub row_pushed : count < 6 → IsPackedRow (count + 1) (number + 32 ^ count * x) (seeds + x)
+  -- the fields of a row with one house more
+  pub row_pushed : count < 6 → AreRowFields (count + 1) (number + 32 ^ count * x) (seeds + x)
   row_pushed room = grind (arith, houses_pushed, number_more, sum_more)
 
 -- ---- two rows
 
--- two rows and a rule, packed
-pub packed_rows : {own other : List ℕ} {rule : Rule} {own_number other_number m variant seeds : ℕ} →
-    IsWithinHouses (record { own = own; other = other; rule = rule }) →
-    own_number ≡ number_of own → other_number ≡ number_of other → m ≡ length own → variant ≡ m + 8 * rule_bit rule
+-- the fields of two rows and a rule
+pub fields_of_rows : {own other : List ℕ} {rule : Rule} {own_number other_number m variant seeds : ℕ} →
+    AreWithinLimits (record { own = own; other = other; rule = rule }) →
+    own_number ≡ row_number own → other_number ≡ row_number other → m ≡ length own → variant ≡ m + 8 * rule_bit rule
     → seeds ≡ sum own + sum other →
-    IsPacked (own_number + 2 ^ 30 * other_number) seeds variant
-    × (unpacked (own_number + 2 ^ 30 * other_number) variant ≡ record { own = own; other = other; rule = rule })
-packed_rows limits own_is other_is m_is variant_is seeds_are = packed_as _ _ _ _ limits (omega arith) seeds_are (omega arith)
+    AreFields (own_number + 2 ^ 30 * other_number) seeds variant
+    × (houses_of_fields (own_number + 2 ^ 30 * other_number) variant ≡ record { own = own; other = other; rule = rule })
+fields_of_rows limits own_is other_is m_is variant_is seeds_are = are_fields _ _ _ _ limits (omega arith) seeds_are (omega arith)
 
 -- ==== Houses from six cells a row
 
@@ -512,7 +508,7 @@ sum-shown m cells long few none = let same = padded_from_zeros m cells long few 
 -- cells whose last ones hold no seeds can be houses exactly if their first ones are within the limits
 pub can_be_houses : {m : ℕ} {own other : List ℕ} (rule : Rule) → m ≤ 6 → length own ≡ 6 → length other ≡ 6
     → All (λ x. x ≡ 0) (drop m own) → All (λ x. x ≡ 0) (drop m other)
-    → IsWithinHouses (houses_from m own other rule) ↔ CanBeHouses m own other
+    → AreWithinLimits (houses_from m own other rule) ↔ CanBeHouses m own other
 can_be_houses {m} {own} {other} rule few own_long other_long own_past other_past =
     let own_shown = length-take-le m own (omega arith) in
     let other_shown = length-take-le m other (omega arith) in

@@ -2,29 +2,16 @@
 use Rattle.kalah_rules.specs.declared.step.Step.TheVariants as step
 use Rattle.kalah_rules.specs.Position as position
 use Rattle.std.proofs.Common.{◌≡◌, ◌≢◌, ℕ, zero, suc, ◌+◌, ◌-◌, ◌*◌, ◌/◌, ◌%◌, ◌^◌, ◌<◌, ◌≤◌, inl, inr, length, arith, ap, sym, ◌∙◌, refl, subst, eq-eqb, List, Bool, true, false, sum, ◌==◌, ◌&&◌, Option, Some, None, MatchBool, Contains, slice_set, bit_and, length-set}
-use Rattle.std.proofs.lemmas.Nat.{mod_below, div-add-mod', and_block, and_mask, and_le_r, pow_pos}
+use Rattle.std.proofs.lemmas.{Nat.mod_below, Nat.div-add-mod', Nat.and_block, Nat.and_mask, Nat.and_le_r, Nat.pow_pos, Bool.cases_Bool, Bool.cases_eq, Bool.cases_lt, Bool.and_parts, Bool.cond_both, Bool.eqb-true, Bool.Decides.nat_tests, List.length-replicate, List.get_or-set_same, List.get_or-set_other}
 use Rattle.std.proofs.Math.Nat.{div-eq_of_lt, mod-eq_of_lt, div-div-eq-div-mul}
 use Rattle.std.proofs.Math.Bool.{or_comm}
-use Rattle.std.proofs.lemmas.Bool.{cases_Bool, cases_eq, cases_lt, and_parts, cond_both, eqb-true}
-use Rattle.std.proofs.lemmas.Bool.Decides.{nat_tests}
-use Rattle.kalah_rules.specs.Position.{Position, HousesState, IsWithinHouses, side_length, seeds, opposite, seeds_in_houses, storeless, IsWithinLimits, is_over, swapped, houses_in, with_stores, without_seeds}
-use Rattle.kalah_rules.specs.Lap.{HoldsSeeds, lifted}
-use Rattle.kalah_rules.specs.Sowing.{lap_length, own_distance, other_distance, store_distance, sow, sown, last_distance, is_again, captures, can_capture, captured, after}
+use Rattle.kalah_rules.specs.{Position.Position, HousesState, AreWithinLimits, side_length, seeds, opposite, seeds_in_houses, storeless, IsWithinLimits, is_over, swapped, houses_in, with_stores, without_seeds, HoldsSeeds, lifted, lap_length, own_distance, other_distance, store_distance, sow, sown, last_distance, is_again, captures, can_capture, after_capture, after, row_number, rule_bit, ShowsPosition, ones, houses_of_fields, AreFieldsOf, AreFields, own_gains, other_gains, store_gains, last_place, IsLastHouse, IsNoHouse, IsSowing, IsSowingCell, AreSowings, legal_houses, step_to, step_of, position_after, IsNearerEnd, houses_step_to, houses_step, HousesStep.HousesStep, Over, Again, Turn}
 use Rattle.kalah_rules.proofs.PlayLemmas.{IsLegal, sum-set_zero, sow_side, sow_keeps, own_distance_past, own_distance_back, last_house_own, last_house_store, last_house_other, after_at, legal_holds, after_nearer, sum-zeros, with_store_seeds, after_of_houses, legal_going}
-use Rattle.kalah_rules.specs.Key.{number_of, rule_bit}
-use Rattle.kalah_rules.specs.Packed.{IsPackedPosition, ones, unpacked, IsPackOf, IsPacked}
 use Rattle.kalah_rules.specs.declared.houses.play.RowNumbers.{RowNumbers}
 use Rattle.kalah_rules.specs.declared.rule.Rule.{Rule}
-use Rattle.kalah_rules.specs.declared.houses.sowings.Sowing.{Sowing}
-use Rattle.kalah_rules.specs.Sowings.{own_gains, other_gains, store_gains, last_place, IsLastHouse, IsNoHouse, IsSowing, IsSowingCell, AreSowings}
-use Rattle.kalah_rules.proofs.KeyLemmas.{number_of-small, pow_five, pow_other, own_house_of_rows, moved_across_fits, placed_small, number_of-set, number_of-all, number_of-up_to, read_seeds, own_sown, other_sown, own_gain, other_gain, ones_le, pack_of, rows_of_pack, packed_as, sum-zero, number_of-zero}
-use Rattle.std.proofs.lemmas.List.{length-replicate, get_or-set_same, get_or-set_other}
-use Rattle.kalah_rules.specs.Play.{legal_houses, step_to, step_of, position_after}
-use Rattle.kalah_rules.specs.Measure.{IsNearerEnd}
-use Rattle.kalah_rules.specs.HousesStep.{houses_step_to, houses_step}
+use Rattle.kalah_rules.specs.declared.houses.sowing_table.Sowing.{Sowing}
+use Rattle.kalah_rules.proofs.KeyLemmas.{row_number-small, pow_five, pow_other, own_house_of_rows, moved_across_fits, placed_small, row_number-set, row_number-all, row_number-up_to, read_seeds, own_sown, other_sown, own_gain, other_gain, ones_le, fields_of, rows_of_fields, are_fields, sum-zero, row_number-zero}
 use Rattle.kalah_rules.specs.declared.step.Step.{Step}
-use Rattle.kalah_rules.specs.declared.step.HousesStep.{HousesStep}
-use Rattle.kalah_rules.specs.declared.step.HousesStep.TheVariants.{Over, Again, Turn}
 
 -- ==== A move on the numbers of two rows
 
@@ -61,7 +48,7 @@ HasCaptured rule r s taken count =
 -- the rows that are left show this position
 pub record LeavesRows (r : RowNumbers) (seeds count : ℕ) (p : Position) : Type 0 where
   pub within : seeds ≤ r.rows
-  pub shows : IsPackedPosition (record { rows = r.rows - seeds; store = r.store + count }) p
+  pub shows : ShowsPosition (record { rows = r.rows - seeds; store = r.store + count }) p
 
 -- the five bits of a house
 house_bits : (rows k : ℕ) → bit_and rows (31 * 32 ^ k) ≡ rows / 32 ^ k % 32 * 32 ^ k
@@ -95,11 +82,11 @@ record GainsIntoStore (m h c : ℕ) : Type 0 where
 
 -- such a sowing gives each later own house and the store one seed, and the other player none
 gains_into_store : (m h c : ℕ) → 1 ≤ h → h ≤ m → c + h ≡ m + 1 → GainsIntoStore m h c
-gains_into_store m h c low high ends = grind (arith, div-eq_of_lt, mod-eq_of_lt, number_of-all, number_of-up_to, own_gain, other_gain)
+gains_into_store m h c low high ends = grind (arith, div-eq_of_lt, mod-eq_of_lt, row_number-all, row_number-up_to, own_gain, other_gain)
 
 -- a house of houses within their limits that holds seeds
 pub record CanSow (a : HousesState) (h : ℕ) : Type 0 where
-  pub limits : IsWithinHouses a
+  pub limits : AreWithinLimits a
   pub holds : HoldsSeeds (storeless a) h
 
 module _ {a : HousesState} {h : ℕ} (can : CanSow a h) where
@@ -122,14 +109,14 @@ module _ {a : HousesState} {h : ℕ} (can : CanSow a h) where
       }
 
   -- the own row after the sowing
-  number_of-sown_own : number_of after_sowing.own + 32 ^ (h - 1) * seeds a.own h ≡ number_of a.own + own_gains (length a.own) h (seeds a.own h)
+  row_number-sown_own : row_number after_sowing.own + 32 ^ (h - 1) * seeds a.own h ≡ row_number a.own + own_gains (length a.own) h (seeds a.own h)
   unfolding sow
-  number_of-sown_own = own_sown _ _ _ can.holds.first can.holds.last
+  row_number-sown_own = own_sown _ _ _ can.holds.first can.holds.last
 
   -- the other row
-  number_of-sown_other : number_of after_sowing.other ≡ number_of a.other + other_gains (length a.own) h (seeds a.own h)
+  row_number-sown_other : row_number after_sowing.other ≡ row_number a.other + other_gains (length a.own) h (seeds a.own h)
   unfolding sow
-  number_of-sown_other = rw can.limits.same_side at (other_sown a.other h (seeds a.own h))
+  row_number-sown_other = rw can.limits.same_side at (other_sown a.other h (seeds a.own h))
 
   -- what comes to the store
   sown_own_store : after_sowing.own_store ≡ store_gains (length a.own) h (seeds a.own h)
@@ -137,49 +124,49 @@ module _ {a : HousesState} {h : ℕ} (can : CanSow a h) where
   sown_own_store = omega arith
 
   -- the row without the house's seeds
-  number_of-lifted : number_of (lifted (storeless a) h).own + 32 ^ (h - 1) * seeds a.own h ≡ number_of a.own
-  number_of-lifted = omega (arith, number_of-set)
+  row_number-lifted : row_number (lifted (storeless a) h).own + 32 ^ (h - 1) * seeds a.own h ≡ row_number a.own
+  row_number-lifted = omega (arith, row_number-set)
 
   -- the sowing leaves few seeds
   few : sum after_sowing.own + sum after_sowing.other ≤ 31
   few = omega (arith, sown_keeps.play)
 
   -- the own row has a small number
-  own_small : number_of after_sowing.own < 2 ^ 30
-  own_small = number_of-small 6 after_sowing.own (omega (arith, sown_keeps.side)) (omega (arith, few))
+  own_small : row_number after_sowing.own < 2 ^ 30
+  own_small = row_number-small 6 after_sowing.own (omega (arith, sown_keeps.side)) (omega (arith, few))
 
   -- the other row has a small number
-  other_small : number_of after_sowing.other < 2 ^ 30
-  other_small = number_of-small 6 after_sowing.other (omega (arith, sown_keeps.other_side, can.limits.same_side)) (omega (arith, few))
+  other_small : row_number after_sowing.other < 2 ^ 30
+  other_small = row_number-small 6 after_sowing.other (omega (arith, sown_keeps.other_side, can.limits.same_side)) (omega (arith, few))
 
   -- both rows without the house's seeds, and with what they gain
-  sown_rows : (rows house gains : ℕ) → rows ≡ number_of a.own + 2 ^ 30 * number_of a.other → house ≡ 32 ^ (h - 1) * seeds a.own h
+  sown_rows : (rows house gains : ℕ) → rows ≡ row_number a.own + 2 ^ 30 * row_number a.other → house ≡ 32 ^ (h - 1) * seeds a.own h
       → gains ≡ own_gains (length a.own) h (seeds a.own h) + 2 ^ 30 * other_gains (length a.own) h (seeds a.own h)
-      → rows - house + gains ≡ number_of after_sowing.own + 2 ^ 30 * number_of after_sowing.other
-  sown_rows rows house gains rows_are house_is gains_are = omega (arith, number_of-sown_own, number_of-sown_other, number_of-lifted)
+      → rows - house + gains ≡ row_number after_sowing.own + 2 ^ 30 * row_number after_sowing.other
+  sown_rows rows house gains rows_are house_is gains_are = omega (arith, row_number-sown_own, row_number-sown_other, row_number-lifted)
 
   -- after a sowing the rows are both rows, less what they lose
-  sown_less : (rows loses : ℕ) → rows ≡ number_of a.own + 2 ^ 30 * number_of a.other → loses < 2 ^ 64
+  sown_less : (rows loses : ℕ) → rows ≡ row_number a.own + 2 ^ 30 * row_number a.other → loses < 2 ^ 64
       → (loses + (own_gains (length a.own) h (seeds a.own h) + 2 ^ 30 * other_gains (length a.own) h (seeds a.own h))) % 2 ^ 64
-      ≡ 32 ^ (h - 1) * seeds a.own h → (rows + (2 ^ 64 - loses)) % 2 ^ 64 ≡ number_of after_sowing.own + 2 ^ 30 * number_of after_sowing.other
-  sown_less rows loses rows_are loses_small loses_is = omega (arith, number_of-sown_own, number_of-sown_other, own_small, other_small)
+      ≡ 32 ^ (h - 1) * seeds a.own h → (rows + (2 ^ 64 - loses)) % 2 ^ 64 ≡ row_number after_sowing.own + 2 ^ 30 * row_number after_sowing.other
+  sown_less rows loses rows_are loses_small loses_is = omega (arith, row_number-sown_own, row_number-sown_other, own_small, other_small)
 
   -- rows and a store with what a sowing adds show the position after it
-  rows_show : (rows store : ℕ) → rows ≡ number_of after_sowing.own + 2 ^ 30 * number_of after_sowing.other →
-      store ≡ store_gains (length a.own) h (seeds a.own h) → IsPackedPosition (record { rows = rows; store = store }) after_sowing
+  rows_show : (rows store : ℕ) → rows ≡ row_number after_sowing.own + 2 ^ 30 * row_number after_sowing.other →
+      store ≡ store_gains (length a.own) h (seeds a.own h) → ShowsPosition (record { rows = rows; store = store }) after_sowing
   rows_show rows store rows_are store_is' = omega (arith, own_small, sown_own_store)
 
   -- a house whose last seed falls into the store without a lap
   pub into_store : (rows house own_more : ℕ) → seeds a.own h + h ≡ length a.own + 1
-      → rows ≡ number_of a.own + 2 ^ 30 * number_of a.other →
+      → rows ≡ row_number a.own + 2 ^ 30 * row_number a.other →
       house ≡ 32 ^ (h - 1) * seeds a.own h → own_more + ones h ≡ ones (length a.own)
-      → IsPackedPosition (record { rows = rows - house + own_more; store = 1 }) after_sowing
+      → ShowsPosition (record { rows = rows - house + own_more; store = 1 }) after_sowing
   into_store rows house own_more ends rows_are house_is own_more_is =
       let gains = gains_into_store _ _ _ can.holds.first can.holds.last ends in
       rows_show _ 1 (sown_rows _ house _ rows_are house_is (omega arith)) (omega arith)
 
   -- a house read off the numbers
-  read_own : (r : RowNumbers) (i bit : ℕ) → IsPackedPosition r after_sowing → 1 ≤ i → i ≤ length a.own → bit ≡ 5 * (i - 1)
+  read_own : (r : RowNumbers) (i bit : ℕ) → ShowsPosition r after_sowing → 1 ≤ i → i ≤ length a.own → bit ≡ 5 * (i - 1)
       → r.rows / 2 ^ bit % 32 ≡ seeds after_sowing.own i
   read_own r i bit shows low high bit_is =
       let near : i - 1 ≤ 5 = omega arith in
@@ -187,7 +174,7 @@ module _ {a : HousesState} {h : ℕ} (can : CanSow a h) where
       ∙ read_seeds _ _ (omega (arith, sown_keeps.side)) (omega (arith, few)))
 
   -- the house across
-  read_across : (r : RowNumbers) (i bit : ℕ) → IsPackedPosition r after_sowing → 1 ≤ i → i ≤ length a.own
+  read_across : (r : RowNumbers) (i bit : ℕ) → ShowsPosition r after_sowing → 1 ≤ i → i ≤ length a.own
       → bit ≡ 30 + 5 * (opposite after_sowing i - 1) → r.rows / 2 ^ bit % 32 ≡ seeds after_sowing.other (opposite after_sowing i)
   read_across r i bit shows low high bit_is =
       let side = sown_keeps.side in
@@ -197,7 +184,7 @@ module _ {a : HousesState} {h : ℕ} (can : CanSow a h) where
       ∙ read_seeds _ _ (omega arith) (omega (arith, few)))
 
   -- what a capture does to the rows, read and written by bits: the last seed falls into own house i
-  module _ (r : RowNumbers) (s : Sowing) (i taken count : ℕ) (shows : IsPackedPosition r after_sowing) (first : 1 ≤ i)
+  module _ (r : RowNumbers) (s : Sowing) (i taken count : ℕ) (shows : ShowsPosition r after_sowing) (first : 1 ≤ i)
       (last : i ≤ length a.own) (house : IsLastHouse (length a.own) i s.last_mask s.last_seed s.across_bit)
       (by_rule : HasCaptured a.rule r s taken count) where
     -- the house across
@@ -218,19 +205,19 @@ module _ {a : HousesState} {h : ℕ} (can : CanSow a h) where
         rw sown_keeps.rule (rw (single, read_across r i s.across_bit shows first last across_at) at by_rule)
 
     -- without a capture the rows stay
-    rows_if_kept : can_capture after_sowing i ≡ false → LeavesRows r taken count (captured after_sowing (Some i))
+    rows_if_kept : can_capture after_sowing i ≡ false → LeavesRows r taken count (after_capture after_sowing (Some i))
     rows_if_kept kept =
         let none = rw kept at taken_by_rule in
         record { within = omega (arith, none.0); shows = rw (kept, none.0, none.1) (omega arith) }
 
     -- by a capture both houses are emptied
-    rows_if_captured : can_capture after_sowing i ≡ true → LeavesRows r taken count (captured after_sowing (Some i))
+    rows_if_captured : can_capture after_sowing i ≡ true → LeavesRows r taken count (after_capture after_sowing (Some i))
     rows_if_captured alone =
         let both = rw alone at taken_by_rule in
         let one : seeds after_sowing.own i ≡ 1 = eqb-true (seeds after_sowing.own i) 1 (and_parts _ _ alone).0 in
         let one_at : 32 ^ (i - 1) * seeds after_sowing.own i ≡ 32 ^ (i - 1) * 1 = ap (λ n. 32 ^ (i - 1) * n) one in
-        let own_set = number_of-set after_sowing.own (i - 1) 0 (omega (arith, sown_keeps.side)) in
-        let other_set = number_of-set after_sowing.other (across - 1) 0
+        let own_set = row_number-set after_sowing.own (i - 1) 0 (omega (arith, sown_keeps.side)) in
+        let other_set = row_number-set after_sowing.other (across - 1) 0
         (omega (arith, sown_keeps.side, sown_keeps.other_side, can.limits.same_side)) in
         let far : across - 1 ≤ 5 = omega (arith, sown_keeps.side, can.limits.at_most_six) in
         let stands : seeds after_sowing.other across * 2 ^ s.across_bit % 2 ^ 64
@@ -240,7 +227,7 @@ module _ {a : HousesState} {h : ℕ} (can : CanSow a h) where
         let taken_are : taken ≡ 32 ^ (i - 1) + 2 ^ 30 * (32 ^ (across - 1) * seeds after_sowing.other across) =
         both.0 ∙ omega (arith, stands, house.seed) in
         let left : AreLeft r.rows (32 ^ (i - 1) + 2 ^ 30 * (32 ^ (across - 1) * seeds after_sowing.other across))
-        (number_of (slice_set after_sowing.own (i - 1) 0)) (number_of (slice_set after_sowing.other (across - 1) 0)) =
+        (row_number (slice_set after_sowing.own (i - 1) 0)) (row_number (slice_set after_sowing.other (across - 1) 0)) =
         left_of_rows r.rows _ _ shows.own shows.other (omega arith) (omega arith) in
         record {
           within = rw taken_are left.within;
@@ -248,17 +235,17 @@ module _ {a : HousesState} {h : ℕ} (can : CanSow a h) where
         }
 
     -- so the rows that are left show the position after the capture
-    capture_shows : LeavesRows r taken count (captured after_sowing (Some i))
+    capture_shows : LeavesRows r taken count (after_capture after_sowing (Some i))
     capture_shows = elim (cases_Bool (can_capture after_sowing i)) [ inl alone ↦ rows_if_captured alone | inr kept ↦ rows_if_kept kept ]
 
 -- ---- the whole move
 -- a capture keeps what a sowing keeps
-captured_keeps : {p q : Position} (o : Option ℕ) → KeepsSeeds p q → KeepsSeeds p (captured q o)
+captured_keeps : {p q : Position} (o : Option ℕ) → KeepsSeeds p q → KeepsSeeds p (after_capture q o)
 captured_keeps None k = k
 captured_keeps {p} {q} (Some i) k = grind (arith, cases_Bool, sum-set_zero, length-set)
 
 -- a move keeps all that
-pub after_keeps : (a : HousesState) (h : ℕ) → IsWithinHouses a → HoldsSeeds (storeless a) h
+pub after_keeps : (a : HousesState) (h : ℕ) → AreWithinLimits a → HoldsSeeds (storeless a) h
     → KeepsSeeds (storeless a) (after (storeless a) h)
 unfolding after
 after_keeps a h limits holds = captured_keeps _ (sown_keeps (record { limits = limits; holds = holds }))
@@ -294,8 +281,8 @@ module _ (p : Position) (h : ℕ) (holds : HoldsSeeds p h) where
 
   -- it falls into an own house, and may capture
   after_own : (r : RowNumbers) → last_place (side_length p) h (seeds p.own h) ≤ side_length p
-      → IsPackedPosition r (captured (sown p h) (Some (last_place (side_length p) h (seeds p.own h)))) → IsPackedPosition r (after p h)
-  after_own r own shows = subst (λ z. IsPackedPosition r z)
+      → ShowsPosition r (after_capture (sown p h) (Some (last_place (side_length p) h (seeds p.own h)))) → ShowsPosition r (after p h)
+  after_own r own shows = subst (λ z. ShowsPosition r z)
       (after_at _ _ _ (last_house_own holds (omega arith) own (own_at own))) shows
 
   -- the place of any other cell is its distance past the house
@@ -304,20 +291,20 @@ module _ (p : Position) (h : ℕ) (holds : HoldsSeeds p h) where
   place_past past = grind (arith, place_round)
 
   -- it falls into the store or beyond
-  after_past : (r : RowNumbers) → side_length p < last_place (side_length p) h (seeds p.own h) → IsPackedPosition r (sown p h)
-      → IsPackedPosition r (after p h)
+  after_past : (r : RowNumbers) → side_length p < last_place (side_length p) h (seeds p.own h) → ShowsPosition r (sown p h)
+      → ShowsPosition r (after p h)
   after_past r past shows =
       let at = place_past past in
       elim (cases_eq (h + last_distance p h) (side_length p + 1)) [
         | inl store ↦
             let far : store_distance _ h ≡ last_distance p h = omega arith in
-            subst (λ z. IsPackedPosition r z) (after_at _ _ _ (last_house_store holds far)) shows
+            subst (λ z. ShowsPosition r z) (after_at _ _ _ (last_house_store holds far)) shows
         | inr other ↦
             let j = h + last_distance p h - (side_length p + 1) in
             let low : 1 ≤ j = omega arith in
             let high : j ≤ side_length p = omega arith in
             let far : other_distance _ h j ≡ last_distance p h = omega arith in
-            subst (λ z. IsPackedPosition r z) (after_at _ _ _ (last_house_other _ holds low high far)) shows
+            subst (λ z. ShowsPosition r z) (after_at _ _ _ (last_house_other _ holds low high far)) shows
       ]
 
   -- the mover moves again if it falls into the store
@@ -326,7 +313,7 @@ module _ (p : Position) (h : ℕ) (holds : HoldsSeeds p h) where
 
 -- a last seed that falls into no own house captures nothing
 none_captured : (rule : Rule) (r : RowNumbers) (s : Sowing) {taken count : ℕ} {p : Position} → IsNoHouse s.last_mask s.last_seed s.across_bit →
-    HasCaptured rule r s taken count → IsPackedPosition r p → LeavesRows r taken count p
+    HasCaptured rule r s taken count → ShowsPosition r p → LeavesRows r taken count p
 none_captured rule r s elsewhere has_captured shows =
     let nothing = rw (elsewhere.house, elsewhere.seed) at has_captured in
     grind (arith, and_le_r)
@@ -341,12 +328,12 @@ rows_sown rows s = record { rows = (rows + (2 ^ 64 - s.loses)) % 2 ^ 64; store =
 
 -- the rows after the move are those of the sowing, less what is captured
 pub move_leaves : {a : HousesState} {h rows seeds variant : ℕ} {s : Sowing} {rule : Rule} {taken count : ℕ}
-    → IsPackOf a rows seeds variant → HoldsSeeds (storeless a) h → IsSowing (length a.own) h (position.seeds a.own h) s → s.loses < 2 ^ 64
+    → AreFieldsOf a rows seeds variant → HoldsSeeds (storeless a) h → IsSowing (length a.own) h (position.seeds a.own h) s → s.loses < 2 ^ 64
     → rule ≡ a.rule → HasCaptured rule (rows_sown rows s) s taken count → LeavesRows (rows_sown rows s) taken count (after (storeless a) h)
-move_leaves {a} {h} {rows} {s = s} pack holds sowing fits same has_captured =
+move_leaves {a} {h} {rows} {s = s} fields holds sowing fits same has_captured =
     let r = rows_sown rows s in
-    let can : CanSow a h = record { limits = pack.limits; holds = holds } in
-    let shows = rows_show can _ _ (sown_less can _ _ (sym pack.rows_are) fits sowing.loses) sowing.store in
+    let can : CanSow a h = record { limits = fields.limits; holds = holds } in
+    let shows = rows_show can _ _ (sown_less can _ _ (sym fields.rows_are) fits sowing.loses) sowing.store in
     let by_rule = rw same at has_captured in
     elim (cases_lt _ (last_place _ h _)) [
       | inl past ↦ none_captured a.rule r s (sowing.elsewhere past) by_rule (after_past _ h holds r past shows)
@@ -394,36 +381,36 @@ pub is_over-swapped : (q : Position) → is_over (swapped q) ≡ is_over q
 is_over-swapped q = or_comm (sum q.other == 0) (sum q.own == 0)
 
 -- the houses of a board are within their limits
-pub houses_within : (p : Position) → IsWithinLimits p → IsWithinHouses (houses_in p)
+pub houses_within : (p : Position) → IsWithinLimits p → AreWithinLimits (houses_in p)
 houses_within p limits = omega arith
 
 -- a move keeps the houses within the limits
-pub after_within : (a : HousesState) (h : ℕ) → IsWithinHouses a → HoldsSeeds (storeless a) h
-    → IsWithinHouses (houses_in (after (storeless a) h))
+pub after_within : (a : HousesState) (h : ℕ) → AreWithinLimits a → HoldsSeeds (storeless a) h
+    → AreWithinLimits (houses_in (after (storeless a) h))
 after_within a h limits holds = grind (arith, after_keeps)
 
 -- also as the other player sees them
-pub swapped_within : (q : Position) → IsWithinHouses (houses_in q) → IsWithinHouses (houses_in (swapped q))
+pub swapped_within : (q : Position) → AreWithinLimits (houses_in q) → AreWithinLimits (houses_in (swapped q))
 swapped_within q limits = omega arith
 
 -- ---- what `play` computes
--- the move of house h leads to this step with the houses that are packed so
-pub record IsPackedStep (a : HousesState) (h rows seeds variant : ℕ) (step : HousesState → HousesStep) : Type 0 where
-  pub packed : IsPacked rows seeds variant
-  pub step_is : step (unpacked rows variant) ≡ houses_step a h
+-- the move of house h leads to this step with the houses of these fields
+pub record IsStepOfFields (a : HousesState) (h rows seeds variant : ℕ) (step : HousesState → HousesStep) : Type 0 where
+  pub fields : AreFields rows seeds variant
+  pub step_is : step (houses_of_fields rows variant) ≡ houses_step a h
 
 -- a move brings at most 31 seeds to the store
-pub store_small : {a : HousesState} {h : ℕ} {r : RowNumbers} → IsWithinHouses a → IsLegal a h
-    → IsPackedPosition r (after (storeless a) h) → r.store ≤ 31
+pub store_small : {a : HousesState} {h : ℕ} {r : RowNumbers} → AreWithinLimits a → IsLegal a h
+    → ShowsPosition r (after (storeless a) h) → r.store ≤ 31
 store_small {a} {h} {r} limits legal shows =
     let keeps = after_keeps _ _ limits (legal_holds _ _ legal) in
     omega (arith, keeps.play)
 
-module _ {a : HousesState} {h rows seeds variant : ℕ} {r : RowNumbers} (packed : IsPacked rows seeds variant) (view_is : unpacked rows variant ≡ a)
-    (legal : IsLegal a h) (shows : IsPackedPosition r (after (storeless a) h)) where
+module _ {a : HousesState} {h rows seeds variant : ℕ} {r : RowNumbers} (fields : AreFields rows seeds variant) (view_is : houses_of_fields rows variant ≡ a)
+    (legal : IsLegal a h) (shows : ShowsPosition r (after (storeless a) h)) where
   -- the meaning of the fields
-  packed_houses : IsPackOf a rows seeds variant
-  packed_houses = pack_of packed view_is
+  fields_are : AreFieldsOf a rows seeds variant
+  fields_are = fields_of fields view_is
 
   -- the position after the move
   abbrev moved : Position
@@ -431,15 +418,15 @@ module _ {a : HousesState} {h rows seeds variant : ℕ} {r : RowNumbers} (packed
 
   -- the move loses no seed
   move_keeps : KeepsSeeds (storeless a) moved
-  move_keeps = after_keeps _ _ packed_houses.limits (legal_holds _ _ legal)
+  move_keeps = after_keeps _ _ fields_are.limits (legal_holds _ _ legal)
 
   -- the position after the move keeps the limits
-  moved_within : IsWithinHouses (houses_in moved)
-  moved_within = after_within _ _ packed_houses.limits (legal_holds _ _ legal)
+  moved_within : AreWithinLimits (houses_in moved)
+  moved_within = after_within _ _ fields_are.limits (legal_holds _ _ legal)
 
   -- what came is among the seeds
   pub store_within : r.store ≤ seeds
-  store_within = omega (arith, move_keeps.play, packed_houses.seeds_are)
+  store_within = omega (arith, move_keeps.play, fields_are.seeds_are)
 
   -- without own seeds the game is over
   pub over_own : r.rows % 2 ^ 30 ≡ 0 → Over r.store (seeds - r.store) ≡ houses_step a h
@@ -447,43 +434,43 @@ module _ {a : HousesState} {h rows seeds variant : ℕ} {r : RowNumbers} (packed
       let empty = sum-zero moved.own (sym shows.own ∙ none) in
       let mine : r.store ≡ moved.own_store + sum moved.own = omega (arith, shows.store) in
       let theirs : seeds - r.store ≡ moved.other_store + sum moved.other =
-      omega (arith, shows.store, move_keeps.play, move_keeps.other_store, packed_houses.seeds_are) in
+      omega (arith, shows.store, move_keeps.play, move_keeps.other_store, fields_are.seeds_are) in
       cc (mine, theirs, step_over moved (is_again (storeless a) h) (rw empty refl))
 
   -- without seeds of the other player it is over
   pub over_other : r.rows / 2 ^ 30 ≡ 0 → Over seeds 0 ≡ houses_step a h
   over_other none =
       let empty = sum-zero moved.other (sym shows.other ∙ none) in
-      let mine : seeds ≡ moved.own_store + sum moved.own = omega (arith, move_keeps.play, packed_houses.seeds_are) in
+      let mine : seeds ≡ moved.own_store + sum moved.own = omega (arith, move_keeps.play, fields_are.seeds_are) in
       let theirs : 0 ≡ moved.other_store + sum moved.other = omega (arith, move_keeps.other_store) in
       cc (mine, theirs, step_over moved (is_again (storeless a) h) (grind (arith, nat_tests)))
 
   module _ (own_some : r.rows % 2 ^ 30 ≢ 0) (other_some : r.rows / 2 ^ 30 ≢ 0) where
     -- with seeds on both sides it goes on
     moved_going : is_over moved ≡ false
-    moved_going = grind (arith, number_of-zero)
+    moved_going = grind (arith, row_number-zero)
 
     -- if the mover moves again, the rows stay in place
-    pub again_packed : is_again (storeless a) h ≡ true → IsPackedStep a h r.rows (seeds - r.store) variant (Again r.store)
-    again_packed more =
+    pub again_fields : is_again (storeless a) h ≡ true → IsStepOfFields a h r.rows (seeds - r.store) variant (Again r.store)
+    again_fields more =
         let rule = ap rule_bit move_keeps.rule in
-        let there = packed_as _ _ _ variant moved_within
+        let there = are_fields _ _ _ variant moved_within
         (omega (arith, shows.own, shows.other))
-        (omega (arith, move_keeps.play, packed_houses.seeds_are))
-        (omega (arith, packed_houses.variant_is, move_keeps.side)) in
-        record { packed = there.0; step_is = rw (shows.store, there.1) (sym (step_again _ _ moved_going more)) }
+        (omega (arith, move_keeps.play, fields_are.seeds_are))
+        (omega (arith, fields_are.variant_is, move_keeps.side)) in
+        record { fields = there.0; step_is = rw (shows.store, there.1) (sym (step_again _ _ moved_going more)) }
 
     -- if the turn passes, they change places
-    pub turn_packed : is_again (storeless a) h ≡ false
-        → IsPackedStep a h (r.rows / 2 ^ 30 + 2 ^ 30 * (r.rows % 2 ^ 30)) (seeds - r.store) variant (Turn r.store)
-    turn_packed passed =
+    pub turn_fields : is_again (storeless a) h ≡ false
+        → IsStepOfFields a h (r.rows / 2 ^ 30 + 2 ^ 30 * (r.rows % 2 ^ 30)) (seeds - r.store) variant (Turn r.store)
+    turn_fields passed =
         let rule = ap rule_bit move_keeps.rule in
-        let there = packed_as (houses_in (swapped moved)) _ (seeds - _) variant
+        let there = are_fields (houses_in (swapped moved)) _ (seeds - _) variant
         (swapped_within moved moved_within)
         (omega (arith, shows.own, shows.other))
-        (omega (arith, move_keeps.play, packed_houses.seeds_are))
-        (omega (arith, packed_houses.variant_is, move_keeps.other_side, packed_houses.limits.same_side)) in
-        record { packed = there.0; step_is = rw (shows.store, there.1) (sym (step_turn moved _ moved_going passed)) }
+        (omega (arith, move_keeps.play, fields_are.seeds_are))
+        (omega (arith, fields_are.variant_is, move_keeps.other_side, fields_are.limits.same_side)) in
+        record { fields = there.0; step_is = rw (shows.store, there.1) (sym (step_turn moved _ moved_going passed)) }
 
 -- ---- a step on houses, applied to a position
 -- the step of a position whose houses make this one
@@ -505,7 +492,7 @@ with_board_stores-step_to p q false true side rule none over_is = grind arith
 with_board_stores-step_to p q false false side rule none over_is = grind arith
 
 -- the step of a board is that of its houses
-step_of_houses : (p : Position) (h : ℕ) → IsWithinHouses (houses_in p) → HoldsSeeds (storeless (houses_in p)) h
+step_of_houses : (p : Position) (h : ℕ) → AreWithinLimits (houses_in p) → HoldsSeeds (storeless (houses_in p)) h
     → with_board_stores p (houses_step (houses_in p) h) ≡ step_of p h
 step_of_houses p h limits holds =
     let q = after _ h in
@@ -559,11 +546,12 @@ step_of_board {b} {own_store} {other_store} {h} limits view_is legal same step_i
 
 -- ==== Moves whose last seed falls into the store without a lap
 
-module _ {a : HousesState} {h rows seeds variant : ℕ} {r : RowNumbers} (packed : IsPacked rows seeds variant) (view_is : unpacked rows variant ≡ a)
+module _ {a : HousesState} {h rows seeds variant : ℕ} {r : RowNumbers} (fields : AreFields rows seeds variant) (view_is : houses_of_fields rows variant ≡ a)
     (legal : IsLegal a h)
-    (ends : position.seeds a.own h + h ≡ length a.own + 1) (shows : IsPackedPosition r (sown (storeless a) h)) where
+    (ends : position.seeds a.own h + h ≡ length a.own + 1) (shows : ShowsPosition r (sown (storeless a) h)) where
+  -- the house can be sown
   can_sow : CanSow a h
-  can_sow = record { limits = (pack_of packed view_is).limits; holds = legal_holds _ _ legal }
+  can_sow = record { limits = (fields_of fields view_is).limits; holds = legal_holds _ _ legal }
 
   -- the last seed falls as far as the house has seeds
   distance_is_seeds : last_distance (storeless a) h ≡ position.seeds a.own h
@@ -578,30 +566,30 @@ module _ {a : HousesState} {h rows seeds variant : ℕ} {r : RowNumbers} (packed
   ends_at_store = eqb-true _ _ (sym (again_at _ h can_sow.holds) ∙ moves_again)
 
   -- nothing is captured
-  store_shows : IsPackedPosition r (after (storeless a) h)
+  store_shows : ShowsPosition r (after (storeless a) h)
   store_shows = after_past _ h can_sow.holds r (omega (arith, ends_at_store)) shows
 
   -- the other player has seeds as before
   other_some : r.rows / 2 ^ 30 ≢ 0
-  other_some none = grind (arith, legal_going, sum-zero, number_of-sown_other can_sow)
+  other_some none = grind (arith, legal_going, sum-zero, row_number-sown_other can_sow)
 
   -- the game goes on with the mover, if the mover has seeds left
-  store_packed : 0 < r.rows % 2 ^ 30 → IsPackedStep a h r.rows (seeds - r.store) variant (Again r.store)
-  store_packed some = again_packed packed view_is legal store_shows (omega arith) other_some moves_again
+  store_fields : 0 < r.rows % 2 ^ 30 → IsStepOfFields a h r.rows (seeds - r.store) variant (Again r.store)
+  store_fields some = again_fields fields view_is legal store_shows (omega arith) other_some moves_again
 
 -- what comes of a move, by the rows after it, if its last seed falls into the store without a lap
 pub record MovesIntoStore (a : HousesState) (h seeds variant now : ℕ) : Type 0 where
-  pub goes_on : 0 < now % 2 ^ 30 → IsPackedStep a h now (seeds - 1) variant (Again 1)
+  pub goes_on : 0 < now % 2 ^ 30 → IsStepOfFields a h now (seeds - 1) variant (Again 1)
   pub over : now % 2 ^ 30 ≡ 0 → Over 1 (seeds - 1) ≡ houses_step a h
 
 -- it adds a seed in each later house, less the seeds of the house
-pub moves_into_store : {a : HousesState} {h rows seeds variant : ℕ} (more : ℕ) → IsPacked rows seeds variant
-    → unpacked rows variant ≡ a → IsLegal a h → position.seeds a.own h + h ≡ length a.own + 1
+pub moves_into_store : {a : HousesState} {h rows seeds variant : ℕ} (more : ℕ) → AreFields rows seeds variant
+    → houses_of_fields rows variant ≡ a → IsLegal a h → position.seeds a.own h + h ≡ length a.own + 1
     → (more + 32 ^ (h - 1) * (length a.own + 1 - h)) % 2 ^ 64 ≡ ones (length a.own) - ones h
     → MovesIntoStore a h seeds variant ((rows + more) % 2 ^ 64)
-moves_into_store {a} {h} {rows} {seeds} {variant} more packed view_is legal ends more_is =
-    let pack = pack_of packed view_is in
-    let can : CanSow a h = record { limits = pack.limits; holds = legal_holds (storeless a) h legal } in
+moves_into_store {a} {h} {rows} {seeds} {variant} more fields view_is legal ends more_is =
+    let are = fields_of fields view_is in
+    let can : CanSow a h = record { limits = are.limits; holds = legal_holds (storeless a) h legal } in
     let house = 32 ^ (h - 1) * position.seeds a.own h in
     let later = ones (length a.own) - ones h in
     let few : length a.own + 1 - h ≡ position.seeds a.own h = omega arith in
@@ -610,14 +598,14 @@ moves_into_store {a} {h} {rows} {seeds} {variant} more packed view_is legal ends
       arith,
       rw few at more_is,
       small,
-      pack.rows_are,
-      (rows_of_pack pack).fit,
-      number_of-lifted can,
+      are.rows_are,
+      (rows_of_fields are).fit,
+      row_number-lifted can,
     ) in
-    let shows = into_store can _ house later ends (sym pack.rows_are) refl (omega (arith, ones_le h (length a.own) can.holds.last)) in
+    let shows = into_store can _ house later ends (sym are.rows_are) refl (omega (arith, ones_le h (length a.own) can.holds.last)) in
     rw same (record {
-      goes_on = store_packed packed view_is legal ends shows;
-      over = over_own packed view_is legal (store_shows packed view_is legal ends shows);
+      goes_on = store_fields fields view_is legal ends shows;
+      over = over_own fields view_is legal (store_shows fields view_is legal ends shows);
     })
 
 -- ==== The cells of the table of sowings

@@ -1,19 +1,8 @@
 -- Moves, house by house: how seeds are sown and captured, which moves there are, and how each nears the end.
 use Rattle.std.proofs.Common.{zero, suc, ◌≡◌, ◌≢◌, ℕ, ◌+◌, ◌-◌, ◌*◌, ◌<◌, ◌≤◌, inl, inr, List, [], ◌∷◌, zero-le, length, replicate, arith, ap, ◌∙◌, refl, ◌/◌, ◌%◌, ◌⊎◌, sym, add-one, ◌++◌, eq-eqb, lt-ltb, slice_set, slice_index, sum, sum_by, Bool, true, false, cond, Option, Some, None, find, filter, Contains, All, nat_lt, length-set, mod-eq_of_lt}
 use Rattle.std.specs.List.{range_with_len}
-use Rattle.std.proofs.lemmas.Nat.{mul-le}
-use Rattle.std.proofs.lemmas.Bool.{cases_eq, cases_lt, cond_both, ltb-true, ne_eqb}
-use Rattle.std.proofs.lemmas.List.{get_or_past, set_past, get_or-set_same, get_or-set_other}
-use Rattle.std.proofs.lemmas.List.Folds.{sum_by-replicate}
-use Rattle.std.proofs.lemmas.List.Sums.{sum_by-set, sum_by-cons, length-filter, count_by-le-length}
-use Rattle.kalah_rules.specs.Sowing.{own_distance, gain, row_of, lap_length, store_distance, other_distance, sow, last_distance, last_house, sown, after, captured, capture}
-use Rattle.std.proofs.lemmas.Grind.{same_number_lists}
-use Rattle.std.proofs.lemmas.List.FromFn.{length-map-range_with_len, get_or-map-range_with_len, length-range_with_len, get_or-range_with_len}
-use Rattle.kalah_rules.specs.Position.{Position, HousesState, seeds, side_length, seeds_in_houses, is_over, houses_in, storeless, HasEqualSides, swapped}
-use Rattle.kalah_rules.specs.Lap.{Cell, Own, Store, Other, distance, IsCellOf, with_seed, lifted, HoldsSeeds}
-use Rattle.std.proofs.lemmas.List.Elements.{filter-append, filter_passes, All-filter, All-contains, Contains-append_left, Contains-append_right, Contains-push}
-use Rattle.kalah_rules.specs.Play.{legal_houses}
-use Rattle.kalah_rules.specs.Measure.{row_distance, distance_to_stores, IsNearerEnd, moves_left}
+use Rattle.std.proofs.lemmas.{Nat.mul-le, Bool.cases_eq, Bool.cases_lt, Bool.cond_both, Bool.ltb-true, Bool.ne_eqb, List.get_or_past, List.set_past, List.get_or-set_same, List.get_or-set_other, List.Folds.sum_by-replicate, List.Sums.sum_by-set, List.Sums.sum_by-cons, List.Sums.length-filter, List.Sums.count_by-le-length, Grind.same_number_lists, List.FromFn.length-map-range_with_len, List.FromFn.get_or-map-range_with_len, List.FromFn.length-range_with_len, List.FromFn.get_or-range_with_len, List.Elements.filter-append, List.Elements.filter_passes, List.Elements.All-filter, List.Elements.All-contains, List.Elements.Contains-append_left, List.Elements.Contains-append_right, List.Elements.Contains-push}
+use Rattle.kalah_rules.specs.{own_distance, gain, row_of, lap_length, store_distance, other_distance, sow, last_distance, last_house, sown, after, after_capture, with_capture, Position.Position, HousesState, seeds, side_length, seeds_in_houses, is_over, houses_in, storeless, HasEqualSides, swapped, Cell, Own, Store, Other, distance, IsCellOf, with_seed, lifted, HoldsSeeds, legal_houses, row_distance, distance_to_stores, IsNearerEnd, moves_left}
 
 -- ==== Numbers, sums and lists of them, as the sections below need them
 
@@ -99,10 +88,11 @@ gain_same n k d low high elsewhere = grind (arith, div-mod-suc)
 gain_none : (n d : ℕ) → 0 < n → 1 ≤ d → gain n 0 d ≡ 0
 gain_none n d pos low = grind arith
 
--- the distance of own house i past house h, and of one that a lap comes back to
+-- the distance of an own house past house h
 pub own_distance_past : (m h i : ℕ) → h < i → own_distance m h i ≡ i - h
 own_distance_past m h i past = grind arith
 
+-- the distance of one that a lap comes back to
 pub own_distance_back : (m h i : ℕ) → i ≤ h → own_distance m h i ≡ i + (2 * m + 1) - h
 own_distance_back m h i back = grind arith
 
@@ -113,9 +103,11 @@ pub same_position : {p q : Position} → p.own ≡ q.own → p.own_store ≡ q.o
     → p.other_store ≡ q.other_store → p.rule ≡ q.rule → p ≡ q
 same_position a b c d e = grind arith
 
+-- a row has as many houses as it is made of
 pub length-row_of : (n : ℕ) (f : ℕ → ℕ) → length (row_of n f) ≡ n
 length-row_of n f = length-map-range_with_len f 1 n
 
+-- a house of a row holds what the row is made of
 seeds-row_of : (n : ℕ) (f : ℕ → ℕ) (i : ℕ) → 1 ≤ i → i ≤ n → seeds (row_of n f) i ≡ f i
 seeds-row_of n f i low high = grind (arith, get_or-map-range_with_len)
 
@@ -128,19 +120,24 @@ same_rows xs ys long each = same_number_lists xs ys long (λ k h.
     let at : k + 1 - 1 ≡ k = omega arith in
     rw at at (each _ low high))
 
+-- the same for a row and the function that it is made of
 pub same_as_row : (xs : List ℕ) (n : ℕ) (f : ℕ → ℕ) → length xs ≡ n
     → ((i : ℕ) → 1 ≤ i → i ≤ n → seeds xs i ≡ f i) → xs ≡ row_of n f
 same_as_row xs n f long each = grind (arith, same_rows, length-row_of, seeds-row_of)
 
+-- a house holds what is written to it
 pub seeds-set_same : (xs : List ℕ) (i v : ℕ) → 1 ≤ i → i ≤ length xs → seeds (slice_set xs (i - 1) v) i ≡ v
 seeds-set_same xs i v low high = get_or-set_same xs _ v 0 (omega arith)
 
+-- each other house keeps its seeds
 pub seeds-set_other : (xs : List ℕ) (i j v : ℕ) → 1 ≤ i → 1 ≤ j → j ≢ i → seeds (slice_set xs (i - 1) v) j ≡ seeds xs j
 seeds-set_other xs i j v i_low j_low other = grind (arith, get_or-set_other)
 
+-- the sum of a row changes by what one of its houses does
 sum-slice_set : (xs : List ℕ) (i v : ℕ) → 1 ≤ i → i ≤ length xs → sum (slice_set xs (i - 1) v) + seeds xs i ≡ sum xs + v
 sum-slice_set xs i v low high = grind (arith, sum_by-set)
 
+-- two functions that agree on each house make the same row
 pub row_of_same : (n : ℕ) (f g : ℕ → ℕ) → ((j : ℕ) → 1 ≤ j → j ≤ n → g j ≡ f j) → row_of n g ≡ row_of n f
 row_of_same n f g each = same_as_row _ n f (length-row_of n g) (λ j low high. seeds-row_of n g j low high ∙ each j low high)
 
@@ -161,14 +158,17 @@ row_of_more n f g i low high here others =
 
 -- ==== Sowing one seed more, and what it keeps
 
--- an own house shares its distance with no other house and not with the store
+-- the distance of an own house names it
 module _ (m h : ℕ) (h_low : 1 ≤ h) (h_high : h ≤ m) where
+  -- no two own houses have the same distance
   own_distance_apart : (i j : ℕ) → 1 ≤ i → i ≤ m → 1 ≤ j → j ≤ m → i ≢ j → own_distance m h i ≢ own_distance m h j
   own_distance_apart i j i_low i_high j_low j_high other = grind arith
 
+  -- none has that of the store
   own_from_store : (i : ℕ) → 1 ≤ i → i ≤ m → own_distance m h i ≢ store_distance m h
   own_from_store i low high = grind arith
 
+  -- none has that of a house of the other player
   own_from_other : (i j : ℕ) → 1 ≤ i → i ≤ m → 1 ≤ j → j ≤ m → own_distance m h i ≢ other_distance m h j
   own_from_other i j i_low i_high j_low j_high = grind arith
 
@@ -260,6 +260,7 @@ pub record AddsOne (p q : Position) : Type 0 where
   pub houses : seeds_in_houses q ≤ seeds_in_houses p + 1
   pub play : q.own_store + seeds_in_houses q ≡ p.own_store + seeds_in_houses p + 1
 
+-- one more seed in a cell is one more in the own store and the houses together
 with_seed_adds : (p : Position) (cell : Cell) → length p.other ≡ side_length p → IsCellOf (side_length p) cell
     → AddsOne p (with_seed p cell)
 with_seed_adds p (Own i) equal is_cell = omega (arith, sum-slice_set)
@@ -341,7 +342,7 @@ pub last_house_other : {p : Position} {h : ℕ} (i : ℕ) → HoldsSeeds p h →
 last_house_other {p} {h} i holds low high distance_is = grind (arith, find_none)
 
 -- the position after the move, by the place of the last seed
-pub after_at : (p : Position) (h : ℕ) (o : Option ℕ) → last_house p h ≡ o → captured (sown p h) o ≡ after p h
+pub after_at : (p : Position) (h : ℕ) (o : Option ℕ) → last_house p h ≡ o → after_capture (sown p h) o ≡ after p h
 unfolding after
 after_at p h o last_is = cc
 
@@ -389,6 +390,7 @@ pub filter_range-suc : (f : ℕ → Bool) (a n j : ℕ) → a + n ≡ j
     → filter f (range_with_len a (n + 1)) ≡ filter f (range_with_len a n) ++ cond (f j) (j ∷ []) []
 filter_range-suc f a n j end_is = rw (range-suc a n, end_is) (filter-append f _ _)
 
+-- no more numbers of a range pass than it has
 pub length-filter_range : (f : ℕ → Bool) (a n : ℕ) → length (filter f (range_with_len a n)) ≤ n
 length-filter_range f a n = omega (arith, length-filter, count_by-le-length, length-range_with_len)
 
@@ -437,11 +439,12 @@ sown_store : (p : Position) (h : ℕ)
 unfolding sow
 sown_store p h = refl
 
+-- one more seed in a house adds its distance to the store
 row_distance-more : (row : List ℕ) (i : ℕ) → 1 ≤ i → i ≤ length row
     → row_distance (slice_set row (i - 1) (seeds row i + 1)) ≡ row_distance row + (length row + 1 - i)
 row_distance-more row i low high = omega (arith, row_distance-set)
 
--- one seed more in own house i adds its distance
+-- the same for a position
 distance-with_seed : (q : Position) (i : ℕ) → 1 ≤ i → i ≤ length q.own
     → distance_to_stores (with_seed q (Own i)) ≡ distance_to_stores q + (length q.own + 1 - i)
 distance-with_seed q i low high = omega (arith, row_distance-more)
@@ -480,11 +483,11 @@ module _ (p : Position) (h : ℕ) (holds : HoldsSeeds p h) (same : length p.othe
   houses_fall far = grind (arith, sow_keeps, sown_store)
 
 -- a capture leaves fewer seeds in houses
-capture_leaves_fewer : (q : Position) (i : ℕ) → seeds q.own i ≡ 1 → seeds_in_houses (capture q i) < seeds_in_houses q
+capture_leaves_fewer : (q : Position) (i : ℕ) → seeds q.own i ≡ 1 → seeds_in_houses (with_capture q i) < seeds_in_houses q
 capture_leaves_fewer q i one = omega (arith, sum-set_zero)
 
 -- where the last seed falls there are fewer seeds in houses, or nothing changes
-captured_leaves_no_more : (q : Position) (o : Option ℕ) → (seeds_in_houses (captured q o) < seeds_in_houses q) ⊎ (captured q o ≡ q)
+captured_leaves_no_more : (q : Position) (o : Option ℕ) → (seeds_in_houses (after_capture q o) < seeds_in_houses q) ⊎ (after_capture q o ≡ q)
 captured_leaves_no_more q None = inr refl
 captured_leaves_no_more q (Some i) = grind (arith, capture_leaves_fewer)
 
@@ -497,8 +500,9 @@ pub after_nearer : (p : Position) (h : ℕ) → HoldsSeeds p h → HasEqualSides
 unfolding after
 after_nearer p h holds equal = grind (arith, sown_nearer, captured_leaves_no_more)
 
+-- a capture keeps the number of houses of both sides
 capture_side : (q : Position) (o : Option ℕ)
-    → (side_length (captured q o) ≡ side_length q) × (length (captured q o).other ≡ length q.other)
+    → (side_length (after_capture q o) ≡ side_length q) × (length (after_capture q o).other ≡ length q.other)
 capture_side q None = omega arith
 capture_side q (Some i) = grind (arith, length-set)
 
@@ -507,15 +511,17 @@ after_side : (p : Position) (h : ℕ) → side_length (after p h) ≡ side_lengt
 unfolding after
 after_side p h = omega (arith, capture_side, sow_side)
 
+-- after a move both sides have equally many houses
 pub after_equal_sides : (p : Position) (h : ℕ) → HasEqualSides (after p h)
 unfolding after
 after_equal_sides p h = omega (arith, capture_side, sow_side)
 
+-- no seed is farther from the store than its row is long
 pub row_distance_le : (row : List ℕ) → row_distance row ≤ length row * sum row
 unfolding row_distance
 row_distance_le houses = distance_range_le houses 1 _ _ (omega arith)
 
--- no seed is farther from its store than a row is long
+-- the same for both rows
 distance_below : (p : Position) → HasEqualSides p → distance_to_stores p ≤ side_length p * seeds_in_houses p
 distance_below p equal = grind (arith, row_distance_le)
 

@@ -2,23 +2,18 @@
 use Rattle.std.proofs.Common.{zero, suc, ◌≡◌, ℕ, ◌+◌, ◌-◌, ◌*◌, ◌<◌, ◌≤◌, List, [], ◌∷◌, length, arith, ap, ◌∙◌, refl, sym, add-one, ◌++◌, lt-ltb, ◌^◌, append-nil, sum_by, Bool, true, false, filter, nat_lt, ◌==◌, if◌then◌else◌, le-ltb}
 use Rattle.std.specs.List.{range_with_len}
 use Rattle.std.proofs.lemmas.List.Sums.{sum_by_push}
-use Rattle.kalah_rules.specs.Sowing.{after, is_again}
-use Rattle.kalah_rules.specs.Position.{Position, seeds, side_length, is_over, houses_in, storeless, HousesState, swept}
-use Rattle.kalah_rules.specs.Play.{legal_houses, position_after, step_to}
+use Rattle.kalah_rules.specs.{after, is_again, Position.Position, seeds, side_length, is_over, houses_in, storeless, HousesState, swept, legal_houses, position_after, step_to, most_depth, most_houses, houses_step, houses_step_to, ways, ways_by}
 use Rattle.std.proofs.Math.Nat.{mul-le-mul_right, pow-succ', pow-le-pow_right}
 use mir.Val.{bool_byte}
-use Rattle.kalah_rules.specs.Limits.{most_depth, most_houses}
-use Rattle.kalah_rules.specs.HousesStep.{houses_step, houses_step_to}
-use Rattle.kalah_rules.specs.declared.step.HousesStep.{HousesStep}
-use Rattle.kalah_rules.specs.declared.step.HousesStep.TheVariants.{Over, Again, Turn}
-use Rattle.kalah_rules.specs.Ways.{ways, ways_by}
+use Rattle.kalah_rules.specs.{HousesStep.HousesStep, Over, Again, Turn}
 use Rattle.kalah_rules.proofs.PlayLemmas.{sum-zeros, same_position, filter_range-suc, length-filter_range, with_store_seeds, after-store_seeds, storeless-store_seeds}
 
--- by their definition
+-- there is one way to play no move
 pub ways_none : (p : Position) → ways 0 p ≡ 1
 unfolding ways
 ways_none p = refl
 
+-- the ways of one more move are those after each legal move
 pub ways-suc : (n : ℕ) (p : Position) → ways (suc n) p ≡ sum_by (ways_by n p) (legal_houses p)
 unfolding ways
 ways-suc n p = refl
@@ -105,15 +100,18 @@ one_way p h depth_is = rw depth_is (sym (ways_none _), omega arith)
 abbrev pub seeded_before : List ℕ → ℕ → List ℕ
 seeded_before row h = filter (λ i. nat_lt 0 (seeds row i)) (range_with_len 1 (h - 1))
 
+-- the houses before the next one are one more
 seeded_next : (row : List ℕ) (h : ℕ) → 1 ≤ h
     → seeded_before row (h + 1) ≡ filter (λ i. nat_lt 0 (seeds row i)) (range_with_len 1 (h - 1 + 1))
 seeded_next row h low = grind arith
 
+-- a house that holds seeds is among them
 seeded_more : (row : List ℕ) (h : ℕ) → 1 ≤ h → 0 < seeds row h → seeded_before row (h + 1) ≡ seeded_before row h ++ h ∷ []
 seeded_more row h low some = seeded_next row h low
     ∙ filter_range-suc _ 1 (h - 1) h (omega arith)
     ∙ rw (lt-ltb _ _ some) refl
 
+-- an empty house is not
 seeded_same : (row : List ℕ) (h : ℕ) → 1 ≤ h → seeds row h ≤ 0 → seeded_before row (h + 1) ≡ seeded_before row h
 seeded_same row h low none = seeded_next row h low
     ∙ filter_range-suc _ 1 (h - 1) h (omega arith)

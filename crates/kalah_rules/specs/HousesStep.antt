@@ -2,8 +2,8 @@
 use Rattle.std.specs.Prelude.{ℕ, Bool, if◌then◌else◌, ◌+◌, sum}
 use Rattle.kalah_rules.specs.Position.{Position, HousesState, houses_in, storeless, is_over, swapped}
 use Rattle.kalah_rules.specs.Sowing.{after, is_again}
-use Rattle.kalah_rules.specs.declared.step.HousesStep.{HousesStep}
-use Rattle.kalah_rules.specs.declared.step.HousesStep.TheVariants.{Over, Again, Turn}
+pub use Rattle.kalah_rules.specs.declared.step.HousesStep.{HousesStep}
+pub use Rattle.kalah_rules.specs.declared.step.HousesStep.TheVariants.{Over, Again, Turn}
 
 -- what a position after a move leads to, from empty stores: what each player has if the game is over, otherwise what came to
 -- the mover's store, with the houses seen by the player who moves next

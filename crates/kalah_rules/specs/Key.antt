@@ -6,9 +6,9 @@ use Rattle.kalah_rules.specs.Position.{HousesState}
 use Rattle.kalah_rules.specs.Cells.{CanBeHouses, houses_from}
 
 -- a row as a number, with five bits for each house, house 1 lowest
-abbrev pub number_of : List ℕ → ℕ
-number_of [] = 0
-number_of (x ∷ xs) = x + 32 * number_of xs
+abbrev pub row_number : List ℕ → ℕ
+row_number [] = 0
+row_number (x ∷ xs) = x + 32 * row_number xs
 
 -- the lowest n cells of a number, of five bits each
 abbrev pub cells : ℕ → ℕ → List ℕ
@@ -22,7 +22,7 @@ rule_bit EmptyCapture = 1
 
 -- both rows as a number, the own row lowest
 abbrev pub rows_number : HousesState → ℕ
-rows_number a = number_of a.own + 2 ^ 30 * number_of a.other
+rows_number a = row_number a.own + 2 ^ 30 * row_number a.other
 
 -- own houses from bit 0, other houses from bit 30, the houses per side from bit 60, the rule at bit 63
 abbrev pub key_of : HousesState → ℕ
@@ -33,17 +33,17 @@ abbrev pub variant_of : HousesState → ℕ
 variant_of a = length a.own + 8 * rule_bit a.rule
 
 -- the houses per side that a key names
-abbrev pub side_at : ℕ → ℕ
-side_at k = k / 2 ^ 60 % 8
+abbrev pub side_in_key : ℕ → ℕ
+side_in_key k = k / 2 ^ 60 % 8
 
 -- the rule that a key names
-abbrev pub rule_at : ℕ → Rule
-rule_at k = if k / 2 ^ 63 == 0 then Classic else EmptyCapture
+abbrev pub rule_in_key : ℕ → Rule
+rule_in_key k = if k / 2 ^ 63 == 0 then Classic else EmptyCapture
 
 -- a number below 2^64 is a key: it names 1 to 6 houses a side, its cells past the last house are 0, and they hold at most 31 seeds
 abbrev pub IsKey : ℕ → Type 0
-IsKey k = CanBeHouses (side_at k) (cells 6 k) (cells 6 (k / 2 ^ 30))
+IsKey k = CanBeHouses (side_in_key k) (cells 6 k) (cells 6 (k / 2 ^ 30))
 
 -- the houses whose key such a number is
-abbrev pub houses_at : ℕ → HousesState
-houses_at k = houses_from (side_at k) (cells 6 k) (cells 6 (k / 2 ^ 30)) (rule_at k)
+abbrev pub houses_in_key : ℕ → HousesState
+houses_in_key k = houses_from (side_in_key k) (cells 6 k) (cells 6 (k / 2 ^ 30)) (rule_in_key k)

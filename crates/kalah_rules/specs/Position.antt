@@ -99,7 +99,7 @@ abbrev pub without_seeds : HousesState → HousesState
 without_seeds a = record { own = replicate (length a.own) 0; other = replicate (length a.own) 0; rule = a.rule }
 
 -- what holds of the houses of every board
-pub record IsWithinHouses (a : HousesState) : Type 0 where
+pub record AreWithinLimits (a : HousesState) : Type 0 where
   pub some_house : 1 ≤ length a.own
   pub at_most_six : length a.own ≤ most_houses
   pub same_side : length a.other ≡ length a.own

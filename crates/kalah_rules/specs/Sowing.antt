@@ -1,7 +1,7 @@
 -- What a move does to the cells, by the distance of each from the house that is lifted.
-use Rattle.std.specs.Prelude.{ℕ, ◌+◌, ◌-◌, ◌*◌, ◌/◌, ◌%◌, Bool, true, ◌&&◌, ◌==◌, nat_le, nat_lt, if◌then◌else◌, List, map, Option, Some, None, slice_set, find}
+use Rattle.std.specs.Prelude.{◌≡◌, length, ℕ, ◌+◌, ◌-◌, ◌*◌, ◌/◌, ◌%◌, Bool, true, ◌&&◌, ◌==◌, nat_le, nat_lt, if◌then◌else◌, List, map, Option, Some, None, slice_set, find}
 use Rattle.std.specs.List.{range_with_len}
-use Rattle.kalah_rules.specs.Position.{Position, side_length, seeds, opposite}
+use Rattle.kalah_rules.specs.Position.{Position, HousesState, side_length, seeds, opposite}
 use Rattle.kalah_rules.specs.declared.rule.Rule.{Rule}
 use Rattle.kalah_rules.specs.declared.rule.Rule.TheVariants.{Classic, EmptyCapture}
 
@@ -48,6 +48,10 @@ last_distance p h = (seeds p.own h - 1) % lap_length (side_length p) + 1
 abbrev pub is_again : Position → ℕ → Bool
 is_again p h = last_distance p h == store_distance (side_length p) h
 
+-- the last seed of house h of these houses falls into the store without a lap
+abbrev pub EndsInStore : HousesState → ℕ → Type 0
+EndsInStore a h = seeds a.own h + h ≡ length a.own + 1
+
 -- the own house into which the last seed falls, if it is one
 abbrev pub last_house : Position → ℕ → Option ℕ
 last_house p h = find (λ i. own_distance (side_length p) h i == last_distance p h) (range_with_len 1 (side_length p))
@@ -62,18 +66,18 @@ abbrev pub can_capture : Position → ℕ → Bool
 can_capture p i = (seeds p.own i == 1) && captures p.rule (seeds p.other (opposite p i))
 
 -- own house i and the house across are emptied into the own store
-abbrev pub capture : Position → ℕ → Position
-capture p i = record p {
+abbrev pub with_capture : Position → ℕ → Position
+with_capture p i = record p {
   own = slice_set p.own (i - 1) 0;
   own_store = p.own_store + seeds p.own i + seeds p.other (opposite p i);
   other = slice_set p.other (opposite p i - 1) 0;
 }
 
 -- the capture that the last seed makes in a house, if it makes one
-abbrev pub captured : Position → Option ℕ → Position
-captured p None = p
-captured p (Some i) = if can_capture p i then capture p i else p
+abbrev pub after_capture : Position → Option ℕ → Position
+after_capture p None = p
+after_capture p (Some i) = if can_capture p i then with_capture p i else p
 
 -- the position after the move of house h, before the turn passes
 unfoldable pub after : Position → ℕ → Position
-after p h = captured (sown p h) (last_house p h)
+after p h = after_capture (sown p h) (last_house p h)

@@ -1,7 +1,7 @@
 //! Boards: positions within the limits.
 ghost use Rattle.std.specs.Prelude.{◌≡◌, ◌≤◌, ◌↔◌, IsTrue, IsSome, IfSome};
 ghost use Rattle.kalah_rules.specs.Position.{side_length, seeds, is_over, final_margin, IsWithinLimits, houses_in, with_stores, IsSmallMargin};
-ghost use Rattle.kalah_rules.specs.Cells.{CanStart, CanStartFrom, position_of};
+ghost use Rattle.kalah_rules.specs.Cells.{CanBeStores, CanStart, CanStartFrom, position_of};
 
 mod play;
 #[cfg(test)]
@@ -26,6 +26,7 @@ pub struct Board {
     other_store: u32,
 }
 
+// Callers see the value and not the invariant, so readers promise the limits again (`limits`).
 impl Model for Board {
     ghost use Rattle.kalah_rules.specs.Position.{Position, with_stores, houses_in, IsWithinLimits};
 
@@ -55,15 +56,7 @@ impl Board {
         ensures valid { IsSome result ↔ CanStart m own own_store other other_store }
         ensures value { IfSome result (λ b. b ≡ position_of m own own_store other other_store rule) }
     {
-        if own_store > MOST_IN_STORE || other_store > MOST_IN_STORE {
-            return None;
-        }
-        let houses = Houses::new(m, own, other, rule)?;
-        Some(Board {
-            houses,
-            own_store: own_store as u32,
-            other_store: other_store as u32,
-        })
+        Board::with_stores(Houses::new(m, own, other, rule)?, own_store, other_store)
     }
 
     /// Returns the board of these rows of houses. The result is that of `new` with the same houses, computed with less work.
@@ -82,10 +75,18 @@ impl Board {
         ensures valid { IsSome result ↔ CanStartFrom (record { own = own.now; other = other.now; rule = rule }) own_store other_store }
         ensures value { IfSome result (λ b. b ≡ with_stores (record { own = own.now; other = other.now; rule = rule }) own_store other_store) }
     {
+        Board::with_stores(Houses::of_rows(own, other, rule)?, own_store, other_store)
+    }
+
+    // Returns the board of these houses. Returns `None` if and only if a store holds more than 99.
+    #[inline(always)]
+    fn with_stores(houses: Houses, own_store: u8, other_store: u8) -> Option<Board>
+        ensures valid { IsSome result ↔ CanBeStores own_store other_store }
+        ensures value { IfSome result (λ b. b ≡ with_stores houses own_store other_store) }
+    {
         if own_store > MOST_IN_STORE || other_store > MOST_IN_STORE {
             return None;
         }
-        let houses = Houses::of_rows(own, other, rule)?;
         Some(Board {
             houses,
             own_store: own_store as u32,

@@ -1,19 +1,21 @@
 //! The houses of a board without the stores, as numbers.
 ghost use Rattle.std.specs.Prelude.{◌≡◌, ◌<◌, ◌≤◌, ◌^◌, ◌↔◌, length, sum, IsSome, IfSome, IsTrue, Some};
-ghost use Rattle.kalah_rules.specs.Position.{HousesState, seeds, seeds_in_houses, is_over, storeless, without_seeds, IsWithinHouses};
+ghost use Rattle.kalah_rules.specs.Position.{HousesState, seeds, seeds_in_houses, is_over, storeless, without_seeds, AreWithinLimits};
 ghost use Rattle.kalah_rules.specs.Play.{legal_houses};
 ghost use Rattle.kalah_rules.specs.Cells.{CanBeHouses, houses_from};
-ghost use Rattle.kalah_rules.specs.Key.{number_of, key_of, variant_of, IsKey};
+ghost use Rattle.kalah_rules.specs.Key.{row_number, key_of, variant_of, IsKey};
 
 pub(crate) mod house;
 pub(crate) mod house_row;
-mod numbers;
+pub(crate) mod numbers;
 mod play;
-pub(crate) mod sowings;
+pub(crate) mod sowing_table;
 
 use crate::houses::house::House;
 use crate::houses::house_row::HouseRow;
-use crate::houses::numbers::{OTHER_ROW, RULE, SIDE, cells_of, rule_of, seeds_at, variant_number};
+use crate::houses::numbers::{
+    OTHER_ROW_UNIT, RULE_UNIT, SIDE_UNIT, cells_of, rule_of_bit, seeds_at, variant_number,
+};
 use crate::limits::{MOST_HOUSES, MOST_SEEDS};
 use crate::moves::Moves;
 use crate::rule::Rule;
@@ -22,7 +24,8 @@ use std::marker::Model;
 /// The houses of a board and its rule, without the stores. Stores change neither the legal moves nor what they do, so
 /// this is all that a solver needs.
 ///
-/// They are stored as both rows in one number, the number of seeds, and the variant. A search that knows its variant computes nothing of it.
+/// Stored are both rows in one number, the number of seeds, and the variant. Code that is compiled for one variant (`in_variant`) computes
+/// nothing that depends on it.
 #[derive(Clone, Copy, Debug, PartialEq, Eq)]
 pub struct Houses {
     // The lowest 60 bits of the key.
@@ -33,6 +36,7 @@ pub struct Houses {
     variant: u32,
 }
 
+// Callers see the value and not the invariant, so readers promise the limits again (`limits`).
 impl Model for Houses {
     ghost use Rattle.kalah_rules.specs.Position.{HousesState};
 
@@ -40,11 +44,11 @@ impl Model for Houses {
 
     ghost use Rattle.kalah_rules.specs.Position.{storeless, seeds_in_houses};
     ghost use Rattle.kalah_rules.specs.Key.{rows_number, variant_of};
-    ghost use Rattle.kalah_rules.specs.Packed.{IsPacked, unpacked};
+    ghost use Rattle.kalah_rules.specs.Fields.{AreFields, houses_of_fields};
 
-    ghost view = { λ a. unpacked a.rows a.variant };
+    ghost view = { λ a. houses_of_fields a.rows a.variant };
 
-    ghost invariant = { λ a. IsPacked a.rows a.seeds a.variant };
+    ghost invariant = { λ a. AreFields a.rows a.seeds a.variant };
 
     ghost inverse = { λ a. record { rows = rows_number a; seeds = seeds_in_houses (storeless a); variant = variant_of a } };
 
@@ -69,7 +73,7 @@ impl Houses {
 
     // Returns the houses of these two rows, or `None` if they differ in length, have no house, or hold more than 31 seeds together.
     pub(crate) fn of_rows(own: &HouseRow, other: &HouseRow, rule: Rule) -> Option<Houses>
-        ensures valid { IsSome result ↔ IsWithinHouses (record { own = own.now; other = other.now; rule = rule }) }
+        ensures valid { IsSome result ↔ AreWithinLimits (record { own = own.now; other = other.now; rule = rule }) }
         ensures value { IfSome result (λ a. a ≡ record { own = own.now; other = other.now; rule = rule }) }
     {
         let m = own.len();
@@ -78,7 +82,7 @@ impl Houses {
             return None;
         }
         Some(Houses {
-            rows: own.number() + OTHER_ROW * other.number(),
+            rows: own.number() + OTHER_ROW_UNIT * other.number(),
             seeds: seeds as u32,
             variant: variant_number(m, rule),
         })
@@ -91,13 +95,13 @@ impl Houses {
     pub fn of_key(key: u64) -> Option<Houses>
         ensures valid { IsSome result ↔ IsKey key }
         ensures same { IfSome result (λ a. key_of a ≡ key) }
-        ensures found { (a : HousesState) → IsWithinHouses a → key_of a ≡ key → result ≡ Some a }
+        ensures found { (a : HousesState) → AreWithinLimits a → key_of a ≡ key → result ≡ Some a }
     {
         Houses::new(
-            (key / SIDE % 8) as u8,
+            (key / SIDE_UNIT % 8) as u8,
             cells_of(key),
-            cells_of(key / OTHER_ROW),
-            rule_of(key / RULE),
+            cells_of(key / OTHER_ROW_UNIT),
+            rule_of_bit(key / RULE_UNIT),
         )
     }
 
@@ -105,18 +109,18 @@ impl Houses {
     ///
     /// Own house i is in the five bits from 5(i - 1) on, and the other player's house i in those from 30 + 5(i - 1) on. Bits 60 to 62
     /// have the number of houses a side, and bit 63 is set for the empty-capture rule.
-    #[tactic(auto, using(crate::proofs::KeyLemmas::pack_of, crate::proofs::KeyLemmas::key_fits))]
+    #[tactic(auto, using(crate::proofs::KeyLemmas::fields_of, crate::proofs::KeyLemmas::key_fits))]
     pub fn key(&self) -> u64
         ensures key { result ≡ key_of self.now }
-        ensures limits { IsWithinHouses self.now }
+        ensures limits { AreWithinLimits self.now }
     {
-        self.rows + SIDE * self.variant as u64
+        self.rows + SIDE_UNIT * self.variant as u64
     }
 
     /// Returns the number of seeds in the houses of both players, at most 31.
     pub fn seeds(&self) -> u8
         ensures seeds { result ≡ seeds_in_houses (storeless self.now) }
-        ensures limits { IsWithinHouses self.now }
+        ensures limits { AreWithinLimits self.now }
     {
         self.seeds as u8
     }
@@ -124,7 +128,7 @@ impl Houses {
     /// Returns the number of houses a side, 1 to 6.
     pub fn m(&self) -> u8
         ensures side { result ≡ length self.now.own }
-        ensures limits { IsWithinHouses self.now }
+        ensures limits { AreWithinLimits self.now }
     {
         (self.variant % 8) as u8
     }
@@ -133,49 +137,49 @@ impl Houses {
     pub fn rule(&self) -> Rule
         ensures { result ≡ self.now.rule }
     {
-        rule_of(self.variant as u64 / 8)
+        rule_of_bit(self.variant as u64 / 8)
     }
 
     /// Returns the variant of the houses, the upper four bits of their key: the number of houses a side, and 8 more for the empty-capture
     /// rule.
     pub fn variant(&self) -> u8
         ensures variant { result ≡ variant_of self.now }
-        ensures limits { IsWithinHouses self.now }
+        ensures limits { AreWithinLimits self.now }
     {
         self.variant as u8
     }
 
-    /// Returns these houses, which must be of this variant. If it is a constant, what is computed of the result is compiled for this variant.
+    /// Returns these houses, which must be of this variant. What is computed of the result is compiled for it.
     #[inline(always)]
-    #[tactic(auto, using(crate::proofs::KeyLemmas::pack_of))]
-    pub fn known_variant(self, variant: u8) -> Houses
-        requires { variant_of self ≡ variant }
+    #[tactic(auto, using(crate::proofs::KeyLemmas::fields_of))]
+    pub fn in_variant<const VARIANT: u8>(self) -> Houses
+        requires { variant_of self ≡ VARIANT }
         ensures { result ≡ self }
     {
         Houses {
             rows: self.rows,
             seeds: self.seeds,
-            variant: variant as u32,
+            variant: VARIANT as u32,
         }
     }
 
     /// Returns the mover's houses as a number with five bits for each, house 1 lowest: the lowest 30 bits of the key.
-    #[tactic(auto, using(crate::proofs::KeyLemmas::pack_of, crate::proofs::KeyLemmas::rows_of_pack))]
+    #[tactic(auto, using(crate::proofs::KeyLemmas::fields_of, crate::proofs::KeyLemmas::rows_of_fields))]
     pub fn own_row(&self) -> u64
-        ensures value { result ≡ number_of self.now.own }
+        ensures value { result ≡ row_number self.now.own }
         ensures small { result < 2 ^ 30 }
-        ensures limits { IsWithinHouses self.now }
+        ensures limits { AreWithinLimits self.now }
     {
-        self.rows % OTHER_ROW
+        self.rows % OTHER_ROW_UNIT
     }
 
     /// Returns the other player's houses as such a number: bits 30 to 59 of the key.
     pub fn other_row(&self) -> u64
-        ensures value { result ≡ number_of self.now.other }
+        ensures value { result ≡ row_number self.now.other }
         ensures small { result < 2 ^ 30 }
-        ensures limits { IsWithinHouses self.now }
+        ensures limits { AreWithinLimits self.now }
     {
-        self.rows / OTHER_ROW
+        self.rows / OTHER_ROW_UNIT
     }
 
     /// Returns the number of seeds in the mover's house `i`, which is 1 to `m`.
@@ -192,7 +196,7 @@ impl Houses {
     // Returns the number of seeds in a house of the mover.
     #[inline(always)]
     #[tactic(auto, using(crate::proofs::KeyLemmas::read_seeds))]
-    fn own_in(&self, house: House) -> u8
+    fn own_seeds_in(&self, house: House) -> u8
         requires { house ≤ length self.now.own }
         ensures value { result ≡ seeds self.now.own house }
         ensures small { result < 32 }
@@ -221,7 +225,7 @@ impl Houses {
     /// Returns the mover's houses that may be moved, in ascending order: those that hold seeds, or none if the game is over.
     pub fn legal(&self) -> Moves
         ensures moves { result ≡ legal_houses (storeless self.now) }
-        ensures limits { IsWithinHouses self.now }
+        ensures limits { AreWithinLimits self.now }
     {
         let m = self.m();
         let mut moves = Moves::none();

@@ -16,9 +16,12 @@ pub use board::Board;
 pub use houses::Houses;
 pub use houses::house::House;
 pub use houses::house_row::HouseRow;
-pub use houses::sowings::Sowings;
+pub use houses::numbers::{ONE_EACH, one_each};
+pub use houses::sowing_table::SowingTable;
 pub use laws::{every_move_nears_end, sowing_is_seed_by_seed};
-pub use limits::{MOST_DEPTH, MOST_HOUSES, MOST_IN_STORE, MOST_SEEDS, limits_of_positions};
+pub use limits::{
+    MOST_DEPTH, MOST_HOUSES, MOST_IN_PLAY, MOST_IN_STORE, MOST_SEEDS, limits_of_positions,
+};
 pub use moves::Moves;
 pub use rule::Rule;
 pub use step::{HousesStep, Step};

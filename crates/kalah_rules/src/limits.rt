@@ -6,11 +6,13 @@ ghost use Rattle.kalah_rules.specs.Limits.{most_depth, most_houses, most_in_play
 pub const MOST_HOUSES: u8 = 6;
 
 /// The most seeds in the houses of both players together.
-pub const MOST_SEEDS: u16 = 31;
+pub const MOST_SEEDS: u8 = 31;
 
-/// The most seeds in a store of a position that is written down. In play a store can reach 130, since all
-/// the seeds in houses may come to it.
+/// The most seeds in a store of a position that is written down.
 pub const MOST_IN_STORE: u8 = 99;
+
+/// The most seeds in a store in play: all seeds in houses may come to it.
+pub const MOST_IN_PLAY: u8 = MOST_IN_STORE + MOST_SEEDS;
 
 /// The most moves of the ways to play on that are counted.
 pub const MOST_DEPTH: u8 = 20;

@@ -14,13 +14,13 @@ pub struct Moves {
 
 impl Model for Moves {
     ghost use Rattle.std.specs.Prelude.{ℕ, List, length, take};
-    ghost use Rattle.kalah_rules.specs.Cells.{padded, IsSixAtMost, length_of_six};
+    ghost use Rattle.kalah_rules.specs.Cells.{padded, AreAtMostSix, length_of_six};
 
     ghost Value = { List ℕ };
 
     ghost view = { λ moves. take moves.count moves.houses };
 
-    ghost invariant = { λ moves. IsSixAtMost 0 moves.count moves.houses };
+    ghost invariant = { λ moves. AreAtMostSix 0 moves.count moves.houses };
 
     ghost inverse = { λ xs. record { houses = padded xs; count = length xs } };
 

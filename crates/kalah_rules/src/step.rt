@@ -13,13 +13,13 @@ pub enum Step {
     Over(Board),
 }
 
-/// The result of a move on houses; while the game goes on, with the number of seeds that it brought to the mover's store.
+/// The result of a move on houses. While the game goes on, it has the number of seeds that came to the mover's store and the next houses.
 #[derive(Clone, Copy)]
 pub enum HousesStep {
     /// The game is over. The mover gets `own` seeds and the other player `other`, both with the sweep.
     Over { own: u8, other: u8 },
     /// The last seed fell into the mover's store, so the mover moves again.
-    Again(u8, Houses),
-    /// The other player is to move, and the houses are seen from that player's side.
-    Turn(u8, Houses),
+    Again { gained: u8, next: Houses },
+    /// The other player is to move, and the next houses are seen from that player's side.
+    Turn { gained: u8, next: Houses },
 }

@@ -11,13 +11,13 @@ mod tests;
 use crate::board::Board;
 use crate::houses::Houses;
 use crate::houses::house::House;
-use crate::houses::sowings::Sowings;
+use crate::houses::sowing_table::SowingTable;
 use crate::step::HousesStep;
 
 impl Houses {
-    // Returns the number of ways to play on for `depth` moves. The last moves are counted and not played.
+    // Returns the number of ways to play on for `depth` moves. At depth 1 the legal houses are counted and not played.
     #[cycle(ways)]
-    fn ways(&self, sowings: &Sowings, depth: u8) -> u64
+    fn ways(&self, sowings: &SowingTable, depth: u8) -> u64
         requires { depth ≤ most_depth }
         ensures ways { result ≡ ways depth (storeless self.now) }
         ensures small { result ≤ most_houses ^ depth }
@@ -44,16 +44,18 @@ impl Houses {
 
     // Returns the number of ways to play on for `depth` moves, 0 to 19, after the move of house `h`.
     #[cycle(ways)]
-    fn ways_by(&self, sowings: &Sowings, h: u8, depth: u8) -> u64
+    fn ways_by(&self, sowings: &SowingTable, h: u8, depth: u8) -> u64
         requires legal { Contains (legal_houses (storeless self.now)) h }
         requires depth { depth < most_depth }
         ensures ways { result ≡ ways_by depth (storeless self.now) h }
         ensures small { result ≤ most_houses ^ depth }
     {
-        let _side = self.m(); // For its clause: the houses are within the limits.
+        let _side = self.m(); // For a clause: the houses are within the limits.
         match self.play_by(sowings, House::new(h)) {
             HousesStep::Over { .. } => u64::from(depth == 0),
-            HousesStep::Again(_, next) | HousesStep::Turn(_, next) => next.ways(sowings, depth),
+            HousesStep::Again { next, .. } | HousesStep::Turn { next, .. } => next.ways(
+                sowings, depth,
+            ),
         }
     }
 }
@@ -66,7 +68,7 @@ impl Board {
         ensures ways { result ≡ ways depth self.now }
         ensures small { result ≤ most_houses ^ depth }
     {
-        let sowings = Sowings::new();
+        let sowings = SowingTable::new();
         self.houses().ways(&sowings, depth)
     }
 
@@ -78,7 +80,7 @@ impl Board {
         ensures ways { result ≡ ways_by depth self.now h }
         ensures small { result ≤ most_houses ^ depth }
     {
-        let sowings = Sowings::new();
+        let sowings = SowingTable::new();
         self.houses().ways_by(&sowings, h, depth)
     }
 }

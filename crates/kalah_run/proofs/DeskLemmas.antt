@@ -1,139 +1,35 @@
--- The desk: what is kept of its word and its seats, and what the rows are at the end.
-use Rattle.std.proofs.Common.{◌≡◌, ◌⊎◌, ⊎_elim, inl, inr, ℕ, zero, suc, ◌+◌, ◌≤◌, List, [], ◌∷◌, ◌++◌, length, set, refl, sym, ap, ◌∙◌, subst, arith, length-append, append-nil, append_assoc, ◌%◌, ◌^◌, ◌<◌, get_or, true, false, cond, ◌-◌, ◌==◌, Option, Some, None, sum_by, count_by, All, nat_lt, AllPairs, if◌then◌else◌, slice_index, max, min, IsTrue, ◌↔◌, mod-eq_of_lt}
-use Rattle.std.proofs.lemmas.List.Sums.{sum_by-cons, sum_by-append, sum_by_push, sum_by-set, count_by-le-length, get_or-le-sum_by}
-use Rattle.std.proofs.lemmas.List.Elements.{All-append, All-nil, All-cons, All-head, All-take, All-drop}
+-- The desk: each step keeps its protocol, and what the rows are at the end.
+use Rattle.std.proofs.Common.{◌≡◌, ⊎_elim, inl, inr, ℕ, zero, suc, ◌+◌, ◌≤◌, List, [], ◌∷◌, ◌++◌, length, set, refl, sym, ap, ◌∙◌, subst, arith, length-append, append-nil, append_assoc, ◌%◌, ◌^◌, ◌<◌, get_or, true, false, cond, ◌-◌, ◌==◌, sum_by, count_by, All, nat_lt, AllPairs, if◌then◌else◌, slice_index, max, min, IsTrue, ◌↔◌, mod-eq_of_lt}
+use Rattle.std.proofs.lemmas.List.Sums.{sum_by-cons, sum_by_push, count_by-le-length, get_or-le-sum_by}
+use Rattle.std.proofs.lemmas.List.Elements.{All-append, All-nil, All-cons, All-head}
 use mathlib.Core.Option.{some, some-injective, some-ne-none, none}
 use lib.ListN.{get_elem?}
 use Rattle.atomic_table.proofs.Lists.{set_again, set_here}
-use Rattle.kalah_run.proofs.ViewLemmas.{Each, each_more, each_set, in_views, view_at, was_there}
+use Rattle.kalah_run.proofs.ViewLemmas.{Each, each_more, each_set, in_views, was_there}
+use Rattle.kalah_run.proofs.RowLemmas.{times_in_row, times_rows, sum_set, rows_set, rows_push, rows_at, all_at, all_from, rows_within_passes, has_all, Ascends, deals_alike, none_or_all}
 use Rattle.kalah_run.specs.Types.{DrawnRow, DeskPlan, DeskView}
-use Rattle.kalah_run.specs.declared.desk.rule.DeskView.TheVariants.{Opening, Drawing, Closing, Ended}
-use Rattle.kalah_jobs.specs.Collecting.Shares.{times_in}
-use Rattle.kalah_run.specs.Desk.Rows.{drawn_numbers, drawn_row, drawn_in, spent_in, DealsEachOnce}
-use Rattle.kalah_run.specs.Desk.Rule.{rows_in, all_rows, passes_in, HasTotal, IsLawful, opening_view, CountsWhatItDeals, DrawsFrom, Draws, DrawsRest, StartsClosing, after_handing_out, pass_handed_out, after_reclaiming_row}
+use Rattle.kalah_run.specs.declared.desk.protocol.DeskView.TheVariants.{Opening, Drawing, Closing, Ended}
+use Rattle.kalah_run.specs.Desk.Rows.{drawn_row, drawn_in, spent_in, DealsEachOnce}
+use Rattle.kalah_run.specs.Desk.Protocol.{rows_in, all_rows, passes_in, HasTotal, IsLawful, opening_view, CountsWhatItDeals, DrawsFrom, Draws, DrawsRest, StartsClosing, after_handing_out, pass_handed_out, after_reclaiming}
 use Rattle.std.proofs.lemmas.List.Quantifiers.{all_pairs_push}
 use Rattle.std.proofs.lemmas.Bool.{lt-ltb, le-ltb, cases_lt}
 use Rattle.std.proofs.lemmas.Bool.Decides.{nat_tests}
 use Rattle.atomic_table.specs.Table.{State, Me, step, keeps, Allows, opening, Splits, Joins, Enters, Seen, Final}
 use Rattle.kalah_jobs.specs.Limits.{most_lines}
 use Rattle.kalah_run.specs.Limits.{most_passes}
-use Rattle.kalah_run.specs.Desk.States.{as_pass_view, row_in, total_in, number_in, PassState, DeskState, new_pass, AreNewPasses, drawn_rows}
-use Rattle.std.proofs.lemmas.List.{get_or_push, get_or_append_left, length-map, map-append, nil_from_length, set-set, take_at, drop_at}
-use Rattle.kalah_run.specs.Batch.Leaving.{HasDrawnNothing, pass_list}
+use Rattle.kalah_run.specs.Desk.States.{as_pass_view, row_in, total_in, number_in}
+use Rattle.std.proofs.lemmas.List.{set-set}
 use Rattle.std.specs.List.{range_with_len}
-
--- ==== Sums over the rows of all seats, and facts of each row: after a change of one seat's view, and after a new seat
-
--- how often x stands in a row
-abbrev pub times_in_row : ℕ → DrawnRow → ℕ
-times_in_row x r = count_by (λ y. y == x) r.numbers
-
--- how often x stands in the rows, as a sum over the rows
-times_rows : (x : ℕ) (rows : List DrawnRow) → times_in x (drawn_numbers rows) ≡ sum_by (times_in_row x) rows
-times_rows x [] = refl
-times_rows x (r ∷ rs) =
-    let mine = sum_by-cons (λ numbers. count_by (λ y. y == x) numbers) r.numbers (drawn_numbers rs) in
-    omega (arith, times_rows x rs, mine, sum_by-cons (times_in_row x) r rs)
-
--- a sum, after a change of one term
-sum_set : {X : Type 0} (f : X → ℕ) (xs : List X) (k : ℕ) (old new : X) → get_elem? xs k ≡ some old
-    → sum_by f (set xs k new) + f old ≡ sum_by f xs + f new
-sum_set f xs k old new has_old = rw (view_at xs k old has_old) at (sum_by-set f xs k new old (in_views xs k has_old))
-
--- a term is within the sum
-sum_at : {X : Type 0} (f : X → ℕ) (xs : List X) (k : ℕ) (term : X) → get_elem? xs k ≡ some term → f term ≤ sum_by f xs
-sum_at f xs k term has_term = rw (view_at xs k term has_term) at (get_or-le-sum_by f xs k term (in_views xs k has_term))
-
--- the sum over all rows is one over the seats
-rows_sum : (f : DrawnRow → ℕ) (views : List DeskView) → sum_by f (all_rows views) ≡ sum_by (λ view. sum_by f (rows_in view)) views
-rows_sum f [] = refl
-rows_sum f (x ∷ xs) =
-    omega (arith, rows_sum f xs, sum_by-append f (rows_in x) (all_rows xs), sum_by-cons (λ view. sum_by f (rows_in view)) x xs)
-
--- the sum over all rows, after a change of one view
-rows_set : (f : DrawnRow → ℕ) (views : List DeskView) (seat : ℕ) (old new : DeskView) → get_elem? views seat ≡ some old
-    → sum_by f (all_rows (set views seat new)) + sum_by f (rows_in old) ≡ sum_by f (all_rows views) + sum_by f (rows_in new)
-rows_set f views seat old new has_old =
-    omega (arith, rows_sum f (set views seat new), rows_sum f views, sum_set (λ u. sum_by f (rows_in u)) views seat old new has_old)
-
--- the same with one seat more
-rows_push : (f : DrawnRow → ℕ) (views : List DeskView) (new : DeskView)
-    → sum_by f (all_rows (views ++ new ∷ [])) ≡ sum_by f (all_rows views) + sum_by f (rows_in new)
-rows_push f views new =
-    omega (arith, rows_sum f (views ++ new ∷ []), rows_sum f views, sum_by_push (λ u. sum_by f (rows_in u)) views new)
-
--- the sum over one seat's rows is within that over all
-rows_at : (f : DrawnRow → ℕ) (views : List DeskView) (seat : ℕ) (view : DeskView) → get_elem? views seat ≡ some view
-    → sum_by f (rows_in view) ≤ sum_by f (all_rows views)
-rows_at f views seat view has_view = omega (arith, rows_sum f views, sum_at (λ u. sum_by f (rows_in u)) views seat view has_view)
-
--- a fact of the rows of one seat
-all_at : (P : DrawnRow → Type 0) (views : List DeskView) (seat : ℕ) (view : DeskView) → get_elem? views seat ≡ some view
-    → All P (all_rows views) → All P (rows_in view)
-all_at P [] seat view has_view all = absurd (some-ne-none view (sym has_view))
-all_at P (x ∷ xs) zero view has_view all = subst (λ u. All P (rows_in u)) (some-injective x view has_view)
-    (rw (take_at (rows_in x) (all_rows xs) _ refl) at (All-take P (length (rows_in x)) _ all))
-all_at P (x ∷ xs) (suc seat) view has_view all =
-    all_at P xs seat view has_view (rw (drop_at (rows_in x) (all_rows xs) _ refl) at (All-drop P (length (rows_in x)) _ all))
-
--- a fact of the rows of each seat is one of all rows
-all_from : (P : DrawnRow → Type 0) (views : List DeskView) → Each (λ seat view. All P (rows_in view)) views → All P (all_rows views)
-all_from P [] each = All-nil P
-all_from P (x ∷ xs) each =
-    All-append P (rows_in x) (all_rows xs) (each 0 x refl) (all_from P xs (λ seat view has_view. each (suc seat) view has_view))
-
--- a seat has at most one row for each of its passes
-rows_within_one : (view : DeskView) → length (rows_in view) ≤ passes_in view
-rows_within_one (Opening total handed_out left) = omega arith
-rows_within_one (Drawing total number r) = omega arith
-rows_within_one (Closing rows) = omega arith
-rows_within_one Ended = omega arith
-
-rows_within_passes : (views : List DeskView) → length (all_rows views) ≤ sum_by passes_in views
-rows_within_passes [] = omega arith
-rows_within_passes (x ∷ xs) =
-    omega (arith, rows_within_passes xs, rows_within_one x, sum_by-cons passes_in x xs, length-append (rows_in x) (all_rows xs))
-
--- a closing seat that took in all passes has all rows
-has_all : (views : List DeskView) (seat : ℕ) (rows : List DrawnRow) → get_elem? views seat ≡ some (Closing rows)
-    → length rows ≡ sum_by passes_in views → all_rows views ≡ rows
-has_all [] seat rows has_view whole = absurd (some-ne-none (Closing rows) (sym has_view))
-has_all (x ∷ xs) zero rows has_view whole =
-    let x_is : x ≡ Closing rows = some-injective x (Closing rows) has_view in
-    let part : passes_in x ≡ length rows = ap passes_in x_is in
-    let rest : all_rows xs ≡ [] =
-    nil_from_length (all_rows xs) (omega (arith, part, whole, rows_within_passes xs, sum_by-cons passes_in x xs)) in
-    ap (λ u. rows_in u ++ all_rows xs) x_is ∙ ap (rows ++◌) rest ∙ append-nil rows
-has_all (x ∷ xs) (suc seat) rows has_view whole =
-    let mine : length rows ≤ sum_by passes_in xs = sum_at passes_in xs seat (Closing rows) has_view in
-    let no_pass : passes_in x ≡ 0 = omega (arith, mine, whole, sum_by-cons passes_in x xs) in
-    let short : rows_in x ≡ [] = nil_from_length (rows_in x) (omega (arith, no_pass, rows_within_one x)) in
-    ap (◌++ all_rows xs) short ∙ has_all xs seat rows has_view (omega (arith, no_pass, whole, sum_by-cons passes_in x xs))
-
--- the numbers of the row ascend
-abbrev Ascends : DrawnRow → Type 0
-Ascends r = AllPairs (λ x y. x < y) r.numbers
-
--- rows with the same numbers, each as often, deal the same
-deals_alike : {total drawn : ℕ} {rows others : List DrawnRow} → DealsEachOnce total drawn rows → drawn_in others ≡ drawn_in rows
-    → ((x : ℕ) → sum_by (times_in_row x) others ≡ sum_by (times_in_row x) rows) → All Ascends others
-    → (0 < spent_in others → drawn ≡ total) → DealsEachOnce total drawn others
-deals_alike {rows = rows} {others} deals drawn same ascending spent = record {
-  within = deals.within;
-  count = deals.count ∙ sym drawn;
-  each_once = λ x. times_rows x others ∙ same x ∙ sym (times_rows x rows) ∙ deals.each_once x;
-  ascending = ascending;
-  spent = spent;
-}
 
 -- what is kept of each view: it has the plan's total, if it has one, and its rows ascend
 abbrev FollowsPlan : DeskPlan → ℕ → DeskView → Type 0
 FollowsPlan plan seat view = HasTotal plan.total view × All Ascends (rows_in view)
 
+-- the views of a lawful desk are so
 following : {S : Type 0} {plan : DeskPlan} {s : State S DeskView} → IsLawful plan s → Each (FollowsPlan plan) s.views
 following {s = s} kept seat view has_view = (kept.totals seat view has_view, all_at Ascends s.views seat view has_view kept.deals.ascending)
 
--- ==== A draw keeps the rule, and returns what it must
+-- ==== A draw keeps the protocol, and returns what it must
 
 -- the view of a pass that is not spent
 abbrev unspent_view : ℕ → ℕ → List ℕ → DeskView
@@ -154,13 +50,6 @@ after_step s words seat view = record { words = words; homes = s.homes; views = 
 -- what is to stand once, with one number more
 once_more : (x drawn : ℕ) → (if nat_lt x drawn then 1 else 0) + cond (drawn == x) 1 0 ≡ (if nat_lt x (drawn + 1) then 1 else 0)
 once_more x drawn = grind (arith, nat_tests)
-
--- no pass is spent, or all numbers are drawn
-none_or_all : {total drawn : ℕ} {rows : List DrawnRow} → DealsEachOnce total drawn rows → (spent_in rows ≡ 0) ⊎ (drawn ≡ total)
-none_or_all {rows = rows} deals = elim (cases_lt 0 (spent_in rows)) [
-  | inl some_spent ↦ inr (deals.spent some_spent)
-  | inr few ↦ inl (omega arith)
-]
 
 -- no more passes are spent than there are
 few_spent : {S : Type 0} {plan : DeskPlan} {s : State S DeskView} → IsLawful plan s → spent_in (all_rows s.views) ≤ plan.passes
@@ -187,15 +76,16 @@ module _ {S : Type 0} {plan : DeskPlan} {s : State S DeskView} (seat : ℕ) {tot
       below : (x c n : ℕ) → cond (x == x) 1 0 ≤ n → n ≤ (if nat_lt x c then 1 else 0) → x < c
       below x c n here few = grind (arith, nat_tests)
 
-  -- the row of the pass ascends, and all rows do after a change of it to one that does
+  -- the row of the pass ascends
   ascends : Ascends (drawn_row numbers false)
   ascends = All-head Ascends (drawn_row numbers false) [] (following kept seat (unspent_view total number numbers) has_view).1
 
+  -- all rows ascend after a change of it to one that does
   stays_ascending : (view : DeskView) → All Ascends (rows_in view) → All Ascends (all_rows (set s.views seat view))
   stays_ascending view mine = all_from Ascends (set s.views seat view)
       (each_set (λ k view. All Ascends (rows_in view)) s.views seat view mine (λ j u apart has_view. (following kept j u has_view).1))
 
-  -- the rule stays if the row of the pass changes, and the rows deal each of the numbers once that the word counts
+  -- the protocol stays if the row of the pass changes, and the rows deal each of the numbers once that the word counts
   kept_after : {drawn word : ℕ} (row : DrawnRow) → DealsEachOnce plan.total drawn (all_rows (set s.views seat (Drawing total number row)))
       → word ≡ drawn + spent_in (all_rows (set s.views seat (Drawing total number row)))
       → IsLawful plan (after_step s (word ∷ []) seat (Drawing total number row))
@@ -213,7 +103,7 @@ module _ {S : Type 0} {plan : DeskPlan} {s : State S DeskView} (seat : ℕ) {tot
         (kept.totals seat (unspent_view total number numbers) has_view) (λ j u apart has_view. kept.totals j u has_view);
   }
 
-  -- it finds a number below the total: the rule stays with that at the end of the pass's row, where it is above all others
+  -- it finds a number below the total: the protocol stays with that at the end of the pass's row, where it is above all others
   draws_some : word_of kept < total
       → IsLawful plan (after_step s ((word_of kept + 1) ∷ []) seat (drawn_view total number numbers (word_of kept))) × All
       (λ x. x < word_of kept) numbers
@@ -247,7 +137,7 @@ module _ {S : Type 0} {plan : DeskPlan} {s : State S DeskView} (seat : ℕ) {tot
         stands_below,
       )
 
-  -- it finds none: the rule stays, and the pass is spent
+  -- it finds none: the protocol stays, and the pass is spent
   draws_none : total ≤ word_of kept → IsLawful plan (after_step s ((word_of kept + 1) ∷ []) seat (spent_view total number numbers))
   draws_none high =
       let before : DeskView = unspent_view total number numbers in
@@ -272,12 +162,12 @@ module _ {S : Type 0} {plan : DeskPlan} {s : State S DeskView} (seat : ℕ) {tot
       let words = kept.word ∙ ap (◌∷ []) (sym word_is) in
       subst (IsLawful plan) (λ i. let t : State S DeskView = record { words = words i; homes = s.homes; views = sym same i } in t) kept
 
--- A step of a pass by f is allowed if from each lawful state it leaves a view that keeps the rule, and for that view `known` holds.
-allowed_step : {S : Type 0} {plan : DeskPlan} {slots seat : ℕ} {before : DeskView} (f : ℕ → ℕ) (known : ℕ → Me S DeskView → Type 0)
+-- A step of a pass by f is allowed if from each lawful state it leaves a view that keeps the protocol, and for that view `tells` holds.
+allowed_step : {S : Type 0} {plan : DeskPlan} {slots seat : ℕ} {before : DeskView} (f : ℕ → ℕ) (tells : ℕ → Me S DeskView → Type 0)
     → ((s : State S DeskView) (kept : IsLawful plan s) → get_elem? s.views seat ≡ some before → (after : DeskView)
-    × IsLawful plan (after_step s (f (word_of kept) ∷ []) seat after) × known (word_of kept) (after, []))
-    → Allows {S = S} (IsLawful plan) slots seat (before, []) 0 f known
-allowed_step f known steps s kept homes has_view fits =
+    × IsLawful plan (after_step s (f (word_of kept) ∷ []) seat after) × tells (word_of kept) (after, []))
+    → Allows {S = S} (IsLawful plan) slots seat (before, []) 0 f tells
+allowed_step f tells steps s kept homes has_view fits =
     let found : slice_index s.words 0 ≡ word_of kept = ap (λ words. slice_index words 0) kept.word in
     let words : set s.words 0 (f (slice_index s.words 0)) ≡ f (word_of kept) ∷ [] =
     ap (λ words. set words 0 (f (slice_index s.words 0))) kept.word ∙ ap (λ n. f n ∷ []) found in
@@ -309,13 +199,14 @@ unspent_me me is_pass unspent =
     let view = me.0 in
     is_pass ∙ ap (λ b. (Drawing (total_in view) (number_in view) (drawn_row (row_in view).numbers b), [])) unspent
 
+-- so it is with a seat that is known to be such a pass
 pub draw_is_lawful : {S : Type 0} (plan : DeskPlan) (slots seat : ℕ) (me : Me S DeskView) → me ≡ (as_pass_view me.0, [])
     → (row_in me.0).spent ≡ false
     → Allows {S = S} (IsLawful plan) slots seat me 0 (λ n. (n + 1) % 2 ^ 64) (Draws (step slots 0 1 0 none) me)
 draw_is_lawful {S} plan slots seat me is_pass unspent =
     let view = me.0 in rw (unspent_me me is_pass unspent) (draws_at plan slots seat (total_in view) (number_in view) (row_in view).numbers)
 
--- ==== A pass draws all that is left: that keeps the rule, as one draw after the other does
+-- ==== A pass draws all that is left: that keeps the protocol, as one draw after the other does
 
 -- it draws the numbers that are left, from the first of them on
 draws_all : {S : Type 0} {plan : DeskPlan} (left : ℕ) {s : State S DeskView} (seat : ℕ) {total number : ℕ} {numbers : List ℕ}
@@ -331,6 +222,7 @@ draws_all {S} {plan} (suc left) {s} seat {total} {number} {numbers} kept has_vie
     rw (set-set s.views seat after _, append_assoc numbers (n ∷ []) (range_with_len (n + 1) left)) at
     (rw next at (draws_all left seat one has_after (omega (arith, next, all))))
 
+-- a pass that is not spent draws the rest
 draws_rest_at : {S : Type 0} (plan : DeskPlan) (slots seat total number : ℕ) (numbers : List ℕ) (limit : ℕ) → limit ≡ plan.total
     → Allows {S = S} (IsLawful plan) slots seat (unspent_view total number numbers, []) 0 (λ n. max n limit)
     (DrawsRest (step slots 0 limit 0 none) (unspent_view total number numbers, []))
@@ -349,6 +241,7 @@ draws_rest_at {S} plan slots seat total number numbers limit limit_is = allowed_
     (cases_lt n total) in
     (after, lawful, (refl, refl)))
 
+-- so it is with a seat that is known to be such a pass
 pub draw_rest_is_lawful : {S : Type 0} (plan : DeskPlan) (slots seat : ℕ) (me : Me S DeskView) (limit : ℕ) → limit ≡ plan.total
     → me ≡ (as_pass_view me.0, []) → (row_in me.0).spent ≡ false
     → Allows {S = S} (IsLawful plan) slots seat me 0 (λ n. max n limit) (DrawsRest (step slots 0 limit 0 none) me)
@@ -356,9 +249,9 @@ draw_rest_is_lawful {S} plan slots seat me limit limit_is is_pass unspent =
     let view = me.0 in
     rw (unspent_me me is_pass unspent) (draws_rest_at plan slots seat (total_in view) (number_in view) (row_in view).numbers limit limit_is)
 
--- ==== The seats that come and go keep the rule: the first one, that of a pass handed out, the closing one, that of a pass that ends
+-- ==== The seats that come and go keep the protocol: the first one, that of a pass handed out, the closing one, that of a pass that ends
 
--- The rule stays if seats change and the sums over all rows don't, and no pass is lost. An empty row that is not spent adds nothing.
+-- The protocol stays if seats change and the sums over all rows don't, and no pass is lost. An empty row that is not spent adds nothing.
 kept_alike : {S : Type 0} {plan : DeskPlan} {s : State S DeskView} (after : State S DeskView) → IsLawful plan s → after.words ≡ s.words
     → ((f : DrawnRow → ℕ) → f (drawn_row [] false) ≡ 0 → sum_by f (all_rows after.views) ≡ sum_by f (all_rows s.views))
     → sum_by passes_in after.views ≡ sum_by passes_in s.views → Each (FollowsPlan plan) after.views → IsLawful plan after
@@ -433,7 +326,7 @@ start_closing_is_lawful {S} plan slots s kept homes fits = (
 -- a pass is reclaimed
 reclaims_at : {S : Type 0} (plan : DeskPlan) (seat : ℕ) (rows : List DrawnRow) (other total number : ℕ) (r : DrawnRow)
     → Joins {S = S} (IsLawful plan) seat (Closing rows) other (Drawing total number r)
-    (after_reclaiming_row (Closing rows) (Drawing total number r)) Ended
+    (after_reclaiming (Closing rows) (Drawing total number r)) Ended
 reclaims_at {S} plan seat rows other total number r s kept has_view apart has_pass =
     let closing : DeskView = Closing (r ∷ rows) in
     let pass : DeskView = Drawing total number r in
@@ -453,13 +346,15 @@ reclaims_at {S} plan seat rows other total number r s kept has_view apart has_pa
     each_set (FollowsPlan plan) s.views seat closing (tt, All-append Ascends (r ∷ []) rows theirs own)
     (λ j u apart has_view. following kept j u has_view) i view has_view))
 
+-- so it is with seats that are known to be these
 pub reclaim_is_lawful : {S : Type 0} (plan : DeskPlan) (seat : ℕ) (v : DeskView) (other : ℕ) (w : DeskView)
-    → v ≡ Closing (rows_in v) → w ≡ as_pass_view w → Joins {S = S} (IsLawful plan) seat v other w (after_reclaiming_row v w) Ended
+    → v ≡ Closing (rows_in v) → w ≡ as_pass_view w → Joins {S = S} (IsLawful plan) seat v other w (after_reclaiming v w) Ended
 reclaim_is_lawful plan seat v other w closing is_pass =
     rw closing (rw is_pass (reclaims_at plan seat (rows_in v) other (total_in w) (number_in w) (row_in w)))
 
--- ==== The rule of the desk, in plain words
+-- ==== The protocol of the desk, in plain words
 
+-- a lawful desk counts what it deals
 pub counts_what_it_deals : {S : Type 0} {plan : DeskPlan} {s : State S DeskView} → IsLawful plan s
     → CountsWhatItDeals plan.total plan.passes s.words (all_rows s.views)
 counts_what_it_deals kept =
@@ -472,6 +367,7 @@ pub record Determines (word total : ℕ) (rows : List DrawnRow) : Type 0 where
   pub deals : DealsEachOnce total (min word total) rows
   pub spent : IsTrue (nat_lt total word) ↔ (0 < spent_in rows)
 
+-- what the word determines, if the desk counts what it deals
 last_word : {total passes word : ℕ} {words : List ℕ} {rows : List DrawnRow} → CountsWhatItDeals total passes words rows
     → get_elem? words 0 ≡ some word → Determines word total rows
 last_word {total} {word = word} {rows = rows} counts found =
@@ -497,40 +393,3 @@ rows_at_end {rows = rows} words homes closing last whole found =
     let kept = last.1.0 in
     let all : all_rows last.0.views ≡ rows = has_all last.0.views _ rows (last.1.1 ∙ ap some closing) (whole ∙ sym kept.passes) in
     last_word (rw (last.2, all) at (counts_what_it_deals kept)) found
-
--- ==== Lists of passes
-
--- one new pass more
-pub draw_pass_more : (desk : DeskState) (count : ℕ) (passes : List PassState) (p : PassState) → AreNewPasses desk count passes
-    → p ≡ new_pass desk count → AreNewPasses desk (count + 1) (passes ++ p ∷ [])
-draw_pass_more desk count passes p handed_out p_is = (
-  omega (arith, length-append passes (p ∷ []), handed_out.0),
-  λ k d within. ⊎_elim
-      (λ (old : k < count). get_or_append_left passes (p ∷ []) d k (omega (arith, handed_out.0)) ∙ handed_out.1 k d old)
-      (λ (new : count ≤ k). let same : k ≡ count = omega arith in get_or_push passes p d k (handed_out.0 ∙ sym same) ∙ p_is
-      ∙ ap (new_pass desk) (sym same))
-      (cases_lt k count),
-)
-
--- if the last row is empty, the others have all numbers
-deals_but_last : (total drawn : ℕ) (rows : List DrawnRow) (r : DrawnRow) → r.numbers ≡ []
-    → DealsEachOnce total drawn (rows ++ r ∷ []) → DealsEachOnce total drawn rows
-deals_but_last total drawn rows r empty deals = deals_alike deals
-    (omega (arith, sum_by_push (λ (x : DrawnRow). length x.numbers) rows r, ap length empty))
-    (λ x. omega (arith, sum_by_push (times_in_row x) rows r, ap (λ (l : List ℕ). count_by (λ y. y == x) l) empty))
-    (λ k d within. subst Ascends (get_or_append_left rows (r ∷ []) d k within)
-    (deals.ascending k d (omega (arith, within, length-append rows (r ∷ [])))))
-    (λ some. deals.spent (omega (arith, some, sum_by_push (λ (x : DrawnRow). if x.spent then 1 else 0) rows r)))
-
--- if the calling thread has drawn nothing, the workers have all numbers
-pub deals_to_others : {total drawn : ℕ} (passes : List PassState) (left : Option PassState) → HasDrawnNothing left
-    → DealsEachOnce total drawn (drawn_rows (passes ++ pass_list left)) → DealsEachOnce total drawn (drawn_rows passes)
-deals_to_others {total} {drawn} passes None nothing deals = rw (append-nil passes) at deals
-deals_to_others {total} {drawn} passes (Some p) nothing deals =
-    deals_but_last total drawn (drawn_rows passes) p.row nothing
-    (subst (DealsEachOnce total drawn) (map-append (λ (p : PassState). p.row) passes (p ∷ [])) deals)
-
--- there are as many rows of numbers as passes
-pub length-drawn_numbers : (passes : List PassState) → length (drawn_numbers (drawn_rows passes)) ≡ length passes
-length-drawn_numbers passes = length-map (drawn_rows passes) (λ (r : DrawnRow). r.numbers)
-    ∙ length-map passes (λ (p : PassState). p.row)

@@ -1,7 +1,10 @@
 pub mod ViewLemmas
+pub mod PassLemmas
+pub mod RowLemmas
 pub mod DeskLemmas
 pub mod QueueLemmas
 pub mod OutputLemmas
 pub mod WorkerLemmas
 pub mod BatchLemmas
+pub mod AnsweringLemmas
 pub mod Crossing

@@ -1,21 +1,20 @@
--- The output of a batch: what its sink was given, and the loop that writes each line once it is ready.
-use Rattle.std.proofs.Common.{[], add-one, ◌≡◌, ◌≤◌, ◌<◌, ◌+◌, ◌-◌, ℕ, suc, List, ◌∷◌, ◌++◌, arith, sym, ap, ◌∙◌, Bool, true, false, refl, ⊎_elim, length, get_or, take, drop, subst, inl, inr, Some, slice_get, None, Result, sum_by}
+-- The output of a batch: the loop that writes each line once it is ready.
+use Rattle.std.proofs.Common.{[], add-one, ◌≡◌, ◌≤◌, ◌<◌, ◌+◌, ◌-◌, ℕ, suc, List, ◌∷◌, ◌++◌, arith, sym, ap, ◌∙◌, true, refl, ⊎_elim, length, get_or, take, drop, subst, inl, inr, Some, slice_get, None, Result, sum_by}
 use Rattle.std.proofs.lemmas.List.{take-append-drop, take_all, take_more, flat_map_more, get_or-map}
 use Rattle.kalah_run.specs.Types.{Entry, Job, Taken, Refusal}
 use Rattle.std.proofs.lemmas.Option.{get_or_from_slice_get, slice_get_within}
 use Rattle.kalah_jobs.specs.Files.JobList.{job_list, jobs_from, file_jobs, line_job, entries_of, entry_at}
 use Rattle.kalah_jobs.specs.Collecting.AnyOrder.{AreJobsInSomeOrder}
-use Rattle.std.proofs.KnownBytes.{Appends-kept, Appends-nil, Appends-trans}
 use Rattle.kalah_jobs.specs.Writing.Sink.{SinkState, WasGiven}
-use Rattle.kalah_jobs.proofs.SinkLemmas.{prefix_none, prefix_then, prefix_longer, prefix_kept}
-use Rattle.kalah_run.specs.Batch.OrderedOutput.{IsOnlyFlushed, WasGivenSince, text_of_job, written_upto, IsUnderWay, text_of, IsNew, HasWritten}
+use Rattle.kalah_jobs.proofs.SinkLemmas.{given_none, given_then, given_then_flush, given_more_after_failure}
+use Rattle.kalah_run.specs.Batch.OrderedOutput.{text_of_job, written_upto, IsUnderWay, IsNew, HasWritten}
 use Rattle.std.specs.List.{flat_map, enumerate_from}
-use Rattle.std.proofs.lemmas.Bool.{cases_eq, cases_lt, both_ways}
+use Rattle.std.proofs.lemmas.Bool.{cases_eq, cases_lt}
 use Rattle.std.proofs.lemmas.Grind.{flat_map-append}
 use Rattle.kalah_jobs.specs.Writing.Answer.{answer_line}
 use Rattle.kalah_jobs.specs.Collecting.CollectorState.{ArrivalsState, state_of, front, HasEnded, with_one_taken, new_files, after_take}
 use Rattle.kalah_jobs.specs.Collecting.CollectorEvents.{Offers, Takes, answered_line}
-use Rattle.kalah_jobs.specs.Writing.Output.{text_of_line, text_of_file, text_of_jobs}
+use Rattle.kalah_jobs.specs.Writing.Output.{text_of_line, text_of_file, text_of_jobs, taken_output, names_of}
 use Rattle.kalah_jobs.proofs.CollectingLemmas.{state_same, state_other, files_many, lines_are, new_files_are_in_step, taken_is, new_taken, fronts_full, kept_by_offer, kept_by_take}
 use Rattle.kalah_jobs.specs.Collecting.Held.{AreInStep}
 use Rattle.kalah_jobs.specs.Files.Lines.{line_feed}
@@ -23,39 +22,6 @@ use Rattle.kalah_jobs.specs.Files.NamedBytes.{NamedBytes}
 use Rattle.kalah_run.specs.declared.batch.ordered_output.OrderedOutput.{OrderedOutput}
 use Rattle.kalah_jobs.specs.Files.Jobs.{job_count}
 use Rattle.kalah_jobs.proofs.FilesLemmas.{length-job_list, lines_between, slice_get-job_list}
-
--- ==== A sink that is given bytes
-
--- at first a sink was given nothing
-pub since_none : (begun : SinkState) → WasGivenSince begun begun []
-since_none begun = record { start = prefix_none begun.written []; whole = λ sound. Appends-nil begun.written }
-
--- a sink that has failed is not called again
-since_failed : {begun out : SinkState} (bs cs : List ℕ) → WasGivenSince begun out bs → out.has_failed ≡ true
-    → WasGivenSince begun out (bs ++ cs)
-since_failed {begun} {out} bs cs given broken = record {
-  start = prefix_longer _ _ bs cs given.start;
-  whole = λ sound. absurd (both_ways _ sound broken);
-}
-
--- a sink is given more, unless it has failed
-pub since_more : {W : Type 0} {state : W → SinkState} {begun : SinkState} {old new : W} (bs cs : List ℕ)
-    → WasGivenSince begun (state old) bs → WasGiven state old new cs → WasGivenSince begun (state new) (bs ++ cs)
-since_more {state = state} {begun} {old} {new} bs cs given more = by (state old).has_failed refl where
-  by : (b : Bool) → (state old).has_failed ≡ b → WasGivenSince begun (state new) (bs ++ cs)
-  by true failed = rw (more.quiet failed) (since_failed bs cs given failed)
-  by false sound = record {
-    start = prefix_then _ _ _ (bs ++ cs) bs cs refl (given.whole sound) more.start;
-    whole = λ still. Appends-trans _ _ _ bs cs (given.whole sound) (more.whole still).1;
-  }
-
--- what was given stays given if nothing more is written
-pub since_kept : {begun out more : SinkState} {bs : List ℕ} → WasGivenSince begun out bs → IsOnlyFlushed out more
-    → WasGivenSince begun more bs
-since_kept {begun} {out} {more} {bs} given flushed = record {
-  start = prefix_kept _ _ _ bs given.start flushed.keeps;
-  whole = λ sound. Appends-kept _ _ _ bs (given.whole (flushed.sound sound)) flushed.keeps;
-}
 
 -- ==== The loop that writes each line once it is ready and all before it were written
 
@@ -117,25 +83,23 @@ module _ (text : ℕ → Taken → List ℕ) (jobs : List (List Entry)) where
       )
 
   -- nothing was offered and nothing taken
-  progress_start : (begun : SinkState) → IsUnderWay text jobs [] (new_files jobs) 0 begun begun
+  progress_start : {W : Type 0} (state : W → SinkState) (begun : W) → IsUnderWay state text jobs [] (new_files jobs) 0 begun begun
   unfolding written_upto
-  progress_start begun =
+  progress_start state begun =
       record {
         kept = new_files_are_in_step jobs;
         before = λ g low. absurd (omega arith);
         later = λ g high. new_taken jobs g;
-        written = subst (WasGivenSince begun begun)
-            (sym (ap (written_upto text jobs 0) (new_taken jobs 0))) (since_none begun);
+        written = subst (WasGiven state begun begun) (sym (ap (written_upto text jobs 0) (new_taken jobs 0))) (given_none state begun);
       }
 
 -- a step of a batch that is under way
-module _ {text : ℕ → Taken → List ℕ} {jobs : List (List Entry)} {past : List Job} {files : List ArrivalsState} {f : ℕ}
-    {begun out : SinkState} (progress : IsUnderWay text jobs past files f begun out) where
-  -- A line is taken, and its text passed to the sink.
-  pub wrote_line : (after : List ArrivalsState) (t : Taken) (more : SinkState) → Takes files f (Some t) after
-      → ((given : List ℕ) → WasGivenSince begun out given → WasGivenSince begun more (given ++ text f t))
-      → IsUnderWay text jobs past after f begun more
-  wrote_line after t more step gives =
+module _ {W : Type 0} {state : W → SinkState} {text : ℕ → Taken → List ℕ} {jobs : List (List Entry)} {past : List Job}
+    {files : List ArrivalsState} {f : ℕ} {begun out : W} (progress : IsUnderWay state text jobs past files f begun out) where
+  -- A line is taken, and its text given to the sink.
+  pub wrote_line : (after : List ArrivalsState) (t : Taken) (more : W) → Takes files f (Some t) after → WasGiven state out more (text f t)
+      → IsUnderWay state text jobs past after f begun more
+  wrote_line after t more step given =
       let n : ℕ = (state_of files f).taken in
       let now : List ArrivalsState = after_take files f in
       let other : (g : ℕ) → (g ≡ f → ⊥) → state_of now g ≡ state_of files g =
@@ -149,21 +113,21 @@ module _ {text : ℕ → Taken → List ℕ} {jobs : List (List Entry)} {past : 
       ap (λ x. written_upto text jobs f n ++ text f x) (taken_is t n offer.entry line offer.answer_is)
       ∙ written_line text jobs f n offer.entry entry_is
       ∙ ap (written_upto text jobs f) (sym taken) in
-      let new : IsUnderWay text jobs past now f begun more = record {
+      let new : IsUnderWay state text jobs past now f begun more = record {
         kept = subst (AreInStep jobs past) step.kept (kept_by_take progress.kept f t step);
         before = λ g g_low. ap (λ (s : ArrivalsState). s.taken) (other g (λ q. omega arith)) ∙ progress.before g g_low;
         later = λ g g_high. ap (λ (s : ArrivalsState). s.taken) (other g (λ q. omega arith)) ∙ progress.later g g_high;
-        written = subst (WasGivenSince begun more) text_is (gives (written_upto text jobs f n) progress.written);
+        written = subst (WasGiven state begun more) text_is (given_then state _ _ _ _ _ progress.written given);
       } in
       rw step.kept new
 
   -- no line is taken
-  pub wrote_nothing : (after : List ArrivalsState) → Takes files f None after → IsUnderWay text jobs past after f begun out
+  pub wrote_nothing : (after : List ArrivalsState) → Takes files f None after → IsUnderWay state text jobs past after f begun out
   wrote_nothing after step = rw step.unchanged progress
 
   -- a file is completely written, and the next becomes the current one
   pub wrote_file : f < length files → HasEnded (state_of files f) → front (state_of files f) ≤ (state_of files f).taken
-      → IsUnderWay text jobs past files (f + 1) begun out
+      → IsUnderWay state text jobs past files (f + 1) begun out
   wrote_file low ended all =
       let up : (state_of files f).taken ≤ front (state_of files f) = progress.kept.within f in
       let counts = progress.kept.offered.counts in
@@ -182,12 +146,12 @@ module _ {text : ℕ → Taken → List ℕ} {jobs : List (List Entry)} {past : 
             (λ (np : g ≡ f → ⊥). progress.before g (omega arith))
             (cases_eq g f);
         later = λ g g_high. progress.later g (omega arith);
-        written = subst (WasGivenSince begun out) text_is progress.written;
+        written = subst (WasGiven state begun out) text_is progress.written;
       }
 
   -- an outcome is offered, and accepted or refused: what was written stays
   pub progress_offered : (o : Job) (after : List ArrivalsState) (gave : Result ℕ Refusal) → Offers jobs files o gave after
-      → IsUnderWay text jobs (past ++ o ∷ []) after f begun out
+      → IsUnderWay state text jobs (past ++ o ∷ []) after f begun out
   progress_offered o after gave step =
       let now = kept_by_offer progress.kept o gave step in
       record {
@@ -198,10 +162,10 @@ module _ {text : ℕ → Taken → List ℕ} {jobs : List (List Entry)} {past : 
       }
 
   -- a sink that has failed was given all, as far as it took it
-  pub progress_failed : out.has_failed ≡ true → WasGivenSince begun out (text_of_jobs text jobs)
-  progress_failed broken =
+  pub progress_failed : (state out).has_failed ≡ true → WasGiven state begun out (text_of_jobs text jobs)
+  progress_failed failed =
       let all = written_first text jobs f (state_of files f).taken in
-      subst (WasGivenSince begun out) all.1 (since_failed _ all.0 progress.written broken)
+      subst (WasGiven state begun out) all.1 (given_more_after_failure state _ _ _ all.0 progress.written failed)
 
   -- Each job was offered once, and the current file, if there is one, has not ended.
   module _ (each : AreJobsInSomeOrder jobs past) (waits : f < length files → HasEnded (state_of files f) → ⊥) where
@@ -213,57 +177,56 @@ module _ {text : ℕ → Taken → List ℕ} {jobs : List (List Entry)} {past : 
     ]
 
     -- the sink was given all
-    pub progress_end : WasGivenSince begun out (text_of_jobs text jobs)
+    pub progress_end : WasGiven state begun out (text_of_jobs text jobs)
     progress_end =
         let many : length files ≡ length jobs = files_many jobs files progress.kept.offered.counts in
-        subst (WasGivenSince begun out) (written_all text jobs f (state_of files f).taken (omega (arith, many, past_all)))
+        subst (WasGiven state begun out) (written_all text jobs f (state_of files f).taken (omega (arith, many, past_all)))
         progress.written
 
 -- ==== What an output writes, line by line
 
 -- the text of a line of file f begins with that file's name
 pub text_of_taken : (files : List NamedBytes) (f : ℕ) (file : NamedBytes) (name : List ℕ) (taken : Taken) → f < length files
-    → file ≡ get_or files f file → name ≡ file.name → text_of files f taken ≡ answer_line name taken ++ line_feed ∷ []
-unfolding text_of
+    → file ≡ get_or files f file → name ≡ file.name → taken_output (names_of files) f taken ≡ answer_line name taken ++ line_feed ∷ []
 text_of_taken files f file name taken low file_is name_is =
     ap (λ n. answer_line n taken ++ line_feed ∷ [])
     (get_or-map (λ (x : NamedBytes). x.name) files f file [] low ∙ sym (ap (λ (x : NamedBytes). x.name) file_is) ∙ sym name_is)
 
--- an output advances with the state of what is under way
-pub written_on : {files : List NamedBytes} {jobs : List (List Entry)} {past : List Job} {begun out more : SinkState}
-    {r after : OrderedOutput} → HasWritten files jobs past begun out r → after.files.now ≡ r.files.now
-    → after.jobs.now ≡ r.jobs.now
-    → (IsUnderWay (text_of r.files.now) r.jobs.now past r.collector r.current begun out → IsUnderWay (text_of r.files.now) r.jobs.now
-    past after.collector after.current begun more) → HasWritten files jobs past begun more after
-written_on was same_files same_jobs step =
-    record {
-      of_files = same_files ∙ was.of_files;
-      of_jobs = same_jobs ∙ was.of_jobs;
-      progress =
-          rw same_jobs (rw (← was.of_files) (step (rw was.of_files was.progress)));
-    }
+-- with what is known of a sink
+module _ {W : Type 0} {state : W → SinkState} where
+  -- an output advances with the state of what is under way
+  pub written_on : {files : List NamedBytes} {jobs : List (List Entry)} {past : List Job} {begun out more : W} {r after : OrderedOutput}
+      → HasWritten state files jobs past begun out r → after.files.now ≡ r.files.now → after.jobs.now ≡ r.jobs.now
+      → (IsUnderWay state (taken_output (names_of r.files.now)) r.jobs.now past r.collector r.current begun out
+      → IsUnderWay state (taken_output (names_of r.files.now)) r.jobs.now past after.collector after.current begun more)
+      → HasWritten state files jobs past begun more after
+  written_on was same_files same_jobs step = record {
+    of_files = same_files ∙ was.of_files;
+    of_jobs = same_jobs ∙ was.of_jobs;
+    progress = rw same_jobs (rw (← was.of_files) (step (rw was.of_files was.progress)));
+  }
 
--- what an output has written stays if nothing more is written
-pub written_kept : {files : List NamedBytes} {jobs : List (List Entry)} {past : List Job} {begun out later : SinkState} {r : OrderedOutput}
-    → IsOnlyFlushed out later → HasWritten files jobs past begun out r → HasWritten files jobs past begun later r
-written_kept flushed was = record {
-  of_files = was.of_files;
-  of_jobs = was.of_jobs;
-  progress = record {
-    kept = was.progress.kept;
-    before = was.progress.before;
-    later = was.progress.later;
-    written = since_kept was.progress.written flushed;
-  };
-}
+  -- what an output has written stays if nothing more is written
+  pub written_kept : {files : List NamedBytes} {jobs : List (List Entry)} {past : List Job} {begun out later : W} {r : OrderedOutput}
+      → WasGiven state out later [] → HasWritten state files jobs past begun out r → HasWritten state files jobs past begun later r
+  written_kept none was = record {
+    of_files = was.of_files;
+    of_jobs = was.of_jobs;
+    progress = record {
+      kept = was.progress.kept;
+      before = was.progress.before;
+      later = was.progress.later;
+      written = given_then_flush state _ _ _ _ was.progress.written none;
+    };
+  }
 
--- a new output has written nothing
-pub new_written : (begun : SinkState) (r : OrderedOutput) → IsNew r → HasWritten r.files.now r.jobs.now [] begun begun r
-new_written begun r new = record {
-  of_files = refl;
-  of_jobs = refl;
-  progress = rw new.0 (rw new.1 (progress_start (text_of r.files.now) r.jobs.now begun));
-}
+  -- a new output has written nothing
+  pub new_written : (begun : W) (r : OrderedOutput) → IsNew r → HasWritten state r.files.now r.jobs.now [] begun begun r
+  new_written begun r new = record {
+    of_files = refl;
+    of_jobs = refl;
+    progress = rw new.0 (rw new.1 (progress_start (taken_output (names_of r.files.now)) r.jobs.now state begun));
+  }
 
 -- how many lines are ready and were not taken, of all files
 abbrev pub ready_lines : List ArrivalsState → ℕ

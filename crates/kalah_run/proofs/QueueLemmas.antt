@@ -1,5 +1,5 @@
--- The results queue: its pairs, the views of its passes, and what each step keeps.
-use Rattle.std.proofs.Common.{◌≡◌, ◌≢◌, ℕ, zero, suc, ◌+◌, ◌<◌, ◌≤◌, ◌==◌, if◌then◌else◌, Bool, true, false, List, [], ◌∷◌, ◌++◌, length, All, slice_index_or, refl, sym, ap, ◌∙◌, eq-eqb, ne_eqb, arith, set, subst, append_assoc, inl, inr, length-append}
+-- The results queue: its pairs, and each step keeps its protocol.
+use Rattle.std.proofs.Common.{◌≡◌, ◌≢◌, ℕ, suc, ◌+◌, ◌<◌, ◌≤◌, ◌==◌, if◌then◌else◌, Bool, true, false, List, [], ◌∷◌, ◌++◌, length, All, slice_index_or, refl, sym, ap, ◌∙◌, eq-eqb, ne_eqb, arith, set, append_assoc, inl, inr, length-append}
 use Rattle.std.proofs.lemmas.List.{append-nil, length-map, length-set, length_push, map-append, get_or_at, get_or_append_left, get_or_push}
 use Rattle.std.proofs.lemmas.List.Elements.{All-push}
 use Rattle.kalah_run.specs.Types.{Job, QueueView}
@@ -8,11 +8,10 @@ use mathlib.Core.Option.{some, some-injective, some-ne-none}
 use lib.ListN.{get_elem?}
 use Rattle.atomic_table.proofs.Lists.{at_longer, set_else, set_here}
 use Rattle.kalah_run.proofs.ViewLemmas.{each_more, each_set, in_views, was_there}
-use Rattle.kalah_run.specs.declared.queue.rule.QueueView.TheVariants.{Getting, Putting, Ended}
-use Rattle.atomic_table.specs.Seated.{TableId}
-use Rattle.kalah_run.specs.Queue.States.{PutPassState, ArePassesFrom, Accounts, outcomes_in}
+use Rattle.kalah_run.specs.declared.queue.protocol.QueueView.TheVariants.{Getting, Putting, Ended}
+use Rattle.kalah_run.specs.Queue.States.{Accounts, outcomes_in}
 use Rattle.crossbeam_queue.specs.Fifo.{Pushes, Pops, Forks, Held, Merges, Learns}
-use Rattle.kalah_run.specs.Queue.Rule.{Fits, FitsPut, IsLawful, IsWholeAndInOrder, first_view, after_making_one, one_made, after_put, after_reclaiming_sent, IsGot, KnowsSent}
+use Rattle.kalah_run.specs.Queue.Protocol.{Fits, FitsPut, IsLawful, IsWholeAndInOrder, opening_view, after_handing_out, pass_handed_out, after_put, after_reclaiming, IsGot, KnowsSent}
 use Rattle.std.proofs.lemmas.Bool.{cases_lt}
 
 -- ==== What the pairs determine of one worker, and of all
@@ -28,6 +27,7 @@ sent_by_worker-append w (t ∷ ts) ys =
     joined true x xs ys = refl
     joined false x xs ys = refl
 
+-- a first pair of another worker is left out
 other_pair : (w : ℕ) (t : ℕ × Job) (l : List Job) → t.0 ≢ w → (if t.0 == w then t.1 ∷ l else l) ≡ l
 other_pair w t l apart = ap (λ (b : Bool). if b then t.1 ∷ l else l) (ne_eqb t.0 w apart)
 
@@ -59,15 +59,15 @@ next_below : (workers : ℕ) (got : List (ℕ × Job)) (t : ℕ × Job) (rest : 
 next_below workers got t rest below =
     rw (get_or_at got t rest t _ refl) at (below (length got) t (omega (arith, length-append got (t ∷ rest))))
 
--- if lists are known as they are given, so they are with the next one at the end
-known_more : (known : List (List Job)) (s : List Job) (given : ℕ → List Job)
-    → ((k : ℕ) → k < length known → given k ≡ slice_index_or known k []) → given (length known) ≡ s → (k : ℕ)
-    → k < length (known ++ s ∷ []) → given k ≡ slice_index_or (known ++ s ∷ []) k []
-known_more known s given same next k lt = elim (cases_lt k (length known)) [
-  | inl old ↦ same k old ∙ sym (get_or_append_left known (s ∷ []) [] k old)
+-- if the lists are those that are given, in order, so they are with the next one at the end
+next_goes_last : (ended : List (List Job)) (s : List Job) (given : ℕ → List Job)
+    → ((k : ℕ) → k < length ended → given k ≡ slice_index_or ended k []) → given (length ended) ≡ s → (k : ℕ)
+    → k < length (ended ++ s ∷ []) → given k ≡ slice_index_or (ended ++ s ∷ []) k []
+next_goes_last ended s given same next k lt = elim (cases_lt k (length ended)) [
+  | inl old ↦ same k old ∙ sym (get_or_append_left ended (s ∷ []) [] k old)
   | inr new ↦
-      let k_is : k ≡ length known = omega (arith, length-append known (s ∷ [])) in
-      ap given k_is ∙ next ∙ sym (get_or_push known s [] k (sym k_is))
+      let k_is : k ≡ length ended = omega (arith, length-append ended (s ∷ [])) in
+      ap given k_is ∙ next ∙ sym (get_or_push ended s [] k (sym k_is))
 ]
 
 -- ---- what the pairs account for
@@ -76,62 +76,51 @@ known_more known s given same next k lt = elim (cases_lt k (length known)) [
 accounts_none : Accounts 0 [] []
 accounts_none = record { below = λ k d lt. absurd (omega arith); whole = λ w lt. absurd (omega arith) }
 
--- a pair more, of a worker whose list isn't known yet
-accounts_pair : (workers : ℕ) (known : List (List Job)) (pairs : List (ℕ × Job)) (x : ℕ × Job) → x.0 < workers
-    → length known ≤ x.0 → Accounts workers known pairs → Accounts workers known (pairs ++ x ∷ [])
-accounts_pair workers known pairs x lt le accounts =
+-- a pair more, of a worker that hasn't ended
+accounts_pair : (workers : ℕ) (ended : List (List Job)) (pairs : List (ℕ × Job)) (x : ℕ × Job) → x.0 < workers
+    → length ended ≤ x.0 → Accounts workers ended pairs → Accounts workers ended (pairs ++ x ∷ [])
+accounts_pair workers ended pairs x lt le accounts =
     record {
       below = All-push (λ (t : ℕ × Job). t.0 < workers) pairs x accounts.below lt;
       whole = λ w b. let ne : x.0 ≢ w = (λ q. omega arith) in other_pair_changes_nothing w pairs x ne ∙ accounts.whole w b;
     }
 
 -- a worker more
-accounts_worker : (workers : ℕ) (known : List (List Job)) (pairs : List (ℕ × Job)) → Accounts workers known pairs
-    → Accounts (workers + 1) known pairs
-accounts_worker workers known pairs accounts =
+accounts_worker : (workers : ℕ) (ended : List (List Job)) (pairs : List (ℕ × Job)) → Accounts workers ended pairs
+    → Accounts (workers + 1) ended pairs
+accounts_worker workers ended pairs accounts =
     record {
       below = λ k d lt. omega (arith, accounts.below k d lt);
       whole = accounts.whole;
     }
 
--- a list more that is known: what the worker with the number after those known has sent
-accounts_known : (workers : ℕ) (known : List (List Job)) (pairs : List (ℕ × Job)) (sent : List Job)
-    → sent ≡ sent_by_worker (length known) pairs → Accounts workers known pairs → Accounts workers (known ++ sent ∷ []) pairs
-accounts_known workers known pairs sent sent_is accounts =
-    record { below = accounts.below; whole = known_more known sent (λ w. sent_by_worker w pairs) accounts.whole (sym sent_is) }
+-- one worker more has ended, the next one: its list is what it sent
+accounts_ended : (workers : ℕ) (ended : List (List Job)) (pairs : List (ℕ × Job)) (sent : List Job)
+    → sent ≡ sent_by_worker (length ended) pairs → Accounts workers ended pairs → Accounts workers (ended ++ sent ∷ []) pairs
+accounts_ended workers ended pairs sent sent_is accounts =
+    record { below = accounts.below; whole = next_goes_last ended sent (λ w. sent_by_worker w pairs) accounts.whole (sym sent_is) }
 
--- ==== What the pass to get knows, and lists of passes to put
+-- ==== What the pass to get knows
 
--- what the workers whose passes were reclaimed had sent
-abbrev pub known_in : QueueView → List (List Job)
-known_in (Getting workers got known) = known
-known_in _ = []
+-- what the workers sent whose passes were reclaimed
+abbrev pub ended_in : QueueView → List (List Job)
+ended_in (Getting workers got ended) = ended
+ended_in _ = []
 
--- one pass more, of the next worker
-pub put_pass_more : (id : TableId) (n : ℕ) (ps : List PutPassState) (p : PutPassState) → ArePassesFrom id n ps → p.queue ≡ id
-    → p.number ≡ n + length ps → ArePassesFrom id n (ps ++ p ∷ [])
-put_pass_more id n [] p from same_queue number_is = (same_queue, omega arith, tt)
-put_pass_more id n (x ∷ xs) p from same_queue number_is = (from.0, from.1, put_pass_more id (suc n) xs p from.2 same_queue (omega arith))
+-- ==== Each step keeps the protocol of the results queue
 
--- the passes to put to one queue are all of that queue
-pub all_are_of : (id : TableId) (n : ℕ) (ps : List PutPassState) → ArePassesFrom id n ps → All (λ p. p.queue ≡ id) ps
-all_are_of id n [] from k d lt = absurd (omega arith)
-all_are_of id n (x ∷ xs) from zero d lt = from.0
-all_are_of id n (x ∷ xs) from (suc k) d lt = all_are_of id (suc n) xs from.2 k d (omega arith)
-
--- ==== Each step keeps the rule of the results queue
-
-pub new_queue_is_lawful : IsLawful [] (first_view ∷ [])
-new_queue_is_lawful = record {
+-- a new queue has one pass, the one to get
+pub opening_is_lawful : IsLawful [] (opening_view ∷ [])
+opening_is_lawful = record {
   workers = 0;
   got = [];
-  known = [];
+  ended = [];
   inside = [];
   getter = refl;
   count = refl;
   held = refl;
   accounts = accounts_none;
-  fits = each_more (Fits [] 0) [] first_view (λ j u e. absurd (some-ne-none u (sym e))) refl;
+  fits = each_more (Fits [] []) [] opening_view (λ j u e. absurd (some-ne-none u (sym e))) refl;
 }
 
 -- the oldest outcome is that of the first pair inside
@@ -141,6 +130,7 @@ record IsOldest (x : Job) (items : List Job) (inside : List (ℕ × Job)) : Type
   first : inside ≡ (worker, x) ∷ rest
   held : outcomes_in rest ≡ items
 
+-- it is there if the pairs inside have the outcomes that the queue holds
 oldest : (x : Job) (items : List Job) (inside : List (ℕ × Job)) → outcomes_in inside ≡ x ∷ items → IsOldest x items inside
 oldest x items [] held = absurd (cc)
 oldest x items (p ∷ ps) held =
@@ -151,32 +141,32 @@ module _ {items : List Job} {views : List QueueView} (kept : IsLawful items view
   abbrev pairs : List (ℕ × Job)
   pairs = kept.got ++ kept.inside
 
-  -- the pass to get stands first, and knows what the rule states
-  getter_is_first : (place : ℕ) {v : QueueView} {workers : ℕ} {got : List (ℕ × Job)} {known : List (List Job)} → v ≡ Getting workers got known
-      → get_elem? views place ≡ some v → (place ≡ 0) × (v ≡ Getting kept.workers kept.got kept.known)
+  -- the pass to get stands first, and knows what the protocol states
+  getter_is_first : (place : ℕ) {v : QueueView} {workers : ℕ} {got : List (ℕ × Job)} {ended : List (List Job)} → v ≡ Getting workers got ended
+      → get_elem? views place ≡ some v → (place ≡ 0) × (v ≡ Getting kept.workers kept.got kept.ended)
   getter_is_first place getting has_view =
       let first : place ≡ 0 = kept.fits place _ (has_view ∙ ap some getting) in
       (first, some-injective _ _ (sym has_view ∙ ap (get_elem? views) first ∙ kept.getter))
 
   -- the view of another pass fits if one pair more was sent, by a worker that has not ended
   fits_more : {place : ℕ} (x : ℕ × Job) → place ≡ suc x.0 → (j : ℕ) (u : QueueView) → j ≢ place
-      → get_elem? views j ≡ some u → Fits (pairs ++ x ∷ []) (length kept.known) j u
+      → get_elem? views j ≡ some u → Fits (pairs ++ x ∷ []) kept.ended j u
   fits_more x place_is j (Putting number sent) apart has_view =
-      let fit : FitsPut pairs (length kept.known) j number sent = kept.fits j _ has_view in
+      let fit : FitsPut pairs kept.ended j number sent = kept.fits j _ has_view in
       let another : x.0 ≢ number = (λ q. apart (fit.place_is ∙ (ap suc (sym q) ∙ sym place_is))) in
       record { place_is = fit.place_is; running = fit.running; all_sent = fit.all_sent ∙ sym (other_pair_changes_nothing number pairs x another) }
-  fits_more x place_is j (Getting workers got known) apart has_view = kept.fits j _ has_view
+  fits_more x place_is j (Getting workers got ended) apart has_view = kept.fits j _ has_view
   fits_more x place_is j Ended apart has_view = tt
 
   -- the view of another pass fits if one worker more has ended
-  fits_ended : {ended : ℕ} → ended ≡ suc (length kept.known) → (j : ℕ) (u : QueueView) → j ≢ ended
-      → get_elem? views j ≡ some u → Fits pairs (length kept.known + 1) j u
-  fits_ended ended_is j (Putting number sent) apart has_view =
-      let fit : FitsPut pairs (length kept.known) j number sent = kept.fits j _ has_view in
-      let another : number ≢ length kept.known = (λ q. apart (fit.place_is ∙ (ap suc q ∙ sym ended_is))) in
-      record { place_is = fit.place_is; running = omega (arith, fit.running, another); all_sent = fit.all_sent }
-  fits_ended ended_is j (Getting workers got known) apart has_view = kept.fits j _ has_view
-  fits_ended ended_is j Ended apart has_view = tt
+  fits_ended : {other : ℕ} (list : List Job) → other ≡ suc (length kept.ended) → (j : ℕ) (u : QueueView) → j ≢ other
+      → get_elem? views j ≡ some u → Fits pairs (kept.ended ++ list ∷ []) j u
+  fits_ended list other_is j (Putting number sent) apart has_view =
+      let fit : FitsPut pairs kept.ended j number sent = kept.fits j _ has_view in
+      let another : number ≢ length kept.ended = (λ q. apart (fit.place_is ∙ (ap suc q ∙ sym other_is))) in
+      record { place_is = fit.place_is; running = omega (arith, fit.running, another, length_push kept.ended list); all_sent = fit.all_sent }
+  fits_ended list other_is j (Getting workers got ended) apart has_view = kept.fits j _ has_view
+  fits_ended list other_is j Ended apart has_view = tt
 
   -- the pass of a worker that has not ended puts an outcome
   lawful_with_put : (place : ℕ) (x : Job) {number : ℕ} {sent : List Job} → get_elem? views place ≡ some (Putting number sent)
@@ -184,8 +174,8 @@ module _ {items : List Job} {views : List QueueView} (kept : IsLawful items view
   lawful_with_put place x {number} {sent} has_view =
       let pair : ℕ × Job = (number, x) in
       let after : QueueView = Putting number (sent ++ x ∷ []) in
-      let fit : FitsPut pairs (length kept.known) place number sent = kept.fits place _ has_view in
-      let fits : FitsPut (pairs ++ pair ∷ []) (length kept.known) place number (sent ++ x ∷ []) = record {
+      let fit : FitsPut pairs kept.ended place number sent = kept.fits place _ has_view in
+      let fits : FitsPut (pairs ++ pair ∷ []) kept.ended place number (sent ++ x ∷ []) = record {
         place_is = fit.place_is;
         running = fit.running;
         all_sent = ap (◌++ (x ∷ [])) fit.all_sent ∙ sym (own_pair_goes_last number pairs pair refl);
@@ -193,25 +183,25 @@ module _ {items : List Job} {views : List QueueView} (kept : IsLawful items view
       record {
         workers = kept.workers;
         got = kept.got;
-        known = kept.known;
+        ended = kept.ended;
         inside = kept.inside ++ pair ∷ [];
         getter = set_else views place 0 after (λ q. omega (arith, q, fit.place_is)) ∙ kept.getter;
         count = length-set views place after ∙ kept.count;
         held = map-append (λ (p : ℕ × Job). p.1) kept.inside (pair ∷ []) ∙ ap (◌++ (x ∷ [])) kept.held;
-        accounts = rw (← append_assoc kept.got kept.inside (pair ∷ [])) (accounts_pair kept.workers kept.known pairs pair
+        accounts = rw (← append_assoc kept.got kept.inside (pair ∷ [])) (accounts_pair kept.workers kept.ended pairs pair
             (omega (arith, fit.place_is, kept.count, in_views views place has_view)) fit.running kept.accounts);
         fits = rw (← append_assoc kept.got kept.inside (pair ∷ []))
-            (each_set (Fits (pairs ++ pair ∷ []) (length kept.known)) views place after fits (fits_more pair fit.place_is));
+            (each_set (Fits (pairs ++ pair ∷ []) kept.ended) views place after fits (fits_more pair fit.place_is));
       }
 
   -- a pass is made for the next worker, before any has ended
-  lawful_with_pass : kept.known ≡ []
-      → IsLawful items (set views 0 (Getting (kept.workers + 1) kept.got kept.known) ++ Putting kept.workers [] ∷ [])
+  lawful_with_pass : kept.ended ≡ []
+      → IsLawful items (set views 0 (Getting (kept.workers + 1) kept.got kept.ended) ++ Putting kept.workers [] ∷ [])
   lawful_with_pass none =
-      let getter : QueueView = Getting (kept.workers + 1) kept.got kept.known in
+      let getter : QueueView = Getting (kept.workers + 1) kept.got kept.ended in
       let after : List QueueView = set views 0 getter in
       let same : length after ≡ length views = length-set views 0 getter in
-      let fresh : FitsPut pairs (length kept.known) (length after) kept.workers [] = record {
+      let fresh : FitsPut pairs kept.ended (length after) kept.workers [] = record {
         place_is = same ∙ kept.count;
         running = omega (arith, ap length none);
         all_sent = sym (no_pair_beyond_workers kept.workers kept.workers _ kept.accounts.below (omega arith));
@@ -219,45 +209,45 @@ module _ {items : List Job} {views : List QueueView} (kept : IsLawful items view
       record {
         workers = kept.workers + 1;
         got = kept.got;
-        known = kept.known;
+        ended = kept.ended;
         inside = kept.inside;
         getter = at_longer after (Putting kept.workers [] ∷ []) 0 _ (set_here views 0 getter (in_views views 0 kept.getter));
         count = omega (arith, length_push after (Putting kept.workers []), same, kept.count);
         held = kept.held;
-        accounts = accounts_worker kept.workers kept.known pairs kept.accounts;
-        fits = each_more (Fits pairs (length kept.known)) after (Putting kept.workers [])
-            (each_set (Fits pairs (length kept.known)) views 0 getter refl (λ j u apart has_view. kept.fits j u has_view)) fresh;
+        accounts = accounts_worker kept.workers kept.ended pairs kept.accounts;
+        fits = each_more (Fits pairs kept.ended) after (Putting kept.workers [])
+            (each_set (Fits pairs kept.ended) views 0 getter refl (λ j u apart has_view. kept.fits j u has_view)) fresh;
       }
 
   -- the pass of the next worker to end is reclaimed
-  lawful_with_end : (other : ℕ) {sent : List Job} → other ≢ 0 → get_elem? views other ≡ some (Putting (length kept.known) sent)
-      → IsLawful items (set (set views 0 (Getting kept.workers kept.got (kept.known ++ sent ∷ []))) other Ended)
+  lawful_with_end : (other : ℕ) {sent : List Job} → other ≢ 0 → get_elem? views other ≡ some (Putting (length kept.ended) sent)
+      → IsLawful items (set (set views 0 (Getting kept.workers kept.got (kept.ended ++ sent ∷ []))) other Ended)
   lawful_with_end other {sent} apart has_view =
-      let getter : QueueView = Getting kept.workers kept.got (kept.known ++ sent ∷ []) in
+      let getter : QueueView = Getting kept.workers kept.got (kept.ended ++ sent ∷ []) in
       let between : List QueueView = set views 0 getter in
-      let fit : FitsPut pairs (length kept.known) other (length kept.known) sent = kept.fits other _ has_view in
-      let F : ℕ → QueueView → Type 0 = Fits pairs (length kept.known + 1) in
+      let fit : FitsPut pairs kept.ended other (length kept.ended) sent = kept.fits other _ has_view in
+      let F : ℕ → QueueView → Type 0 = Fits pairs (kept.ended ++ sent ∷ []) in
       let others = each_set (λ j u. j ≢ other → F j u) views 0 getter (λ _. refl)
-      (λ j u elsewhere has_view apart. fits_ended fit.place_is j u apart has_view) in
+      (λ j u elsewhere has_view apart. fits_ended sent fit.place_is j u apart has_view) in
       record {
         workers = kept.workers;
         got = kept.got;
-        known = kept.known ++ sent ∷ [];
+        ended = kept.ended ++ sent ∷ [];
         inside = kept.inside;
         getter = set_else between other 0 Ended (λ q. apart (sym q)) ∙ set_here views 0 getter (in_views views 0 kept.getter);
         count = length-set between other Ended ∙ length-set views 0 getter ∙ kept.count;
         held = kept.held;
-        accounts = accounts_known kept.workers kept.known pairs sent fit.all_sent kept.accounts;
-        fits = rw (length_push kept.known sent) (each_set F between other Ended tt (λ j u elsewhere has_view. others j u has_view elsewhere));
+        accounts = accounts_ended kept.workers kept.ended pairs sent fit.all_sent kept.accounts;
+        fits = each_set F between other Ended tt (λ j u elsewhere has_view. others j u has_view elsewhere);
       }
 
 -- the oldest outcome is got, which is of one of the workers
 lawful_with_get : {x : Job} {items : List Job} {views : List QueueView} (kept : IsLawful (x ∷ items) views)
-    → (worker : ℕ) × (worker < kept.workers) × IsLawful items (set views 0 (Getting kept.workers (kept.got ++ (worker, x) ∷ []) kept.known))
+    → (worker : ℕ) × (worker < kept.workers) × IsLawful items (set views 0 (Getting kept.workers (kept.got ++ (worker, x) ∷ []) kept.ended))
 lawful_with_get {x} {items} {views} kept =
     let first = oldest x items kept.inside kept.held in
     let pair : ℕ × Job = (first.worker, x) in
-    let getter : QueueView = Getting kept.workers (kept.got ++ pair ∷ []) kept.known in
+    let getter : QueueView = Getting kept.workers (kept.got ++ pair ∷ []) kept.ended in
     let same : (kept.got ++ pair ∷ []) ++ first.rest ≡ pairs kept =
     append_assoc kept.got (pair ∷ []) first.rest ∙ ap (kept.got ++◌) (sym first.first) in (
       first.worker,
@@ -265,83 +255,88 @@ lawful_with_get {x} {items} {views} kept =
       record {
         workers = kept.workers;
         got = kept.got ++ pair ∷ [];
-        known = kept.known;
+        ended = kept.ended;
         inside = first.rest;
         getter = set_here views 0 getter (in_views views 0 kept.getter);
         count = length-set views 0 getter ∙ kept.count;
         held = first.held;
         accounts = rw same kept.accounts;
-        fits = rw same (each_set (Fits (pairs kept) (length kept.known)) views 0 getter refl (λ j u apart has_view. kept.fits j u has_view));
+        fits = rw same (each_set (Fits (pairs kept) kept.ended) views 0 getter refl (λ j u apart has_view. kept.fits j u has_view));
       },
     )
 
 -- ---- the same, as a queue asks for it
 
+-- a pass to put puts
 pub put_is_lawful : (n place : ℕ) {v : QueueView} (x : Job) {number : ℕ} {sent : List Job} → v ≡ Putting number sent
     → Pushes IsLawful n place v x (λ w. w ≡ after_put v x)
 put_is_lawful n place x putting = rw putting (λ items views room kept has_view. (_, lawful_with_put kept place x has_view, refl))
 
-pub get_is_lawful : (place : ℕ) {v : QueueView} {workers : ℕ} {got : List (ℕ × Job)} {known : List (List Job)}
-    → v ≡ Getting workers got known → Pops IsLawful place v (IsGot v)
+-- the pass to get gets
+pub get_is_lawful : (place : ℕ) {v : QueueView} {workers : ℕ} {got : List (ℕ × Job)} {ended : List (List Job)}
+    → v ≡ Getting workers got ended → Pops IsLawful place v (IsGot v)
 get_is_lawful place getting = λ x items views kept has_view.
     let getter = getter_is_first kept place getting has_view in
     let now = lawful_with_get kept in
     rw (getter.0, getter.1) (_, now.2, (now.0, now.1, refl))
 
-pub new_pass_is_lawful : (place : ℕ) {v : QueueView} {workers : ℕ} {got : List (ℕ × Job)} → v ≡ Getting workers got []
-    → Forks IsLawful place v (after_making_one v) (one_made v)
-new_pass_is_lawful place getting = λ items views kept has_view.
+-- the pass to get hands out a pass to put
+pub hand_out_is_lawful : (place : ℕ) {v : QueueView} {workers : ℕ} {got : List (ℕ × Job)} → v ≡ Getting workers got []
+    → Forks IsLawful place v (after_handing_out v) (pass_handed_out v)
+hand_out_is_lawful place getting = λ items views kept has_view.
     let getter = getter_is_first kept place getting has_view in
-    rw (getter.0, getter.1) (lawful_with_pass kept (ap known_in (sym getter.1 ∙ getting)))
+    rw (getter.0, getter.1) (lawful_with_pass kept (ap ended_in (sym getter.1 ∙ getting)))
 
-pub reclaim_is_lawful : (place other : ℕ) {v u : QueueView} {workers : ℕ} {got : List (ℕ × Job)} {known : List (List Job)}
-    {number : ℕ} {sent : List Job} → v ≡ Getting workers got known → u ≡ Putting number sent → number ≡ length known
-    → Merges IsLawful place v other u (after_reclaiming_sent v u) Ended
+-- the pass to get reclaims a pass to put
+pub reclaim_is_lawful : (place other : ℕ) {v u : QueueView} {workers : ℕ} {got : List (ℕ × Job)} {ended : List (List Job)}
+    {number : ℕ} {sent : List Job} → v ≡ Getting workers got ended → u ≡ Putting number sent → number ≡ length ended
+    → Merges IsLawful place v other u (after_reclaiming v u) Ended
 reclaim_is_lawful place other {sent = sent} getting putting next = λ items views kept has_view apart has_other.
     let getter = getter_is_first kept place getting has_view in
-    let number = next ∙ ap (λ v. length (known_in v)) (sym getting ∙ getter.1) in
+    let number = next ∙ ap (λ v. length (ended_in v)) (sym getting ∙ getter.1) in
     let here = was_there views place other _ _ apart has_other ∙ ap some (putting ∙ ap (λ n. Putting n sent) number) in
     rw (getter.0, getter.1, putting) (lawful_with_end kept other (λ q. apart (q ∙ sym getter.0)) here)
 
 -- what the pass to get learns of the queue
-pub getter_knows_sent : (place : ℕ) {v : QueueView} {workers : ℕ} {got : List (ℕ × Job)} {known : List (List Job)}
-    → v ≡ Getting workers got known → Learns IsLawful place v (KnowsSent v)
+pub getter_knows_sent : (place : ℕ) {v : QueueView} {workers : ℕ} {got : List (ℕ × Job)} {ended : List (List Job)}
+    → v ≡ Getting workers got ended → Learns IsLawful place v (KnowsSent v)
 getter_knows_sent place getting = λ items views kept has_view. rw (getter_is_first kept place getting has_view).1 (kept.inside, kept.held, kept.accounts)
 
 -- ==== What the pass to get knows once it has reclaimed the others
 
 -- the pass to get has reclaimed one pass more
-pub reclaimed : {v u after : QueueView} {workers : ℕ} {got : List (ℕ × Job)} {known : List (List Job)} {number : ℕ} {sent : List Job}
-    → v ≡ Getting workers got known → u ≡ Putting number sent → after ≡ after_reclaiming_sent v u
-    → after ≡ Getting workers got (known ++ sent ∷ [])
-reclaimed getting putting after_is = after_is ∙ λ i. after_reclaiming_sent (getting i) (putting i)
+pub reclaimed : {v u after : QueueView} {workers : ℕ} {got : List (ℕ × Job)} {ended : List (List Job)} {number : ℕ} {sent : List Job}
+    → v ≡ Getting workers got ended → u ≡ Putting number sent → after ≡ after_reclaiming v u
+    → after ≡ Getting workers got (ended ++ sent ∷ [])
+reclaimed getting putting after_is = after_is ∙ λ i. after_reclaiming (getting i) (putting i)
 
 -- once it has reclaimed all, it learns what all workers have sent
-pub whole_when_reclaimed : {v : QueueView} {workers left : ℕ} {got : List (ℕ × Job)} {known all : List (List Job)}
-    (rest : List (List Job)) → v ≡ Getting workers got known → length rest ≡ 0 → known ++ rest ≡ all → Held left (KnowsSent v)
+pub whole_when_reclaimed : {v : QueueView} {workers left : ℕ} {got : List (ℕ × Job)} {ended all : List (List Job)}
+    (rest : List (List Job)) → v ≡ Getting workers got ended → length rest ≡ 0 → ended ++ rest ≡ all → Held left (KnowsSent v)
     → (inside : List (ℕ × Job)) × (length inside ≡ left) × Accounts workers all (got ++ inside)
 whole_when_reclaimed (x ∷ xs) getting none whole held = absurd (omega arith)
-whole_when_reclaimed {workers = workers} {got = got} {known} [] getting none whole held =
-    let told : KnowsSent (Getting workers got known) held.0 = rw getting at held.2 in (
+whole_when_reclaimed {workers = workers} {got = got} {ended} [] getting none whole held =
+    let told : KnowsSent (Getting workers got ended) held.0 = rw getting at held.2 in (
       told.0,
       sym (length-map told.0 (λ (p : ℕ × Job). p.1)) ∙ ap length told.1 ∙ held.1,
-      rw (sym (append-nil known) ∙ whole) at told.2,
+      rw (sym (append-nil ended) ∙ whole) at told.2,
     )
 
--- ==== The rule of the results queue, in plain words
+-- ==== The protocol of the results queue, in plain words
 
+-- a lawful queue is whole and in order
 pub queue_is_lawful : (items : List Job) (views : List QueueView) → IsLawful items views → IsWholeAndInOrder items views
 queue_is_lawful items views kept = record {
   workers = kept.workers;
   got = kept.got;
   inside = kept.inside;
-  ended = kept.known;
+  ended = kept.ended;
   held = kept.held;
   gets = kept.getter;
   no_other_gets = λ place others got lists has_view. kept.fits place (Getting others got lists) has_view;
   below = kept.accounts.below;
   running = λ place worker sent has_view.
-      let fit : FitsPut (pairs kept) (length kept.known) place worker sent = kept.fits place (Putting worker sent) has_view in
+      let fit : FitsPut (pairs kept) kept.ended place worker sent = kept.fits place (Putting worker sent) has_view in
       (omega (arith, fit.place_is, kept.count, in_views views place has_view), sym fit.all_sent);
   reclaimed = kept.accounts.whole;
 }

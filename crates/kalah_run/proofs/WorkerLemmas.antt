@@ -1,5 +1,5 @@
 -- The workers of a batch: what each sends, and what is known once all have run.
-use Rattle.std.proofs.Common.{[], ◌≡◌, ◌≤◌, ◌<◌, ◌+◌, ◌-◌, ℕ, suc, List, ◌∷◌, ◌++◌, arith, sym, ap, ◌∙◌, Bool, true, length, get_or, append_assoc, subst, zero, map, reverse, ◌==◌, if◌then◌else◌, ne_eqb, inl, inr, All, Some, fold, slice_get, count_by}
+use Rattle.std.proofs.Common.{[], ◌≡◌, ◌≤◌, ◌<◌, ◌+◌, ◌-◌, ℕ, suc, List, ◌∷◌, ◌++◌, arith, sym, ap, ◌∙◌, Bool, true, length, get_or, append_assoc, subst, zero, map, reverse, ◌==◌, if◌then◌else◌, ne_eqb, inl, inr, All, Some, fold, slice_get, count_by, max, min}
 use Rattle.std.proofs.lemmas.List.{map-append, reverse-append, get_or-map, length-append, length-map}
 use Rattle.kalah_run.specs.Types.{Entry, Job, DrawnRow}
 use Rattle.std.proofs.lemmas.List.Sums.{fold-append, sum_by-cons}
@@ -19,8 +19,7 @@ use Rattle.kalah_jobs.proofs.FilesLemmas.{length-job_list}
 use Rattle.kalah_jobs.specs.Collecting.Shares.{AreShared, times_in}
 use Rattle.kalah_run.specs.Desk.Rows.{drawn_numbers, DealsEachOnce, spent_in}
 use Rattle.kalah_run.specs.declared.batch.shared_work.SharedWork.{SharedWork}
-use Rattle.kalah_run.proofs.DeskLemmas.{length-drawn_numbers}
-use Rattle.kalah_run.proofs.QueueLemmas.{all_are_of}
+use Rattle.kalah_run.proofs.PassLemmas.{length-drawn_numbers, all_are_of}
 
 -- ==== A worker with one job more: what it sends, and that less is left to draw
 
@@ -95,6 +94,11 @@ room_still len more workers_are longer same room = omega (arith, room, longer, s
 pub as_many_workers : (workers : List Worker) (passes : List PassState) (count : ℕ) → passes_of workers ≡ passes
     → length passes ≡ count → length workers ≡ count
 as_many_workers workers passes count are many = sym (length-map workers (λ (w : Worker). w.pass)) ∙ ap length are ∙ many
+
+-- they are as many as were asked for, but at most one for each job, and one for no job
+pub as_many_as_asked : {workers count least total jobs : ℕ} (asked : ℕ) → workers ≡ count → count ≡ max least 1 → least ≡ min asked total
+    → total ≡ jobs → (workers ≡ max 1 (min asked jobs)) × (0 < workers)
+as_many_as_asked asked many count_is least_is total_is = (omega (arith, many, count_is, least_is, total_is), omega (arith, many, count_is))
 
 -- workers with new passes, that have sent nothing, are at work
 pub new_at_work : {G : Type 0} {knows : G → ℕ → Bool} (shared : SharedWork G) (workers : List Worker) (count : ℕ)

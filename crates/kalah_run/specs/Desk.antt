@@ -1,3 +1,3 @@
 pub mod Rows
-pub mod Rule
+pub mod Protocol
 pub mod States

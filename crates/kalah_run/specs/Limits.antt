@@ -1,4 +1,4 @@
--- The most workers of a batch, the largest table of each, and the most places of a results queue.
+-- The most workers of a batch, the largest table of each, and the largest capacity of a results queue.
 use Rattle.std.specs.Prelude.{◌<◌, ◌≤◌, ℕ, suc}
 use Rattle.kalah_solve.specs.Table.Entries.{most_entries}
 use Rattle.kalah_run.specs.declared.limits.TheConstants.{MOST_CAPACITY, MOST_WORKERS}
@@ -21,6 +21,6 @@ IsTableSize entries = (0 < entries) × (entries ≤ most_entries)
 abbrev pub most_capacity : ℕ
 most_capacity = MOST_CAPACITY
 
--- a number of places that a queue may have
+-- a capacity that a queue may have
 abbrev pub IsQueueCapacity : ℕ → Type 0
-IsQueueCapacity places = (0 < places) × (places ≤ most_capacity)
+IsQueueCapacity capacity = (0 < capacity) × (capacity ≤ most_capacity)

@@ -32,7 +32,8 @@ use std::sync::Wait;
 use std::sync::atomic::Rule;
 use std::thread::Threads;
 
-// The rule of the word that is 1 once the workers of a batch have ended. What a 1 says is proved for every rule, so this one states nothing.
+// The rule of the word that is 1 once the workers of a batch have ended. `OpenBatch::run` is proved for every rule, so this one states
+// nothing.
 struct Ended;
 
 impl Rule for Ended {
@@ -74,7 +75,11 @@ pub fn answer_batch<R: Threads + Wait + Sync, G: Gate, V: Watch, W: Sink>(
 {
     let jobs = Jobs::asking(alloc, request.question, request.files)?;
     if jobs.total() > 0 {
-        OpenBatch::open(alloc, request, &jobs, gate)?.run::<R, V, W, Ended>(rt, watch, out)?;
+        let Some(()) = OpenBatch::open(alloc, request, &jobs, gate)?.run::<R, V, W, Ended>(
+            rt, watch, out,
+        ) else {
+            return Err(RunFault::NoWorker);
+        };
     }
     flush_and_count(&jobs, out)
 }

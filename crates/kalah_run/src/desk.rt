@@ -7,11 +7,11 @@ ghost use Rattle.kalah_run.specs.Desk.States.{IsPassAt, AreNewPasses, drawn_rows
 
 pub(crate) mod laws;
 pub(crate) mod pass;
-pub(crate) mod rule;
+pub(crate) mod protocol;
 
 use crate::desk::pass::Pass;
-use crate::desk::rule::{
-    DeskPlan, DeskRule, DeskView, DrawNumber, DrawRest, HandOut, Reclaim, StartClosing,
+use crate::desk::protocol::{
+    DeskPlan, DeskProtocol, DeskView, DrawNumber, DrawRest, HandOut, Reclaim, StartClosing,
 };
 use atomic_table::Table;
 use std::alloc::{AllocError, Global};
@@ -24,7 +24,7 @@ mod tests;
 /// identity, its total and its number of passes.
 #[derive(Drop)]
 pub struct Desk {
-    table: Table<(), DeskView, DeskPlan, DeskRule, Global>,
+    table: Table<(), DeskView, DeskPlan, DeskProtocol, Global>,
     total: u32,
 }
 
@@ -51,6 +51,7 @@ pub struct ClosedDesk {
 impl Desk {
     /// Opens a desk for the numbers below `total`, at most 1,000,000, with `passes` passes, at most 65.
     /// Each has an empty row, and none is spent. Fails with `AllocError` only if memory was refused.
+    #[tactic(auto, using(crate::proofs::DeskLemmas::opening_is_lawful))]
     pub fn open(alloc: Global, total: u32, passes: u32) -> Result<(Desk, Vec<Pass>), AllocError>
         requires total { total ≤ most_lines }
         requires passes { passes ≤ most_passes }
@@ -122,13 +123,14 @@ impl Desk {
         self.table
             .shared
             .fetch_max::<DrawRest>(&mut pass.seat, 0, self.total as u64);
-        // It finds none.
+        // A draw finds none, so the pass is spent. It is a loop, since the contract of `draw` doesn't promise that.
         while let Some(_) = self.draw(pass) {}
     }
 
-    /// Closes the desk, which reclaims all its passes. Returns how many numbers were drawn, and whether some pass is spent: then that is
-    /// all below the total. The rows are lawful: each number below the count of those drawn stands in one row and there once, and no
-    /// other stands in any. Each row ascends.
+    /// Closes the desk, which reclaims all its passes. Returns how many numbers were drawn, and whether some pass is spent: if one is, all
+    /// numbers below the total were drawn. Each number below the count of those drawn stands in one row, once, and no other stands in any.
+    /// Each row ascends.
+    #[tactic(auto, using(crate::proofs::DeskLemmas::reclaim_is_lawful))]
     pub fn close(self, passes: Vec<Pass>) -> ClosedDesk
         requires all { length passes.items ≡ self.passes }
         requires own { All (IsPassAt self) passes.items }

@@ -1,4 +1,4 @@
-//! Solves the lines of position files on many threads, and writes their answers in order.
+//! Answers the lines of position files by workers in parallel, and writes the answers in order.
 #![tactic(auto)]
 
 mod batch;

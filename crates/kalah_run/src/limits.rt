@@ -6,19 +6,20 @@ ghost use Rattle.kalah_run.specs.declared.limits.TheConstants.{MOST_TRIES, QUEUE
 /// The most workers that answer a batch.
 pub const MOST_WORKERS: u32 = 64;
 
-/// The most places of a results queue.
+/// The largest capacity of a results queue.
 pub const MOST_CAPACITY: u32 = 1024;
 
-/// The most outcomes that may be on their way to the calling thread. A worker of short lines seldom finds no room then.
+/// The capacity of a batch's queue. With 256, a worker of short lines seldom finds it full.
 pub(crate) const QUEUE_CAPACITY: u32 = 256;
 
-/// The most tries that are saved up. They take longer than waking a worker that found the queue full.
+/// The most tries to get an outcome that the calling thread saves up before it sleeps. That many take longer than waking a worker that
+/// found the queue full.
 pub(crate) const MOST_TRIES: u32 = 64;
 
-/// The limits of what is run, as numbers. A law over the definitions that contracts cite, and the places and tries of a batch.
+/// The limits of what is run, as numbers. A law over the definitions that contracts cite, and the capacity and tries of a batch.
 pub fn limits_of_runs()
     ensures workers { most_workers ≡ 64 }
-    ensures places { most_capacity ≡ 1024 }
+    ensures capacity { most_capacity ≡ 1024 }
     ensures queue { QUEUE_CAPACITY ≡ 256 }
     ensures tries { MOST_TRIES ≡ 64 }
 {}

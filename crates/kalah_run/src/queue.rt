@@ -6,11 +6,11 @@ ghost use Rattle.kalah_run.specs.Queue.States.{ArePassesFrom, HasGot, MayGet, se
 
 pub(crate) mod laws;
 pub(crate) mod passes;
-pub(crate) mod rule;
+pub(crate) mod protocol;
 mod waiting;
 
 use crate::queue::passes::{GetPass, PutPass};
-use crate::queue::rule::{AnotherWorker, Gets, LeftInside, Puts, Reclaims, RuledQueue};
+use crate::queue::protocol::{GetOutcome, HandOut, LearnSent, PutOutcome, Reclaim, RuledQueue};
 use crate::queue::waiting::{Sent, Waiters, Waiting, WakeUp};
 use crossbeam_utils::{Backoff, CachePadded};
 use kalah_jobs::Outcome;
@@ -72,7 +72,7 @@ impl ResultsQueue {
         let mut puts = Vec::with_capacity(alloc, workers as usize)?;
         let (outcomes, mut ruled) = RuledQueue::ruled(alloc, capacity as usize)?;
         for _ in 0..workers {
-            let theirs = outcomes.another::<AnotherWorker>(&mut ruled);
+            let theirs = outcomes.another::<HandOut>(&mut ruled);
             puts.push_reserved(PutPass { ruled: theirs });
         }
         let queue = ResultsQueue {
@@ -83,7 +83,7 @@ impl ResultsQueue {
         Ok((queue, puts, GetPass { ruled }))
     }
 
-    /// Puts the outcome after all that this worker has sent. Blocks while the queue is full: first by spinning briefly, then by sleeping.
+    /// PutOutcome the outcome after all that this worker has sent. Blocks while the queue is full: first by spinning briefly, then by sleeping.
     #[inline(always)]
     pub fn put<R: Wait>(&self, rt: &R, pass: &mut PutPass, outcome: Outcome)
         requires { pass.old.queue ≡ self.now.id }
@@ -101,7 +101,7 @@ impl ResultsQueue {
         }
     }
 
-    // Puts the outcome, for which there was no room.
+    // PutOutcome the outcome, for which there was no room.
     #[cold]
     #[inline(never)]
     fn put_later<R: Wait>(&self, rt: &R, pass: &mut PutPass, outcome: &Outcome)
@@ -120,13 +120,16 @@ impl ResultsQueue {
         unreachable!()
     }
 
-    // Puts the outcome if there is room, and returns the wake-up that is owed for it.
+    // PutOutcome the outcome if there is room, and returns the wake-up that is owed for it.
     #[inline(always)]
     fn try_put(&self, pass: &mut PutPass, outcome: &Outcome) -> Option<WakeUp<'_>>
         requires { pass.old.queue ≡ self.now.id }
         ensures { MatchOption result (pass.new ≡ pass.old) (λ _. pass.new ≡ record pass.old { sent = pass.old.sent ++ outcome.now ∷ [] }) }
     {
-        match self.outcomes.try_push_as::<Puts>(&mut pass.ruled, *outcome) {
+        match self
+            .outcomes
+            .try_push_as::<PutOutcome>(&mut pass.ruled, *outcome)
+        {
             Ok(()) => Some(WakeUp::owed_to(&self.getters)),
             Err(_) => None,
         }
@@ -138,46 +141,37 @@ impl ResultsQueue {
         requires { pass.old.queue ≡ self.now.id }
         ensures { HasGot pass.old result pass.new }
     {
-        let Some(outcome) = self.get_to_end(rt, pass, None::<&AtomicIn<NeverEnds>>) else {
+        let never = AtomicIn::<NeverEnds>::new(0);
+        let Some(outcome) = self.get_until_end(rt, pass, &never) else {
             unreachable!()
         };
         outcome
     }
 
-    // Gets an outcome, if there is one, and returns it with the wake-up that is owed for its place.
+    // GetOutcome an outcome, if there is one, and returns it with the wake-up that is owed for its place.
     #[inline(always)]
     fn try_get(&self, pass: &mut GetPass) -> Option<(Outcome, WakeUp<'_>)>
         requires { pass.old.queue ≡ self.now.id }
         ensures { MatchOption result (pass.new ≡ pass.old) (λ got. HasGot pass.old got.0 pass.new) }
     {
-        let outcome = self.outcomes.try_pop_as::<Gets>(&mut pass.ruled)?;
+        let outcome = self.outcomes.try_pop_as::<GetOutcome>(&mut pass.ruled)?;
         Some((outcome, WakeUp::owed_to(&self.putters)))
     }
 
-    // Says that the workers have ended, and returns the wake-up that is owed for that. The word is 1 from then on, and its rule has what
-    // is known of them then.
-    fn tell_end<E: Rule>(&self, ended: &AtomicIn<E>) -> WakeUp<'_>
+    // Signals to the thread that gets that the workers have ended. The word is 1 from then on, and its rule has what is known of them then.
+    pub(crate) fn signal_end<E: Rule>(&self, ended: &AtomicIn<E>) -> EndSignal
         requires { E.invariant 1 }
     {
         ended.store(1, SeqCst);
-        WakeUp::owed_to(&self.getters)
+        EndSignal(WakeUp::owed_to(&self.getters).send())
     }
 
-    // Says that the workers have ended, so that no further outcome is waited for, and returns what they leave.
-    pub(crate) fn end<E: Rule, T>(&self, ended: &AtomicIn<E>, inner: T) -> AfterEnd<T>
-        requires { E.invariant 1 }
-        ensures { result.inner ≡ inner }
-    {
-        let sent = self.tell_end(ended).send();
-        AfterEnd { inner, _sent: sent }
-    }
-
-    // Like `get`, but returns `None`, with nothing got, once the workers have ended and no outcome is left, if there is a word for that.
-    pub(crate) fn get_to_end<R: Wait, E: Rule>(
+    // Like `get`, but returns `None`, with nothing got, once the workers have ended and no outcome is left. The word is then 1.
+    pub(crate) fn get_until_end<R: Wait, E: Rule>(
         &self,
         rt: &R,
         pass: &mut GetPass,
-        ended: Option<&AtomicIn<E>>,
+        ended: &AtomicIn<E>,
     ) -> Option<Outcome>
         requires { pass.old.queue ≡ self.now.id }
         ensures got { MayGet pass.old result pass.new }
@@ -185,10 +179,7 @@ impl ResultsQueue {
     {
         let mut waiting = Waiting::new(&self.getters);
         for _ in rt.forever() {
-            let has_ended = match ended {
-                Some(word) => word.load(SeqCst) == 1,
-                None => false,
-            };
+            let has_ended = ended.load(SeqCst) == 1;
             if let Some((outcome, wake_up)) = self.try_get(pass) {
                 drop(waiting);
                 wake_up.send();
@@ -242,30 +233,16 @@ impl ResultsQueue {
         let GetPass { mut ruled } = pass;
         for put in puts {
             let PutPass { ruled: theirs } = put;
-            outcomes.absorb::<Reclaims>(&mut ruled, theirs);
+            outcomes.absorb::<Reclaim>(&mut ruled, theirs);
         }
-        let left = outcomes.len_as::<LeftInside, R>(rt, &mut ruled);
+        let left = outcomes.len_as::<LearnSent, R>(rt, &mut ruled);
         ClosedQueue { left: left as u32 }
     }
 }
 
-/// What the workers of a batch leave, once it is said that they have ended, and the wake-up for that is sent. Only `ResultsQueue::end`
-/// makes it.
+/// The end of the workers was signalled. Only `ResultsQueue::signal_end` makes it.
 #[derive(Drop)]
-pub(crate) struct AfterEnd<T> {
-    inner: T,
-    _sent: Sent,
-}
-
-impl<T> AfterEnd<T> {
-    /// Returns what they leave.
-    pub(crate) fn into_inner(self) -> T
-        ensures { result ≡ self.inner }
-    {
-        let AfterEnd { inner, .. } = self;
-        inner
-    }
-}
+pub(crate) struct EndSignal(Sent);
 
 /// The result of closing a queue.
 #[derive(Clone, Copy, Debug, PartialEq, Eq)]

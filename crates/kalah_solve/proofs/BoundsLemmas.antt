@@ -1,20 +1,17 @@
 -- How many seeds are won, and the margins and windows that they make.
-use Rattle.std.proofs.Common.{◌≡◌, ℕ, ◌+◌, ◌*◌, ◌≤◌, arith, zero, suc, ◌-◌, ◌/◌, ◌<◌, inl, inr, ◌∙◌, ap, max, min, ℤ, pos, ◌+ℤ◌, ◌-ℤ◌, ◌≤ℤ◌, false, sum, ◌<ℤ◌}
+use Rattle.std.proofs.Common.{◌≡◌, ℕ, ◌+◌, ◌≤◌, arith, zero, suc, ◌-◌, ◌/◌, ◌<◌, inl, inr, ◌∙◌, ap, max, min, ℤ, pos, ◌+ℤ◌, ◌≤ℤ◌, false, sum, ◌<ℤ◌}
 use Rattle.std.specs.Int.{int_max, int_min}
-use Rattle.std.proofs.lemmas.Int.{ints, clamps}
+use Rattle.std.proofs.lemmas.{Int.ints, Int.clamps, Bool.cases_Bool}
 use Rattle.kalah_rules.specs.Limits.{most_seeds}
-use Rattle.kalah_solve.specs.declared.bounds.window.Window.{Window}
-use Rattle.kalah_solve.specs.Bounds.Intervals.{IsHalf, clamped, least_margin, most_margin, Encloses}
-use Rattle.std.proofs.lemmas.Bool.{cases_Bool}
-use Rattle.kalah_rules.specs.Position.{HousesState, IsWithinHouses, seeds_in_houses, is_over, storeless}
+use Rattle.kalah_rules.specs.Position.{HousesState, AreWithinLimits, seeds_in_houses, is_over, storeless}
 use Rattle.kalah_rules.specs.Measure.{moves_left}
 use Rattle.kalah_rules.specs.HousesStep.{houses_step}
-use Rattle.kalah_rules.proofs.PlayLemmas.{IsLegal, legal_going}
 use Rattle.kalah_rules.specs.declared.step.HousesStep.{HousesStep}
 use Rattle.kalah_rules.specs.declared.step.HousesStep.TheVariants.{Over, Again, Turn}
-use Rattle.kalah_solve.specs.Solver.Worth.{houses_worth, value_of_move}
+use Rattle.kalah_solve.specs.declared.bounds.window.Window.{Window}
+use Rattle.kalah_solve.specs.{IsHalf, clamped, margin_of, least_margin, most_margin, Encloses, houses_worth, value_of_move, nat_or_zero, won, won_by_step}
+use Rattle.kalah_rules.proofs.PlayLemmas.{IsLegal, legal_going}
 use Rattle.kalah_solve.proofs.WorthLemmas.{worth_of_step, LeadsTo, LeadsOn, worth_of_over, value_is, leads_on, worth_is_most}
-use Rattle.kalah_solve.specs.Bounds.Won.{nat_or_zero, won, won_by_step}
 use Rattle.kalah_solve.specs.declared.bounds.interval.Interval.{Interval}
 use Rattle.kalah_solve.specs.declared.bounds.seed_bounds.SeedBounds.{SeedBounds}
 
@@ -32,19 +29,19 @@ module _ (window : Window) (n low high : ℕ) (is_low : IsHalf (window.lo +ℤ p
 
   -- a number that is raised and lowered to them makes the same margin in the window
   pub bounds_apart : (t : ℕ) → t ≤ n
-      → clamped window.lo window.hi (pos (2 * max low (min high t)) -ℤ pos n) ≡ clamped window.lo window.hi (pos (2 * t) -ℤ pos n)
+      → clamped window.lo window.hi (margin_of (max low (min high t)) n) ≡ clamped window.lo window.hi (margin_of t n)
   bounds_apart t few = omega (arith, ints, clamps)
 
 -- the bounds of an interval's ends
 module _ (interval : Interval) (n least most : ℕ) (few : n ≤ most_seeds) (is_least : IsHalf (interval.lo +ℤ pos 1 +ℤ pos n) least)
     (is_most : IsHalf (interval.hi +ℤ pos n) most) where
   -- hold each number whose margin is in it
-  pub bounds_held : (t : ℕ) → t ≤ n → Encloses interval (pos (t + t) -ℤ pos n) → (least ≤ t) × (t ≤ min most most_seeds)
+  pub bounds_held : (t : ℕ) → t ≤ n → Encloses interval (margin_of t n) → (least ≤ t) × (t ≤ min most most_seeds)
   bounds_held t all holds = omega (arith, ints, clamps)
 
   -- and no other: a number that they hold has its margin in it, if the interval doesn't end below -n
   pub bounds_exact : pos 0 ≤ℤ (interval.hi +ℤ pos n) → (t : ℕ) → t ≤ n → least ≤ t → t ≤ min most most_seeds
-      → Encloses interval (pos (t + t) -ℤ pos n)
+      → Encloses interval (margin_of t n)
   bounds_exact some t all low high = omega (arith, ints, clamps)
 
 -- ==== How many seeds a player wins: by houses, by a step, and by the best move
@@ -67,7 +64,7 @@ some_won_by_step a (Turn gained b) leads each =
     (gained + seeds_in_houses (storeless b) - on.0, record { few = omega arith; margin = omega (arith, ints) })
 
 -- what houses are worth is the margin of some number of their seeds, by the moves left
-some_won : (n : ℕ) (a : HousesState) → IsWithinHouses a → moves_left (storeless a) < n
+some_won : (n : ℕ) (a : HousesState) → AreWithinLimits a → moves_left (storeless a) < n
     → (t : ℕ) × IsWonOf (seeds_in_houses (storeless a)) (houses_worth a) t
 some_won zero a limits few = absurd (omega arith)
 some_won (suc n) a limits few = elim (cases_Bool _) [
@@ -83,26 +80,27 @@ won_is_one : (n : ℕ) (z : ℤ) (t : ℕ) → IsWonOf n z t → nat_or_zero (z 
 won_is_one n z t bounds = rw bounds.margin (omega arith)
 
 -- the worth of houses is the margin of a mover who wins `won` seeds
-pub won_of_houses : {a : HousesState} → IsWithinHouses a → IsWonOf (seeds_in_houses (storeless a)) (houses_worth a) (won a)
+pub won_of_houses : {a : HousesState} → AreWithinLimits a → IsWonOf (seeds_in_houses (storeless a)) (houses_worth a) (won a)
 unfolding won
 won_of_houses {a} limits =
     let bounds = some_won (suc (moves_left (storeless a))) a limits (omega arith) in
     rw (won_is_one _ _ _ bounds.1) bounds.1
 
 -- houses are worth what the mover wins less the others
-pub worth_of_won : (a : HousesState) → IsWithinHouses a
-    → houses_worth a ≡ pos (won a + won a) -ℤ pos (seeds_in_houses (storeless a))
+pub worth_of_won : (a : HousesState) → AreWithinLimits a
+    → houses_worth a ≡ margin_of (won a) (seeds_in_houses (storeless a))
 worth_of_won a limits = omega (arith, ints, (won_of_houses limits).margin)
 
--- the worth of houses lies in the widest window
-pub worth_low : (a : HousesState) → IsWithinHouses a → least_margin ≤ℤ houses_worth a
+-- the worth of houses is not below the widest window
+pub worth_low : (a : HousesState) → AreWithinLimits a → least_margin ≤ℤ houses_worth a
 worth_low a limits = omega (arith, ints, (won_of_houses limits).few, (won_of_houses limits).margin)
 
-pub worth_high : (a : HousesState) → IsWithinHouses a → houses_worth a ≤ℤ most_margin
+-- and not above it
+pub worth_high : (a : HousesState) → AreWithinLimits a → houses_worth a ≤ℤ most_margin
 worth_high a limits = omega (arith, ints, (won_of_houses limits).few, (won_of_houses limits).margin)
 
 -- the mover wins half of what the houses are worth and hold together
-pub half_is_won : (a : HousesState) (worth : ℤ) (half : ℕ) → IsWithinHouses a → worth ≡ houses_worth a
+pub half_is_won : (a : HousesState) (worth : ℤ) (half : ℕ) → AreWithinLimits a → worth ≡ houses_worth a
     → IsHalf (worth +ℤ pos (seeds_in_houses (storeless a))) half → half ≡ won a
 half_is_won a worth half limits worth_is half_is = grind (arith, won_of_houses)
 
@@ -117,7 +115,7 @@ won_of_step a (Turn gained b) leads =
     let on = won_of_houses leads.limits in
     record { few = omega arith; margin = omega (arith, ints) }
 
-module _ (a : HousesState) (limits : IsWithinHouses a) where
+module _ (a : HousesState) (limits : AreWithinLimits a) where
   -- what is won by the move of house h
   pub won_of_move : (h : ℕ) → IsLegal a h
       → IsWonOf (seeds_in_houses (storeless a)) (value_of_move (storeless a) h) (won_by_step (houses_step a h))
@@ -147,16 +145,15 @@ pub known_answers : (lo hi z : ℤ) (k : Interval) → lo <ℤ hi → Encloses k
 known_answers lo hi z k ordered holds none = omega (arith, ints, clamps)
 
 -- what the mover wins, raised and lowered to the bounds that a window distinguishes, makes the worth in the window
-pub worth_by_bounds : {a : HousesState} (lo hi : ℤ) (asked : SeedBounds) {m : ℤ} {n t : ℕ} → IsWithinHouses a
+pub worth_by_bounds : {a : HousesState} (lo hi : ℤ) (asked : SeedBounds) {m : ℤ} {n t : ℕ} → AreWithinLimits a
     → n ≡ seeds_in_houses (storeless a) → asked.least ≤ asked.most
-    → ((u : ℕ) → u ≤ n → clamped lo hi (pos (2 * max asked.least (min asked.most u)) -ℤ pos n) ≡ clamped lo hi
-    (pos (2 * u) -ℤ pos n)) → t ≡ max asked.least (min asked.most (won a)) → m ≡ pos (2 * t) -ℤ pos n
-    → clamped lo hi m ≡ clamped lo hi (houses_worth a)
+    → ((u : ℕ) → u ≤ n → clamped lo hi (margin_of (max asked.least (min asked.most u)) n) ≡ clamped lo hi (margin_of u n))
+    → t ≡ max asked.least (min asked.most (won a)) → m ≡ margin_of t n → clamped lo hi m ≡ clamped lo hi (houses_worth a)
 worth_by_bounds {a} lo hi asked {n = n} limits all ordered apart t_is m_is =
-    let worth_is : pos (2 * won a) -ℤ pos n ≡ houses_worth a = omega (arith, ints, worth_of_won a limits) in
+    let worth_is : margin_of (won a) n ≡ houses_worth a = omega (arith, ints, worth_of_won a limits) in
     rw (m_is, t_is) (apart _ (omega (arith, (won_of_houses limits).few)) ∙ ap (clamped lo hi) worth_is)
 
 -- the margin of what the mover wins is the worth of the houses
-pub margin_of_won_is_worth : {a : HousesState} {m : ℤ} {n t : ℕ} → IsWithinHouses a → n ≡ seeds_in_houses (storeless a)
-    → t ≡ won a → m ≡ pos (2 * t) -ℤ pos n → m ≡ houses_worth a
+pub margin_of_won_is_worth : {a : HousesState} {m : ℤ} {n t : ℕ} → AreWithinLimits a → n ≡ seeds_in_houses (storeless a)
+    → t ≡ won a → m ≡ margin_of t n → m ≡ houses_worth a
 margin_of_won_is_worth {a} limits all t_is m_is = omega (arith, ints, worth_of_won a limits)

@@ -1,22 +1,16 @@
 -- What the words of endings state is what the mover wins, and stays so: each ending has digits of its own in its word.
 use Rattle.std.proofs.Common.{ℕ, ◌≡◌, ◌≢◌, zero, suc, ◌+◌, ◌*◌, ◌/◌, ◌%◌, ◌^◌, ◌-◌, ◌<◌, ◌≤◌, arith, refl, ap, List, [], ◌∷◌, ◌++◌, length, get_or, length-append, ◌∙◌, lit<, lit≤, pow_mono, sum, slice_set, slice_index, false, max, ◌↔◌}
 use Rattle.std.proofs.Math.Nat.{add-mul-div_right, div-div-eq-div-mul}
-use Rattle.std.proofs.lemmas.Nat.{pow_pos, pow-add, mul-le}
-use Rattle.std.proofs.lemmas.Bool.{cases_lt, cases_eq}
-use Rattle.std.proofs.lemmas.List.{get_or-set_same, get_or-set_other, get_or-replicate, get_or_past}
+use Rattle.std.proofs.lemmas.{Nat.pow_pos, Nat.pow-add, Nat.mul-le, Bool.cases_lt, Bool.cases_eq, List.get_or-set_same, List.get_or-set_other, List.get_or-replicate, List.get_or_past, List.Sums.sum_by-append}
 use Rattle.std.proofs.Math.ListN.{replicate, length-replicate, length-set}
-use Rattle.std.proofs.lemmas.List.Sums.{sum_by-append}
-use Rattle.kalah_rules.specs.Position.{HousesState, IsWithinHouses, storeless, is_over, seeds_in_houses}
-use Rattle.kalah_rules.proofs.KeyLemmas.{rule_bit-small}
-use Rattle.kalah_solve.specs.Table.RowRank.{choose, rank_of_houses}
-use Rattle.kalah_solve.specs.Table.EndgameTable.{most_ending_seeds, IsEnding, HoldsWon, AreTrueWords, word_of, stored_at}
-use Rattle.atomic_table.specs.Table.{State, Arrives, keeps}
-use Rattle.kalah_solve.specs.declared.table.endgame_table.words.TheConstants.{FIRST_WORDS, WORDS}
-use Rattle.kalah_solve.specs.Bounds.Won.{won, won_by_step}
+use Rattle.kalah_rules.specs.Position.{HousesState, AreWithinLimits, storeless, is_over, seeds_in_houses}
 use Rattle.kalah_rules.specs.HousesStep.{houses_step}
+use Rattle.kalah_rules.proofs.KeyLemmas.{rule_bit-small}
+use Rattle.kalah_solve.specs.{choose, rank_of_houses, most_ending_seeds, IsEnding, HoldsWon, AreTrueWords, word_index, stored_at, won, won_by_step, cell, IsLastIn, without_house}
+use Rattle.atomic_table.specs.Table.{State, Arrives, keeps}
+use Rattle.kalah_solve.specs.declared.table.ending_table.words.TheConstants.{FIRST_WORDS, WORDS}
 use Rattle.kalah_rules.proofs.PlayLemmas.{IsLegal, legal_holds}
-use Rattle.kalah_solve.specs.Marks.{cell, IsLastMark, without_mark}
-use Rattle.kalah_solve.proofs.MarksLemmas.{EachUnmarked, cell_of_zero, each_unmarked_without_last}
+use Rattle.kalah_solve.proofs.HouseSetLemmas.{EachOutside, cell_of_zero, each_outside_without_last}
 use Rattle.kalah_solve.proofs.BoundsLemmas.{won_at_most, won_reached, won_of_houses}
 use Rattle.kalah_solve.proofs.RankLemmas.{choose_rises, rank_below, houses_by_rank}
 
@@ -87,6 +81,7 @@ length-next_binomials : (before : ℕ) (ws : List ℕ) → length (next_binomial
 length-next_binomials before [] = refl
 length-next_binomials before (w ∷ ws) = ap suc (length-next_binomials w ws)
 
+-- there are thirteen of each number
 length-binomials : (n : ℕ) → length (binomials n) ≡ 13
 length-binomials zero = refl
 length-binomials (suc n) = length-next_binomials 0 _ ∙ length-binomials n
@@ -99,9 +94,11 @@ next_binomials-suc before (w ∷ []) k inside = omega arith
 next_binomials-suc before (w ∷ v ∷ ws) zero inside = refl
 next_binomials-suc before (w ∷ v ∷ ws) (suc k) inside = next_binomials-suc w (v ∷ ws) k (omega arith)
 
+-- there is no way to choose any of none
 binomials-none : (k : ℕ) → get_or (binomials zero) (suc k) 0 ≡ 0
 binomials-none k = grind arith
 
+-- the first is the one before it and the first of this number
 next_binomials-zero : (before : ℕ) (ws : List ℕ) → 1 ≤ length ws → get_or (next_binomials before ws) 0 0 ≡ before + get_or ws 0 0
 next_binomials-zero before [] some = omega arith
 next_binomials-zero before (w ∷ ws) some = refl
@@ -133,11 +130,12 @@ enough_words (suc (suc (suc (suc (suc zero))))) some most = omega (arith, binomi
 enough_words (suc (suc (suc (suc (suc (suc zero)))))) some most = omega (arith, binomials_are 21 12 (lit< tt))
 enough_words (suc (suc (suc (suc (suc (suc (suc m))))))) some most = omega arith
 
+-- variants with more houses have later words
 first_word_rises : (m n : ℕ) → m ≤ n → n ≤ 7 → first_word m ≤ first_word n
 first_word_rises m n below most = grind arith
 
 -- an ending's word is one of its variant's
-word_is_of_variant : (a : HousesState) → IsWithinHouses a → IsEnding a
+word_is_of_variant : (a : HousesState) → AreWithinLimits a → IsEnding a
     → first_word (length a.own) + rank_of_houses a / 16 < first_word (suc (length a.own))
 word_is_of_variant a limits ending =
     let m = length a.own in
@@ -150,12 +148,12 @@ word_is_of_variant a limits ending =
     omega (arith, enough_words m limits.some_house limits.at_most_six)
 
 -- an ending's word is one of all
-pub word_inside : {a : HousesState} → IsWithinHouses a → IsEnding a → word_of a < WORDS
+pub word_inside : {a : HousesState} → AreWithinLimits a → IsEnding a → word_index a < WORDS
 word_inside {a} limits ending = grind (arith, word_is_of_variant)
 
 -- endings of one word and one place in it are the same: the word is of one variant, and with the place it has one rank there
-word_and_place-injective : (a b : HousesState) → IsWithinHouses a → IsWithinHouses b → IsEnding a → IsEnding b
-    → word_of a ≡ word_of b → rank_of_houses a % 16 ≡ rank_of_houses b % 16 → a ≡ b
+word_and_place-injective : (a b : HousesState) → AreWithinLimits a → AreWithinLimits b → IsEnding a → IsEnding b
+    → word_index a ≡ word_index b → rank_of_houses a % 16 ≡ rank_of_houses b % 16 → a ≡ b
 word_and_place-injective a b limits_a limits_b ending ending_b word place =
     grind (arith, word_is_of_variant, first_word_rises, lit≤, rule_bit-small, cases_lt, houses_by_rank)
 
@@ -167,15 +165,15 @@ unfolding HoldsWon
 states_nothing i a limits ending word_is stored = omega arith
 
 -- what a word states stays true when one more ending is stored in it
-pub states_one_more : (word : ℕ) (a : HousesState) → HoldsWon (word_of a) word → IsWithinHouses a → IsEnding a
+states_one_more : (word : ℕ) (a : HousesState) → HoldsWon (word_index a) word → AreWithinLimits a → IsEnding a
     → stored_at word (rank_of_houses a % 16) ≡ 0 → won a ≤ most_ending_seeds
-    → HoldsWon (word_of a) (word + suc (won a) * 2 ^ (4 * (rank_of_houses a % 16)))
+    → HoldsWon (word_index a) (word + suc (won a) * 2 ^ (4 * (rank_of_houses a % 16)))
 unfolding HoldsWon
 states_one_more word a before limits ending none small b limits_b ending_b word_is stored =
     grind (arith, rank_of_houses, won, cases_eq, word_and_place-injective, put_digit_is_there, same_digits_elsewhere, stored)
 
 -- a stored ending is right
-pub stored_is_won : (word : ℕ) (a : HousesState) → HoldsWon (word_of a) word → IsWithinHouses a → IsEnding a
+pub stored_is_won : (word : ℕ) (a : HousesState) → HoldsWon (word_index a) word → AreWithinLimits a → IsEnding a
     → stored_at word (rank_of_houses a % 16) ≢ 0 → stored_at word (rank_of_houses a % 16) ≡ suc (won a)
 unfolding HoldsWon
 stored_is_won word a states limits ending some = states a limits ending refl some
@@ -192,40 +190,51 @@ words_stay_true words i word states holds j =
     grind (arith, cases_lt, cases_eq, get_or-set_same, get_or-set_other, get_or_past, length-set, states_nothing)
 
 -- a new seat may write into a word what is true of its endings
-pub word_may_be_written : (slots i word : ℕ) → HoldsWon i word
+word_may_be_written : (slots i word : ℕ) → HoldsWon i word
     → Arrives (λ (s : State (Unit {0}) (Unit {0})). AreTrueWords s.words) slots i (λ n. word) (λ n me. Unit {0})
 word_may_be_written slots i word states s holds homes small = (tt, keeps, tt, words_stay_true s.words i word states holds, tt)
 
+-- what the mover wins of an ending may be written at its empty place in its word
+pub ending_may_be_written : {a : HousesState} {at rank known new : ℕ} (slots word : ℕ) → HoldsWon at word → at ≡ word_index a
+    → AreWithinLimits a → IsEnding a → rank ≡ rank_of_houses a → known ≡ won a → stored_at word (rank % 16) ≡ 0
+    → new ≡ word + (known + 1) * 2 ^ (4 * (rank % 16))
+    → Arrives (λ (s : State (Unit {0}) (Unit {0})). AreTrueWords s.words) slots at (λ n. new) (λ n me. Unit {0})
+ending_may_be_written {a} slots word states at_is limits ending rank_is known_is none new_is =
+    let few : won a ≤ most_ending_seeds = omega (arith, (won_of_houses limits).few) in
+    let one_more : suc (won a) ≡ won a + 1 = omega arith in
+    let there = states_one_more word a (rw at_is at states) limits ending (rw rank_is at none) few in
+    word_may_be_written slots _ _ (rw (at_is, new_is, known_is, rank_is) (rw one_more at there))
+
 -- ==== The most that a move wins
 
--- best play wins at least `most`, and no legal move of an unmarked house wins more
-pub record IsMostOfUnmarked (a : HousesState) (marks most : ℕ) : Type 0 where
+-- best play wins at least `most`, and no legal move of a house outside the set wins more
+pub record IsMostOutside (a : HousesState) (mask most : ℕ) : Type 0 where
   pub reached : most ≤ won a
-  pub all : EachUnmarked a marks (λ i. won_by_step (houses_step a i) ≤ most)
+  pub all : EachOutside a mask (λ i. won_by_step (houses_step a i) ≤ most)
 
--- 0, while all houses with seeds are marked
-pub most_at_start : {a : HousesState} {marks : ℕ} → ((i : ℕ) → (0 < cell marks i) ↔ (0 < get_or a.own i 0)) → IsMostOfUnmarked a marks 0
-most_at_start {a} marked = record {
+-- 0, while the set has all houses with seeds
+pub most_at_start : {a : HousesState} {mask : ℕ} → ((i : ℕ) → (0 < cell mask i) ↔ (0 < get_or a.own i 0)) → IsMostOutside a mask 0
+most_at_start {a} members = record {
   reached = omega arith;
-  all = λ i legal unmarked. absurd (let some = (marked _).1 (legal_holds (storeless a) i legal).some in omega arith);
+  all = λ i legal outside. absurd (let some = (members _).1 (legal_holds (storeless a) i legal).some in omega arith);
 }
 
--- the last marked house was tried
-pub most_with_last : {a : HousesState} {marks most h : ℕ} (v new : ℕ) → IsWithinHouses a → IsMostOfUnmarked a marks most
-    → IsLastMark marks h → IsLegal a h → v ≡ won_by_step (houses_step a h) → new ≡ max most v
-    → IsMostOfUnmarked a (without_mark marks h) new
-most_with_last {a} {marks} {most} {h} v new limits most_is last legal v_is new_is = record {
+-- the last house of the set was tried
+pub most_with_last : {a : HousesState} {mask most h : ℕ} (v new : ℕ) → AreWithinLimits a → IsMostOutside a mask most
+    → IsLastIn mask h → IsLegal a h → v ≡ won_by_step (houses_step a h) → new ≡ max most v
+    → IsMostOutside a (without_house mask h) new
+most_with_last {a} {mask} {most} {h} v new limits most_is last legal v_is new_is = record {
   reached = omega (arith, won_at_most a limits h legal);
-  all = each_unmarked_without_last a (λ i. won_by_step (houses_step a i) ≤ new) last (omega arith)
-      (λ i legal_i place unmarked. omega (arith, most_is.all i legal_i unmarked));
+  all = each_outside_without_last a (λ i. won_by_step (houses_step a i) ≤ new) last (omega arith)
+      (λ i legal_i place outside. omega (arith, most_is.all i legal_i outside));
 }
 
 -- if all seeds are won, best play wins as many
-pub most_is_all : (a : HousesState) (marks most : ℕ) → IsWithinHouses a → IsMostOfUnmarked a marks most
+pub most_is_all : (a : HousesState) (mask most : ℕ) → AreWithinLimits a → IsMostOutside a mask most
     → seeds_in_houses (storeless a) ≤ most → most ≡ won a
-most_is_all a marks most limits most_is full = omega (arith, (won_of_houses limits).few)
+most_is_all a mask most limits most_is full = omega (arith, (won_of_houses limits).few)
 
--- once no house is marked, best play wins the most of those tried
-pub won_is_most : (a : HousesState) (marks most : ℕ) → IsWithinHouses a → is_over (storeless a) ≡ false
-    → IsMostOfUnmarked a marks most → marks ≡ 0 → most ≡ won a
-won_is_most a marks most limits going most_is none = grind (arith, won_reached, cell_of_zero)
+-- once the set is empty, best play wins the most of those tried
+pub won_is_most : (a : HousesState) (mask most : ℕ) → AreWithinLimits a → is_over (storeless a) ≡ false
+    → IsMostOutside a mask most → mask ≡ 0 → most ≡ won a
+won_is_most a mask most limits going most_is none = grind (arith, won_reached, cell_of_zero)

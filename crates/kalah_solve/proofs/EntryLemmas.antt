@@ -1,6 +1,6 @@
 -- What the entries of a table state of the worth of houses stays true.
 use Rattle.std.proofs.Common.{ℕ, ◌≡◌, inl, inr, arith, sym, ap, List, ◌∙◌, eqb-true, Option, Some, None, Result, Ok, Err, nat_eq, IfSome, IsSome, IsOk, OnOk, OnErr, ◌⊎◌, subst}
-use Rattle.kalah_rules.specs.Position.{HousesState, IsWithinHouses}
+use Rattle.kalah_rules.specs.Position.{HousesState, AreWithinLimits}
 use Rattle.kalah_rules.specs.Key.{key_of}
 use Rattle.kalah_rules.proofs.KeyLemmas.{key-injective}
 use Rattle.std.specs.Map.{lookup}
@@ -8,12 +8,10 @@ use Rattle.lru.specs.LruCache.{LruCache, lru_cache, put_entries}
 use Rattle.std.specs.Cmp.{nat_eq_equiv}
 use Rattle.lru.proofs.CallerLemmas.{lookup-put_entries, Contains-lookup, Contains-put_entries}
 use Rattle.kalah_solve.specs.declared.bounds.interval.Interval.{Interval}
-use Rattle.kalah_solve.specs.Solver.Worth.{houses_worth}
-use Rattle.kalah_solve.specs.Bounds.Intervals.{Encloses}
-use Rattle.kalah_solve.specs.Table.Entries.{TableState, IsTrueEntry, AreTrueEntries}
+use Rattle.kalah_solve.specs.{houses_worth, Encloses, TableState, IsTrueEntry, AreTrueEntries}
 
 -- what a look-up finds encloses the worth of the houses
-pub found_encloses_worth : (es : List (ℕ × Interval)) (a : HousesState) (k : ℕ) → AreTrueEntries es → IsWithinHouses a
+pub found_encloses_worth : (es : List (ℕ × Interval)) (a : HousesState) (k : ℕ) → AreTrueEntries es → AreWithinLimits a
     → k ≡ key_of a → (o : Option Interval) → lookup (nat_eq k) es ≡ o → IfSome o (λ i. Encloses i (houses_worth a))
 found_encloses_worth es a k entries limits key None found = tt
 found_encloses_worth es a k entries limits key (Some i) found =
@@ -22,7 +20,7 @@ found_encloses_worth es a k entries limits key (Some i) found =
     let same = key-injective _ a entry.1 limits (entry.2 ∙ sym (eqb-true _ _ at.2) ∙ key) in
     subst (λ b. Encloses i (houses_worth b)) same entry.3
 
-module _ (c : LruCache ℕ Interval) (a : HousesState) (k : ℕ) (i : Interval) (entries : AreTrueEntries c.entries) (limits : IsWithinHouses a)
+module _ (c : LruCache ℕ Interval) (a : HousesState) (k : ℕ) (i : Interval) (entries : AreTrueEntries c.entries) (limits : AreWithinLimits a)
     (key : k ≡ key_of a) (holds : Encloses i (houses_worth a)) where
   -- the new entry is true
   put_entry : (e : ℕ × Interval) → e.1 ≡ i → e.0 ≡ k → IsTrueEntry e

@@ -1,6 +1,6 @@
 pub mod WorthLemmas
 pub mod BoundsLemmas
-pub mod MarksLemmas
+pub mod HouseSetLemmas
 pub mod SearchLemmas
 pub mod RankLemmas
 pub mod EndingLemmas

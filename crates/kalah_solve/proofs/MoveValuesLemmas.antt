@@ -1,13 +1,11 @@
 -- Values of moves in one number, a digit each.
 use Rattle.std.proofs.Common.{zero, suc, negsuc, ◌≡◌, ℕ, ◌<◌, ◌≤◌, inl, inr, ◌∷◌, length, arith, ap, refl, ◌+◌, ℤ, ◌≤ℤ◌, pos, ◌+ℤ◌, ◌-ℤ◌, ◌*◌, ◌/◌, ◌%◌, ◌^◌, ◌-◌}
-use Rattle.std.proofs.lemmas.Bool.{cases_eq}
-use Rattle.std.proofs.lemmas.Int.{ints}
+use Rattle.std.proofs.lemmas.{Bool.cases_eq, Int.ints}
 use Rattle.std.proofs.Math.Nat.{pow-succ'}
 use Rattle.kalah_rules.specs.Limits.{most_in_play}
-use Rattle.kalah_solve.specs.Bounds.Won.{nat_or_zero}
-use Rattle.kalah_solve.specs.Solver.MoveValues.{IsMoveValue, digit_of, value_at, values_number, values_in, IsValuesNumber}
+use Rattle.kalah_solve.specs.{nat_or_zero, IsMoveValue, digit_of, value_at, values_number, values_in, IsValuesNumber}
 use Rattle.kalah_solve.specs.declared.solver.move_values.MoveValue.{MoveValue}
-use Rattle.kalah_solve.specs.declared.solver.move_values.TheConstants.{VALUES, BASE}
+use Rattle.kalah_solve.specs.declared.solver.move_values.TheConstants.{VALUE_COUNT, DIGIT_BASE}
 
 -- ==== A value and its digit
 
@@ -19,7 +17,7 @@ nat_or_zero_again (negsuc n) some = grind (arith, ints)
 -- a digit of the base other than 0, by which the value is found
 record Finds (v : MoveValue) (digit : ℕ) : Type 0 where
   some : 1 ≤ digit
-  small : digit < BASE
+  small : digit < DIGIT_BASE
   value : value_at digit ≡ v
 
 -- a value is found by its digit
@@ -27,17 +25,17 @@ value_of_its_digit : (v : MoveValue) → IsMoveValue v → Finds v (digit_of v)
 value_of_its_digit v small =
     let again : pos (nat_or_zero (v.value +ℤ pos (most_in_play + 1))) ≡ v.value +ℤ pos (most_in_play + 1) =
     nat_or_zero_again _ (omega (arith, ints, small.small.low)) in
-    let few : nat_or_zero (v.value +ℤ pos (most_in_play + 1)) ≤ VALUES = omega (arith, ints, small.small.high) in
+    let few : nat_or_zero (v.value +ℤ pos (most_in_play + 1)) ≤ VALUE_COUNT = omega (arith, ints, small.small.high) in
     let some : 1 ≤ nat_or_zero (v.value +ℤ pos (most_in_play + 1)) = omega (arith, ints, small.small.low) in
-    let house : (digit_of v - 1) / VALUES + 1 ≡ v.house = omega (arith, small.first) in
-    let place : (digit_of v - 1) % VALUES + 1 ≡ nat_or_zero (v.value +ℤ pos (most_in_play + 1)) = omega (arith, small.first) in
-    let value : pos ((digit_of v - 1) % VALUES) -ℤ pos most_in_play ≡ v.value = omega (arith, ints) in
+    let house : (digit_of v - 1) / VALUE_COUNT + 1 ≡ v.house = omega (arith, small.first) in
+    let place : (digit_of v - 1) % VALUE_COUNT + 1 ≡ nat_or_zero (v.value +ℤ pos (most_in_play + 1)) = omega (arith, small.first) in
+    let value : pos ((digit_of v - 1) % VALUE_COUNT) -ℤ pos most_in_play ≡ v.value = omega (arith, ints) in
     record { some = omega arith; small = omega (arith, small.last); value = rw (house, value) refl }
 
 -- a digit is that of the value that it finds
-digit_of_its_value : (d : ℕ) → 1 ≤ d → d < BASE → digit_of (value_at d) ≡ d
+digit_of_its_value : (d : ℕ) → 1 ≤ d → d < DIGIT_BASE → digit_of (value_at d) ≡ d
 digit_of_its_value d some few =
-    let up : (pos ((d - 1) % VALUES) -ℤ pos most_in_play) +ℤ pos (most_in_play + 1) ≡ pos ((d - 1) % VALUES + 1) = omega (arith, ints) in
+    let up : (pos ((d - 1) % VALUE_COUNT) -ℤ pos most_in_play) +ℤ pos (most_in_play + 1) ≡ pos ((d - 1) % VALUE_COUNT + 1) = omega (arith, ints) in
     rw up (omega arith)
 
 -- ==== The values in a number, digit by digit
@@ -45,22 +43,23 @@ digit_of_its_value d some few =
 -- there is at most one for each digit
 length-values_in : (n k : ℕ) → length (values_in n k) ≤ n
 length-values_in zero k = omega arith
-length-values_in (suc n) k = grind (arith, length-values_in n (k / BASE))
+length-values_in (suc n) k = grind (arith, length-values_in n (k / DIGIT_BASE))
 
 -- the value of the lowest digit, and those of the others
-pub values_in-positive : (n k : ℕ) → 0 < k → values_in (suc n) k ≡ value_at (k % BASE) ∷ values_in n (k / BASE)
+pub values_in-positive : (n k : ℕ) → 0 < k → values_in (suc n) k ≡ value_at (k % DIGIT_BASE) ∷ values_in n (k / DIGIT_BASE)
 values_in-positive n k some = grind arith
 
 -- the lowest digit of a packed number is that of a value, and the other digits are packed
-pub rest_packed : (n k : ℕ) → 0 < k → IsValuesNumber (suc n) k → (1 ≤ k % BASE) × IsValuesNumber n (k / BASE)
+pub rest_packed : (n k : ℕ) → 0 < k → IsValuesNumber (suc n) k → (1 ≤ k % DIGIT_BASE) × IsValuesNumber n (k / DIGIT_BASE)
 rest_packed n k some packed =
-    let number_is : digit_of (value_at (k % BASE)) + BASE * values_number (values_in n (k / BASE)) ≡ k = rw (values_in-positive n k some) at packed in
-    elim (cases_eq (k % BASE) 0) [
+    let number_is : digit_of (value_at (k % DIGIT_BASE)) + DIGIT_BASE * values_number (values_in n (k / DIGIT_BASE)) ≡ k =
+    rw (values_in-positive n k some) at packed in
+    elim (cases_eq (k % DIGIT_BASE) 0) [
       | inl none ↦
-          let one : digit_of (value_at (k % BASE)) ≡ 1 = rw none refl in
+          let one : digit_of (value_at (k % DIGIT_BASE)) ≡ 1 = rw none refl in
           (omega arith, omega arith)
       | inr other ↦
-          let same : digit_of (value_at (k % BASE)) ≡ k % BASE = digit_of_its_value _ (omega arith) (omega arith) in
+          let same : digit_of (value_at (k % DIGIT_BASE)) ≡ k % DIGIT_BASE = digit_of_its_value _ (omega arith) (omega arith) in
           (omega arith, omega arith)
     ]
 
@@ -72,7 +71,7 @@ values_in-one_digit_more (suc n) k packed = elim (cases_eq k 0) [
   | inr other ↦
       let some : 0 < k = omega arith in
       rw (values_in-positive (suc n) k some, values_in-positive n k some)
-      (ap (λ vs. value_at (k % BASE) ∷ vs) (values_in-one_digit_more n _ (rest_packed n k some packed).1))
+      (ap (λ vs. value_at (k % DIGIT_BASE) ∷ vs) (values_in-one_digit_more n _ (rest_packed n k some packed).1))
 ]
 
 -- fewer digits are enough for fewer values
@@ -87,7 +86,7 @@ values_in-fewer_digits (suc n) k few = elim (cases_eq k 0) [
   | inr other ↦
       let some : 0 < k = omega arith in
       rw (values_in-positive (suc n) k some, values_in-positive n k some)
-      (ap (λ vs. value_at (k % BASE) ∷ vs) (values_in-fewer_digits n _ (omega (arith, ap length (values_in-positive (suc n) k some)))))
+      (ap (λ vs. value_at (k % DIGIT_BASE) ∷ vs) (values_in-fewer_digits n _ (omega (arith, ap length (values_in-positive (suc n) k some)))))
 ]
 
 -- a packed number with no value is 0
@@ -96,7 +95,7 @@ no_values_no_number zero k packed some few = omega (arith, packed)
 no_values_no_number (suc n) k packed some few = omega (arith, ap length (values_in-positive n k some))
 
 -- few values make a small number
-packed_le_power : (m n k : ℕ) → IsValuesNumber n k → length (values_in n k) ≤ m → k < BASE ^ m
+packed_le_power : (m n k : ℕ) → IsValuesNumber n k → length (values_in n k) ≤ m → k < DIGIT_BASE ^ m
 packed_le_power zero n k packed few = elim (cases_eq k 0) [
   | inl none ↦ omega arith
   | inr other ↦ absurd (no_values_no_number n k packed (omega arith) (omega arith))
@@ -106,7 +105,7 @@ packed_le_power (suc m) (suc n) k packed few = elim (cases_eq k 0) [
   | inl none ↦ rw pow-succ' (omega (arith, packed_le_power m zero 0 refl (omega arith)))
   | inr other ↦
       let some : 0 < k = omega arith in
-      let rest = packed_le_power m n (k / BASE) (rest_packed n k some packed).1 (omega (arith, ap length (values_in-positive n k some))) in
+      let rest = packed_le_power m n (k / DIGIT_BASE) (rest_packed n k some packed).1 (omega (arith, ap length (values_in-positive n k some))) in
       rw pow-succ' (omega arith)
 ]
 
@@ -114,17 +113,17 @@ packed_le_power (suc m) (suc n) k packed few = elim (cases_eq k 0) [
 
 -- one value more, in front of fewer than six
 module _ (v : MoveValue) (k : ℕ) (small : IsMoveValue v) (packed : IsValuesNumber 6 k) (room : length (values_in 6 k) < 6) where
-  pub values_prepended : values_in 6 (digit_of v + BASE * k) ≡ v ∷ values_in 6 k
+  pub values_prepended : values_in 6 (digit_of v + DIGIT_BASE * k) ≡ v ∷ values_in 6 k
   values_prepended =
       let again = value_of_its_digit v small in
-      let low : (digit_of v + BASE * k) % BASE ≡ digit_of v = omega arith in
-      let high : (digit_of v + BASE * k) / BASE ≡ k = omega arith in
-      rw (values_in-positive 5 (digit_of v + BASE * k) (omega arith), low, high, again.value, values_in-fewer_digits 5 k (omega arith)) refl
+      let low : (digit_of v + DIGIT_BASE * k) % DIGIT_BASE ≡ digit_of v = omega arith in
+      let high : (digit_of v + DIGIT_BASE * k) / DIGIT_BASE ≡ k = omega arith in
+      rw (values_in-positive 5 (digit_of v + DIGIT_BASE * k) (omega arith), low, high, again.value, values_in-fewer_digits 5 k (omega arith)) refl
 
-  pub packed_prepended : IsValuesNumber 6 (digit_of v + BASE * k)
+  pub packed_prepended : IsValuesNumber 6 (digit_of v + DIGIT_BASE * k)
   packed_prepended = rw values_prepended (omega arith)
 
-  pub fits_prepended : digit_of v + BASE * k < 2 ^ 64
+  pub fits_prepended : digit_of v + DIGIT_BASE * k < 2 ^ 64
   fits_prepended =
       let again = value_of_its_digit v small in
       let few = packed_le_power 5 6 k packed (omega arith) in

@@ -1,16 +1,12 @@
 -- The rank of a row of cells determines the row, and is added up from the choices and pairs of cells.
 use Rattle.std.proofs.Common.{ℕ, ◌≡◌, ◌≢◌, zero, suc, ◌+◌, ◌*◌, ◌/◌, ◌%◌, ◌^◌, ◌-◌, ◌<◌, ◌≤◌, arith, refl, ap, List, [], ◌∷◌, ◌++◌, length, get_or, drop, length-append, pow_mono, sum, slice_set, mul_comm, take}
-use Rattle.std.proofs.lemmas.Nat.{pow_pos, mul-le}
-use Rattle.std.proofs.lemmas.Bool.{cases_eq}
-use Rattle.std.proofs.lemmas.List.{append_cancel_left, drop_more, length-drop, get_or-set_same, get_or-set_other}
+use Rattle.std.proofs.lemmas.{Nat.pow_pos, Nat.mul-le, Bool.cases_eq, List.append_cancel_left, List.drop_more, List.length-drop, List.get_or-set_same, List.get_or-set_other, List.Sums.sum_by-cons, List.Sums.sum_by-take-drop}
 use Rattle.std.proofs.Math.Seq.{take-append_seam}
-use Rattle.std.proofs.lemmas.List.Sums.{sum_by-cons, sum_by-take-drop}
-use Rattle.kalah_rules.specs.Position.{HousesState, IsWithinHouses}
-use Rattle.kalah_rules.specs.Key.{number_of, variant_of}
-use Rattle.kalah_rules.proofs.KeyLemmas.{key-injective, number_of-append, pow_five}
-use Rattle.kalah_solve.specs.Table.RowRank.{choose, row_rank, sums_number, rank_of_houses}
-use Rattle.kalah_solve.specs.Table.EndgameTable.{most_ending_seeds, choice_at, AreChoices, pair_at, ArePairs}
-use Rattle.kalah_solve.specs.declared.table.endgame_table.TheConstants.{COUNTS, CHOICES, INVERSE_OF_31}
+use Rattle.kalah_rules.specs.Position.{HousesState, AreWithinLimits}
+use Rattle.kalah_rules.specs.Key.{row_number, variant_of}
+use Rattle.kalah_rules.proofs.KeyLemmas.{key-injective, row_number-append, pow_five}
+use Rattle.kalah_solve.specs.{choose, row_rank, sums_number, rank_of_houses, most_ending_seeds, choice_at, AreChoices, pair_at, ArePairs}
+use Rattle.kalah_solve.specs.declared.table.ending_table.TheConstants.{COUNTS, CHOICES, INVERSE_OF_31}
 
 -- ==== The numbers of choices
 
@@ -104,7 +100,7 @@ row_rank-injective (x ∷ xs) (y ∷ ys) long same =
     rw (here, rest) refl
 
 -- houses of one variant with one rank are the same
-pub houses_by_rank : (a b : HousesState) → IsWithinHouses a → IsWithinHouses b → variant_of a ≡ variant_of b
+pub houses_by_rank : (a b : HousesState) → AreWithinLimits a → AreWithinLimits b → variant_of a ≡ variant_of b
     → rank_of_houses a ≡ rank_of_houses b → a ≡ b
 houses_by_rank a b limits_a limits_b variant rank =
     let side : length a.own ≡ length b.own = omega arith in
@@ -114,10 +110,10 @@ houses_by_rank a b limits_a limits_b variant rank =
     let own = rw (take-append_seam a.own a.other, side, take-append_seam b.own b.other) at
     (ap (take (length a.own)) row) in
     let other = append_cancel_left a.own a.other b.other (rw (← own) at row) in
-    key-injective a b limits_a limits_b (omega (arith, ap number_of own, ap number_of other))
+    key-injective a b limits_a limits_b (omega (arith, ap row_number own, ap row_number other))
 
 -- a row's number determines its sums
-sums_by_number : (xs : List ℕ) → 31 * sums_number xs + sum xs ≡ 32 * number_of xs
+sums_by_number : (xs : List ℕ) → 31 * sums_number xs + sum xs ≡ 32 * row_number xs
 sums_by_number [] = refl
 sums_by_number (x ∷ xs) = omega (arith, sums_by_number xs, sum_by-cons)
 
@@ -127,7 +123,8 @@ pub record AreSums (row : List ℕ) (number seeds : ℕ) : Type 0 where
   pub small : (number - seeds) * INVERSE_OF_31 % 2 ^ 64 < 2 ^ 58
   pub sums : seeds + (number - seeds) * INVERSE_OF_31 % 2 ^ 64 * 32 ≡ sums_number row
 
-pub sums_are : (row : List ℕ) (number seeds : ℕ) → 1 ≤ length row → number ≡ number_of row → seeds ≡ sum row
+-- a division by 31 gives the sums of a row
+pub sums_are : (row : List ℕ) (number seeds : ℕ) → 1 ≤ length row → number ≡ row_number row → seeds ≡ sum row
     → number < 2 ^ 60 → AreSums row number seeds
 sums_are [] number seeds some number_is all below = omega arith
 sums_are (x ∷ xs) number seeds some number_is all below =
@@ -139,11 +136,11 @@ sums_are (x ∷ xs) number seeds some number_is all below =
     }
 
 -- both rows of houses in one number, the other one moved up by 5 * m bits: it ends below bit 60, so nothing wraps
-pub both_rows : {a : HousesState} (own other m : ℕ) → IsWithinHouses a → own ≡ number_of a.own → other ≡ number_of a.other
+pub both_rows : {a : HousesState} (own other m : ℕ) → AreWithinLimits a → own ≡ row_number a.own → other ≡ row_number a.other
     → own < 2 ^ 30 → other < 2 ^ 30 → m ≡ length a.own
-    → (own + other * 2 ^ (5 * m) % 2 ^ 64 ≡ number_of (a.own ++ a.other)) × (own + other * 2 ^ (5 * m) % 2 ^ 64 < 2 ^ 60)
+    → (own + other * 2 ^ (5 * m) % 2 ^ 64 ≡ row_number (a.own ++ a.other)) × (own + other * 2 ^ (5 * m) % 2 ^ 64 < 2 ^ 60)
 both_rows {a} own other m limits own_is other_is own_small other_small side =
-    grind (arith, pow_mono, mul-le, length, number_of, pow_five, mul_comm, number_of-append)
+    grind (arith, pow_mono, mul-le, length, row_number, pow_five, mul_comm, row_number-append)
 
 -- ---- the cells of a row, two at a time
 -- the sums of a row from its cell 2 * passed on, and what the cells before it add to its rank

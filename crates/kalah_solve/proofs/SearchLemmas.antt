@@ -1,22 +1,26 @@
 -- The moves that the search has tried, and those that wait for it.
 -- The life of a legal move, and what the loop that it is in keeps of it and all others (`most` is the most that a tried one wins):
--- marked, it ends in the store, and `bound_into_store` is still to try it: of such moves the unmarked were tried (`UnmarkedIntoStoreWinAtMost`);
--- marked, it does not, and `try_remaining` is still to play it: of such moves each unmarked one waits or was tried (`ArePlayed`);
--- waiting: its turn must be searched, is written down, and has a priority (`AreTurns`, `WaitsWith`; `AreWaiting` once all were played);
--- tried: it wins at most `most`. `bound_by_moves` tries those that wait, and all without a priority were tried (`AreUntried`).
-use Rattle.std.proofs.Common.{◌≡◌, ℕ, ◌+◌, ◌%◌, ◌-◌, ◌<◌, ◌≤◌, inl, inr, List, get_or, arith, sym, ap, ◌∙◌, length, subst, ◌↔◌, Bool, false, IsTrue, Contains, max, slice_set, length-set}
-use Rattle.std.proofs.lemmas.Bool.{cases_lt, cases_eq}
-use Rattle.kalah_solve.specs.Marks.{cell, IsLastMark, without_mark}
-use Rattle.kalah_solve.proofs.MarksLemmas.{EachUnmarked, each_unmarked_without_last}
-use Rattle.std.proofs.lemmas.List.{get_or-set_same, get_or-set_other, get_or_default}
-use Rattle.kalah_rules.specs.Position.{HousesState, IsWithinHouses, seeds, seeds_in_houses, is_over, storeless}
-use Rattle.kalah_solve.specs.Search.{EndsInStore, IsSoftBound, WinsAtMost, IsTurnOf, AreWaiting}
+-- in the set of the loop, it ends in the store, and `bound_into_store` is still to try it: those outside were tried (`AreTriedIntoStore`);
+-- in the set, it does not, and `try_remaining` is still to play it: each of those outside waits or was tried (`ArePlayed`);
+-- waiting: its turn must be searched (`AreTurns`; `AreWaiting` once all were played);
+-- tried: it wins at most `most`. `bound_by_moves` tries those that wait, and all others were tried (`AreUntried`).
+use Rattle.std.proofs.Common.{◌≡◌, ℕ, ◌+◌, ◌*◌, ◌-◌, ◌<◌, ◌≤◌, inl, inr, List, get_or, arith, refl, sym, ap, ◌∙◌, length, subst, ◌↔◌, Bool, false, IsTrue, max, slice_set, sum}
+use Rattle.std.proofs.lemmas.{Bool.cases_lt, Bool.cases_eq, List.get_or-set_same, List.get_or-set_other, List.get_or_past, List.set_past}
+use Rattle.kalah_solve.specs.{cell, IsLastIn, without_house, IsSoftBound, WinsAtMost, IsTurnOf, AreTurns, AreWaiting, ArePlaced, IsEmpty, IsTaken, won, won_by_step}
+use Rattle.kalah_solve.proofs.HouseSetLemmas.{AreMovable, EachOutside, cell_of_zero, into_store_legal, seeded_is_legal, movable_before_last, each_before_last, each_outside_without_last}
+use Rattle.kalah_rules.specs.Position.{HousesState, AreWithinLimits, seeds, seeds_in_houses, is_over, storeless}
+use Rattle.kalah_rules.specs.Sowing.{EndsInStore}
 use Rattle.kalah_rules.specs.HousesStep.{houses_step}
 use Rattle.kalah_rules.specs.declared.step.HousesStep.TheVariants.{Turn}
-use Rattle.kalah_rules.proofs.PlayLemmas.{IsLegal, legal_holds}
-use Rattle.kalah_solve.specs.Bounds.Won.{won, won_by_step}
+use Rattle.kalah_rules.proofs.PlayLemmas.{IsLegal, legal_holds, sum-set_zero}
 use Rattle.kalah_solve.proofs.WorthLemmas.{LeadsTo, leads_by}
 use Rattle.kalah_solve.proofs.BoundsLemmas.{won_at_most, won_of_houses, won_reached}
+
+-- ==== The measure of a call (`Invariants.antt` of the search)
+
+-- nine times fewer moves, and up to eight more, are less than nine times the moves
+pub lower_measure : {m n t : ℕ} (i j : ℕ) → 9 * n + j ≡ t → m < n → i ≤ 8 → 9 * m + i < t
+lower_measure i j measure fewer few = omega arith
 
 -- ==== Bounds that are enough, and bounds that fall short
 
@@ -28,10 +32,17 @@ below_if_test_fails r beta x says fails = grind arith
 pub bound_le_max : {beta number bound : ℕ} → IsSoftBound beta number bound → bound ≤ max beta number
 bound_le_max {beta} {number} {bound} bounded = grind arith
 
+-- one that is enough, and is no more than the number, is a bound of it
+pub soft_if_enough : {beta number bound : ℕ} → beta ≤ bound → bound ≤ number → IsSoftBound beta number bound
+soft_if_enough enough low = record { lower = λ e. low; upper = λ short. absurd (omega arith) }
+
+-- one that falls short, and is no less, too
+pub soft_if_short : {beta number bound : ℕ} → bound < beta → number ≤ bound → IsSoftBound beta number bound
+soft_if_short short high = record { lower = λ enough. absurd (omega arith); upper = λ s. high }
+
 -- the most of some bounds that fall short falls short too, unless it is 0
-pub short_stays : (beta most bound new : ℕ) → (beta ≤ most → most ≡ 0) → bound < beta → new ≡ max most bound
-    → beta ≤ new → new ≡ 0
-short_stays beta most bound new low short new_is enough = omega arith
+short_stays : {beta most bound new : ℕ} → (beta ≤ most → most ≡ 0) → bound < beta → new ≡ max most bound → beta ≤ new → new ≡ 0
+short_stays low short new_is enough = omega arith
 
 -- what is left of all is bounded by what the bound of the other player leaves
 pub bound_of_rest : {beta number bound : ℕ} (all seeds gained : ℕ) → all ≡ gained + seeds → number ≤ seeds
@@ -42,24 +53,24 @@ bound_of_rest {beta} {number} {bound} all seeds gained all_is few b = elim (case
 ]
 
 -- a bound of a move that is enough is no more than best play wins
-pub enough_is_won : (a : HousesState) (beta h bound : ℕ) → IsWithinHouses a → IsLegal a h
+pub enough_is_won : (a : HousesState) (beta h bound : ℕ) → AreWithinLimits a → IsLegal a h
     → IsSoftBound beta (won_by_step (houses_step a h)) bound → beta ≤ bound → bound ≤ won a
 enough_is_won a beta h bound limits legal bounded enough = omega (arith, won_at_most a limits h legal)
 
 -- if no legal move wins more than `most`, best play wins no more
-won_at_most_of_all : (a : HousesState) (most : ℕ) → IsWithinHouses a → is_over (storeless a) ≡ false
+won_at_most_of_all : (a : HousesState) (most : ℕ) → AreWithinLimits a → is_over (storeless a) ≡ false
     → ((h : ℕ) → IsLegal a h → WinsAtMost a most h) → won a ≤ most
 won_at_most_of_all a most limits going each = grind (arith, won_reached)
 
 -- ==== Turns, and what the reply to one leaves
 
 -- a turn leads on to the houses that it leaves
-turn_leads : {a b : HousesState} {h priority : ℕ} → IsWithinHouses a → IsTurnOf a h priority b
+turn_leads : {a b : HousesState} {h : ℕ} → AreWithinLimits a → IsTurnOf a h b
     → LeadsTo a (seeds_in_houses (storeless a) - seeds_in_houses (storeless b)) b
 turn_leads limits turn = leads_by _ _ limits turn.legal (sym turn.step)
 
 -- a turn that waited, of all `seeds`, by a bound of what the other player wins after it; `left` and one more were asked of that player
-module _ {a b : HousesState} {h priority bound seeds left : ℕ} (beta : ℕ) (limits : IsWithinHouses a) (turn : IsTurnOf a h priority b)
+module _ {a b : HousesState} {h bound seeds left : ℕ} (beta : ℕ) (limits : AreWithinLimits a) (turn : IsTurnOf a h b)
     (seeds_are : seeds ≡ seeds_in_houses (storeless a)) (left_is : left ≡ seeds - beta) (bounded : IsSoftBound (left + 1) (won b) bound) where
   -- the other player wins at most what is in houses
   reply_few : won b ≤ seeds_in_houses (storeless b)
@@ -80,168 +91,193 @@ module _ {a b : HousesState} {h priority bound seeds left : ℕ} (beta : ℕ) (l
   pub turn_enough : beta ≤ seeds - bound → seeds - bound ≤ won a
   turn_enough = enough_is_won _ _ _ _ limits turn.legal reply_left
 
--- a legal house whose step is a turn, with a priority that names it, is a turn
-pub step_is_turn : {a : HousesState} {h priority gained : ℕ} {b : HousesState} → IsWithinHouses a → IsLegal a h
-    → Turn gained b ≡ houses_step a h → priority % 8 + 1 ≡ h → IsTurnOf a h priority b
-step_is_turn {a} {h} {priority} {gained} {b} limits legal step_is house =
+-- a legal house whose step is a turn
+pub step_is_turn : {a b : HousesState} {h gained : ℕ} → AreWithinLimits a → IsLegal a h → Turn gained b ≡ houses_step a h → IsTurnOf a h b
+step_is_turn {a} {b} {h} {gained} limits legal step_is =
     let on = leads_by _ _ limits legal step_is in
     let brought : gained ≡ seeds_in_houses (storeless a) - seeds_in_houses (storeless b) = omega arith in
-    record { legal = legal; step = sym step_is ∙ ap (λ g. Turn g b) brought; house = house }
+    record { legal = legal; step = sym step_is ∙ ap (λ g. Turn g b) brought }
 
--- ==== Turns that wait with a priority
+-- ==== Turns that wait
 
--- each house with a priority waits with its turn
-pub record AreTurns (a : HousesState) (priorities : List ℕ) (turns : List HousesState) : Type 0 where
-  pub cells : length priorities ≡ 8
-  pub each : (k : ℕ) → 0 < get_or priorities k 0 → (d : HousesState) → IsTurnOf a (k + 1) (get_or priorities k 0) (get_or turns k d)
+-- a place that was set to 0 has nothing
+none_at : (xs : List ℕ) (at : ℕ) → get_or (slice_set xs at 0) at 0 ≡ 0
+none_at xs at = elim (cases_lt at (length xs)) [
+  | inl inside ↦ get_or-set_same xs at 0 0 inside
+  | inr past ↦ rw (set_past xs at 0 past) (get_or_past xs at 0 past)
+]
 
--- one house more
-turns_with_one_more : {a b : HousesState} {h v : ℕ} {priorities : List ℕ} {turns : List HousesState} → AreTurns a priorities turns
-    → length turns ≡ 6 → 1 ≤ h → h ≤ 6 → IsTurnOf a h v b
-    → AreTurns a (slice_set priorities (h - 1) v) (slice_set turns (h - 1) b)
-turns_with_one_more waiting six_turns low last turn = grind (arith, length-set, cases_eq, get_or-set_same, get_or-set_other)
+-- with one more
+turns_with_one_more : {a b : HousesState} (at v : ℕ) {priorities : List ℕ} {turns : List HousesState} → AreTurns a priorities turns
+    → ArePlaced priorities turns → at < 6 → IsTurnOf a (at + 1) b → AreTurns a (slice_set priorities at v) (slice_set turns at b)
+turns_with_one_more {a} {b} at v {priorities} {turns} waiting placed inside turn k some d = elim (cases_eq k at) [
+  | inl same ↦ rw (same, get_or-set_same turns at b d (omega (arith, placed.six_turns))) turn
+  | inr other ↦
+      rw (get_or-set_other turns at k b d other) (waiting k (rw (get_or-set_other priorities at k v 0 other) at some) d)
+]
 
--- one that waits no more
-turns_without_one : {a : HousesState} {priorities : List ℕ} {turns : List HousesState} (at : ℕ) → AreTurns a priorities turns
-    → at < 6 → AreTurns a (slice_set priorities at 0) turns
-turns_without_one {priorities = priorities} at waiting place = let inside : at < length priorities = omega arith in record {
-  cells = length-set _ at 0 ∙ waiting.cells;
-  each = λ k high. elim (cases_eq k at) [
-    | inl same ↦
-        let none : get_or (slice_set priorities at 0) k 0 ≡ 0 = rw same (get_or-set_same _ at 0 0 inside) in
-        absurd (omega arith)
-    | inr other ↦ λ d. rw (get_or-set_other priorities at k 0 0 other)
-        (waiting.each k (rw (get_or-set_other priorities at k 0 0 other) at high) d)
-  ];
-}
+-- without one that was taken out
+turns_without_one : (a : HousesState) (priorities : List ℕ) (turns : List HousesState) (at : ℕ) → AreTurns a priorities turns
+    → AreTurns a (slice_set priorities at 0) turns
+turns_without_one a priorities turns at waiting k some d = elim (cases_eq k at) [
+  | inl same ↦ absurd (omega (arith, rw same at some, none_at priorities at))
+  | inr other ↦ waiting k (rw (get_or-set_other priorities at k 0 0 other) at some) d
+]
 
--- the house that a priority names waits with it
-pub record WaitsWith (a : HousesState) (priorities : List ℕ) (turns : List HousesState) (priority : ℕ) : Type 0 where
-  pub place : priority % 8 < 6
-  pub stands : get_or priorities (priority % 8) 0 ≡ priority
-  pub turn : (d : HousesState) → IsTurnOf a (priority % 8 + 1) priority (get_or turns (priority % 8) d)
+-- what is taken out of them is a turn
+pub taken_is_turn : {a b : HousesState} {priorities rest : List ℕ} {turns : List HousesState} → AreTurns a priorities turns
+    → (taken : IsTaken priorities turns b rest) → IsTurnOf a (taken.at + 1) b
+taken_is_turn {a} {b} waiting taken = subst (IsTurnOf a _) (sym taken.turn_is) (waiting taken.at taken.some b)
 
--- the turn that is read there is that of the priority's house
-pub waits_there : {a : HousesState} {priorities : List ℕ} {turns : List HousesState} {priority : ℕ} {b : HousesState}
-    → WaitsWith a priorities turns priority → b ≡ get_or turns (priority % 8) b → IsTurnOf a (priority % 8 + 1) priority b
-waits_there {a} {priority = priority} {b = b} waits b_is = subst (IsTurnOf a (priority % 8 + 1) priority) (sym b_is) (waits.turn b)
+-- the priorities of the others have a lower sum
+pub taken_falls : {b : HousesState} {priorities rest : List ℕ} {turns : List HousesState} → IsTaken priorities turns b rest
+    → sum rest < sum priorities
+taken_falls {priorities = priorities} taken = rw taken.rest_is (omega (arith, taken.some, sum-set_zero priorities taken.at))
 
 -- ==== The remaining moves, played one by one
 
--- each house with a priority waits, and each other one that may be moved wins at most `most` seeds, or ends in the store, or is
--- still marked
-pub record ArePlayed (a : HousesState) (most marks : ℕ) (priorities : List ℕ) (turns : List HousesState) : Type 0 where
+-- the houses of the set may be moved. What waits are turns, and each other move of a house outside the set wins at most `most` seeds, or ends
+-- in the store
+pub record ArePlayed (a : HousesState) (beta most mask : ℕ) (priorities : List ℕ) (turns : List HousesState) : Type 0 where
+  pub short_or_zero : beta ≤ most → most ≡ 0
+  pub movable : AreMovable a mask
   pub waiting : AreTurns a priorities turns
-  pub six_turns : length turns ≡ 6
-  pub others : EachUnmarked a marks (λ i. get_or priorities (i - 1) 0 ≡ 0 → ¬ EndsInStore a i → WinsAtMost a most i)
-
--- the last marked house was played
-module _ {a : HousesState} {most marks h : ℕ} {priorities : List ℕ} {turns : List HousesState} (played : ArePlayed a most marks priorities turns)
-    (last : IsLastMark marks h) where
-  -- the last marked house was played, and waits with a priority
-  pub played_and_waits : (v : ℕ) (b : HousesState) → 0 < v → IsTurnOf a h v b
-      → ArePlayed a most (without_mark marks h) (slice_set priorities (h - 1) v) (slice_set turns (h - 1) b)
-  played_and_waits v b some turn = let inside : h - 1 < length priorities = omega arith in record {
-    waiting = turns_with_one_more played.waiting played.six_turns last.first last.last turn;
-    six_turns = length-set turns _ b ∙ played.six_turns;
-    others = each_unmarked_without_last a
-        (λ i. get_or (slice_set priorities (h - 1) v) (i - 1) 0 ≡ 0 → ¬ EndsInStore a i → WinsAtMost a most i) last
-        (λ none apart. absurd (omega (arith, get_or-set_same priorities (h - 1) v 0 inside, none)))
-        (λ i legal place unmarked none apart. played.others i legal unmarked (rw (get_or-set_other _ (h - 1) _ v 0 place) at none) apart);
-  }
-
-  -- the last marked house was played, and wins at most `bound`
-  pub played_and_bounded : (bound new : ℕ) → WinsAtMost a bound h → new ≡ max most bound
-      → ArePlayed a new (without_mark marks h) priorities turns
-  played_and_bounded bound new at_most new_is = record {
-    waiting = played.waiting;
-    six_turns = played.six_turns;
-    others = each_unmarked_without_last a (λ i. get_or priorities (i - 1) 0 ≡ 0 → ¬ EndsInStore a i → WinsAtMost a new i) last
-        (λ none apart. omega arith) (λ i legal place unmarked none apart. omega (arith, played.others i legal unmarked none apart));
-  }
+  pub others : EachOutside a mask (λ i. get_or priorities (i - 1) 0 ≡ 0 → ¬ EndsInStore a i → WinsAtMost a most i)
 
 -- before any was played
-pub played_at_start : {a : HousesState} {most marks : ℕ} {priorities : List ℕ} {turns : List HousesState} → length priorities ≡ 8
-    → length turns ≡ 6 → ((k : ℕ) → get_or priorities k 0 ≡ 0)
-    → ((i : ℕ) → (0 < cell marks i) ↔ ((0 < get_or a.own i 0) × ¬ EndsInStore a (i + 1)))
-    → ArePlayed a most marks priorities turns
-played_at_start {a} cells six_turns empty marked = record {
-  waiting = record { cells = cells; each = λ k some. absurd (omega arith) };
-  six_turns = six_turns;
-  others = λ i legal unmarked none apart. absurd (
+pub played_at_start : {a : HousesState} {beta mask : ℕ} {priorities : List ℕ} {turns : List HousesState} → AreWithinLimits a
+    → is_over (storeless a) ≡ false → IsEmpty priorities
+    → ((i : ℕ) → (0 < cell mask i) ↔ ((0 < get_or a.own i 0) × ¬ EndsInStore a (i + 1)))
+    → ArePlayed a beta 0 mask priorities turns
+played_at_start {a} limits going empty members = record {
+  short_or_zero = λ enough. refl;
+  movable = record { legal = λ i some. seeded_is_legal i limits going ((members i).0 some).0 };
+  waiting = λ k some d. absurd (omega (arith, empty k));
+  others = λ i legal outside none apart. absurd (
       let holds = legal_holds (storeless a) i legal in
       let at : i - 1 + 1 ≡ i = omega arith in
-      let some = (marked _).1 (holds.some, λ ends. apart (subst (EndsInStore a) at ends)) in
+      let some = (members _).1 (holds.some, λ ends. apart (subst (EndsInStore a) at ends)) in
       omega arith);
+}
+
+-- the last house of the set was played
+module _ {a : HousesState} {beta most mask h rest : ℕ} {priorities : List ℕ} {turns : List HousesState}
+    (played : ArePlayed a beta most mask priorities turns) (last : IsLastIn mask h) (rest_is : rest ≡ without_house mask h) where
+  -- it waits at its place
+  pub played_and_waits : (at v : ℕ) {b : HousesState} → ArePlaced priorities turns → at + 1 ≡ h → 0 < v → IsTurnOf a h b
+      → ArePlayed a beta most rest (slice_set priorities at v) (slice_set turns at b)
+  played_and_waits at v {b} placed place some turn =
+      let at_is : h - 1 ≡ at = omega arith in
+      let low : at < 6 = omega (arith, last.last) in
+      let inside : at < length priorities = omega (arith, placed.cells) in
+      rw rest_is (record {
+        short_or_zero = played.short_or_zero;
+        movable = movable_before_last played.movable last;
+        waiting = turns_with_one_more at v played.waiting placed low (rw (sym place) at turn);
+        others = each_outside_without_last a
+            (λ i. get_or (slice_set priorities at v) (i - 1) 0 ≡ 0 → ¬ EndsInStore a i → WinsAtMost a most i) last
+            (λ none apart. absurd (omega (arith, rw at_is at none, get_or-set_same priorities at v 0 inside)))
+            (λ i legal other outside none apart. played.others i legal outside
+            (rw (get_or-set_other priorities at _ v 0 (rw at_is at other)) at none) apart);
+      })
+
+  -- it wins at most `bound`, which falls short
+  pub played_and_bounded : (bound new : ℕ) → WinsAtMost a bound h → bound < beta → new ≡ max most bound
+      → ArePlayed a beta new rest priorities turns
+  played_and_bounded bound new at_most short new_is = rw rest_is (record {
+    short_or_zero = short_stays played.short_or_zero short new_is;
+    movable = movable_before_last played.movable last;
+    waiting = played.waiting;
+    others = each_outside_without_last a (λ i. get_or priorities (i - 1) 0 ≡ 0 → ¬ EndsInStore a i → WinsAtMost a new i) last
+        (λ none apart. omega arith) (λ i legal place outside none apart. omega (arith, played.others i legal outside none apart));
+  })
+
+-- a move that wins enough makes the others needless
+pub played_enough : {a : HousesState} {beta most mask : ℕ} {priorities : List ℕ} {turns : List HousesState} (bound : ℕ)
+    → ArePlayed a beta most mask priorities turns → beta ≤ bound → bound ≤ won a → AreWaiting a beta bound priorities turns
+played_enough bound played enough low = record { lower = λ e. low; waiting = played.waiting; others = λ short. absurd (omega arith) }
+
+-- once the set is empty, all were played
+pub all_played : {a : HousesState} {beta most mask : ℕ} {priorities : List ℕ} {turns : List HousesState}
+    → ArePlayed a beta most mask priorities turns → mask ≡ 0 → AreWaiting a beta most priorities turns
+all_played played none = record {
+  lower = λ enough. omega (arith, played.short_or_zero enough);
+  waiting = played.waiting;
+  others = λ short h legal. played.others h legal (rw none (cell_of_zero (h - 1)));
 }
 
 -- ==== The moves that end in the store, tried one by one
 
--- each house that ends in the store is still marked, or wins at most `most` seeds
-abbrev pub UnmarkedIntoStoreWinAtMost : HousesState → ℕ → ℕ → Type 0
-UnmarkedIntoStoreWinAtMost a most marks = EachUnmarked a marks (λ h. EndsInStore a h → WinsAtMost a most h)
+-- the houses of the set may be moved and end in the store. Each one outside it that does wins at most `most` seeds
+pub record AreTriedIntoStore (a : HousesState) (beta most mask : ℕ) : Type 0 where
+  pub short_or_zero : beta ≤ most → most ≡ 0
+  pub movable : AreMovable a mask
+  pub ends : (i : ℕ) → 0 < cell mask i → EndsInStore a (i + 1)
+  pub tried : EachOutside a mask (λ h. EndsInStore a h → WinsAtMost a most h)
 
--- as long as all of them are marked
-pub unmarked_at_start : (a : HousesState) (most marks : ℕ)
-    → ((i : ℕ) → (0 < cell marks i) ↔ ((i < length a.own) × EndsInStore a (i + 1))) → UnmarkedIntoStoreWinAtMost a most marks
-unmarked_at_start a most marks marked h legal unmarked ends = absurd (
-    let holds = legal_holds (storeless a) h legal in
-    let at : h ≡ h - 1 + 1 = omega arith in
-    let some = (marked _).1 (omega arith, subst (EndsInStore a) at ends) in
-    omega arith)
+-- before any was tried
+pub tried_at_start : {a : HousesState} {beta mask : ℕ} → AreWithinLimits a → is_over (storeless a) ≡ false
+    → ((i : ℕ) → (0 < cell mask i) ↔ ((i < length a.own) × EndsInStore a (i + 1))) → AreTriedIntoStore a beta 0 mask
+tried_at_start {a} limits going members = record {
+  short_or_zero = λ enough. refl;
+  movable = record { legal = λ i some. let both = (members i).0 some in into_store_legal i limits going both.0 both.1 };
+  ends = λ i some. ((members i).0 some).1;
+  tried = λ h legal outside ends. absurd (
+      let holds = legal_holds (storeless a) h legal in
+      let at : h ≡ h - 1 + 1 = omega arith in
+      let some = (members _).1 (omega arith, subst (EndsInStore a) at ends) in
+      omega arith);
+}
 
--- the last of them was tried
-pub unmarked_without_last : (a : HousesState) (most : ℕ) {marks h : ℕ} (bound : ℕ) {new : ℕ}
-    → UnmarkedIntoStoreWinAtMost a most marks → IsLastMark marks h → WinsAtMost a bound h → new ≡ max most bound
-    → UnmarkedIntoStoreWinAtMost a new (without_mark marks h)
-unmarked_without_last a most {marks} {h} bound {new} tried last at_most new_is =
-    each_unmarked_without_last a (λ i. EndsInStore a i → WinsAtMost a new i) last (λ ends. omega arith)
-    (λ i legal place unmarked ends. omega (arith, tried i legal unmarked ends))
+-- the last one of the set was tried, and falls short
+pub tried_without_last : {a : HousesState} {beta most mask h rest : ℕ} (bound new : ℕ) → AreTriedIntoStore a beta most mask
+    → IsLastIn mask h → rest ≡ without_house mask h → WinsAtMost a bound h → bound < beta → new ≡ max most bound
+    → AreTriedIntoStore a beta new rest
+tried_without_last {a} bound new before last rest_is at_most short new_is = rw rest_is (record {
+  short_or_zero = short_stays before.short_or_zero short new_is;
+  movable = movable_before_last before.movable last;
+  ends = each_before_last (EndsInStore a) last before.ends;
+  tried = each_outside_without_last a (λ i. EndsInStore a i → WinsAtMost a new i) last (λ ends. omega arith)
+      (λ i legal place outside ends. omega (arith, before.tried i legal outside ends));
+})
+
+-- once the set is empty, all were tried
+pub all_tried : {a : HousesState} {beta most mask : ℕ} → AreTriedIntoStore a beta most mask → mask ≡ 0 → (h : ℕ) → IsLegal a h
+    → EndsInStore a h → WinsAtMost a most h
+all_tried tried none h legal = tried.tried h legal (rw none (cell_of_zero (h - 1)))
 
 -- ==== The turns that waited, tried by their priority
 
--- the moves with a priority are still to be tried, and the others win at most `most` seeds
-pub record AreUntried (a : HousesState) (most : ℕ) (priorities : List ℕ) (turns : List HousesState) : Type 0 where
+-- the turns that wait are still to be tried, and the other moves win at most `most` seeds, which falls short
+pub record AreUntried (a : HousesState) (beta most : ℕ) (priorities : List ℕ) (turns : List HousesState) : Type 0 where
+  pub short : most < beta
   pub waiting : AreTurns a priorities turns
   pub tried : (h : ℕ) → IsLegal a h → get_or priorities (h - 1) 0 ≡ 0 → WinsAtMost a most h
 
--- the move with a given priority waits with its turn
-pub next_waits : {a : HousesState} {most : ℕ} {priorities : List ℕ} {turns : List HousesState} {priority : ℕ} → IsWithinHouses a
-    → AreUntried a most priorities turns → Contains priorities priority → 0 < priority → WaitsWith a priorities turns priority
-next_waits {a} {most} {priorities} {turns} {priority} limits untried found some =
-    let waiting = untried.waiting in
-    let k = found.0 in
-    let here = get_or_default _ k 0 _ found.1 ∙ found.2 in
-    let turn : (d : HousesState) → IsTurnOf a _ priority _ =
-    λ d. subst (λ r. IsTurnOf a (k + 1) r (get_or turns k d)) here (waiting.each k (omega arith) d) in
-    let same : priority % 8 ≡ k = omega (arith, (turn a).house) in
-    let holds = legal_holds (storeless a) _ (turn a).legal in
-    record { place = omega arith; stands = rw same here; turn = rw same turn }
+-- before any of them was tried: all others were
+pub untried_at_start : {a : HousesState} {beta others new : ℕ} {priorities : List ℕ} {turns : List HousesState} (into_store : ℕ)
+    → AreWaiting a beta others priorities turns → ((h : ℕ) → IsLegal a h → EndsInStore a h → WinsAtMost a into_store h)
+    → into_store < beta → others < beta → new ≡ max into_store others → AreUntried a beta new priorities turns
+untried_at_start into_store waiting ends into_short short new_is = grind arith
 
--- before any move with a priority was tried: all others were
-pub untried_at_start : {a : HousesState} {beta others new : ℕ} {priorities : List ℕ} {turns : List HousesState} (again : ℕ)
-    → length priorities ≡ 8 → AreWaiting a beta others priorities turns
-    → ((h : ℕ) → IsLegal a h → EndsInStore a h → WinsAtMost a again h) → others < beta → new ≡ max again others
-    → AreUntried a new priorities turns
-untried_at_start again cells waiting ends short new_is = grind arith
-
--- one move more was tried
-pub untried_fewer : {a : HousesState} {most new : ℕ} {priorities : List ℕ} {turns : List HousesState} (at bound : ℕ)
-    → AreUntried a most priorities turns → at < 6 → WinsAtMost a bound (at + 1) → new ≡ max most bound
-    → AreUntried a new (slice_set priorities at 0) turns
-untried_fewer {a} {priorities = priorities} at bound untried place at_most new_is = record {
-  waiting = turns_without_one at untried.waiting place;
-  tried = λ h legal none. elim (cases_eq (h - 1) at) [
+-- one was taken out and tried, and falls short
+pub untried_fewer : {a b : HousesState} {beta most new : ℕ} {priorities rest : List ℕ} {turns : List HousesState} (bound : ℕ)
+    → AreUntried a beta most priorities turns → (taken : IsTaken priorities turns b rest) → WinsAtMost a bound (taken.at + 1)
+    → bound < beta → new ≡ max most bound → AreUntried a beta new rest turns
+untried_fewer {a} {priorities = priorities} {turns = turns} bound untried taken at_most short new_is = rw taken.rest_is (record {
+  short = omega (arith, untried.short);
+  waiting = turns_without_one a priorities turns taken.at untried.waiting;
+  tried = λ h legal none. elim (cases_eq (h - 1) taken.at) [
     | inl same ↦
         let first = (legal_holds (storeless a) h legal).first in
-        let house : at + 1 ≡ h = omega arith in
+        let house : taken.at + 1 ≡ h = omega arith in
         omega (arith, subst (WinsAtMost a bound) house at_most)
-    | inr other ↦ omega (arith, untried.tried h legal (rw (get_or-set_other priorities at _ 0 0 other) at none))
+    | inr other ↦ omega (arith, untried.tried h legal (rw (get_or-set_other priorities taken.at _ 0 0 other) at none))
   ];
-}
+})
 
--- if no priority is left, best play wins at most as many
-pub none_untried : {a : HousesState} {most : ℕ} {priorities : List ℕ} {turns : List HousesState} (highest : ℕ) → IsWithinHouses a
-    → is_over (storeless a) ≡ false → AreUntried a most priorities turns → ((k : ℕ) → get_or priorities k 0 ≤ highest)
-    → highest ≡ 0 → won a ≤ most
-none_untried {a} {most} highest limits going untried above none = won_at_most_of_all a _ limits going (omega arith)
+-- once none waits, `most` is a bound of what best play wins
+pub none_untried : {a : HousesState} {beta most : ℕ} {priorities : List ℕ} {turns : List HousesState} → AreWithinLimits a
+    → is_over (storeless a) ≡ false → AreUntried a beta most priorities turns → IsEmpty priorities → IsSoftBound beta (won a) most
+none_untried {a} limits going untried none =
+    soft_if_short untried.short (won_at_most_of_all a _ limits going (λ h legal. untried.tried h legal (none (h - 1))))

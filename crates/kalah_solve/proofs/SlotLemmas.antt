@@ -1,17 +1,15 @@
 -- What the slots of houses state stays true: a slot and a tag determine the key.
 use Rattle.std.proofs.Common.{ℕ, ◌≡◌, ◌+◌, ◌*◌, ◌/◌, ◌%◌, ◌^◌, ◌-◌, ◌<◌, ◌≤◌, inl, inr, arith, sym, refl, ap, List, length, ◌∙◌, pow_mono, slice_set, pow_pos, pow-add}
 use Rattle.std.proofs.Math.Nat.{div-div-eq-div-mul, div-lt_iff_lt-mul}
-use Rattle.std.proofs.lemmas.Bool.{cases_lt, cases_eq}
-use Rattle.std.proofs.lemmas.List.{get_or-set_same, get_or-set_other, get_or-replicate}
+use Rattle.std.proofs.lemmas.{Bool.cases_lt, Bool.cases_eq, List.get_or-set_same, List.get_or-set_other, List.get_or-replicate}
 use Rattle.std.proofs.Math.ListN.{replicate, length-replicate, length-set}
-use Rattle.kalah_rules.specs.Position.{HousesState, IsWithinHouses}
+use Rattle.kalah_rules.specs.Limits.{most_seeds}
+use Rattle.kalah_rules.specs.Position.{HousesState, AreWithinLimits}
 use Rattle.kalah_rules.specs.Key.{key_of}
 use Rattle.kalah_rules.proofs.KeyLemmas.{key-injective, key_fits}
-use Rattle.kalah_solve.specs.Bounds.Won.{won}
+use Rattle.kalah_solve.specs.{won, mixed, slot_index, tag_of, stored_tag, stored_least, stored_most, IsWithinSlot, AreTrueSlots}
 use Rattle.kalah_solve.proofs.BoundsLemmas.{won_of_houses}
-use Rattle.kalah_rules.specs.Limits.{most_seeds}
-use Rattle.kalah_solve.specs.Table.DirectTable.{mixed, slot_of, tag_of, stored_tag, stored_least, stored_most, IsWithinSlot, AreTrueSlots}
-use Rattle.kalah_solve.specs.declared.table.direct_table.Slot.{Slot}
+use Rattle.kalah_solve.specs.declared.table.slot_table.Slot.{Slot}
 
 -- the inverse, modulo 2 ^ 64, of the number by which a key is mixed
 abbrev inverse_of_mix : ℕ
@@ -27,26 +25,26 @@ mixed-injective : (k l : ℕ) → k < 2 ^ 64 → l < 2 ^ 64 → mixed k ≡ mixe
 mixed-injective k l hk hl same = sym (unmixed _ hk) ∙ ap (λ x. (x * inverse_of_mix) % 2 ^ 64) same ∙ unmixed _ hl
 
 -- bits from bit 54 on are among those from an earlier bit on
-bits_among : (s n : ℕ) → s ≤ 54 → n / 2 ^ 54 ≡ slot_of s n / 2 ^ (54 - s)
+bits_among : (s n : ℕ) → s ≤ 54 → n / 2 ^ 54 ≡ slot_index s n / 2 ^ (54 - s)
 bits_among s n few =
     let all : s + (54 - s) ≡ 54 = omega arith in
     let worth : 2 ^ s * 2 ^ (54 - s) ≡ 2 ^ 54 = rw (← pow-add 2 s (54 - s)) (ap (λ k. 2 ^ k) all) in
     rw (div-div-eq-div-mul n (2 ^ s) (2 ^ (54 - s)), worth) refl
 
 -- so two numbers with one slot and one tag are equal
-slot_and_tag-injective : (s x y : ℕ) → s ≤ 54 → tag_of x ≡ tag_of y → slot_of s x ≡ slot_of s y → x ≡ y
+slot_and_tag-injective : (s x y : ℕ) → s ≤ 54 → tag_of x ≡ tag_of y → slot_index s x ≡ slot_index s y → x ≡ y
 slot_and_tag-injective s x y few rest same = omega (arith, bits_among s x few, bits_among s y few, ap (λ slot. slot / 2 ^ (54 - s)) same)
 
 -- a number has a slot
-pub slot_inside : (s n : ℕ) → s < 64 → n < 2 ^ 64 → slot_of s n < 2 ^ (64 - s)
+pub slot_inside : (s n : ℕ) → s < 64 → n < 2 ^ 64 → slot_index s n < 2 ^ (64 - s)
 slot_inside s n few small =
     let all : 64 - s + s ≡ 64 = omega arith in
     let worth : 2 ^ (64 - s) * 2 ^ s ≡ 2 ^ 64 = rw (← pow-add 2 (64 - s) s) (ap (λ k. 2 ^ k) all) in
     (div-lt_iff_lt-mul (pow_pos s)).1 (rw worth small)
 
 -- houses with one slot and one tag are the same
-houses_by_slot_and_tag : (s : ℕ) (a b : HousesState) → s ≤ 54 → IsWithinHouses a → IsWithinHouses b
-    → tag_of (mixed (key_of a)) ≡ tag_of (mixed (key_of b)) → slot_of s (mixed (key_of a)) ≡ slot_of s (mixed (key_of b))
+houses_by_slot_and_tag : (s : ℕ) (a b : HousesState) → s ≤ 54 → AreWithinLimits a → AreWithinLimits b
+    → tag_of (mixed (key_of a)) ≡ tag_of (mixed (key_of b)) → slot_index s (mixed (key_of a)) ≡ slot_index s (mixed (key_of b))
     → a ≡ b
 houses_by_slot_and_tag s a b enough limits_a limits_b rest place = grind (arith, key-injective, mixed-injective, key_fits, slot_and_tag-injective)
 
@@ -59,7 +57,7 @@ ten_bits bits n some next = elim (cases_lt bits 10) [
 
 -- slots stay true once one more is stored
 pub bounds_more : (s : ℕ) (slots : List Slot) {a : HousesState} {number at : ℕ} {p : Slot} → s ≤ 54 → AreTrueSlots s slots
-    → IsWithinHouses a → number ≡ mixed (key_of a) → at ≡ slot_of s number → at < length slots
+    → AreWithinLimits a → number ≡ mixed (key_of a) → at ≡ slot_index s number → at < length slots
     → stored_tag p ≡ tag_of number → IsWithinSlot p (won a) → AreTrueSlots s (slice_set slots at p)
 bounds_more s slots enough before limits number_is place inside rest known b number_b d limits_b number_b_is inside_b rest_b =
     grind (arith, length-set, cases_eq, get_or-set_same, houses_by_slot_and_tag, get_or-set_other)

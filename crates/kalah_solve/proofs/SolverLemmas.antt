@@ -1,32 +1,22 @@
 -- Games, best play, and what a solver says of it.
 use Rattle.std.proofs.Common.{zero, suc, ◌≡◌, ℕ, ◌<◌, ◌≤◌, inl, inr, List, [], ◌∷◌, length, get_or, arith, ap, sym, subst, ◌∙◌, refl, ◌+◌, w32, to_z, of_z, FitsSigned, false, Contains, ℤ, ◌≤ℤ◌, Bool, nat_lt, neg_ℤ, true, map, pos, ◌<ℤ◌, find, option_map, Some, ◌+ℤ◌, ◌-ℤ◌, int_eq}
-use Rattle.std.proofs.lemmas.Bool.{both_ways, cases_Bool, cases_eq, cond_both}
-use Rattle.kalah_rules.specs.Position.{Position, HasEqualSides, is_over, swapped, final_margin, side_length, seeds, IsWithinLimits, IsSmallMargin, HousesState, IsWithinHouses, houses_in, storeless}
+use Rattle.std.proofs.lemmas.{Bool.both_ways, Bool.cases_Bool, Bool.cases_eq, Bool.cond_both, Int.ints, Int.clamps, List.get_or_default, List.map-id, Simd.map-map, List.Elements.All-map, List.Elements.All-from_get_or, List.Elements.Contains-get_or}
+use Rattle.kalah_rules.specs.Limits.{most_houses}
+use Rattle.kalah_rules.specs.Position.{Position, HasEqualSides, is_over, swapped, final_margin, side_length, seeds, IsWithinLimits, IsSmallMargin, HousesState, AreWithinLimits, houses_in, storeless}
 use Rattle.kalah_rules.specs.Sowing.{after}
 use Rattle.kalah_rules.specs.Play.{legal_houses}
 use Rattle.kalah_rules.specs.Measure.{moves_left}
+use Rattle.kalah_rules.specs.HousesStep.{houses_step}
 use Rattle.kalah_rules.proofs.PlayLemmas.{IsLegal, legal_holds, after_equal_sides, after_fewer, moves_left-swapped}
-use Rattle.kalah_solve.specs.Solver.BestPlay.{Strategy, IsStrategy, Policy, follow, Game, Secures, HoldsTo, IsBestPlay, IsBestMove, IsWorthOfMove}
+use Rattle.kalah_solve.specs.{Strategy, IsStrategy, Policy, follow, Game, Secures, HoldsTo, IsBestPlay, IsBestMove, IsWorthOfMove, EndsInTime, StrategiesPlayAGame, StrategiesPlayOneGame, GamesEnd, WorthIsBestPlay, BestPlayIsOne, BestHouseIsBestPlay, EndsWithAtLeast, EndsWithAtMost, BestPlayAgainstStrategies, BestHouseIsLowest, BestMovesAttain, BestVerdictIsOne, worth, value_of_move, best_house, houses_worth, verdict_of, IsSmallBest, StatesBestPlay, AreValuesByBestPlay, ValueIsWorthOfMove, WorthOfMoveIsOne, ValuesTellVerdict, move_value, values_of, IsMoveValue, least_margin, most_margin, clamped, won, won_by_step}
 use Rattle.kalah_solve.specs.Solver.BestPlay.Game.{is_at_end, moves_on, passes_turn}
-use Rattle.kalah_solve.specs.Solver.Laws.{EndsInTime, StrategiesPlayAGame, StrategiesPlayOneGame, GamesEnd, WorthIsBestPlay, BestPlayIsOne, BestHouseIsBestPlay, EndsWithAtLeast, EndsWithAtMost, BestPlayAgainstStrategies, BestHouseIsLowest, BestMovesAttain, BestVerdictIsOne}
 use Rattle.kalah_solve.proofs.WorthLemmas.{swapped_equal_sides, over_at_end, worth_of_over, final_swapped, value_moving_again, value_passing, best_found, best_attains, value_most, int_eq-same, find_lowest, worth_of_going, int_eq-lower, greatest_reached, worth_of_houses, value_of_houses}
 use Rattle.lru.proofs.Splits.{Contains-head}
-use Rattle.std.proofs.lemmas.Int.{ints, clamps}
-use Rattle.kalah_solve.specs.Solver.Worth.{worth, value_of_move, best_house, houses_worth}
-use Rattle.std.proofs.lemmas.List.{get_or_default, map-id}
-use Rattle.std.proofs.lemmas.Simd.{map-map}
-use Rattle.kalah_solve.specs.Solver.Verdict.{verdict_of, IsSmallBest, StatesBestPlay}
 use Rattle.kalah_solve.specs.declared.solver.Verdict.TheVariants.{Best, Over}
 use Rattle.kalah_solve.specs.declared.solver.Verdict.{Verdict}
-use Rattle.std.proofs.lemmas.List.Elements.{All-map, All-from_get_or, Contains-get_or}
-use Rattle.kalah_solve.specs.Solver.MoveValues.{StateValues, ValueIsWorthOfMove, WorthOfMoveIsOne, ValuesTellVerdict, move_value, values_of, IsMoveValue}
 use Rattle.kalah_solve.specs.declared.solver.move_values.MoveValue.{MoveValue}
 use Rattle.kalah_rules.proofs.PackedLemmas.{houses_within, is_over-swapped}
-use Rattle.kalah_solve.specs.Bounds.Intervals.{least_margin, most_margin, clamped}
-use Rattle.kalah_rules.specs.HousesStep.{houses_step}
-use Rattle.kalah_solve.specs.Bounds.Won.{won, won_by_step}
 use Rattle.kalah_solve.proofs.BoundsLemmas.{worth_low, worth_high, won_of_houses, won_of_move, won_at_most}
-use Rattle.kalah_rules.specs.Limits.{most_houses}
 
 -- ==== The games that players play
 
@@ -42,7 +32,7 @@ same_policy policy = grind arith
 pub strategy_within : {s : Strategy} → IsStrategy s → IsWithin (follow s) legal_houses
 strategy_within {s} lawful = grind arith
 
--- two strategies play a game to its end
+-- two strategies play a game to its end, if at most n moves are left
 ends_within : (n : ℕ) (mine theirs : Strategy) → IsStrategy mine → IsStrategy theirs → (p : Position) → HasEqualSides p
     → moves_left p ≤ n → (houses : List ℕ) × (final : Position) × Game (follow mine) (follow theirs) p houses final
 ends_within zero mine theirs mine_lawful theirs_lawful p equal few = ([], p, is_at_end (over_at_end p (omega arith)))
@@ -63,6 +53,7 @@ ends_within (suc n) mine theirs mine_lawful theirs_lawful p equal few = elim (ca
       ]
 ]
 
+-- so they play one from each position
 pub a_game_is_played : StrategiesPlayAGame
 a_game_is_played mine theirs mine_lawful theirs_lawful p equal = ends_within (moves_left p) mine theirs mine_lawful theirs_lawful p equal (omega arith)
 
@@ -80,6 +71,7 @@ ends_in_time {mine} {theirs} {p} mine_lawful theirs_lawful equal (passes_turn {h
     let inner = ends_in_time theirs_lawful mine_lawful (swapped_equal_sides _ (after_equal_sides p h)) rest in
     record { over = is_over-swapped final ∙ inner.over; short = omega arith }
 
+-- a game by the rules ends, after no more moves than are left
 pub games_end : GamesEnd
 games_end p houses final equal game = ends_in_time (same_policy _) (same_policy _) equal game
 
@@ -117,6 +109,7 @@ game_is_one {mine} {theirs} {p} mine_forced theirs_forced (passes_turn {h = h} g
     let same = game_is_one theirs_forced mine_forced rest (subst (λ x. Game theirs mine (swapped (after p x)) houses final) e rest') in
     (cc same.0, ap swapped same.1)
 
+-- so two strategies play only one game
 pub one_game_is_played : StrategiesPlayOneGame
 one_game_is_played mine theirs p houses others final other one two = game_is_one (follow_one mine) (follow_one theirs) one two
 
@@ -178,9 +171,11 @@ best_secures p equal = λ houses final game. (game_is_bounded (strategy_within b
 best_holds : (p : Position) → HasEqualSides p → HoldsTo best_house p (worth p)
 best_holds p equal = λ houses final game. (game_is_bounded (same_policy _) (strategy_within best_is_strategy) equal game).high best_plays
 
+-- so it is best play for either side
 pub best_house_is_best_play : BestHouseIsBestPlay
 best_house_is_best_play = grind (arith, best_is_strategy, best_secures, best_holds)
 
+-- and the worth is the margin of best play
 pub worth_is_best_play : WorthIsBestPlay
 worth_is_best_play p equal = grind (arith, best_is_strategy, best_secures, best_holds)
 
@@ -198,6 +193,7 @@ module _ (mine theirs : Strategy) (mine_lawful : IsStrategy mine) (theirs_lawful
       let game = a_game_is_played mine _ mine_lawful theirs_lawful p equal in
       (game.0, game.1, game.2, holds _ game.1 (widened (strategy_within mine_lawful) (same_policy _) equal game.2))
 
+-- either player has a strategy that gets the worth against each strategy of the other
 pub best_against_strategies : BestPlayAgainstStrategies
 best_against_strategies = record {
   secured = λ p equal. (
@@ -222,6 +218,7 @@ secured_at_most p v w equal a b =
     let same = ap final_margin (one_game_is_played _ b.held.0 p low.0 _ low.1 _ low.2 high.2).1 in
     omega (arith, ints, low.3)
 
+-- so they are equal
 pub best_play_is_one : BestPlayIsOne
 best_play_is_one p v w equal a b = omega (arith, ints, secured_at_most p v w equal a b, secured_at_most p w v equal b a)
 
@@ -260,7 +257,7 @@ attains_if_best p h best = move_worth_is_one (move_worth p h) best.worth
 best_move : (p : Position) → HasEqualSides p → is_over p ≡ false → IsBestMove p (best_house p) (worth p)
 best_move p equal going = attaining_is_best _ _ equal (best_found _ equal going).0 (best_attains equal going)
 
--- the best house is the lowest legal house that attains the worth
+-- no lower legal house attains the worth
 best_lowest : (p : Position) (h : ℕ) → is_over p ≡ false → Contains (legal_houses p) h → value_of_move p h ≡ worth p
     → best_house p ≤ h
 best_lowest p h going legal attains =
@@ -268,6 +265,7 @@ best_lowest p h going legal attains =
     (rw going at legal) (int_eq-same _ _ attains) in
     rw going lowest
 
+-- the best house is legal, attains the worth, and is the lowest that does
 pub best_is_lowest : BestHouseIsLowest
 best_is_lowest p equal going = record {
   is_legal = (best_found _ equal going).0;
@@ -279,6 +277,7 @@ best_is_lowest p equal going = record {
 best_house_lowest : (p : Position) (h : ℕ) → is_over p ≡ false → IsBestMove p h (worth p) → best_house p ≤ h
 best_house_lowest p h going best = best_lowest _ _ going best.legal (attains_if_best _ _ best)
 
+-- the best moves are the legal houses that attain the worth
 pub best_moves_attain : BestMovesAttain
 best_moves_attain p h equal going = (λ best. (best.legal, attains_if_best _ _ best), λ legal. attaining_is_best _ _ equal legal.0 legal.1)
 
@@ -318,14 +317,17 @@ stated_is_verdict p (Best margin house) equal states =
     cc (margin_is, house_is)
 stated_is_verdict p (Over margin) equal states = cc
 
+-- so there is only one
 pub best_verdict_is_one : BestVerdictIsOne
 best_verdict_is_one p v w equal one other = grind (arith, stated_is_verdict)
 
 -- ==== What a move secures, and that the values of the moves determine the verdict
 
+-- the value of a move is what it gets in best play
 pub value_is_worth : ValueIsWorthOfMove
 value_is_worth p h equal going is_legal = move_worth p h
 
+-- no other number is
 pub worth_of_move_is_one : WorthOfMoveIsOne
 worth_of_move_is_one p h v w equal going a b = move_worth_is_one a b
 
@@ -336,7 +338,7 @@ houses_of : (p : Position) (xs : List ℕ) → map (λ v. v.house) (map (move_va
 houses_of p xs = map-map (λ (v : MoveValue). v.house) (move_value p) xs ∙ map-id xs
 
 -- the values of the moves are what these secure; if the game is over there are none
-pub values_state : (p : Position) → StateValues p (values_of p)
+pub values_state : (p : Position) → AreValuesByBestPlay p (values_of p)
 values_state p = record {
   houses = houses_of p _;
   worth = All-map (λ (v : MoveValue). IsWorthOfMove p v.house v.value) (move_value p) _
@@ -353,6 +355,7 @@ first_with p m (x ∷ xs) = elim (cases_Bool (int_eq (value_of_move p x) m)) [
   | inr later ↦ rw later (first_with p m xs)
 ]
 
+-- the greatest value and the first house that has it are the verdict
 pub values_tell_verdict : ValuesTellVerdict
 values_tell_verdict p equal going = grind (arith, map-map, worth_of_going, first_with)
 
@@ -367,7 +370,7 @@ find_first p (x ∷ xs) (suc i) within fails here =
     rw (fails 0 (omega arith)) (find_first p xs i (omega arith) (λ k low. fails (suc k) (omega arith)) here)
 
 -- in the whole window the answer is the worth
-pub whole_window : {a : HousesState} (found lo hi : ℤ) → IsWithinHouses a → lo ≡ least_margin → hi ≡ most_margin
+pub whole_window : {a : HousesState} (found lo hi : ℤ) → AreWithinLimits a → lo ≡ least_margin → hi ≡ most_margin
     → found ≡ clamped lo hi (houses_worth a) → found ≡ houses_worth a
 whole_window {a} found lo hi limits lo_is hi_is found_is = omega (arith, ints, clamps, worth_low a limits, worth_high a limits)
 
@@ -375,7 +378,7 @@ whole_window {a} found lo hi limits lo_is hi_is found_is = omega (arith, ints, c
 abbrev pub FallShort : HousesState → ℕ → Type 0
 FallShort a i = (k : ℕ) → k < i → int_eq (value_of_move (storeless a) (get_or (legal_houses (storeless a)) k 0)) (houses_worth a) ≡ false
 
-module _ (a : HousesState) (limits : IsWithinHouses a) where
+module _ (a : HousesState) (limits : AreWithinLimits a) where
   -- a house that wins as many seeds as best play is worth as much
   worth_if_enough : (h : ℕ) → IsLegal a h → won a ≤ won_by_step (houses_step a h)
       → value_of_move (storeless a) h ≡ houses_worth a

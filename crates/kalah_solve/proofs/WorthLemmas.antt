@@ -2,27 +2,20 @@
 use Rattle.kalah_rules.specs.declared.step.Step.TheVariants as board
 use Rattle.std.proofs.Common.{zero, suc, ◌≡◌, ℕ, ◌+◌, ◌<◌, ◌≤◌, inl, inr, List, [], ◌∷◌, length, get_or, arith, sym, ◌∙◌, refl, ap, IsTrue, ◌-◌, Bool, true, false, Contains, map, filter, find, unwrap_or, ℤ, if◌then◌else◌, pos, ◌≤ℤ◌, ◌<ℤ◌, sum, neg_ℤ, ◌+ℤ◌, ◌-ℤ◌, fold, int_eq}
 use Rattle.std.specs.List.{range_with_len}
-use Rattle.std.proofs.lemmas.Bool.{cases_Bool, cases_lt, cond_both}
-use Rattle.std.proofs.lemmas.Int.{fold-int_max_reached, ints, fold-int_max_bounds}
-use Rattle.std.proofs.lemmas.List.{length-map, get_or-map, get_or_default}
-use Rattle.std.proofs.lemmas.List.Elements.{All-contains, All-filter, Contains-get_or, Contains-append_right, Contains-append_left, Contains-push, All-from_get_or}
+use Rattle.std.proofs.lemmas.{Bool.cases_Bool, Bool.cases_lt, Bool.cond_both, Int.fold-int_max_reached, Int.ints, Int.fold-int_max_bounds, List.length-map, List.get_or-map, List.get_or_default, List.Elements.All-contains, List.Elements.All-filter, List.Elements.Contains-get_or, List.Elements.Contains-append_right, List.Elements.Contains-append_left, List.Elements.Contains-push, List.Elements.All-from_get_or, Bool.Decides.Decides-int_eq, List.Sums.sum_by-le}
 use Rattle.lru.proofs.Splits.{Contains-head, Contains-tail, Contains-cons}
-use Rattle.kalah_solve.specs.Solver.Worth.{greatest, worth, best_house, value_by, worth_within, value_of_move, houses_worth}
-use Rattle.std.proofs.lemmas.Bool.Decides.{Decides-int_eq}
-use Rattle.kalah_rules.specs.Position.{Position, IsWithinLimits, is_over, final_margin, HasEqualSides, seeds_in_houses, swapped, swept, houses_in, storeless, HousesState, IsWithinHouses}
-use Rattle.kalah_rules.specs.Play.{legal_houses, step_of}
-use Rattle.kalah_rules.proofs.PlayLemmas.{IsLegal, all_range, legal_holds, holds_legal, sum-zeros, after_equal_sides, after_fewer, moves_left-swapped, with_store_seeds, after-store_seeds, storeless-store_seeds}
-use Rattle.std.proofs.lemmas.List.Sums.{sum_by-le}
+use Rattle.kalah_solve.specs.{greatest, worth, best_house, value_by, worth_within, value_of_move, houses_worth, CountPlaysNoPart, WorthIsMostOfMoves, GoesOn, GoesOnAt}
+use Rattle.kalah_rules.specs.Position.{Position, IsWithinLimits, is_over, final_margin, HasEqualSides, seeds_in_houses, swapped, swept, houses_in, storeless, HousesState, AreWithinLimits}
 use Rattle.kalah_rules.specs.Sowing.{after, is_again}
+use Rattle.kalah_rules.specs.Play.{legal_houses, step_of}
 use Rattle.kalah_rules.specs.Measure.{moves_left}
-use Rattle.kalah_rules.specs.declared.step.Step.{Step}
-use Rattle.kalah_solve.specs.Solver.Laws.{CountPlaysNoPart, WorthIsMostOfMoves}
-use Rattle.std.specs.Int.{int_max}
-use Rattle.kalah_rules.specs.Key.{variant_of, rule_bit}
+use Rattle.kalah_rules.specs.HousesStep.{houses_step_to, houses_step}
 use Rattle.kalah_rules.specs.declared.step.HousesStep.{HousesStep}
 use Rattle.kalah_rules.specs.declared.step.HousesStep.TheVariants.{Over, Again, Turn}
-use Rattle.kalah_rules.specs.HousesStep.{houses_step_to, houses_step}
-use Rattle.kalah_solve.specs.Solver.GoingOn.{GoesOn, GoesOnAt}
+use Rattle.kalah_rules.specs.Key.{variant_of, rule_bit}
+use Rattle.kalah_rules.proofs.PlayLemmas.{IsLegal, all_range, legal_holds, holds_legal, sum-zeros, after_equal_sides, after_fewer, moves_left-swapped, with_store_seeds, after-store_seeds, storeless-store_seeds}
+use Rattle.kalah_rules.specs.declared.step.Step.{Step}
+use Rattle.std.specs.Int.{int_max}
 use Rattle.kalah_rules.proofs.PackedLemmas.{after_keeps, is_over-swapped, after_within, swapped_within}
 
 -- ==== What a search in a list finds
@@ -156,6 +149,7 @@ worth_same (suc n) (suc k) p equal n_high k_high = elim (cases_Bool _) [
       ∙ sym (worth_within-going k p going)
 ]
 
+-- the worth is the same for each count that is high enough
 pub worth_count : CountPlaysNoPart
 unfolding worth
 worth_count p n equal high = worth_same _ _ _ equal high (omega arith)
@@ -188,6 +182,7 @@ StatesStep over again q (board.Over e) = (over ≡ true) × (e ≡ swept q)
 StatesStep over again q (board.Again e) = (over ≡ false) × (again ≡ true) × (e ≡ q)
 StatesStep over again q (board.Turn e) = (over ≡ false) × (again ≡ false) × (e ≡ swapped q)
 
+-- each step states what it is
 pub step_states : (over again : Bool) (q : Position) (s : Step) → s ≡ step_by over again q → StatesStep over again q s
 step_states true again q s step_is = rw step_is (refl, refl)
 step_states false true q s step_is = rw step_is (refl, refl, refl)
@@ -274,6 +269,7 @@ value_most p h equal going legal =
     let at = get_or_default _ legal.0 0 h legal.1 ∙ legal.2 in
     rw (worth_of_going p equal going) (rw at at (greatest_is_most (value_of_move p) _ legal.0 legal.1))
 
+-- some legal move gets the worth, and none gets more
 pub worth_is_most : WorthIsMostOfMoves
 worth_is_most p equal going = record {
   reached = (best_house p, (best_found _ equal going).0, best_attains equal going);
@@ -353,6 +349,7 @@ worth_shift a b p = worth-store_seeds _ a b p
 pub worth_of_houses : (p : Position) → worth p ≡ houses_worth (houses_in p) +ℤ (pos p.own_store -ℤ pos p.other_store)
 worth_of_houses p = ap worth (storeless-store_seeds p) ∙ worth_shift _ p.other_store _
 
+-- the same with the stores in front
 pub worth_by_stores : (p : Position) → worth p ≡ pos p.own_store -ℤ pos p.other_store +ℤ houses_worth (houses_in p)
 worth_by_stores p = omega (arith, ints, worth_of_houses p)
 
@@ -397,7 +394,7 @@ pub record LeadsTo (a : HousesState) (gained : ℕ) (b : HousesState) : Type 0 w
   pub kept : gained + seeds_in_houses (storeless b) ≡ seeds_in_houses (storeless a)
   pub fewer : moves_left (storeless b) < moves_left (storeless a)
   pub going : is_over (storeless b) ≡ false
-  pub limits : IsWithinHouses b
+  pub limits : AreWithinLimits b
   pub same : variant_of b ≡ variant_of a
 
 -- the houses to which a step leads go on from a, and at the end of the game no seed is lost
@@ -431,13 +428,13 @@ worth_by_step : (q : Position) (again : Bool) → q.other_store ≡ 0
 worth_by_step q again none = grind (arith, cases_Bool, worth_again, worth_turn)
 
 -- what a move is worth, by its step
-pub value_is : (a : HousesState) (h : ℕ) → IsWithinHouses a → IsLegal a h
+pub value_is : (a : HousesState) (h : ℕ) → AreWithinLimits a → IsLegal a h
     → value_of_move (storeless a) h ≡ worth_of_step (houses_step a h)
 value_is a h limits legal = worth_by_step (after _ h) _ (after_keeps a h limits (legal_holds _ h legal)).other_store
 
 -- ---- where it leads
 -- each step leads to houses of the same variant with fewer moves left
-pub leads_on : (a : HousesState) (h : ℕ) → IsWithinHouses a → IsLegal a h → LeadsOn a (houses_step a h)
+pub leads_on : (a : HousesState) (h : ℕ) → AreWithinLimits a → IsLegal a h → LeadsOn a (houses_step a h)
 leads_on a h limits legal =
     let holds = legal_holds _ h legal in
     let q = after _ h in
@@ -463,23 +460,28 @@ leads_on a h limits legal =
     }))
 
 -- a step that was played leads there
-pub leads_by : {a : HousesState} (h : ℕ) (s : HousesStep) → IsWithinHouses a → IsLegal a h → s ≡ houses_step a h → LeadsOn a s
+pub leads_by : {a : HousesState} (h : ℕ) (s : HousesStep) → AreWithinLimits a → IsLegal a h → s ≡ houses_step a h → LeadsOn a s
 leads_by {a} h s limits legal step_is = grind (arith, leads_on)
 
 -- ---- what the search needs of a step
 -- houses that go on from a are of its variant, within the limits
-goes_on_to : {a b : HousesState} {variant gained : ℕ} → IsWithinHouses a → variant_of a ≡ variant → LeadsTo a gained b
+goes_on_to : {a b : HousesState} {variant gained : ℕ} → AreWithinLimits a → variant_of a ≡ variant → LeadsTo a gained b
     → GoesOnAt variant gained b
-goes_on_to limits variant_is leads = grind arith
+goes_on_to limits variant_is leads = record {
+  ongoing = record { going = leads.going; variant_is = leads.same ∙ variant_is };
+  few = omega (arith, leads.kept);
+  limits = leads.limits;
+}
 
-goes_on_of : (a : HousesState) (variant : ℕ) (s : HousesStep) → IsWithinHouses a → variant_of a ≡ variant → LeadsOn a s
+-- the same for a step
+goes_on_of : (a : HousesState) (variant : ℕ) (s : HousesStep) → AreWithinLimits a → variant_of a ≡ variant → LeadsOn a s
     → GoesOn variant s
 goes_on_of a variant (Over own other) limits variant_is leads = omega arith
 goes_on_of a variant (Again gained b) limits variant_is leads = goes_on_to limits variant_is leads
 goes_on_of a variant (Turn gained b) limits variant_is leads = goes_on_to limits variant_is leads
 
 -- the step of a legal move goes on in the variant
-pub goes_on : (a : HousesState) (variant h : ℕ) (s : HousesStep) → variant_of a ≡ variant → IsWithinHouses a → IsLegal a h
+pub goes_on : (a : HousesState) (variant h : ℕ) (s : HousesStep) → variant_of a ≡ variant → AreWithinLimits a → IsLegal a h
     → s ≡ houses_step a h → GoesOn variant s
 goes_on a variant h s variant_is limits legal step_is = goes_on_of _ _ _ limits variant_is (leads_by _ _ limits legal step_is)
 
@@ -490,7 +492,7 @@ falls_if_leads_on a (Again gained b) some leads = leads.fewer
 falls_if_leads_on a (Turn gained b) some leads = leads.fewer
 
 -- the step of a legal move leaves fewer moves
-pub step_falls : (a : HousesState) (h : ℕ) (s : HousesStep) → IsWithinHouses a → IsLegal a h → s ≡ houses_step a h
+pub step_falls : (a : HousesState) (h : ℕ) (s : HousesStep) → AreWithinLimits a → IsLegal a h → s ≡ houses_step a h
     → moves_after s < moves_left (storeless a)
 step_falls a h s limits legal step_is =
     let fewer = after_fewer (storeless a) h (legal_holds (storeless a) h legal) (record { same = limits.same_side }) in

@@ -1,9 +1,13 @@
--- What is known of some moves while the others are still to be tried.
-use Rattle.std.specs.Prelude.{◌≡◌, length, ℕ, ◌+◌, ◌-◌, ◌%◌, ◌<◌, ◌≤◌, List, Contains, slice_index, slice_index_or}
-use Rattle.kalah_rules.specs.Position.{HousesState, storeless, seeds, seeds_in_houses}
+-- What a search is asked, where its steps lead, and what is known of some moves while the others are still to be tried.
+use Rattle.std.specs.Prelude.{◌≡◌, ℕ, ◌+◌, ◌-◌, ◌<◌, ◌≤◌, false, List, Contains, slice_index, slice_index_or}
+use Rattle.kalah_rules.specs.Limits.{most_seeds}
+use Rattle.kalah_rules.specs.Position.{HousesState, AreWithinLimits, storeless, seeds_in_houses, is_over}
+use Rattle.kalah_rules.specs.Sowing.{EndsInStore}
 use Rattle.kalah_rules.specs.Play.{legal_houses}
 use Rattle.kalah_rules.specs.HousesStep.{houses_step}
-use Rattle.kalah_rules.specs.declared.step.HousesStep.TheVariants.{Turn}
+use Rattle.kalah_rules.specs.Key.{variant_of}
+use Rattle.kalah_rules.specs.declared.step.HousesStep.{HousesStep}
+use Rattle.kalah_rules.specs.declared.step.HousesStep.TheVariants.{Over, Again, Turn}
 use Rattle.kalah_solve.specs.Bounds.Won.{won, won_by_step}
 
 -- a fail-soft bound of a number: from `beta` on the number is no less than the bound, and below `beta` no more
@@ -15,22 +19,38 @@ pub record IsSoftBound (beta number bound : ℕ) : Type 0 where
 abbrev pub WinsAtMost : HousesState → ℕ → ℕ → Type 0
 WinsAtMost a most h = won_by_step (houses_step a h) ≤ most
 
--- the last seed of house h falls into the store, without a lap
-abbrev pub EndsInStore : HousesState → ℕ → Type 0
-EndsInStore a h = seeds a.own h + h ≡ length a.own + 1
-
--- house h may be moved, its move is a turn after which the other player has b, and its priority names the house
-pub record IsTurnOf (a : HousesState) (h priority : ℕ) (b : HousesState) : Type 0 where
+-- house h may be moved, and its move is a turn after which the other player has b
+pub record IsTurnOf (a : HousesState) (h : ℕ) (b : HousesState) : Type 0 where
   pub legal : Contains (legal_houses (storeless a)) h
   pub step : houses_step a h ≡ Turn (seeds_in_houses (storeless a) - seeds_in_houses (storeless b)) b
-  pub house : priority % 8 + 1 ≡ h
 
--- each house with a priority waits with its turn, and of the others, but those that end in the store, none wins more than `most`,
--- unless that is enough
+-- what waits are turns, those of house 1 at place 0
+abbrev pub AreTurns : HousesState → List ℕ → List HousesState → Type 0
+AreTurns a priorities turns = (k : ℕ) → 0 < slice_index priorities k → (d : HousesState) → IsTurnOf a (k + 1) (slice_index_or turns k d)
+
+-- turns wait, and of the other moves, but those that end in the store, none wins more than `most`, unless that is enough
 pub record AreWaiting (a : HousesState) (beta most : ℕ) (priorities : List ℕ) (turns : List HousesState) : Type 0 where
   pub lower : beta ≤ most → most ≤ won a
-  pub waiting : (k : ℕ) → 0 < slice_index priorities k → (d : HousesState)
-      → IsTurnOf a (k + 1) (slice_index priorities k) (slice_index_or turns k d)
+  pub waiting : AreTurns a priorities turns
   pub others : most < beta → (h : ℕ) → Contains (legal_houses (storeless a)) h → slice_index priorities (h - 1) ≡ 0
       → ¬ EndsInStore a h →
       WinsAtMost a most h
+
+-- ---- where a step leads
+
+-- the game goes on in these houses, which are of this variant
+pub record IsOngoing (variant : ℕ) (a : HousesState) : Type 0 where
+  pub going : is_over (storeless a) ≡ false
+  pub variant_is : variant_of a ≡ variant
+
+-- a step that brought `gained` seeds to the store leads on to these houses
+pub record GoesOnAt (variant gained : ℕ) (b : HousesState) : Type 0 where
+  pub ongoing : IsOngoing variant b
+  pub few : gained + seeds_in_houses (storeless b) ≤ most_seeds
+  pub limits : AreWithinLimits b
+
+-- the houses to which a step leads are of this variant, and the game goes on there; at its end no player has too many seeds
+abbrev pub GoesOn : ℕ → HousesStep → Type 0
+GoesOn variant (Over own other) = own + other ≤ most_seeds
+GoesOn variant (Again gained b) = GoesOnAt variant gained b
+GoesOn variant (Turn gained b) = GoesOnAt variant gained b

@@ -2,5 +2,4 @@ pub mod Worth
 pub mod BestPlay
 pub mod Verdict
 pub mod Laws
-pub mod GoingOn
 pub mod MoveValues

@@ -1,4 +1,4 @@
 pub mod Entries
 pub mod RowRank
-pub mod EndgameTable
-pub mod DirectTable
+pub mod EndingTable
+pub mod SlotTable

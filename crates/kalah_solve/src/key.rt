@@ -1,6 +1,6 @@
 //! The key of houses, a distinct number for each value of them, under the names that callers know.
 ghost use Rattle.std.specs.Prelude.{◌≡◌, ◌↔◌, IsSome, IfSome, Some};
-ghost use Rattle.kalah_rules.specs.Position.{HousesState, IsWithinHouses};
+ghost use Rattle.kalah_rules.specs.Position.{HousesState, AreWithinLimits};
 ghost use Rattle.kalah_rules.specs.Key.{key_of, IsKey};
 
 use kalah_rules::Houses;
@@ -8,7 +8,7 @@ use kalah_rules::Houses;
 /// Returns the key of the houses: `Houses::key`, with its layout. Two values of houses have the same key exactly when they are equal.
 pub fn pack(houses: &Houses) -> u64
     ensures key { result ≡ key_of houses.now }
-    ensures limits { IsWithinHouses houses.now }
+    ensures limits { AreWithinLimits houses.now }
 {
     houses.key()
 }
@@ -17,7 +17,7 @@ pub fn pack(houses: &Houses) -> u64
 pub fn unpack(key: u64) -> Option<Houses>
     ensures valid { IsSome result ↔ IsKey key }
     ensures same { IfSome result (λ a. key_of a ≡ key) }
-    ensures found { (a : HousesState) → IsWithinHouses a → key_of a ≡ key → result ≡ Some a }
+    ensures found { (a : HousesState) → AreWithinLimits a → key_of a ≡ key → result ≡ Some a }
 {
     Houses::of_key(key)
 }

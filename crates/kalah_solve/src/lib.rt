@@ -2,8 +2,8 @@
 #![tactic(auto)]
 
 mod bounds;
+mod house_set;
 mod key;
-mod marks;
 mod search;
 mod solver;
 mod table;

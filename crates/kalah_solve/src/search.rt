@@ -1,38 +1,42 @@
-//! The search: alpha-beta, fail-soft. It closes in on what houses are worth by null windows, which test whether the mover wins at least
-//! a number of seeds. Margins are used at the root and among the entries.
-ghost use Rattle.std.specs.Prelude.{◌≡◌, ◌↔◌, ℕ, ◌+◌, ◌-◌, ◌≤◌, ◌<◌, false, IsTrue, max, min, Contains, slice_index};
+//! The search: fail-soft alpha-beta with null windows. Each test asks whether the mover wins at least `beta` seeds, and `won_within` closes
+//! in on the number by such tests, as an MTD driver does. Margins are used at the root and among the entries.
+ghost use Rattle.std.specs.Prelude.{◌≡◌, ◌↔◌, ℕ, ◌+◌, ◌-◌, ◌≤◌, ◌<◌, false, IsTrue, max, min, Contains};
 ghost use Rattle.kalah_rules.specs.Position.{is_over, storeless, seeds_in_houses};
+ghost use Rattle.kalah_rules.specs.Sowing.{EndsInStore};
 ghost use Rattle.kalah_rules.specs.Play.{legal_houses};
-ghost use Rattle.kalah_rules.specs.Key.{variant_of};
 ghost use Rattle.kalah_rules.specs.HousesStep.{houses_step};
+ghost use Rattle.kalah_rules.specs.Key.{variant_of};
 ghost use Rattle.kalah_solve.specs.Solver.Worth.{houses_worth};
-ghost use Rattle.kalah_solve.specs.Solver.GoingOn.{GoesOn, GoesOnAt};
 ghost use Rattle.kalah_solve.specs.Bounds.Intervals.{clamped};
 ghost use Rattle.kalah_solve.specs.Bounds.Won.{won, won_by_step};
-ghost use Rattle.kalah_solve.specs.Search.{IsSoftBound, WinsAtMost, EndsInStore, AreWaiting};
+ghost use Rattle.kalah_solve.specs.WaitingTurns.{IsEmpty};
+ghost use Rattle.kalah_solve.specs.Search.{IsSoftBound, WinsAtMost, AreWaiting, IsOngoing, GoesOn, GoesOnAt};
 
+mod growth;
 mod known;
 pub(crate) mod move_order;
 mod node_counts;
 #[cfg(test)]
 mod tests;
+mod waiting_turns;
 
 use crate::bounds::interval::Interval;
 use crate::bounds::seed_bounds::{SeedBounds, margin_of};
 use crate::bounds::window::Window;
-use crate::marks::{houses_into_store, remaining_houses, split_last};
-use crate::search::move_order::{MoveOrder, Priorities, highest};
+use crate::house_set::HouseSet;
+use crate::search::move_order::MoveOrder;
 use crate::search::node_counts::{EndingLimit, NodeCounts, SEEDS_THAT_ALWAYS_PAY};
+use crate::search::waiting_turns::WaitingTurns;
 use crate::table::Table;
 use kalah_rules::{House, Houses, HousesStep};
 use std::alloc::{Allocator, Global};
 
-/// What is learned on the way of houses with at most this many seeds is kept in their slot; of others, and of houses that are asked for,
-/// among the entries.
-const MOST_SLOTTED: u8 = 24;
+/// Bounds that the search finds on its way go into slots if the houses have at most this many seeds. All others, and those of houses that
+/// were asked for, go among the entries.
+const MOST_SLOT_SEEDS: u8 = 24;
 
-/// An answer that took fewer nodes than this is not worth an entry.
-const LEAST_NODES: u64 = 60;
+/// An answer that took fewer nodes is not worth an entry.
+const LEAST_ENTRY_NODES: u64 = 60;
 
 // Calls a method that has the number of the variant of some houses as its constant parameter. It is compiled for each variant. The number is
 // that of houses a side, and 8 more under the empty-capture rule.
@@ -60,10 +64,10 @@ macro_rules! in_its_variant {
 pub struct Search<A: Allocator + Clone = Global> {
     pub(crate) table: Table<A>,
     order: MoveOrder,
-    // What is learned on the way of houses with at most this many seeds is kept in slots.
-    most_slotted: u8,
-    // Answers that took fewer nodes get no entry.
-    least_nodes: u64,
+    // `MOST_SLOT_SEEDS`; 0 in a test that keeps all among the entries.
+    most_slot_seeds: u8,
+    // `LEAST_ENTRY_NODES`; 0 in such a test.
+    least_entry_nodes: u64,
     // Endings with at most this many seeds are looked up.
     ending_limit: EndingLimit,
     counts: NodeCounts,
@@ -78,8 +82,8 @@ impl<A: Allocator + Clone> Search<A> {
         Search {
             table,
             order: MoveOrder::new(),
-            most_slotted: MOST_SLOTTED,
-            least_nodes: LEAST_NODES,
+            most_slot_seeds: MOST_SLOT_SEEDS,
+            least_entry_nodes: LEAST_ENTRY_NODES,
             ending_limit: counts.ending_limit(),
             counts,
         }
@@ -91,8 +95,8 @@ impl<A: Allocator + Clone> Search<A> {
         Search {
             table,
             order: MoveOrder::new(),
-            most_slotted: 0,
-            least_nodes: 0,
+            most_slot_seeds: 0,
+            least_entry_nodes: 0,
             ending_limit: EndingLimit::none(),
             counts: NodeCounts::new(),
         }
@@ -115,8 +119,7 @@ impl<A: Allocator + Clone> Search<A> {
 
     // Returns the worth of houses of this variant, raised to the window's lower end and lowered to its upper one.
     fn clamped_in_variant<const VARIANT: u8>(&mut self, houses: &Houses, window: Window) -> i32
-        requires going { is_over (storeless houses.now) ≡ false }
-        requires variant { variant_of houses.now ≡ VARIANT }
+        requires { IsOngoing VARIANT houses.now }
         ensures { result ≡ clamped window.lo window.hi (houses_worth houses.now) }
     {
         let seeds = houses.seeds();
@@ -134,8 +137,7 @@ impl<A: Allocator + Clone> Search<A> {
     // Does the same for houses that are no ending that is looked up. Out of line, so that an ending takes few instructions.
     #[inline(never)]
     fn clamped_by_tests<const VARIANT: u8>(&mut self, houses: &Houses, window: Window) -> i32
-        requires going { is_over (storeless houses.now) ≡ false }
-        requires variant { variant_of houses.now ≡ VARIANT }
+        requires { IsOngoing VARIANT houses.now }
         ensures { result ≡ clamped window.lo window.hi (houses_worth houses.now) }
     {
         let seeds = houses.seeds();
@@ -158,12 +160,11 @@ impl<A: Allocator + Clone> Search<A> {
     // Returns how many seeds the mover wins, raised to the least that is asked and lowered to the most. Tests close in on it, the first a
     // little above half of all.
     fn won_within<const VARIANT: u8>(&mut self, houses: &Houses, asked: SeedBounds) -> u8
-        requires going { is_over (storeless houses.now) ≡ false }
-        requires variant { variant_of houses.now ≡ VARIANT }
+        requires ongoing { IsOngoing VARIANT houses.now }
         requires ordered { asked.least ≤ asked.most }
         ensures { result ≡ max asked.least (min asked.most (won houses.now)) }
     {
-        let houses = houses.known_variant(VARIANT);
+        let houses = houses.in_variant::<VARIANT>();
         let mut low = asked.least;
         let mut high = asked.most;
         let mut beta = houses.seeds() / 2 + 1;
@@ -209,8 +210,7 @@ impl<A: Allocator + Clone> Search<A> {
     #[inline(always)]
     #[cycle(bound)]
     fn bound<const VARIANT: u8>(&mut self, houses: Houses, beta: u8) -> u8
-        requires going { is_over (storeless houses) ≡ false }
-        requires variant { variant_of houses ≡ VARIANT }
+        requires { IsOngoing VARIANT houses }
         ensures { IsSoftBound beta (won houses) result }
     {
         if houses.seeds() <= self.ending_limit.seeds {
@@ -223,11 +223,10 @@ impl<A: Allocator + Clone> Search<A> {
     #[cycle(bound)]
     #[inline(never)]
     fn bound_by_search<const VARIANT: u8>(&mut self, houses: &Houses, beta: u8) -> u8
-        requires going { is_over (storeless houses.now) ≡ false }
-        requires variant { variant_of houses.now ≡ VARIANT }
+        requires { IsOngoing VARIANT houses.now }
         ensures { IsSoftBound beta (won houses.now) result }
     {
-        let houses = houses.known_variant(VARIANT);
+        let houses = houses.in_variant::<VARIANT>();
         let known = self.known_seeds(&houses);
         if beta <= known.least {
             return known.least;
@@ -235,7 +234,7 @@ impl<A: Allocator + Clone> Search<A> {
         if known.most < beta {
             return known.most;
         }
-        let before = self.count_node();
+        let before = self.begin_node();
         let bound = self.bound_by_moves::<VARIANT>(&houses, beta);
         let nodes = self.counts.nodes().saturating_sub(before);
         let learned = if beta <= bound {
@@ -257,35 +256,28 @@ impl<A: Allocator + Clone> Search<A> {
     #[inline(always)]
     #[cycle(bound)]
     fn bound_by_moves<const VARIANT: u8>(&mut self, houses: &Houses, beta: u8) -> u8
-        requires going { is_over (storeless houses.now) ≡ false }
-        requires variant { variant_of houses.now ≡ VARIANT }
+        requires { IsOngoing VARIANT houses.now }
         ensures { IsSoftBound beta (won houses.now) result }
     {
-        let houses = *houses;
+        let houses = *houses; // A copy, so that it stays in registers.
         let seeds = houses.seeds();
         let into_store = self.bound_into_store::<VARIANT>(&houses, beta);
         if beta <= into_store {
             return into_store;
         }
-        let mut priorities = [0u16; 8];
-        let mut turns = [houses.without_seeds(); 6]; // Of a known variant they are a constant.
-        let remaining = self.try_remaining::<VARIANT>(&houses, beta, &mut priorities, &mut turns);
+        let mut waiting = WaitingTurns::none(houses.without_seeds()); // In one variant these houses are a constant.
+        let remaining = self.try_remaining::<VARIANT>(&houses, beta, &mut waiting);
         if beta <= remaining {
             return remaining;
         }
         let mut most = into_store.max(remaining);
-        let waiting = &turns[..];
         let reply_beta = seeds.saturating_sub(beta) + 1; // If the other player wins less of the seeds, the turn is enough.
-        let mut priority = highest(&priorities);
-        while priority > 0 {
-            let at = (priority % 8) as usize;
-            priorities[at] = 0;
-            let bound = seeds - self.bound_by_search::<VARIANT>(&waiting[at], reply_beta);
+        while let Some(next) = waiting.take_highest() {
+            let bound = seeds - self.bound_by_search::<VARIANT>(&next, reply_beta);
             if beta <= bound {
                 return bound;
             }
             most = most.max(bound);
-            priority = highest(&priorities);
         }
         most
     }
@@ -295,17 +287,14 @@ impl<A: Allocator + Clone> Search<A> {
     #[inline(always)]
     #[cycle(bound)]
     fn bound_into_store<const VARIANT: u8>(&mut self, houses: &Houses, beta: u8) -> u8
-        requires going { is_over (storeless houses.now) ≡ false }
-        requires variant { variant_of houses.now ≡ VARIANT }
+        requires { IsOngoing VARIANT houses.now }
         ensures lower { beta ≤ result → result ≤ won houses.now }
         ensures upper { result < beta → (h : ℕ) → Contains (legal_houses (storeless houses.now)) h → EndsInStore houses.now h →
             WinsAtMost houses.now result h }
     {
-        let mut untried = houses_into_store(houses);
-        let mut most = 0;
-        while untried > 0 {
-            let (house, rest) = split_last(untried);
-            untried = rest;
+        let mut untried = HouseSet::ending_in_store(houses);
+        let mut most = 0u8;
+        while let Some(house) = untried.pop_last() {
             let bound = self.bound_step::<VARIANT>(houses.play_into_store(house), beta);
             if beta <= bound {
                 return bound;
@@ -316,35 +305,28 @@ impl<A: Allocator + Clone> Search<A> {
     }
 
     // Plays the remaining moves, each once, until one wins enough. Returns a lower bound of what that one wins, or else, below `beta`, an
-    // upper bound for all that don't wait. The turns that must be searched wait: they are written down, each with its priority, which is
-    // 0 for all else.
+    // upper bound for all that don't wait. The turns that must be searched are added to those that wait.
     #[inline(always)]
     #[cycle(bound)]
     fn try_remaining<const VARIANT: u8>(
         &mut self,
         houses: &Houses,
         beta: u8,
-        priorities: &mut Priorities,
-        turns: &mut [Houses; 6],
+        waiting: &mut WaitingTurns,
     ) -> u8
-        requires going { is_over (storeless houses.now) ≡ false }
-        requires variant { variant_of houses.now ≡ VARIANT }
-        requires none { (k : ℕ) → slice_index priorities.old k ≡ 0 }
-        ensures { AreWaiting houses.now beta result priorities.new turns.new }
+        requires ongoing { IsOngoing VARIANT houses.now }
+        requires none { IsEmpty waiting.old.priorities }
+        ensures { AreWaiting houses.now beta result waiting.new.priorities waiting.new.turns }
     {
-        let mut most = 0;
-        let mut untried = remaining_houses(houses);
-        while untried > 0 {
-            let (house, rest) = split_last(untried);
-            untried = rest;
+        let mut most = 0u8;
+        let mut untried = HouseSet::remaining(houses);
+        while let Some(house) = untried.pop_last() {
             let step = houses.play_by(&self.table.endings.sowings, house);
             let bound = match step {
-                HousesStep::Turn(gained, next) => {
+                HousesStep::Turn { gained, next } => {
                     if gained < beta && next.seeds() > self.ending_limit.seeds {
                         let priority = self.order.priority(houses.m(), house, gained, &next);
-                        let at = (priority % 8) as usize;
-                        priorities[at] = priority;
-                        turns[at] = next;
+                        waiting.add(priority, next);
                         continue;
                     }
                     self.bound_turn::<VARIANT>(gained, next, beta)
@@ -368,14 +350,14 @@ impl<A: Allocator + Clone> Search<A> {
     {
         match step {
             HousesStep::Over { own, .. } => own,
-            HousesStep::Again(gained, next) => {
+            HousesStep::Again { gained, next } => {
                 if beta <= gained {
                     gained
                 } else {
                     gained + self.bound::<VARIANT>(next, beta - gained)
                 }
             }
-            HousesStep::Turn(gained, next) => self.bound_turn::<VARIANT>(gained, next, beta),
+            HousesStep::Turn { gained, next } => self.bound_turn::<VARIANT>(gained, next, beta),
         }
     }
 

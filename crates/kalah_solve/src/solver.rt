@@ -1,6 +1,6 @@
 //! The solver: the worth of positions, by a search with a table.
 ghost use Rattle.std.specs.Prelude.{◌≡◌, ◌≤◌, IfOk, false};
-ghost use Rattle.kalah_rules.specs.Position.{is_over, storeless, houses_in, IsWithinHouses, IsWithinLimits, IsSmallMargin};
+ghost use Rattle.kalah_rules.specs.Position.{is_over, storeless, houses_in, AreWithinLimits, IsWithinLimits, IsSmallMargin};
 ghost use Rattle.kalah_solve.specs.Solver.Worth.{best_house, houses_worth, worth};
 ghost use Rattle.kalah_solve.specs.Table.Entries.{most_entries, empty_table};
 ghost use Rattle.kalah_solve.specs.Bounds.Won.{won};
@@ -30,7 +30,7 @@ pub enum Verdict {
 
 // Returns the margin of best play of the position, whose houses are worth `best`.
 #[inline(always)]
-fn with_stores(best: i32, board: &Board) -> i32
+fn worth_of_board(best: i32, board: &Board) -> i32
     requires best { best ≡ houses_worth (houses_in board.now) }
     requires limits { IsWithinLimits board.now }
     ensures worth { result ≡ worth board.now }
@@ -87,13 +87,13 @@ impl<A: Allocator + Clone> Solver<A> {
         let best = self.houses_worth(&houses);
         let beta = won_of(best, houses.seeds());
         let house = self.best_house(&houses, beta);
-        let margin = with_stores(best, board);
+        let margin = worth_of_board(best, board);
         Verdict::Best { margin, house }
     }
 
     // Returns what houses are worth to the player to move, by a search in the whole window.
     fn houses_worth(&mut self, houses: &Houses) -> i32
-        requires limits { IsWithinHouses houses.now }
+        requires limits { AreWithinLimits houses.now }
         requires going { is_over (storeless houses.now) ≡ false }
         ensures { result ≡ houses_worth houses.now }
     {

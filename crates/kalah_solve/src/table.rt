@@ -1,21 +1,20 @@
 //! The transposition table: what is known of houses.
-ghost use Rattle.std.specs.Prelude.{◌≡◌, ◌≤◌, ◌⊎◌, length, min, nat_eq, IfOk, IfSome, IsSome, Some, false};
+ghost use Rattle.std.specs.Prelude.{◌≡◌, ◌≤◌, ◌⊎◌, nat_eq, IfOk, IfSome, IsSome, Some};
 ghost use Rattle.std.specs.Map.{lookup};
-ghost use Rattle.kalah_rules.specs.Key.{key_of, variant_of};
-ghost use Rattle.kalah_rules.specs.Position.{storeless, is_over};
+ghost use Rattle.kalah_rules.specs.Key.{key_of};
 ghost use Rattle.kalah_solve.specs.Table.Entries.{most_entries, empty_table};
-ghost use Rattle.kalah_solve.specs.Table.DirectTable.{AreSlotsFor};
-ghost use Rattle.kalah_solve.specs.Table.EndgameTable.{IsEnding};
+ghost use Rattle.kalah_solve.specs.Table.EndingTable.{IsEnding};
+ghost use Rattle.kalah_solve.specs.Search.{IsOngoing};
 ghost use Rattle.kalah_solve.specs.Solver.Worth.{houses_worth};
 
-pub(crate) mod direct_table;
-pub(crate) mod endgame_table;
+pub(crate) mod ending_table;
+pub(crate) mod slot_table;
 #[cfg(test)]
 mod tests;
 
 use crate::bounds::interval::Interval;
-use crate::table::direct_table::DirectTable;
-use crate::table::endgame_table::EndgameTable;
+use crate::table::ending_table::EndingTable;
+use crate::table::slot_table::SlotTable;
 use kalah_rules::Houses;
 use lru::{DefaultHasher, LruCache};
 use std::alloc::{AllocError, Allocator, Global};
@@ -40,13 +39,13 @@ const FIRST_SLOTS: u32 = 8_192;
 pub struct Table<A: Allocator + Clone = Global> {
     entries: LruCache<u64, Interval, DefaultHasher, A>,
     // What is known of houses with few seeds, each in its slot.
-    pub(crate) slots: DirectTable<A>,
+    pub(crate) slots: SlotTable<A>,
     // How many seeds the mover wins of endings, which have still fewer. Tables may share them.
-    pub(crate) endings: Arc<EndgameTable<A>, A>,
+    pub(crate) endings: Arc<EndingTable<A>, A>,
 }
 
 impl<A: Allocator + Clone> Model for Table<A> {
-    ghost use Rattle.kalah_solve.specs.Table.DirectTable.{AreSlots};
+    ghost use Rattle.kalah_solve.specs.Table.SlotTable.{AreSlots};
     ghost use Rattle.kalah_solve.specs.Table.Entries.{TableState, AreTrueEntries};
 
     ghost Value = { TableState };
@@ -69,8 +68,8 @@ impl<A: Allocator + Clone> Table<A> {
         requires high { capacity ≤ most_entries }
         ensures { IfOk result (λ t. t ≡ empty_table capacity) }
     {
-        let endings = EndgameTable::new(alloc.clone()?)?;
-        let endings = Arc::new(alloc.clone()?, endings)?;
+        let shared = alloc.clone()?;
+        let endings = Arc::new(shared, EndingTable::new(alloc.clone()?)?)?;
         Table::with_endings(alloc, capacity, endings)
     }
 
@@ -87,13 +86,13 @@ impl<A: Allocator + Clone> Table<A> {
     fn with_endings(
         alloc: A,
         capacity: u32,
-        endings: Arc<EndgameTable<A>, A>,
+        endings: Arc<EndingTable<A>, A>,
     ) -> Result<Table<A>, AllocError>
         requires low { 1 ≤ capacity }
         requires high { capacity ≤ most_entries }
         ensures { IfOk result (λ t. t ≡ empty_table capacity) }
     {
-        let slots = DirectTable::new(alloc.clone()?, capacity.min(FIRST_SLOTS))?;
+        let slots = SlotTable::new(alloc.clone()?, capacity.min(FIRST_SLOTS))?;
         let capacity = NonZeroUsize::new(capacity as usize).unwrap();
         let entries = LruCache::sparse(alloc, capacity)?;
         Ok(Table {
@@ -103,25 +102,22 @@ impl<A: Allocator + Clone> Table<A> {
         })
     }
 
-    // Makes the slots that go with the capacity, with nothing known. It fails if there is no memory for them.
-    fn all_slots(&self) -> Result<DirectTable<A>, AllocError>
-        ensures { IfOk result (λ p. AreSlotsFor (min self.now.capacity most_entries) (length p)) }
-    {
-        let count = self.entries.cap().get().min(MOST_ENTRIES as usize);
-        DirectTable::new(self.entries.allocator().clone()?, count as u32)
-    }
-
     // Lays out all slots, unless they are, or there is no memory for them. The contents of the first ones are dropped.
     #[cold]
     #[inline(never)]
     pub(crate) fn grow(&mut self)
         ensures { self.new ≡ self.old }
     {
+        let capacity = self.entries.cap().get();
         // Twice as many would be more than the capacity.
-        if self.slots.len() > self.entries.cap().get() / 2 {
+        if self.slots.len() > capacity / 2 {
             return;
         }
-        if let Ok(slots) = self.all_slots() {
+        let count = capacity.min(MOST_ENTRIES as usize) as u32;
+        let Ok(alloc) = self.entries.allocator().clone() else {
+            return;
+        };
+        if let Ok(slots) = SlotTable::new(alloc, count) {
             self.slots = slots;
         }
     }
@@ -130,8 +126,7 @@ impl<A: Allocator + Clone> Table<A> {
     // small enough to be inlined then.
     #[inline(never)]
     pub(crate) fn won<const VARIANT: u8>(&self, houses: Houses) -> u8
-        requires going { is_over (storeless houses) ≡ false }
-        requires variant { variant_of houses ≡ VARIANT }
+        requires ongoing { IsOngoing VARIANT houses }
         requires ending { IsEnding houses }
         ensures { result ≡ won houses }
     {
@@ -148,7 +143,8 @@ impl<A: Allocator + Clone> Table<A> {
         self.entries.get(&key).copied()
     }
 
-    // Stores that the worth of the houses is in the interval, unless there is no memory for it. Replacing an entry needs none.
+    // Stores that the worth of the houses is in the interval, unless there is no memory for it. Replacing an entry needs none. What a table
+    // forgets costs time only.
     pub(crate) fn keep(&mut self, houses: &Houses, interval: Interval)
         requires { Encloses interval (houses_worth houses.now) }
         ensures kept { (lookup (nat_eq (key_of houses.now)) self.new.entries ≡ Some interval) ⊎ (self.new ≡ self.old) }

@@ -3,9 +3,9 @@ ghost use Rattle.std.specs.Prelude.{◌<◌, vec_len};
 mod known;
 
 use super::run_words;
-use crate::sources::Sources;
-use crate::status::ExitStatus;
-use crate::terminal::Terminal;
+use crate::exit::status::ExitStatus;
+use crate::system::sources::Sources;
+use crate::system::terminal::Terminal;
 use kalah_jobs::{Sink, Stream};
 use std::io::{ErrorKind, Write};
 use std::process::Abort;
@@ -54,17 +54,17 @@ impl Write for Failing {
 }
 
 // The arguments of the command line; the first is the program's name.
-fn words_of(rt: &impl Host, texts: &[&str]) -> Vec<String>
+fn arguments_of(rt: &impl Host, texts: &[&str]) -> Vec<String>
     ensures { 0 < vec_len result }
 {
-    let mut words = Vec::new(rt.alloc());
+    let mut arguments = Vec::new(rt.alloc());
     for text in texts {
-        let word = String::from_str(rt.alloc(), *text).expect(rt, "no memory");
-        words.push(word).expect(rt, "no memory");
+        let argument = String::from_str(rt.alloc(), *text).expect(rt, "no memory");
+        arguments.push(argument).expect(rt, "no memory");
     }
     let name = String::from_str(rt.alloc(), "kalah").expect(rt, "no memory");
-    words.insert(0, name).expect(rt, "no memory");
-    words
+    arguments.insert(0, name).expect(rt, "no memory");
+    arguments
 }
 
 // Writes a file.
@@ -81,10 +81,10 @@ struct Run {
 }
 
 fn run_on(rt: &impl Host, texts: &[&str]) -> Run {
-    let words = words_of(rt, texts);
+    let arguments = arguments_of(rt, texts);
     let mut out = Stream::new(Vec::<u8>::new(rt.alloc()));
     let mut err = Vec::<u8>::new(rt.alloc());
-    let status = run_words(rt, rt.alloc(), words, &mut out, &mut err);
+    let status = run_words(rt, rt.alloc(), arguments, &mut out, &mut err);
     Run {
         status,
         out: out.into_inner(),
@@ -93,24 +93,29 @@ fn run_on(rt: &impl Host, texts: &[&str]) -> Run {
 }
 
 // A run with these arguments ends with this status, and with these bytes on both outputs.
-fn assert_answers(rt: &impl Host, words: &[&str], status: ExitStatus, (out, err): (&str, &str)) {
-    let run = run_on(rt, words);
-    assert!(rt; run.status == status, "{words:?}");
-    assert!(rt; run.out.as_slice() == out.as_bytes(), "{words:?}");
-    assert!(rt; run.err.as_slice() == err.as_bytes(), "{words:?}");
+fn assert_answers(
+    rt: &impl Host,
+    arguments: &[&str],
+    status: ExitStatus,
+    (out, err): (&str, &str),
+) {
+    let run = run_on(rt, arguments);
+    assert!(rt; run.status == status, "{arguments:?}");
+    assert!(rt; run.out.as_slice() == out.as_bytes(), "{arguments:?}");
+    assert!(rt; run.err.as_slice() == err.as_bytes(), "{arguments:?}");
 }
 
 // Runs with these arguments are clean, and write these texts.
 fn assert_written(rt: &impl Host, rows: &[(&[&str], &str)]) {
-    for (words, text) in rows {
-        assert_answers(rt, *words, ExitStatus::Clean, (*text, ""));
+    for (arguments, text) in rows {
+        assert_answers(rt, *arguments, ExitStatus::Clean, (*text, ""));
     }
 }
 
 // Runs with these arguments end so, with these texts on standard error only.
 fn assert_said(rt: &impl Host, status: ExitStatus, rows: &[(&[&str], &str)]) {
-    for (words, text) in rows {
-        assert_answers(rt, *words, status, ("", *text));
+    for (arguments, text) in rows {
+        assert_answers(rt, *arguments, status, ("", *text));
     }
 }
 
@@ -155,13 +160,13 @@ fn a_line_that_is_not_read_is_answered_by_its_fault(rt: HostRuntime) {
 const MISTAKES: &[&[&str]] = &[&[], &["stop"], &["solve", "--workers", "65", "a.txt"]];
 
 #[test]
-fn mistakes_in_the_words(rt: HostRuntime) {
-    for words in MISTAKES {
-        let run = run_on(&rt, *words);
+fn mistakes_in_the_arguments(rt: HostRuntime) {
+    for arguments in MISTAKES {
+        let run = run_on(&rt, *arguments);
         let is_usage = run.status == ExitStatus::Failed
             && run.out.is_empty()
             && run.err.starts_with(b"error: ");
-        assert!(rt; is_usage, "{words:?}");
+        assert!(rt; is_usage, "{arguments:?}");
     }
 }
 
@@ -181,8 +186,8 @@ fn answers_each_line_of_each_file(rt: HostRuntime) {
     write_file(&rt, "a.txt", b"");
     write_file(&rt, "b.txt", b"1/0 1/0\n2/0 2/0");
     write_file(&rt, "c.txt", b"3/0 3/0\r\n\r\n01/0 1/0\r\n");
-    let words = ["solve", "--workers=2", "a.txt", "b.txt", "c.txt", "b.txt"];
-    assert_answers(&rt, &words, ExitStatus::LineFaults, (BATCH_ANSWERS, ""));
+    let arguments = ["solve", "--workers=2", "a.txt", "b.txt", "c.txt", "b.txt"];
+    assert_answers(&rt, &arguments, ExitStatus::LineFaults, (BATCH_ANSWERS, ""));
 }
 
 // Arguments with a file that can't be read, and the message.
@@ -207,10 +212,10 @@ fn a_file_that_is_not_read(rt: HostRuntime) {
 
 // If the output fails at its call number `k`, and at each later one, the run ends there. It makes `calls` calls if none fails.
 fn assert_stops_at(rt: &impl Host, texts: &[&str], calls: u32, k: u32) {
-    let words = words_of(rt, texts);
+    let arguments = arguments_of(rt, texts);
     let mut out = Stream::new(Failing::new(rt, k));
     let mut err = Vec::<u8>::new(rt.alloc());
-    let status = run_words(rt, rt.alloc(), words, &mut out, &mut err);
+    let status = run_words(rt, rt.alloc(), arguments, &mut out, &mut err);
     let ends = if k <= calls {
         (ExitStatus::Failed, true, "kalah: write failed\n")
     } else {
@@ -249,9 +254,9 @@ const CALLS: &[(&[&str], u32)] = &[
 #[test]
 fn stops_at_a_failed_write(rt: HostRuntime) {
     write_file(&rt, "stopped.txt", b"1,1/0 1,1/0\n2/0 2/0");
-    for (words, calls) in CALLS {
+    for (arguments, calls) in CALLS {
         for k in 1..8u32 {
-            assert_stops_at(&rt, *words, *calls, k);
+            assert_stops_at(&rt, *arguments, *calls, k);
         }
     }
 }

@@ -1,11 +1,11 @@
 -- The jobs of a batch in any order, and what follows if each is offered once.
 use Rattle.std.specs.Prelude.{◌≡◌, ℕ, List, ◌∷◌, ◌++◌, length, map, count_by, slice_index_or, Bool, Result, IsOk}
-use Rattle.kalah_jobs.specs.Types.{Entry, Refusal, Job}
-use Rattle.kalah_jobs.specs.Files.JobList.{no_job, job_list}
-use Rattle.kalah_jobs.specs.Collecting.CollectorState.{ArrivalsState, state_of, HasEnded, new_files}
 use Rattle.kalah_jobs.specs.Collecting.CollectorEvents.{Event, offered_in, Offers}
 use Rattle.kalah_jobs.specs.Collecting.CollectorLaw.{Runs}
+use Rattle.kalah_jobs.specs.Collecting.CollectorState.{ArrivalsState, state_of, HasEnded, new_files}
 use Rattle.kalah_jobs.specs.Collecting.Shares.{AreShared}
+use Rattle.kalah_jobs.specs.Files.JobList.{no_job, job_list}
+use Rattle.kalah_jobs.specs.Types.{Entry, Refusal, Job}
 
 -- job number n, and `no_job` past the last one
 abbrev pub job : List (List Entry) → ℕ → Job

@@ -1,11 +1,11 @@
 -- What offers and takes do, and what a list of them determines without the collector.
-use Rattle.std.specs.Prelude.{◌≡◌, ℕ, ◌+◌, ◌<◌, ◌≤◌, ◌==◌, if◌then◌else◌, List, [], ◌∷◌, length, map, Option, Some, None, Result, MatchOption, MatchResult, IsSomeAnd, Contains}
 use Rattle.std.specs.List.{enumerate_from}
-use Rattle.kalah_jobs.specs.Types.{Entry, Taken, Refusal, Job}
-use Rattle.kalah_jobs.specs.Writing.Answer.{answer_of}
-use Rattle.kalah_jobs.specs.Files.JobList.{entries_of, entry_at, line_job}
+use Rattle.std.specs.Prelude.{◌≡◌, ℕ, ◌+◌, ◌<◌, ◌≤◌, ◌==◌, if◌then◌else◌, List, [], ◌∷◌, length, map, Option, Some, None, Result, MatchOption, MatchResult, IsSomeAnd, Contains}
 use Rattle.kalah_jobs.specs.Collecting.CollectorState.{ArrivalsState, state_of, front, IsNext, HasNoNext, after_offer, after_take}
 use Rattle.kalah_jobs.specs.Collecting.Refusals.{IsWanted, IsRefusedFor}
+use Rattle.kalah_jobs.specs.Files.JobList.{entries_of, entry_at, line_job}
+use Rattle.kalah_jobs.specs.Types.{Entry, Taken, Refusal, Job}
+use Rattle.kalah_jobs.specs.Writing.Answer.{answer_of}
 
 -- an offer is accepted: the answer of its entry is kept, and `ready` lines of its file became ready
 pub record Accepts (jobs : List (List Entry)) (files : List ArrivalsState) (o : Job) (ready : ℕ) (after : List ArrivalsState) : Type 0 where

@@ -2,7 +2,8 @@
 use Rattle.std.specs.Prelude.{◌≡◌, ℕ, ◌+◌, ◌<◌, ◌≤◌, List, [], ◌∷◌, length, map, Option, Some, None, slice_index_or, slice_set, replicate}
 use Rattle.kalah_jobs.specs.Types.{Answer, Taken, Entry}
 
--- Of a file: for each of its lines the answer that came for it, if one came; and how many answers were taken, from the first line on.
+-- Of a file: for each of its lines the answer that has arrived for it, if one has; and how many answers were taken, from the first line
+-- on.
 pub record ArrivalsState : Type 0 where
   pub arrived : List (Option Answer)
   pub taken : ℕ
@@ -11,7 +12,7 @@ pub record ArrivalsState : Type 0 where
 abbrev pub line_count : ArrivalsState → ℕ
 line_count s = length s.arrived
 
--- the answer that came for line k, if one came
+-- the answer that has arrived for line k, if one has
 abbrev pub arrived_for : ArrivalsState → ℕ → Option Answer
 arrived_for s k = slice_index_or s.arrived k None
 
@@ -57,7 +58,7 @@ with_answer s k a = record { arrived = slice_set s.arrived k (Some a); taken = s
 abbrev pub with_one_taken : ArrivalsState → ArrivalsState
 with_one_taken s = record { arrived = s.arrived; taken = s.taken + 1 }
 
--- the line is the first of the file that was not taken, it is ready, and it has the answer that came for it
+-- the line is the first of the file that was not taken, it is ready, and it has the answer that has arrived for it
 pub record IsNext (s : ArrivalsState) (gave : Taken) : Type 0 where
   pub ready : s.taken < front s
   pub first : gave.line ≡ s.taken

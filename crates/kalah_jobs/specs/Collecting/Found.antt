@@ -1,10 +1,10 @@
 -- What a solver finds for an entry.
-use Rattle.kalah_jobs.specs.Types.{Entry, Answer}
-use Rattle.kalah_jobs.specs.declared.writing.answer.Answer.TheVariants as answer
-use Rattle.kalah_jobs.specs.declared.collecting.outcome.Found.{Found}
-use Rattle.kalah_jobs.specs.declared.collecting.outcome.Found.TheVariants.{Verdict, Values, Nothing}
 use Rattle.kalah_solve.specs.declared.solver.Verdict.TheVariants.{Best, Over}
+use Rattle.kalah_jobs.specs.Types.{Entry, Answer}
 use Rattle.kalah_jobs.specs.Writing.Answer.{answer_of}
+use Rattle.kalah_jobs.specs.declared.collecting.found.Found.{Found}
+use Rattle.kalah_jobs.specs.declared.collecting.found.Found.TheVariants.{Verdict, Values, Nothing}
+use Rattle.kalah_jobs.specs.declared.writing.answer.Answer.TheVariants as answer
 
 -- what a solver finds for an answer
 abbrev pub found_for : Answer → Found

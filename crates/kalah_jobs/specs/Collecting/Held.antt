@@ -1,9 +1,9 @@
--- What has come, once these offers were made.
+-- What a collector holds after these offers.
 use Rattle.std.specs.Prelude.{◌≡◌, ℕ, ◌≤◌, List, Some, Contains}
+use Rattle.kalah_jobs.specs.Collecting.CollectorState.{ArrivalsState, state_of, arrived_for, front, HasLinesOf}
+use Rattle.kalah_jobs.specs.Files.JobList.{entry_at, line_job}
 use Rattle.kalah_jobs.specs.Types.{Entry, Answer, Job}
 use Rattle.kalah_jobs.specs.Writing.Answer.{answer_of}
-use Rattle.kalah_jobs.specs.Files.JobList.{entry_at, line_job}
-use Rattle.kalah_jobs.specs.Collecting.CollectorState.{ArrivalsState, state_of, arrived_for, front, HasLinesOf}
 
 -- line k of file f is one of the jobs, the answer is that of its entry, and it was offered with that entry
 pub record IsOffered (jobs : List (List Entry)) (past : List Job) (f k : ℕ) (answer : Answer) : Type 0 where
@@ -12,14 +12,14 @@ pub record IsOffered (jobs : List (List Entry)) (past : List Job) (f k : ℕ) (a
   pub answer_is : answer ≡ answer_of entry
   pub offered : Contains past (line_job f k entry)
 
--- What came are the answers of the lines that were offered with their entry, and nothing else.
+-- What has arrived are the answers of the lines that were offered with their entry, and nothing else.
 pub record HoldsOffered (jobs : List (List Entry)) (past : List Job) (files : List ArrivalsState) : Type 0 where
   pub counts : HasLinesOf jobs files
-  pub came : (f k : ℕ) (e : Entry) → entry_at jobs f k ≡ Some e → Contains past (line_job f k e) →
+  pub arrived : (f k : ℕ) (e : Entry) → entry_at jobs f k ≡ Some e → Contains past (line_job f k e) →
       arrived_for (state_of files f) k ≡ Some (answer_of e)
   pub only : (f k : ℕ) (a : Answer) → arrived_for (state_of files f) k ≡ Some a → IsOffered jobs past f k a
 
--- What was offered has come, and no more was taken than is ready.
+-- It holds what was offered, and no more was taken than is ready.
 pub record AreInStep (jobs : List (List Entry)) (past : List Job) (files : List ArrivalsState) : Type 0 where
   pub offered : HoldsOffered jobs past files
   pub within : (f : ℕ) → (state_of files f).taken ≤ front (state_of files f)

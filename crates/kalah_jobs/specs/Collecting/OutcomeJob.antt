@@ -1,8 +1,8 @@
 -- The parts of an outcome, from its job.
 use Rattle.std.proofs.Common.{ap, sym, ◌≡◌}
-use Rattle.kalah_jobs.specs.declared.collecting.outcome.Found.{Found}
 use Rattle.kalah_jobs.specs.Collecting.Found.{found_of}
 use Rattle.kalah_jobs.specs.Types.{Job}
+use Rattle.kalah_jobs.specs.declared.collecting.found.Found.{Found}
 use Rattle.kalah_jobs.specs.declared.collecting.outcome.Outcome.TheInside.{Inside}
 
 -- the one outcome of a job

@@ -1,5 +1,5 @@
 -- The entry of a line of a file.
-use Rattle.std.specs.Prelude.{◌≡◌, ℕ, List, Result, Ok, Err}
+use Rattle.std.specs.Prelude.{◌≡◌, ℕ, List, Bool, true, false, Result, Ok, Err}
 use Rattle.kalah_rules.specs.Position as position
 use Rattle.kalah_jobs.specs.Line.Line.{Reads, HasFault}
 use Rattle.kalah_jobs.specs.Line.Reading.{reading_of}
@@ -32,6 +32,15 @@ entry_to question line = entry_of_reading question (reading_of line)
 -- with its best move asked
 abbrev pub entry_of : List ℕ → Entry
 entry_of line = entry_to BestMove line
+
+-- the line with this entry is not read, so that it is answered by its fault
+abbrev pub is_faulty_entry : Entry → Bool
+is_faulty_entry (Bad fault) = true
+is_faulty_entry _ = false
+
+-- the line is not read
+abbrev pub is_faulty : List ℕ → Bool
+is_faulty line = is_faulty_entry (entry_of line)
 
 -- each line says exactly one entry
 pub record EntriesAreOne : Type 0 where

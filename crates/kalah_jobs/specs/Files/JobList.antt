@@ -1,8 +1,8 @@
 -- The jobs of a batch: of each file the entries of its lines, and all of them in one list.
-use Rattle.std.specs.Prelude.{ℕ, suc, List, [], ◌∷◌, ◌++◌, Option, slice_get, slice_index_or}
-use Rattle.kalah_jobs.specs.Types.{Entry, Job}
+use Rattle.std.specs.Prelude.{ℕ, suc, List, [], ◌∷◌, ◌++◌, Bool, Option, slice_get, slice_index_or}
+use Rattle.kalah_jobs.specs.Files.Entry.{is_faulty_entry}
+use Rattle.kalah_jobs.specs.Types.{Entry, Job, Empty}
 use Rattle.kalah_jobs.specs.declared.files.entry.Entry.TheVariants.{Bad}
-use Rattle.kalah_jobs.specs.declared.line.line_fault.LineFault.TheVariants.{Empty}
 
 -- the entries of file f; none if there is no such file
 abbrev pub entries_of : List (List Entry) → ℕ → List Entry
@@ -33,3 +33,7 @@ jobs_from f (entries ∷ jobs) = file_jobs f 0 entries ++ jobs_from (suc f) jobs
 -- all jobs in order: files in order, in each its lines in order
 abbrev pub job_list : List (List Entry) → List Job
 job_list jobs = jobs_from 0 jobs
+
+-- the job is answered by a fault
+abbrev pub is_faulty_job : Job → Bool
+is_faulty_job job = is_faulty_entry job.entry

@@ -1,11 +1,11 @@
 -- The jobs of a batch, from its files.
 use Rattle.std.specs.Prelude.{◌≡◌, ◌<◌, ◌≤◌, ℕ, List, length, map, take, sum_by, count_by, slice_index, Result, Ok, Err}
-use Rattle.kalah_jobs.specs.Types.{Entry, Question}
-use Rattle.kalah_jobs.specs.Files.NamedBytes.{NamedBytes}
+use Rattle.kalah_jobs.specs.Files.Entry.{entry_to, is_faulty_entry}
 use Rattle.kalah_jobs.specs.Files.Lines.{lines_of}
-use Rattle.kalah_jobs.specs.Files.Entry.{entry_to}
-use Rattle.kalah_jobs.specs.Writing.Answer.{is_faulty_entry}
+use Rattle.kalah_jobs.specs.Files.NamedBytes.{NamedBytes}
 use Rattle.kalah_jobs.specs.Limits.{most_files, most_lines}
+use Rattle.kalah_jobs.specs.Types.{Entry, Question}
+use Rattle.kalah_jobs.specs.declared.files.jobs.FileJobs.{FileJobs}
 use Rattle.kalah_jobs.specs.declared.files.jobs.JobsFault.{JobsFault}
 use Rattle.kalah_jobs.specs.declared.files.jobs.JobsFault.TheVariants.{TooManyFiles, TooManyLines, OutOfMemory}
 
@@ -36,7 +36,14 @@ pub record AreCounted (jobs : List (List Entry)) (total faults : ℕ) : Type 0 w
   pub all : total ≡ job_count jobs
   pub faulty : faults ≡ sum_by (count_by is_faulty_entry) jobs
 
--- for each file the number of jobs of the files before it
+-- for each file the entries of its lines, and the number of its first job
+abbrev pub entries_in : List FileJobs → List (List Entry)
+entries_in files = map (λ file. file.entries.items) files
+
+abbrev pub starts_in : List FileJobs → List ℕ
+starts_in files = map (λ file. file.start) files
+
+-- the first job of each file comes after the jobs of the files before it
 pub record AreStarts (jobs : List (List Entry)) (starts : List ℕ) : Type 0 where
   pub as_many : length starts ≡ length jobs
   pub before : (f : ℕ) → f < length jobs → slice_index starts f ≡ job_count (take f jobs)

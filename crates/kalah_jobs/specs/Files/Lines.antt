@@ -1,12 +1,18 @@
 -- The lines of a file: its pieces between line feeds.
-use Rattle.std.specs.Prelude.{◌≡◌, ◌≢◌, ◌⊎◌, ◌==◌, if◌then◌else◌, ℕ, List, [], ◌∷◌, ◌++◌, All}
 use Rattle.std.specs.List.{flat_map, onto_first}
+use Rattle.std.specs.Prelude.{◌≡◌, ◌≢◌, ◌⊎◌, ◌==◌, if◌then◌else◌, ℕ, List, [], ◌∷◌, ◌++◌, All}
 
+-- the byte that ends a line
 abbrev pub line_feed : ℕ
 line_feed = 10
 
+-- none of the bytes ends a line
 abbrev pub HasNoLineFeed : List ℕ → Type 0
 HasNoLineFeed piece = All (λ byte. byte ≢ line_feed) piece
+
+-- there are no bytes, or the last of them is a line feed
+abbrev pub EndsWithItsLine : List ℕ → Type 0
+EndsWithItsLine bytes = (bytes ≡ []) ⊎ ((front : List ℕ) × (bytes ≡ front ++ line_feed ∷ []))
 
 -- the pieces in order, each followed by a line feed
 abbrev pub with_line_feeds : List (List ℕ) → List ℕ

@@ -1,18 +1,15 @@
 -- How a position is written in a line, as `1,1/0 1,1/0`, and which lines are read.
-use Rattle.std.specs.Prelude.{◌≡◌, ◌≢◌, ℕ, ◌+◌, ◌-◌, ◌*◌, ◌<◌, ◌≤◌, ◌==◌, if◌then◌else◌, List, [], ◌∷◌, ◌++◌, length, map, codes, decimal}
 use Rattle.std.specs.Char.{IsAsciiDigit}
 use Rattle.std.specs.List.{join_with_byte}
+use Rattle.std.specs.Prelude.{◌≡◌, ◌≢◌, ℕ, ◌+◌, ◌-◌, ◌*◌, ◌<◌, ◌≤◌, ◌==◌, if◌then◌else◌, List, [], ◌∷◌, ◌++◌, length, map, codes, decimal}
 use Rattle.kalah_rules.specs.Limits.{most_houses, most_seeds}
 use Rattle.kalah_rules.specs.Play.{position_after}
 use Rattle.kalah_rules.specs.Position.{Position, side_length, seeds_in_houses}
-use Rattle.kalah_rules.specs.declared.rule.Rule.{Rule}
-use Rattle.kalah_rules.specs.declared.rule.Rule.TheVariants.{Classic, EmptyCapture}
 use Rattle.kalah_rules.specs.declared.step.Step.{Step}
 use Rattle.kalah_rules.specs.declared.step.Step.TheVariants.{Again, Turn, Over}
 use Rattle.kalah_jobs.specs.Limits.{most_line_bytes}
 use Rattle.kalah_jobs.specs.Line.LineFault.{order_of}
-use Rattle.kalah_jobs.specs.Types.{LineFault}
-use Rattle.kalah_jobs.specs.declared.line.line_fault.LineFault.TheVariants.{Long, Empty, Shape, Houses, Seeds}
+use Rattle.kalah_jobs.specs.Types.{LineFault, Rule, Classic, EmptyCapture, Long, Empty, Shape, Houses, Seeds}
 
 -- the byte of `0`, after which come those of the other digits
 abbrev pub zero_digit : ℕ
@@ -117,8 +114,13 @@ pub record HasFault (line : List ℕ) (fault : LineFault) : Type 0 where
 
 -- ---- the text of a position
 
+-- the houses, with a comma between any two
+abbrev pub listed : List ℕ → List ℕ
+listed houses = join_with_byte comma (map decimal houses)
+
+-- a side: its houses, a slash and its store
 abbrev pub side_text : List ℕ → ℕ → List ℕ
-side_text houses store = join_with_byte comma (map decimal houses) ++ slash ∷ decimal store
+side_text houses store = listed houses ++ slash ∷ decimal store
 
 -- the line that writes the position, with each number in full
 unfoldable pub line_text_of : Position → List ℕ

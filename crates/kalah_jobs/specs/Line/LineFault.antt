@@ -1,7 +1,6 @@
 -- The faults of lines.
 use Rattle.std.specs.Prelude.{ℕ, List, codes}
-use Rattle.kalah_jobs.specs.Types.{LineFault}
-use Rattle.kalah_jobs.specs.declared.line.line_fault.LineFault.TheVariants.{Long, Empty, Shape, Houses, Seeds}
+use Rattle.kalah_jobs.specs.Types.{LineFault, Long, Empty, Shape, Houses, Seeds}
 
 -- the word that is printed for a fault
 abbrev pub fault_word : LineFault → List ℕ

@@ -1,15 +1,14 @@
--- How a line is read, from its first byte to its last.
-use Rattle.std.specs.Prelude.{ℕ, zero, suc, ◌+◌, ◌-◌, ◌*◌, ◌==◌, ◌&&◌, not, nat_lt, if◌then◌else◌, List, [], ◌∷◌, ◌++◌, length, Option, Some, None, Result, Ok, Err}
+-- How a line is read, as a parser, so that what it is read as is a value. That this agrees with the grammar, for every line, is the law
+-- `EntriesAreOne`.
 use Rattle.std.specs.Char.{is_ascii_digit}
+use Rattle.std.specs.Prelude.{ℕ, zero, suc, ◌+◌, ◌-◌, ◌*◌, ◌==◌, ◌&&◌, not, nat_lt, if◌then◌else◌, List, [], ◌∷◌, ◌++◌, length, Option, Some, None, Result, Ok, Err}
 use Rattle.kalah_rules.specs.Limits.{most_houses, most_seeds}
 use Rattle.kalah_rules.specs.Position.{Position, side_length, seeds_in_houses}
-use Rattle.kalah_rules.specs.declared.rule.Rule.{Rule}
-use Rattle.kalah_rules.specs.declared.rule.Rule.TheVariants.{Classic, EmptyCapture}
 use Rattle.kalah_jobs.specs.Limits.{most_line_bytes}
 use Rattle.kalah_jobs.specs.Line.Line.{zero_digit, comma, slash, space, letter_e, without_cr}
-use Rattle.kalah_jobs.specs.Types.{LineFault}
-use Rattle.kalah_jobs.specs.declared.line.line_fault.LineFault.TheVariants.{Long, Empty, Shape, Houses, Seeds}
+use Rattle.kalah_jobs.specs.Types.{LineFault, Rule, Classic, EmptyCapture, Long, Empty, Shape, Houses, Seeds}
 
+-- a first step of a reading, and with its value the next one
 infixl 10 ◌>>=◌
 abbrev pub ◌>>=◌ : {A B : Type 0} → Option A → (A → Option B) → Option B
 None >>= f = None
@@ -39,27 +38,27 @@ store_at houses bytes = do
   Some (record { houses = houses; store = store.0; rest = store.1 })
 
 -- what follows a house: the store after a slash, or more houses after a comma
-abbrev pub house_followed : (List ℕ → Option SideRead) → (List ℕ → Option SideRead) → List ℕ → Option SideRead
-house_followed store more [] = None
-house_followed store more (mark ∷ rest) = if mark == slash then store rest else (if mark == comma then more rest else None)
+abbrev pub after_house : (List ℕ → Option SideRead) → (List ℕ → Option SideRead) → List ℕ → Option SideRead
+after_house store more [] = None
+after_house store more (mark ∷ rest) = if mark == slash then store rest else (if mark == comma then more rest else None)
 
 -- the side that begins with these houses and goes on, by at most `n` houses, at the front of the bytes
 abbrev pub side_from : ℕ → List ℕ → List ℕ → Option SideRead
 side_from zero houses bytes = None
 side_from (suc n) houses bytes = do
   house ← number_at bytes
-  house_followed (store_at (houses ++ house.0 ∷ [])) (side_from n (houses ++ house.0 ∷ [])) house.1
+  after_house (store_at (houses ++ house.0 ∷ [])) (side_from n (houses ++ house.0 ∷ [])) house.1
 
 -- the side at the front of the bytes
 unfoldable pub side_at : List ℕ → Option SideRead
 side_at bytes = side_from (length bytes) [] bytes
 
 -- the rule that what stands after the second side names
-abbrev pub rule_of : List ℕ → Option Rule
-rule_of [] = Some Classic
-rule_of (mark ∷ []) = None
-rule_of (mark ∷ byte ∷ []) = if mark == space && byte == letter_e then Some EmptyCapture else None
-rule_of (_ ∷ _ ∷ _ ∷ _) = None
+abbrev pub rule_of_suffix : List ℕ → Option Rule
+rule_of_suffix [] = Some Classic
+rule_of_suffix (mark ∷ []) = None
+rule_of_suffix (mark ∷ byte ∷ []) = if mark == space && byte == letter_e then Some EmptyCapture else None
+rule_of_suffix (_ ∷ _ ∷ _ ∷ _) = None
 
 -- the position with these sides and this rule
 abbrev pub position_of_sides : SideRead → SideRead → Rule → Position
@@ -71,7 +70,7 @@ abbrev pub position_from : SideRead → List ℕ → Option Position
 position_from own [] = None
 position_from own (mark ∷ rest) = if mark == space then (do
   other ← side_at rest
-  rule ← rule_of other.rest
+  rule ← rule_of_suffix other.rest
   Some (position_of_sides own other rule)) else None
 
 -- the position that the text writes, of any number of houses and seeds
@@ -87,14 +86,16 @@ admitted p =
     else (if nat_lt most_houses (side_length p) then Err Houses
     else (if nat_lt most_seeds (seeds_in_houses p) then Err Seeds else Ok p))
 
+-- a position that the text writes, if it is within the limits
 abbrev pub admitted_if_written : Option Position → List ℕ → Result Position LineFault
 admitted_if_written (Some p) text = admitted p
 admitted_if_written None [] = Err Empty
 admitted_if_written None (_ ∷ _) = Err Shape
 
--- the position that the line is read as, or its first fault
+-- the position that a line without its CR is read as, or its first fault
 abbrev pub reading_of_text : List ℕ → Result Position LineFault
 reading_of_text text = if nat_lt most_line_bytes (length text) then Err Long else admitted_if_written (position_of_text text) text
 
+-- the same of a line
 unfoldable pub reading_of : List ℕ → Result Position LineFault
 reading_of line = reading_of_text (without_cr line)

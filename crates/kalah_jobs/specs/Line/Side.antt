@@ -2,8 +2,8 @@
 use Rattle.std.specs.Prelude.{◌≡◌, ◌⊎◌, ℕ, ◌+◌, ◌<◌, ◌≤◌, List, length, sum, Some}
 use Rattle.kalah_rules.specs.Limits.{most_houses, most_in_store, most_seeds}
 use Rattle.kalah_rules.specs.Position.{Position}
-use Rattle.kalah_rules.specs.declared.rule.Rule.{Rule}
 use Rattle.kalah_jobs.specs.Line.Reading.{side_at}
+use Rattle.kalah_jobs.specs.Types.{Rule}
 use Rattle.kalah_jobs.specs.declared.line.side.Side.{Side}
 
 -- the houses or their seeds are too many for a board, so that some are left out

@@ -1,17 +1,16 @@
 -- The answer to a line, and how it is printed.
-use Rattle.std.specs.Prelude.{ℕ, ◌+◌, List, [], ◌∷◌, ◌++◌, map, if◌then◌else◌, Bool, true, false, codes, decimal, ⊤}
 use Rattle.std.specs.Fmt.{signed_decimal}
 use Rattle.std.specs.List.{join_with_byte}
+use Rattle.std.specs.Prelude.{ℕ, ◌+◌, List, [], ◌∷◌, ◌++◌, map, if◌then◌else◌, codes, decimal, ⊤}
 use Rattle.kalah_rules.specs.Play.{legal_houses, step_of}
 use Rattle.kalah_rules.specs.Position as position
 use Rattle.kalah_rules.specs.Position.{is_over, final_margin}
-use Rattle.kalah_solve.specs.Solver.Worth.{worth, best_house}
 use Rattle.kalah_solve.specs.Solver.MoveValues.{values_of}
-use Rattle.kalah_solve.specs.declared.solver.move_values.MoveValue.{MoveValue}
+use Rattle.kalah_solve.specs.Solver.Worth.{worth, best_house}
 use Rattle.kalah_jobs.specs.Files.Lines.{line_feed}
 use Rattle.kalah_jobs.specs.Line.Line.{space, step_text_of}
 use Rattle.kalah_jobs.specs.Line.LineFault.{fault_word}
-use Rattle.kalah_jobs.specs.Types.{Entry, Answer, Taken}
+use Rattle.kalah_jobs.specs.Types.{Entry, Answer, Taken, MoveValue}
 use Rattle.kalah_jobs.specs.declared.files.entry.Entry.TheVariants.{Position, ValuesOf, StepsOf, Bad}
 use Rattle.kalah_jobs.specs.declared.writing.answer.Answer.TheVariants.{Best, Over, Values, Steps, Fault}
 
@@ -26,18 +25,6 @@ answer_of (Position p) = unless_over p (Best (worth p) (best_house p))
 answer_of (ValuesOf p) = unless_over p (Values (values_of p))
 answer_of (StepsOf p) = unless_over p (Steps p)
 answer_of (Bad fault) = Fault fault
-
--- the line was not read
-abbrev pub is_fault : Answer → Bool
-is_fault (Best margin house) = false
-is_fault (Over margin) = false
-is_fault (Values values) = false
-is_fault (Steps p) = false
-is_fault (Fault fault) = true
-
--- the line with this entry is answered by a fault
-abbrev pub is_faulty_entry : Entry → Bool
-is_faulty_entry entry = is_fault (answer_of entry)
 
 -- `H:V`
 abbrev pub value_text : MoveValue → List ℕ
@@ -65,12 +52,12 @@ answer_texts (Steps p) = steps_texts p
 answer_texts (Fault fault) = (codes "fault " ++ fault_word fault) ∷ []
 
 -- the answer isn't of steps, so that it has one text
-abbrev pub IsOfOneLine : Answer → Type 0
-IsOfOneLine (Best margin house) = ⊤
-IsOfOneLine (Over margin) = ⊤
-IsOfOneLine (Values values) = ⊤
-IsOfOneLine (Steps p) = ⊥
-IsOfOneLine (Fault fault) = ⊤
+abbrev pub HasOneText : Answer → Type 0
+HasOneText (Best margin house) = ⊤
+HasOneText (Over margin) = ⊤
+HasOneText (Values values) = ⊤
+HasOneText (Steps p) = ⊥
+HasOneText (Fault fault) = ⊤
 
 -- texts in one line, with `; ` between any two
 abbrev pub in_one_line : List (List ℕ) → List ℕ
@@ -89,3 +76,7 @@ place_text name number = name ++ (codes ":" ++ (decimal (number + 1) ++ codes " 
 -- `NAME:LINE TEXT`, where lines count from 1, for each text of the answer, with a line feed between any two
 abbrev pub answer_line : List ℕ → Taken → List ℕ
 answer_line name taken = join_with_byte line_feed (map (λ text. place_text name taken.line ++ text) (answer_texts taken.answer))
+
+-- what is written for a line: its answer line, or the lines of its steps, and a line feed
+abbrev pub answer_output : List ℕ → Taken → List ℕ
+answer_output name taken = answer_line name taken ++ line_feed ∷ []

@@ -1,37 +1,30 @@
 -- What a batch writes, and what it counts.
-use Rattle.std.specs.Prelude.{◌≡◌, ℕ, List, [], ◌∷◌, ◌++◌, length, map, sum_by, count_by, slice_index_or, Bool}
 use Rattle.std.specs.List.{flat_map, enumerate_from}
-use Rattle.kalah_jobs.specs.Types.{BestMove, Entry, Taken, Tally, Job, Question}
-use Rattle.kalah_jobs.specs.Files.NamedBytes.{NamedBytes}
-use Rattle.kalah_jobs.specs.Files.Lines.{line_feed, lines_of}
-use Rattle.kalah_jobs.specs.Files.Entry.{entry_of, entry_to}
-use Rattle.kalah_jobs.specs.Writing.Answer.{answer_of, is_faulty_entry, answer_line}
+use Rattle.std.specs.Prelude.{◌≡◌, ℕ, List, [], length, map, sum_by, count_by, slice_index_or}
+use Rattle.kalah_jobs.specs.Files.Entry.{entry_to, is_faulty}
 use Rattle.kalah_jobs.specs.Files.JobList.{job_list}
+pub use Rattle.kalah_jobs.specs.Files.JobList.{is_faulty_job}
 use Rattle.kalah_jobs.specs.Files.Jobs.{jobs_to, lines_in_all}
+use Rattle.kalah_jobs.specs.Files.Lines.{lines_of}
+use Rattle.kalah_jobs.specs.Files.NamedBytes.{NamedBytes}
+use Rattle.kalah_jobs.specs.Types.{BestMove, Entry, Taken, Tally, Question}
+use Rattle.kalah_jobs.specs.Writing.Answer.{answer_of, answer_output}
 
--- the answer line of a line with this entry, or its lines, each followed by a line feed; the number counts from 0
-abbrev pub answered : List ℕ → ℕ → Entry → List ℕ
-answered name number entry = answer_line name (record { line = number; answer = answer_of entry }) ++ line_feed ∷ []
-
--- the same for a line of a file, given with its number, if this is asked of its position
+-- what is written for a line of a file, given with its number, which counts from 0, if this is asked of its position
 abbrev pub line_output : Question → List ℕ → ℕ × List ℕ → List ℕ
-line_output question name p = answered name p.0 (entry_to question p.1)
+line_output question name p = answer_output name (record { line = p.0; answer = answer_of (entry_to question p.1) })
 
--- for each line of a file in order, its answer line
+-- for each line of a file in order, what is written for it
 abbrev pub file_output : Question → NamedBytes → List ℕ
 file_output question file = flat_map (line_output question file.name) (enumerate_from 0 (lines_of file.bytes))
 
--- for each file in order, for each of its lines in order, its answer line
+-- for each file in order, for each of its lines in order, what is written for it
 unfoldable pub output_to : Question → List NamedBytes → List ℕ
 output_to question files = flat_map (file_output question) files
 
 -- if the best move is asked of each position
 abbrev pub output_of : List NamedBytes → List ℕ
 output_of files = output_to BestMove files
-
--- the line is answered by a fault, to any question
-abbrev pub is_faulty : List ℕ → Bool
-is_faulty line = is_faulty_entry (entry_of line)
 
 -- the number of lines answered, and the number of faults among them
 unfoldable pub tally_of : List NamedBytes → Tally
@@ -54,21 +47,17 @@ text_of_file text p = flat_map (text_of_line text p.0) (enumerate_from 0 p.1)
 abbrev pub text_of_jobs : (ℕ → Taken → List ℕ) → List (List Entry) → List ℕ
 text_of_jobs text jobs = flat_map (text_of_file text) (enumerate_from 0 jobs)
 
--- the answer line of what is taken of file f, followed by a line feed
+-- what is written for what is taken of file f, if the files have these names
 abbrev pub taken_output : List (List ℕ) → ℕ → Taken → List ℕ
-taken_output names f taken = answer_line (slice_index_or names f []) taken ++ line_feed ∷ []
+taken_output names f taken = answer_output (slice_index_or names f []) taken
 
--- for each job in order its answer line, if the files have these names
+-- for each job in order what is written for it, if the files have these names
 abbrev pub output_of_jobs : List (List ℕ) → List (List Entry) → List ℕ
 output_of_jobs names jobs = text_of_jobs (taken_output names) jobs
 
 -- the names of files
 abbrev pub names_of : List NamedBytes → List (List ℕ)
 names_of files = map (λ file. file.name) files
-
--- the job is answered by a fault
-abbrev pub is_faulty_job : Job → Bool
-is_faulty_job job = is_faulty_entry job.entry
 
 -- what is stated of files and what is stated of their jobs is the same, for each question
 pub record FilesAreTheirJobs : Type 0 where

@@ -1,20 +1,19 @@
 -- How a position is drawn, as a board with the player to move below.
-use Rattle.std.specs.Prelude.{ℕ, ◌-◌, ◌*◌, List, [], ◌∷◌, ◌++◌, length, flat_map, replicate, decimal}
 use Rattle.std.specs.List.{range_with_len}
+use Rattle.std.specs.Prelude.{ℕ, ◌-◌, ◌*◌, List, [], ◌∷◌, ◌++◌, length, flat_map, replicate, decimal}
 use Rattle.kalah_rules.specs.Position.{Position, opposite, seeds, side_length}
-use Rattle.kalah_jobs.specs.Line.Line.{space}
 use Rattle.kalah_jobs.specs.Files.Lines.{line_feed}
+use Rattle.kalah_jobs.specs.Line.Line.{space}
+use Rattle.kalah_jobs.specs.Types.{Player, Mover, Other}
 use Rattle.kalah_jobs.specs.Writing.Player.{houses_of}
-use Rattle.kalah_jobs.specs.Types.{Player}
-use Rattle.kalah_jobs.specs.declared.writing.player.Player.TheVariants.{Mover, Other}
 
 -- the bytes of a column
 abbrev pub column_width : ℕ
 column_width = 4
 
 -- a number at the right of a column
-abbrev pub cell : ℕ → List ℕ
-cell n = replicate (column_width - length (decimal n)) space ++ decimal n
+abbrev pub column_text : ℕ → List ℕ
+column_text n = replicate (column_width - length (decimal n)) space ++ decimal n
 
 -- n columns with nothing in them
 abbrev pub empty_columns : ℕ → List ℕ
@@ -31,11 +30,11 @@ seeds_in player p column = seeds (houses_of player p) (house_in player p column)
 
 -- an empty column, and the player's houses, a column each
 abbrev pub houses_line : Player → Position → List ℕ
-houses_line player p = empty_columns 1 ++ flat_map (λ column. cell (seeds_in player p column)) (range_with_len 1 (side_length p))
+houses_line player p = empty_columns 1 ++ flat_map (λ column. column_text (seeds_in player p column)) (range_with_len 1 (side_length p))
 
 -- the other player's store at the left, and the mover's at the right
 abbrev pub stores_line : Position → List ℕ
-stores_line p = cell p.other_store ++ (empty_columns (side_length p) ++ cell p.own_store)
+stores_line p = column_text p.other_store ++ (empty_columns (side_length p) ++ column_text p.own_store)
 
 -- the other player's houses above, the stores, and the mover's houses below
 unfoldable pub picture_of : Position → List ℕ

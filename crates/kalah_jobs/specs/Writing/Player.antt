@@ -1,8 +1,7 @@
 -- The two players of a board.
 use Rattle.std.specs.Prelude.{ℕ, List}
 use Rattle.kalah_rules.specs.Position.{Position}
-use Rattle.kalah_jobs.specs.Types.{Player}
-use Rattle.kalah_jobs.specs.declared.writing.player.Player.TheVariants.{Mover, Other}
+use Rattle.kalah_jobs.specs.Types.{Player, Mover, Other}
 
 -- the player's houses
 abbrev pub houses_of : Player → Position → List ℕ

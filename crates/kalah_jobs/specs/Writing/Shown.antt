@@ -1,21 +1,21 @@
 -- A position as it is shown: its picture, and below it what each move is worth.
-use Rattle.std.specs.Prelude.{ℕ, ℤ, ◌+◌, ◌-◌, ◌≤◌, List, [], ◌∷◌, ◌++◌, All, if◌then◌else◌, codes, length, replicate, ⊤}
 use Rattle.std.specs.Fmt.{signed_decimal}
+use Rattle.std.specs.Prelude.{ℕ, ℤ, ◌+◌, ◌-◌, ◌≤◌, List, [], ◌∷◌, ◌++◌, All, if◌then◌else◌, codes, length, replicate, ⊤}
 use Rattle.kalah_rules.specs.Position.{Position, final_margin, is_over}
 use Rattle.kalah_solve.specs.Solver.MoveValues.{IsMoveValue, values_of}
-use Rattle.kalah_solve.specs.declared.solver.move_values.MoveValue.{MoveValue}
 use Rattle.kalah_jobs.specs.Files.Lines.{line_feed}
 use Rattle.kalah_jobs.specs.Line.Line.{space}
+use Rattle.kalah_jobs.specs.Types.{MoveValue}
 use Rattle.kalah_jobs.specs.Writing.Picture.{column_width, empty_columns, picture_of}
 
 -- a value at the right of a column, which it fills if it is less than -99
-abbrev pub value_cell : ℤ → List ℕ
-value_cell value = replicate (column_width - length (signed_decimal value)) space ++ signed_decimal value
+abbrev pub value_column : ℤ → List ℕ
+value_column value = replicate (column_width - length (signed_decimal value)) space ++ signed_decimal value
 
 -- the values of moves, each in the column of its house, where `filled` columns are filled already. Nothing follows the last value
 abbrev pub value_columns : ℕ → List MoveValue → List ℕ
 value_columns filled [] = []
-value_columns filled (v ∷ vs) = empty_columns (v.house - filled) ++ (value_cell v.value ++ value_columns (v.house + 1) vs)
+value_columns filled (v ∷ vs) = empty_columns (v.house - filled) ++ (value_column v.value ++ value_columns (v.house + 1) vs)
 
 -- `over, margin M`
 abbrev pub over_text : ℤ → List ℕ
@@ -37,5 +37,5 @@ AscendFrom low [] = ⊤
 AscendFrom low (v ∷ vs) = (low ≤ v.house) × AscendFrom (v.house + 1) vs
 
 -- values and houses are ones that a game can have
-abbrev pub AreSmall : List MoveValue → Type 0
-AreSmall values = All IsMoveValue values
+abbrev pub AreMoveValues : List MoveValue → Type 0
+AreMoveValues values = All IsMoveValue values

@@ -1,10 +1,10 @@
 -- What a sink has of the bytes that it was given, and when its caller may wait.
-use Rattle.std.specs.Prelude.{◌≡◌, ℕ, Bool, true, false, List, Option, take}
 use Rattle.std.specs.Io.KnownBytes.{Appends}
+use Rattle.std.specs.Prelude.{◌≡◌, ℕ, Bool, true, false, List, Option, take}
 
--- known bytes stay at the front and grow by a prefix of bs: by its first n bytes, for some n
+-- known bytes stay at the front and grow by a prefix of the text: by its first n bytes, for some n
 abbrev pub AppendsPrefix : Option (List ℕ) → Option (List ℕ) → List ℕ → Type 0
-AppendsPrefix old new bs = (n : ℕ) × Appends old new (take n bs)
+AppendsPrefix old new text = (n : ℕ) × Appends old new (take n text)
 
 -- what a contract sees of a sink: the bytes written so far, if they are known; whether a call has failed; whether all that was
 -- written is flushed; and whether it may keep bytes in its buffer while the caller waits

@@ -1,9 +1,9 @@
 -- How a batch can be split over machines: by its files, and within a file between two lines.
-use Rattle.std.specs.Prelude.{◌≡◌, ◌⊎◌, ℕ, ◌+◌, List, [], ◌∷◌, ◌++◌, length}
 use Rattle.std.specs.List.{flat_map, enumerate_from}
-use Rattle.kalah_jobs.specs.Types.{Question, Tally}
-use Rattle.kalah_jobs.specs.Files.Lines.{line_feed, lines_of}
+use Rattle.std.specs.Prelude.{◌≡◌, ℕ, ◌+◌, List, [], ◌∷◌, ◌++◌, length}
+use Rattle.kalah_jobs.specs.Files.Lines.{lines_of, EndsWithItsLine}
 use Rattle.kalah_jobs.specs.Files.NamedBytes.{NamedBytes}
+use Rattle.kalah_jobs.specs.Types.{Question, Tally}
 use Rattle.kalah_jobs.specs.Writing.Output.{line_output, output_of, output_to, tally_of}
 
 -- what two batches count together
@@ -17,10 +17,6 @@ pub record OutputSplitsByFiles : Type 0 where
       output_to question (first ++ others) ≡ output_to question first ++ output_to question others
   pub best_moves : (first others : List NamedBytes) → output_of (first ++ others) ≡ output_of first ++ output_of others
   pub counts : (first others : List NamedBytes) → tally_of (first ++ others) ≡ counted_together (tally_of first) (tally_of others)
-
--- there are no bytes, or the last of them is a line feed
-abbrev pub EndsWithItsLine : List ℕ → Type 0
-EndsWithItsLine bytes = (bytes ≡ []) ⊎ ((front : List ℕ) × (bytes ≡ front ++ line_feed ∷ []))
 
 -- what is written for the lines of some bytes of a file, if the first line has this number
 abbrev pub output_from : ℕ → Question → List ℕ → List ℕ → List ℕ

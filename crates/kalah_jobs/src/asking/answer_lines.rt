@@ -1,7 +1,7 @@
 //! Lines of a reader, answered as they come.
-ghost use Rattle.std.specs.Prelude.{◌≡◌, false, IsErrOf};
+ghost use Rattle.std.specs.Prelude.{◌≡◌, false, IfErr};
 ghost use Rattle.std.specs.Io.Buffered.{reader_remaining};
-ghost use Rattle.kalah_jobs.specs.Asking.{AnswersLines, asking_of, unread};
+ghost use Rattle.kalah_jobs.specs.Asking.{AnswersLines, LeavesBy, start_of, unread};
 
 use crate::asking::ask_fault::AskFault;
 use crate::asking::line_head::LineHead;
@@ -22,14 +22,14 @@ fn answer_each<I: Read + Drop, O: Sink>(
     solver: &mut PromptSolver<'_>,
     out: &mut O,
 ) -> Result<bool, AskFault>
-    requires asked { asking_of I.remaining O.state input.old
+    requires start { start_of I.remaining O.state input.old
         ≡ record { question = question; before = unread I.remaining input.old; old = (O.state out.old).written } }
-    requires sink { (O.state out.old).has_failed ≡ false }
+    requires not_failed { (O.state out.old).has_failed ≡ false }
     ensures same_reference { input.new.input.ghost_name ≡ input.old.input.ghost_name }
     ensures lines { AnswersLines question (unread I.remaining input.old) (unread I.remaining input.new) (O.state out.old)
         (O.state out.new) result }
     // After a failed read the reader gives no further byte.
-    ensures none_left { IsErrOf result AskFault.Read → input.new.budget ≡ 0 }
+    ensures fault { IfErr result (λ fault. LeavesBy fault (O.state out.new) input.new.budget) }
 {
     let mut line = LineHead::new();
     let mut all_read = true;

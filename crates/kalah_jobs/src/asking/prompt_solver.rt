@@ -1,9 +1,9 @@
 //! A solver that is asked for the answer to a line once earlier answers are flushed, if that may take a while.
-ghost use Rattle.std.specs.Prelude.{◌≡◌, ◌↔◌, true};
+ghost use Rattle.std.specs.Prelude.{◌≡◌, ◌↔◌, IsTrue, true};
 ghost use Rattle.kalah_jobs.specs.Asking.{TakesLong};
 ghost use Rattle.kalah_jobs.specs.Writing.Answer.{answer_of};
 
-use crate::collecting::outcome::Found;
+use crate::collecting::found::Found;
 use crate::files::entry::Entry;
 use crate::writing::answer::Answer;
 use crate::writing::sink::Sink;
@@ -20,7 +20,7 @@ pub(crate) struct PromptSolver<'a> {
 
 // Returns whether the answer may take a while: it takes a search, and the houses hold more than 9 seeds.
 pub(crate) fn takes_long(entry: &Entry) -> bool
-    ensures { result ≡ true ↔ TakesLong entry.now }
+    ensures { IsTrue result ↔ TakesLong entry.now }
 {
     match entry {
         Entry::Position(board) | Entry::ValuesOf(board) => board.houses().seeds() > QUICK_SEEDS,

@@ -2,7 +2,7 @@
 ghost use Rattle.std.specs.Prelude.{◌≡◌, not, true, false};
 ghost use Rattle.kalah_jobs.specs.Asking.{is_last_read, reply, last_reply};
 ghost use Rattle.kalah_jobs.specs.Writing.Sink.{WasGiven};
-ghost use Rattle.kalah_jobs.specs.Writing.Output.{is_faulty};
+ghost use Rattle.kalah_jobs.specs.Files.Entry.{is_faulty};
 
 use crate::asking::line_head::LineHead;
 use crate::asking::prompt_solver::{PromptSolver, takes_long};
@@ -46,7 +46,11 @@ pub(crate) fn write_last_reply<O: Sink>(
     ensures read { result ≡ is_last_read line.now }
     ensures all_flushed { (O.state out.new).has_failed ≡ false → (O.state out.new).is_flushed ≡ true }
 {
-    let is_read = line.bytes().is_empty() || write_reply(line, question, solver, out);
+    if line.bytes().is_empty() {
+        flush_unless_failed(out);
+        return true;
+    }
+    let is_read = write_reply(line, question, solver, out);
     flush_unless_failed(out);
     is_read
 }

@@ -1,4 +1,4 @@
-//! The answers that have come for one file.
+//! The answers that have arrived for one file.
 ghost use Rattle.std.specs.Prelude.{◌≡◌, ◌+◌, ◌<◌, ◌≤◌, ◌↔◌, ◌==◌, IfOk, IsTrue, IsSome, MatchOption, MatchBool, None, length};
 ghost use Rattle.kalah_jobs.specs.Collecting.CollectorState.{new_file, line_count, front, front_of, arrived_for, with_answer, HasEnded, with_one_taken, IsNext, HasNoNext};
 ghost use Rattle.kalah_jobs.specs.Limits.{most_lines};
@@ -7,11 +7,12 @@ use crate::writing::answer::{Answer, Taken};
 use std::alloc::{AllocError, Global};
 use std::marker::Model;
 
-/// The answers that have come for the lines of a file.
+/// The answers that have arrived for the lines of a file.
 #[derive(Drop)]
 pub(crate) struct Arrivals {
     arrived: Vec<Option<Answer>>,
-    ready: u32,
+    // How many lines, from the first on, have arrived without a gap: those that are ready or taken.
+    front: u32,
     taken: u32,
 }
 
@@ -24,7 +25,7 @@ impl Model for Arrivals {
 
     ghost view = { λ a. record { arrived = a.arrived.items; taken = a.taken } };
 
-    ghost invariant = { λ a. (a.ready ≡ front_of a.arrived.items) × (a.taken ≤ a.ready) × (length a.arrived.items ≤ most_lines) };
+    ghost invariant = { λ a. (a.front ≡ front_of a.arrived.items) × (a.taken ≤ a.front) × (length a.arrived.items ≤ most_lines) };
 }
 
 impl Arrivals {
@@ -37,7 +38,7 @@ impl Arrivals {
         let arrived = vec![in alloc; None; lines as usize]?;
         Ok(Arrivals {
             arrived,
-            ready: 0,
+            front: 0,
             taken: 0,
         })
     }
@@ -46,7 +47,7 @@ impl Arrivals {
     pub(crate) fn ended(&self) -> bool
         ensures { IsTrue result ↔ HasEnded self.now }
     {
-        self.ready as usize == self.arrived.len()
+        self.front as usize == self.arrived.len()
     }
 
     // Returns whether every line was taken.
@@ -63,7 +64,7 @@ impl Arrivals {
         (line as usize) < self.arrived.len()
     }
 
-    // Returns whether the answer of a line has come.
+    // Returns whether the answer of a line has arrived.
     pub(crate) fn has_arrived(&self, line: u32) -> bool
         requires { line < line_count self.now }
         ensures { MatchBool result (IsSome (arrived_for self.now line)) (arrived_for self.now line ≡ None) }
@@ -79,13 +80,13 @@ impl Arrivals {
         ensures more_ready { front self.new ≡ front self.old + result }
     {
         self.arrived[line as usize] = Some(answer);
-        let before = self.ready;
-        while (self.ready as usize) < self.arrived.len()
-            && self.arrived[self.ready as usize].is_some()
+        let before = self.front;
+        while (self.front as usize) < self.arrived.len()
+            && self.arrived[self.front as usize].is_some()
         {
-            self.ready += 1;
+            self.front += 1;
         }
-        self.ready - before
+        self.front - before
     }
 
     // Returns the next line that is ready and was not taken.
@@ -94,7 +95,7 @@ impl Arrivals {
         ensures { MatchOption result (HasNoNext self.old × (self.new ≡ self.old))
             (λ taken. IsNext self.old taken × (self.new ≡ with_one_taken self.old)) }
     {
-        if self.taken == self.ready {
+        if self.taken == self.front {
             return None;
         }
         let line = self.taken;

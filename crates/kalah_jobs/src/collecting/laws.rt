@@ -9,7 +9,7 @@ pub fn answers_in_one_way()
     ensures { AnswersInOneWay }
 {}
 
-/// After any list of offers and takes, what came, how far each file has come and what was taken are as the list determines.
+/// After any list of offers and takes, what has arrived, how far each file has come and what was taken are as the list determines.
 #[tactic(auto, using(crate::proofs::CollectingLemmas::keeps_its_law))]
 pub fn keeps_its_law()
     ensures { KeepsItsLaw }

@@ -3,65 +3,16 @@ ghost use Rattle.std.specs.Prelude.{◌≡◌, ◌<◌, slice_get, Some};
 ghost use Rattle.kalah_jobs.specs.Files.JobList.{job_list};
 ghost use Rattle.kalah_jobs.specs.Files.Jobs.{job_count};
 ghost use Rattle.kalah_jobs.specs.Writing.Answer.{answer_of};
-ghost use Rattle.kalah_jobs.specs.Collecting.Found.{found_of};
 
+use crate::collecting::found::Found;
 use crate::files::entry::Entry;
 use crate::files::job::Job;
-use crate::files::jobs::Jobs;
+use crate::files::jobs::{FoundJob, Jobs};
 use crate::writing::answer::Answer;
-use kalah_solve::{MoveValues, Solver, Verdict};
+use kalah_solve::Solver;
 use std::fmt;
 use std::fmt::Debug;
 use std::marker::Model;
-
-// What a solver finds for an entry. It holds no board, so that it is kept in registers.
-#[derive(Clone, Copy)]
-pub(crate) enum Found {
-    // What the position is worth; of values and steps only that the game is over.
-    Verdict(Verdict),
-    // The value of each move.
-    Values(MoveValues),
-    // Nothing: the entry alone has the answer.
-    Nothing,
-}
-
-impl Found {
-    // Finds what the answer to an entry needs beside the entry.
-    #[tactic(auto, unfolding(crate::specs::Writing::Answer::answer_of))]
-    #[inline(always)]
-    pub(crate) fn of(entry: &Entry, solver: &mut Solver) -> Found
-        ensures { result ≡ found_of entry.now }
-    {
-        match entry {
-            Entry::Position(board) => Found::Verdict(solver.solve(board)),
-            Entry::ValuesOf(board) | Entry::StepsOf(board) if board.is_over() => {
-                let margin = board.returns();
-                Found::Verdict(Verdict::Over { margin })
-            }
-            Entry::ValuesOf(board) => Found::Values(solver.values(board)),
-            Entry::StepsOf(_) | Entry::Bad(_) => Found::Nothing,
-        }
-    }
-
-    // Returns the answer to the entry that this was found for.
-    #[tactic(auto, unfolding(crate::specs::Writing::Answer::answer_of))]
-    #[inline(always)]
-    pub(crate) fn answer(&self, entry: &Entry) -> Answer
-        requires { self.now ≡ found_of entry.now }
-        ensures { result ≡ answer_of entry.now }
-    {
-        match *self {
-            Found::Verdict(Verdict::Best { margin, house }) => Answer::Best { margin, house },
-            Found::Verdict(Verdict::Over { margin }) => Answer::Over { margin },
-            Found::Values(values) => Answer::Values(values),
-            Found::Nothing => match entry {
-                Entry::StepsOf(board) => Answer::Steps(*board),
-                Entry::Bad(fault) => Answer::Fault(*fault),
-                Entry::Position(_) | Entry::ValuesOf(_) => unreachable!(),
-            },
-        }
-    }
-}
 
 /// The answer to one line, with the file, the line and the line's entry. Its answer always belongs to
 /// its entry. File and line may be any numbers; a collector refuses an outcome that is none of its jobs.
@@ -127,13 +78,13 @@ impl Outcome {
         Outcome { job, found }
     }
 
-    /// Answers job `n`, which must be below `total`, and returns its outcome: that of `of` for this job, which is not copied first.
+    /// Answers job `n`, which must be below `total`, and returns its outcome, as `of` does, but without a copy of the job.
     #[inline(always)]
     pub fn of_job(jobs: &Jobs, n: u32, solver: &mut Solver) -> Outcome
         requires { n < job_count jobs.now }
         ensures { slice_get (job_list jobs.now) n ≡ Some result }
     {
-        let (file, line, entry) = jobs.find(n);
+        let FoundJob { file, line, entry } = jobs.find(n);
         let found = Found::of(entry, solver);
         let entry = *entry;
         let job = Job { file, line, entry };

@@ -1,7 +1,6 @@
 //! The entry of a line of a file: what the line says, and what is asked of it.
 ghost use Rattle.std.specs.Prelude.{◌≡◌, ◌↔◌, IsTrue};
-ghost use Rattle.kalah_jobs.specs.Files.Entry.{entry_asked, entry_to};
-ghost use Rattle.kalah_jobs.specs.Writing.Answer.{is_faulty_entry};
+ghost use Rattle.kalah_jobs.specs.Files.Entry.{entry_asked, entry_to, is_faulty_entry};
 
 use crate::files::question::Question;
 use crate::line::line_fault::LineFault;
@@ -47,7 +46,6 @@ impl Entry {
     }
 
     // Returns whether the line is not read, so that it is answered by its fault.
-    #[tactic(auto, unfolding(crate::specs::Writing::Answer::answer_of))]
     pub(crate) fn is_faulty(&self) -> bool
         ensures { result ≡ is_faulty_entry self.now }
     {
@@ -64,7 +62,7 @@ impl Entry {
 fn is_same_board(p: &Board, q: &Board) -> bool
     ensures { IsTrue result ↔ (p.now ≡ q.now) }
 {
-    // Their limits: within these, houses with equal keys are equal.
+    // For a proof: these calls promise the limits of a board, and within these houses with equal keys are equal.
     let _ = (p.m(), q.m());
     *p == *q
 }

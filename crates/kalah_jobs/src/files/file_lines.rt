@@ -30,7 +30,7 @@ fn feed_among(bytes: &[u8], from: usize, count: usize) -> Option<usize>
 
 // Returns the first line of some bytes, and the bytes after it.
 #[inline(always)]
-#[tactic(auto, using(crate::proofs::FilesLemmas::first_lines))]
+#[tactic(auto, using(crate::proofs::FileLinesLemmas::first_lines))]
 pub(crate) fn first_line(bytes: &[u8]) -> (&[u8], &[u8])
     requires { 0 < length bytes.now }
     ensures lines { lines_of bytes.now ≡ result.0.now ∷ lines_of result.1.now }

@@ -1,11 +1,10 @@
 //! The jobs of a batch: the lines of its files.
-ghost use Rattle.std.specs.Prelude.{◌≡◌, ◌<◌, ◌≤◌, ◌++◌, ◌+◌, length, count_by, IfNone, IfOk, IfSome, OnOk, slice_get, Some, Err};
-ghost use Rattle.kalah_jobs.specs.Files.JobList.{entries_of, line_job, job_list};
+ghost use Rattle.std.specs.Prelude.{◌≡◌, ◌<◌, ◌≤◌, ◌++◌, ◌+◌, length, count_by, IfOk, MatchBool, slice_get, Some};
+ghost use Rattle.kalah_jobs.specs.Files.Entry.{is_faulty_entry};
+ghost use Rattle.kalah_jobs.specs.Files.JobList.{entries_of, is_faulty_job, line_job, job_list};
 ghost use Rattle.kalah_jobs.specs.Limits.{most_files, most_lines};
 ghost use Rattle.kalah_jobs.specs.Files.Jobs.{MakesJobs, entries_to, job_count, lines_in_all};
 ghost use Rattle.kalah_jobs.specs.declared.files.question.Question.TheVariants.{BestMove};
-ghost use Rattle.kalah_jobs.specs.Writing.Answer.{is_faulty_entry};
-ghost use Rattle.kalah_jobs.specs.Writing.Output.{is_faulty_job};
 
 use crate::files::entry::Entry;
 use crate::files::file_lines::{count_lines, first_line};
@@ -41,14 +40,27 @@ impl From<AllocError> for JobsFault {
     }
 }
 
+/// A job whose entry stays in its place.
+pub(crate) struct FoundJob<'a> {
+    pub(crate) file: u32,
+    pub(crate) line: u32,
+    pub(crate) entry: &'a Entry,
+}
+
+// The jobs of a file.
+#[derive(Drop)]
+struct FileJobs {
+    // The entries of its lines.
+    entries: Vec<Entry>,
+    // The number of its first job.
+    start: u32,
+}
+
 /// The jobs of a batch: for each file, in order, the entries of its lines, in order. Files, lines and jobs count from 0, and jobs
 /// are numbered file by file, and line by line in each. There are at most 256 files and 1,000,000 lines.
 #[derive(Drop)]
 pub struct Jobs {
-    // For each file the entries of its lines.
-    files: Vec<Vec<Entry>>,
-    // For each file the number of its first job.
-    starts: Vec<u32>,
+    files: Vec<FileJobs>,
     // The number of jobs.
     total: u32,
     // How many of them are answered by a fault.
@@ -56,16 +68,16 @@ pub struct Jobs {
 }
 
 impl Model for Jobs {
-    ghost use Rattle.std.specs.Prelude.{◌≡◌, List, map};
+    ghost use Rattle.std.specs.Prelude.{List};
     ghost use Rattle.kalah_jobs.specs.declared.files.entry.Entry.{Entry};
-    ghost use Rattle.kalah_jobs.specs.Files.Jobs.{AreCounted, AreStarts};
+    ghost use Rattle.kalah_jobs.specs.Files.Jobs.{AreCounted, AreStarts, entries_in, starts_in};
 
     ghost Value = { List (List Entry) };
 
-    ghost view = { λ j. map (λ own. own.items) j.files.items };
+    ghost view = { λ j. entries_in j.files.items };
 
-    ghost invariant = { λ j. AreCounted (map (λ own. own.items) j.files.items) j.total j.faults
-        × AreStarts (map (λ own. own.items) j.files.items) j.starts.items };
+    ghost invariant = { λ j. AreCounted (entries_in j.files.items) j.total j.faults
+        × AreStarts (entries_in j.files.items) (starts_in j.files.items) };
 }
 
 impl Jobs {
@@ -86,24 +98,22 @@ impl Jobs {
         if files.len() > MOST_FILES {
             return Err(JobsFault::TooManyFiles);
         }
-        let Some(total) = lines_within_limit(files) else {
+        if !are_lines_within_limit(files) {
             return Err(JobsFault::TooManyLines);
-        };
+        }
         let mut read = Vec::with_capacity(alloc, files.len())?;
-        let mut starts = Vec::with_capacity(alloc, files.len())?;
         let mut before = 0;
         let mut faults = 0;
         for file in files {
             let (entries, faulty) = read_entries(alloc, question, file)?;
-            faults += faulty;
-            starts.push_reserved(before as u32);
+            let start = before as u32;
             before += entries.len();
-            read.push_reserved(entries);
+            faults += faulty;
+            read.push_reserved(FileJobs { entries, start });
         }
         Ok(Jobs {
             files: read,
-            starts,
-            total: total as u32,
+            total: before as u32,
             faults: faults as u32,
         })
     }
@@ -133,7 +143,7 @@ impl Jobs {
         ensures count { result ≡ length (entries_of self.now f) }
         ensures few { result ≤ most_lines }
     {
-        self.files[f as usize].len() as u32
+        self.files[f as usize].entries.len() as u32
     }
 
     // Returns the entry of a line of a file, in its place.
@@ -143,28 +153,33 @@ impl Jobs {
         requires line { line < length (entries_of self.now f) }
         ensures { slice_get (entries_of self.now f) line ≡ Some result.now }
     {
-        &self.files[f as usize][line as usize]
+        &self.files[f as usize].entries[line as usize]
     }
 
-    // Returns the file and the line of job `n`, and the entry in its place.
+    // Finds job `n`.
     #[inline(always)]
-    pub(crate) fn find(&self, n: u32) -> (u32, u32, &Entry)
+    pub(crate) fn find(&self, n: u32) -> FoundJob<'_>
         requires { n < job_count self.now }
-        ensures { slice_get (job_list self.now) n ≡ Some (line_job result.0 result.1 result.2.now) }
+        ensures { slice_get (job_list self.now) n ≡ Some (line_job result.file result.line result.entry.now) }
     {
         // The job is in a file from `file` on that is before `past`.
         let mut file = 0;
         let mut past = self.files.len();
         while past - file > 1 {
             let middle = file + (past - file) / 2;
-            if self.starts[middle] <= n {
+            if self.files[middle].start <= n {
                 file = middle;
             } else {
                 past = middle;
             }
         }
-        let line = n - self.starts[file];
-        (file as u32, line, &self.files[file][line as usize])
+        let found = &self.files[file];
+        let line = n - found.start;
+        FoundJob {
+            file: file as u32,
+            line,
+            entry: &found.entries[line as usize],
+        }
     }
 
     /// Returns job `n`, which must be below `total`.
@@ -172,7 +187,7 @@ impl Jobs {
         requires { n < job_count self.now }
         ensures { slice_get (job_list self.now) n ≡ Some (line_job result.file result.line result.entry) }
     {
-        let (file, line, entry) = self.find(n);
+        let FoundJob { file, line, entry } = self.find(n);
         Job {
             file,
             line,
@@ -189,24 +204,23 @@ impl Jobs {
     }
 }
 
-// Returns the number of lines that the files have together, or `None` if that is more than a batch may have.
-fn lines_within_limit(files: &[FileText]) -> Option<usize>
-    ensures some { IfSome result (λ lines. (lines ≡ lines_in_all files.now) × (lines ≤ most_lines)) }
-    ensures none { IfNone result (most_lines < lines_in_all files.now) }
+// Returns whether the files have no more lines together than a batch may have.
+fn are_lines_within_limit(files: &[FileText]) -> bool
+    ensures { MatchBool result (lines_in_all files.now ≤ most_lines) (most_lines < lines_in_all files.now) }
 {
     let mut room = MOST_LINES;
     for file in files {
         let lines = count_lines(&file.bytes);
         if lines > room {
-            return None;
+            return false;
         }
         room -= lines;
     }
-    Some(MOST_LINES - room)
+    true
 }
 
 // Returns the entries of the lines of a file, with this question, and how many of these lines are answered by a fault.
-#[tactic(auto, using(crate::proofs::FilesLemmas::no_line), unfolding(crate::specs::Files::Jobs::entries_to))]
+#[tactic(auto, using(crate::proofs::FileLinesLemmas::no_line), unfolding(crate::specs::Files::Jobs::entries_to))]
 fn read_entries(
     alloc: Global,
     question: Question,
@@ -224,7 +238,7 @@ fn read_entries(
         if entry.is_faulty() {
             faults += 1;
         }
-        entries.push(entry)?;
+        entries.push_reserved(entry);
         rest = after;
     }
     Ok((entries, faults))

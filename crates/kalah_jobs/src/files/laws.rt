@@ -3,7 +3,7 @@ ghost use Rattle.kalah_jobs.specs.Files.Lines.{LinesAreOne};
 ghost use Rattle.kalah_jobs.specs.Files.Entry.{EntriesAreOne};
 
 /// Every file has lines, for any bytes, and only one list of them.
-#[tactic(auto, using(crate::proofs::FilesLemmas::lines_are_one))]
+#[tactic(auto, using(crate::proofs::FileLinesLemmas::lines_are_one))]
 pub fn lines_are_one()
     ensures { LinesAreOne }
 {}

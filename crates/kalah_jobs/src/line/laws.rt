@@ -7,7 +7,7 @@ pub fn no_line_reads_twice()
 {}
 
 /// A line that is read is the text of its position, but for a CR at its end.
-#[tactic(auto, using(crate::proofs::LineLemmas::every_line_is_its_text))]
+#[tactic(auto, using(crate::proofs::LineTextLemmas::every_line_is_its_text))]
 pub fn every_line_is_its_text()
     ensures { EveryLineIsItsText }
 {}

@@ -3,7 +3,7 @@ ghost use Rattle.std.specs.Prelude.{◌≡◌, ◌≤◌, length, IfOk, IfErr, I
 ghost use Rattle.kalah_rules.specs.Limits.{most_in_store};
 ghost use Rattle.kalah_rules.specs.Position.{Position};
 ghost use Rattle.kalah_jobs.specs.Line.Line.{without_cr, Reads, HasFault, line_text_of};
-ghost use Rattle.kalah_jobs.specs.Line.Reading.{admitted, reading_of_text, reading_of, rule_of, position_of_text};
+ghost use Rattle.kalah_jobs.specs.Line.Reading.{admitted, reading_of_text, reading_of, rule_of_suffix, position_of_text};
 ghost use Rattle.kalah_jobs.specs.Line.Side.{AreSidesOf};
 ghost use Rattle.kalah_jobs.specs.Limits.{most_line_bytes};
 
@@ -29,7 +29,7 @@ fn drop_cr(line: &[u8]) -> &[u8]
 
 // Returns the rule that the suffix of a line, which stands after the second side, names.
 fn read_rule(suffix: &[u8]) -> Option<Rule>
-    ensures { result ≡ rule_of suffix.now }
+    ensures { result ≡ rule_of_suffix suffix.now }
 {
     match suffix {
         [] => Some(Rule::Classic),

@@ -2,15 +2,14 @@
 ghost use Rattle.std.specs.Prelude.{◌≡◌, ◌+◌, ◌*◌, ◌≤◌, ◌↔◌, ◌∷◌, [], ◌++◌, true, false, IfOk, IsErr, OnOk, drop, length, codes, decimal, string_bytes};
 ghost use Rattle.std.specs.Io.KnownBytes.{Appends};
 ghost use Rattle.kalah_jobs.specs.Files.Lines.{line_feed};
-ghost use Rattle.kalah_jobs.specs.Writing.Answer.{answer_line, joined_text, value_text, values_text, IsOfOneLine};
+ghost use Rattle.kalah_jobs.specs.Writing.Answer.{answer_line, answer_output, joined_text, value_text, values_text, HasOneText};
 ghost use Rattle.kalah_jobs.specs.Writing.Sink.{AppendsPrefix, WasGiven};
 
 use crate::writing::answer::{Answer, Taken};
 use crate::writing::named_text::write_named;
 use crate::writing::sink::{Sink, write_unless_failed};
 use crate::writing::stack_text::{ROOM, StackText};
-use crate::writing::steps::{text_of_steps, write_steps};
-use crate::writing::steps_in_line::write_steps_in_line;
+use crate::writing::steps::{text_of_steps, write_steps, write_steps_in_line};
 use kalah_solve::{MoveValue, MoveValues};
 use std::alloc::{AllocError, Global};
 use std::io;
@@ -28,7 +27,7 @@ fn prepend_value(text: &mut StackText, value: MoveValue)
 
 // Puts the values of the moves from place `i` on, with a space between any two, in front of the text. A value takes at most 16 bytes with
 // its space.
-#[tactic(auto, using(crate::proofs::WritingLemmas::last_value))]
+#[tactic(auto, using(crate::proofs::TextLemmas::last_value))]
 fn prepend_values(text: &mut StackText, values: &MoveValues, i: u8)
     requires within { i ≤ length values.now }
     requires room { length text.old + 96 ≤ ROOM }
@@ -47,11 +46,11 @@ fn prepend_values(text: &mut StackText, values: &MoveValues, i: u8)
     prepend_value(text, value);
 }
 
-// Puts an answer in words in front of the text.
+// Puts the text of an answer in one line in front of the text.
 #[inline(always)]
 fn prepend_joined_text(text: &mut StackText, answer: &Answer)
     requires room { length text.old + 96 ≤ ROOM }
-    requires one_line { IsOfOneLine answer.now }
+    requires one_line { HasOneText answer.now }
     ensures joined { text.new ≡ joined_text answer.now ++ text.old }
     ensures short { length text.new ≤ length text.old + 96 }
 {
@@ -74,8 +73,8 @@ fn prepend_joined_text(text: &mut StackText, answer: &Answer)
     }
 }
 
-// Puts what stands between the name of the file and the answer in words in front of the text.
-#[tactic(auto, using(crate::proofs::WritingLemmas::u64_length))]
+// Puts what stands between the name of the file and the text of the answer in front of the text.
+#[tactic(auto, using(crate::proofs::TextLemmas::u64_length))]
 #[inline]
 fn prepend_place(text: &mut StackText, line: u32)
     requires { length text.old + 22 ≤ ROOM }
@@ -111,7 +110,7 @@ pub fn answer_text(alloc: Global, name: &str, taken: &Taken) -> Result<String, A
 // Out of line, so that the loop that collects keeps its variables in registers.
 #[inline(never)]
 pub fn write_answer_unless_failed<W: Sink>(out: &mut W, name: &str, taken: &Taken)
-    ensures { WasGiven W.state out.old out.new (answer_line name.now taken.now ++ line_feed ∷ []) }
+    ensures { WasGiven W.state out.old out.new (answer_output name.now taken.now) }
 {
     let mut text = StackText::new();
     match &taken.answer {
@@ -136,9 +135,8 @@ pub fn write_answer_unless_failed<W: Sink>(out: &mut W, name: &str, taken: &Take
 pub fn write_answer<W: Sink>(out: &mut W, name: &str, taken: &Taken) -> Result<(), io::Error>
     requires { (W.state out.old).has_failed ≡ false }
     ensures fails { IsErr result ↔ ((W.state out.new).has_failed ≡ true) }
-    ensures adds { OnOk result
-        (Appends (W.state out.old).written (W.state out.new).written (answer_line name.now taken.now ++ line_feed ∷ [])) }
-    ensures start { AppendsPrefix (W.state out.old).written (W.state out.new).written (answer_line name.now taken.now ++ line_feed ∷ []) }
+    ensures adds { OnOk result (Appends (W.state out.old).written (W.state out.new).written (answer_output name.now taken.now)) }
+    ensures start { AppendsPrefix (W.state out.old).written (W.state out.new).written (answer_output name.now taken.now) }
 {
     write_answer_unless_failed(out, name, taken);
     if out.failed() {
@@ -147,7 +145,7 @@ pub fn write_answer<W: Sink>(out: &mut W, name: &str, taken: &Taken) -> Result<(
     Ok(())
 }
 
-// Writes an answer in words, and a line feed.
+// Writes the text of an answer in one line, and a line feed.
 pub(crate) fn write_joined_text<W: Sink>(out: &mut W, answer: &Answer)
     ensures { WasGiven W.state out.old out.new (joined_text answer.now ++ line_feed ∷ []) }
 {

@@ -8,7 +8,7 @@ use crate::writing::sink::{Sink, write_unless_failed};
 use crate::writing::stack_text::StackText;
 
 /// Writes a house, which is at most 6, and the number of ways to play on after its move, as the line `1 42`.
-#[tactic(auto, using(crate::proofs::WritingLemmas::u64_length))]
+#[tactic(auto, using(crate::proofs::TextLemmas::u64_length))]
 pub fn write_ways<W: Sink>(out: &mut W, house: u8, ways: u64)
     requires { house ≤ most_houses }
     ensures { WasGiven W.state out.old out.new (ways_line house ways) }
@@ -22,7 +22,7 @@ pub fn write_ways<W: Sink>(out: &mut W, house: u8, ways: u64)
 }
 
 /// Writes the number of all ways to play on, as the line `total 42`.
-#[tactic(auto, using(crate::proofs::WritingLemmas::u64_length))]
+#[tactic(auto, using(crate::proofs::TextLemmas::u64_length))]
 pub fn write_total<W: Sink>(out: &mut W, ways: u64)
     ensures { WasGiven W.state out.old out.new (total_line ways) }
 {

@@ -2,7 +2,7 @@
 ghost use Rattle.std.specs.Prelude.{◌≡◌, ◌≤◌, ◌+◌, ◌*◌, ◌++◌, length};
 ghost use Rattle.kalah_jobs.specs.Writing.Sink.{WasGiven};
 ghost use Rattle.kalah_rules.specs.Position.{side_length};
-ghost use Rattle.kalah_jobs.specs.Writing.Picture.{cell, house_in, houses_line, picture_of};
+ghost use Rattle.kalah_jobs.specs.Writing.Picture.{column_text, house_in, houses_line, picture_of};
 
 use crate::writing::player::Player;
 use crate::writing::sink::{Sink, write_unless_failed};
@@ -13,10 +13,10 @@ use kalah_rules::Board;
 pub(crate) const COLUMN_WIDTH: usize = 4;
 
 // Puts a number, right-aligned in a column, in front of the text.
-#[tactic(auto, using(crate::proofs::WritingLemmas::u8_length))]
-fn prepend_cell(text: &mut StackText, number: u8)
+#[tactic(auto, using(crate::proofs::TextLemmas::u8_length))]
+fn prepend_column(text: &mut StackText, number: u8)
     requires { length text.old + 4 ≤ ROOM }
-    ensures cell { text.new ≡ cell number ++ text.old }
+    ensures column { text.new ≡ column_text number ++ text.old }
     ensures longer { length text.new ≡ 4 + length text.old }
 {
     let end = text.len() + COLUMN_WIDTH;
@@ -46,7 +46,7 @@ fn prepend_houses(text: &mut StackText, board: &Board, player: Player)
 {
     let mut column = board.m();
     while column > 0 {
-        prepend_cell(text, player.seeds(board, house_in(player, board, column)));
+        prepend_column(text, player.seeds(board, house_in(player, board, column)));
         column -= 1;
     }
     text.prepend_blanks(COLUMN_WIDTH);
@@ -62,9 +62,9 @@ fn picture(board: &Board) -> StackText
     text.prepend("\n");
     prepend_houses(&mut text, board, Player::Mover);
     text.prepend("\n");
-    prepend_cell(&mut text, board.own_store());
+    prepend_column(&mut text, board.own_store());
     text.prepend_blanks(COLUMN_WIDTH * m);
-    prepend_cell(&mut text, board.other_store());
+    prepend_column(&mut text, board.other_store());
     text.prepend("\n");
     prepend_houses(&mut text, board, Player::Other);
     text

@@ -5,7 +5,7 @@ ghost use Rattle.kalah_rules.specs.Position.{IsSmallMargin};
 ghost use Rattle.kalah_solve.specs.Solver.MoveValues.{values_of};
 ghost use Rattle.kalah_jobs.specs.Files.Lines.{line_feed};
 ghost use Rattle.kalah_jobs.specs.Writing.Sink.{WasGiven};
-ghost use Rattle.kalah_jobs.specs.Writing.Shown.{AreSmall, AscendFrom, value_cell, value_columns, values_line};
+ghost use Rattle.kalah_jobs.specs.Writing.Shown.{AreMoveValues, AscendFrom, value_column, value_columns, values_line};
 
 use crate::writing::picture::COLUMN_WIDTH;
 use crate::writing::sink::{Sink, write_unless_failed};
@@ -14,10 +14,10 @@ use kalah_rules::Board;
 use kalah_solve::{MoveValue, MoveValues};
 
 // Puts the value of a move, at the right of a column, in front of the text.
-fn prepend_value_cell(text: &mut StackText, value: MoveValue)
+fn prepend_value_column(text: &mut StackText, value: MoveValue)
     requires small { IsSmallMargin value.value }
     requires room { length text.old + 11 ≤ ROOM }
-    ensures cell { text.new ≡ value_cell value.value ++ text.old }
+    ensures column { text.new ≡ value_column value.value ++ text.old }
     ensures longer { length text.new ≡ 4 + length text.old }
 {
     let end = text.len() + COLUMN_WIDTH;
@@ -26,12 +26,12 @@ fn prepend_value_cell(text: &mut StackText, value: MoveValue)
 }
 
 // Puts the values from place `i` on in front of the text, each in the column of its house. `filled` columns come before them.
-fn prepend_columns(text: &mut StackText, values: &MoveValues, i: u8, filled: u8)
+fn prepend_value_columns(text: &mut StackText, values: &MoveValues, i: u8, filled: u8)
     requires room { length text.old + 39 ≤ ROOM }
     requires within { i ≤ length values.now }
     requires filled { filled ≤ most_houses + 1 }
     requires ascend { AscendFrom filled (drop i values.now) }
-    requires small { AreSmall (drop i values.now) }
+    requires small { AreMoveValues (drop i values.now) }
     ensures columns { text.new ≡ value_columns filled (drop i values.now) ++ text.old }
     ensures short { length text.new ≤ length text.old + 4 * (most_houses + 1 - filled) }
 {
@@ -39,13 +39,13 @@ fn prepend_columns(text: &mut StackText, values: &MoveValues, i: u8, filled: u8)
         return;
     }
     let value = values.get(i);
-    prepend_columns(text, values, i + 1, value.house + 1);
-    prepend_value_cell(text, value);
+    prepend_value_columns(text, values, i + 1, value.house + 1);
+    prepend_value_column(text, value);
     text.prepend_blanks(COLUMN_WIDTH * usize::from(value.house - filled));
 }
 
 // Returns the line below the picture of a board with these values.
-#[tactic(auto, using(crate::proofs::WritingLemmas::have_columns))]
+#[tactic(auto, using(crate::proofs::TextLemmas::have_columns))]
 fn line_below(board: &Board, values: &MoveValues) -> StackText
     requires { values.now ≡ values_of board.now }
     ensures { result ≡ values_line board.now ++ line_feed ∷ [] }
@@ -56,7 +56,7 @@ fn line_below(board: &Board, values: &MoveValues) -> StackText
         text.prepend_margin(board.returns());
         text.prepend("over, margin ");
     } else {
-        prepend_columns(&mut text, values, 0, 0);
+        prepend_value_columns(&mut text, values, 0, 0);
     }
     text
 }

@@ -102,7 +102,7 @@ impl StackText {
     }
 
     // Puts a small number in digits in front of the text.
-    #[tactic(auto, using(crate::proofs::WritingLemmas::u8_length))]
+    #[tactic(auto, using(crate::proofs::TextLemmas::u8_length))]
     pub(crate) fn prepend_byte(&mut self, n: u8)
         requires { length self.old + 3 ≤ ROOM }
         ensures number { self.new ≡ decimal n ++ self.old }
@@ -112,7 +112,7 @@ impl StackText {
     }
 
     // Puts a margin in digits, with `-` before it if it is negative, in front of the text.
-    #[tactic(auto, using(crate::proofs::WritingLemmas::u32_length))]
+    #[tactic(auto, using(crate::proofs::TextLemmas::u32_length))]
     #[inline]
     pub(crate) fn prepend_margin(&mut self, margin: i32)
         requires { length self.old + 11 ≤ ROOM }

@@ -1,26 +1,17 @@
-//! The steps of a position, a line each.
-ghost use Rattle.std.specs.Prelude.{◌≡◌, ◌≤◌, ◌∷◌, [], ◌++◌, if◌then◌else◌, IfOk, length, map, string_bytes};
+//! The steps of a position, a line each or all in one line.
+ghost use Rattle.std.specs.Prelude.{◌≡◌, ◌≤◌, ◌∷◌, [], ◌++◌, if◌then◌else◌, Contains, IfOk, OnOk, codes, length, map, string_bytes};
 ghost use Rattle.std.specs.List.{join_with_byte};
+ghost use Rattle.kalah_rules.specs.Play.{legal_houses};
 ghost use Rattle.kalah_jobs.specs.Files.Lines.{line_feed};
-ghost use Rattle.kalah_jobs.specs.Line.Line.{step_text_of};
-ghost use Rattle.kalah_jobs.specs.Writing.Answer.{steps_texts};
+ghost use Rattle.kalah_jobs.specs.Writing.Answer.{house_step_text, in_one_line, steps_texts};
 ghost use Rattle.kalah_jobs.specs.Writing.Sink.{WasGiven};
 
 use crate::writing::named_text::write_named;
 use crate::writing::position_text::text_of_step;
 use crate::writing::sink::{Sink, write_unless_failed};
-use kalah_rules::{Board, Step};
+use crate::writing::stack_text::StackText;
+use kalah_rules::Board;
 use std::alloc::{AllocError, Global};
-
-// Writes the line of a move: the name, the place, the text of the move and a line feed.
-fn write_step_line<W: Sink>(out: &mut W, name: &str, place: &str, h: u8, step: &Step)
-    requires { length place.now ≤ 22 }
-    ensures { WasGiven W.state out.old out.new (((name.now ++ place.now) ++ step_text_of h step.now) ++ line_feed ∷ []) }
-{
-    let mut text = text_of_step(h, step, "\n");
-    text.prepend(place);
-    write_named(out, name, &mut text);
-}
 
 /// Writes a line for each legal house of a board, in ascending order: the name, the place and the text of its move. If there is none,
 /// it writes an empty line.
@@ -35,15 +26,22 @@ pub(crate) fn write_steps<W: Sink>(out: &mut W, name: &str, place: &str, board: 
     }
     for i in 0..moves.len() {
         let h = moves.get(i);
-        write_step_line(out, name, place, h, &board.apply(h));
+        let mut text = text_of_step(h, &board.apply(h), "\n");
+        text.prepend(place);
+        write_named(out, name, &mut text);
     }
 }
 
-// Returns what stands before a line: nothing before the first.
-fn before_line(is_first: bool) -> &'static str
-    ensures { result.now ≡ (if is_first then [] else line_feed ∷ []) }
+// Appends a line of a move to the text: a line feed before it if it isn't the first, the name and the rest of the line.
+fn push_line(text: &mut String, is_first: bool, name: &str, rest: &str) -> Result<(), AllocError>
+    ensures { OnOk result (string_bytes text.new
+        ≡ string_bytes text.old ++ ((if is_first then [] else line_feed ∷ []) ++ (name.now ++ rest.now))) }
 {
-    if is_first { "" } else { "\n" }
+    if !is_first {
+        text.push_str("\n")?;
+    }
+    text.push_str(name)?;
+    text.push_str(rest)
 }
 
 /// Returns a line for each legal house of a board, in ascending order: the name, the place and the text of its move. Between any two
@@ -64,9 +62,30 @@ pub(crate) fn text_of_steps(
         let h = moves.get(i);
         let mut step = text_of_step(h, &board.apply(h), "");
         step.prepend(place);
-        text.push_str(before_line(i == 0))?;
-        text.push_str(name)?;
-        text.push_str(step.as_str())?;
+        push_line(&mut text, i == 0, name, step.as_str())?;
     }
     Ok(text)
+}
+
+// Returns the text of a move, and before it `; ` if it isn't the first.
+fn next_text(is_first: bool, board: &Board, h: u8) -> StackText
+    requires { Contains (legal_houses board.now) h }
+    ensures { result ≡ (if is_first then [] else codes "; ") ++ house_step_text board.now h }
+{
+    let mut text = text_of_step(h, &board.apply(h), "");
+    if !is_first {
+        text.prepend("; ");
+    }
+    text
+}
+
+/// Writes the text of the move of each legal house of a board, in ascending order, with `; ` between any two, and a line feed.
+pub(crate) fn write_steps_in_line<W: Sink>(out: &mut W, board: &Board)
+    ensures { WasGiven W.state out.old out.new (in_one_line (steps_texts board.now) ++ line_feed ∷ []) }
+{
+    let moves = board.legal();
+    for i in 0..moves.len() {
+        write_unless_failed(out, next_text(i == 0, board, moves.get(i)).bytes());
+    }
+    write_unless_failed(out, b"\n");
 }

@@ -44,13 +44,13 @@ impl Board {
                 own_store: self.own_store + own as u32,
                 other_store: self.other_store + other as u32,
             }),
-            HousesStep::Again(gained, houses) => Step::Again(Board {
-                houses,
+            HousesStep::Again { gained, next } => Step::Again(Board {
+                houses: next,
                 own_store: self.own_store + gained as u32,
                 other_store: self.other_store,
             }),
-            HousesStep::Turn(gained, houses) => Step::Turn(Board {
-                houses,
+            HousesStep::Turn { gained, next } => Step::Turn(Board {
+                houses: next,
                 own_store: self.other_store,
                 other_store: self.own_store + gained as u32,
             }),

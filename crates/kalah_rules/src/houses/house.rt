@@ -1,5 +1,5 @@
 //! A house of a row, by where it begins.
-ghost use Rattle.std.specs.Prelude.{◌≡◌, ◌-◌, ◌*◌, ◌≤◌};
+ghost use Rattle.std.specs.Prelude.{◌≡◌, ◌-◌, ◌*◌, ◌≤◌, ◌<◌};
 
 use std::marker::Model;
 
@@ -11,7 +11,7 @@ pub struct House {
 
 impl Model for House {
     ghost use Rattle.std.specs.Prelude.{ℕ, ◌+◌, ◌-◌, ◌*◌, ◌/◌};
-    ghost use Rattle.kalah_rules.specs.Packed.{BeginsHouse};
+    ghost use Rattle.kalah_rules.specs.Fields.{BeginsHouse, bit_of_house};
 
     ghost Value = { ℕ };
 
@@ -21,12 +21,12 @@ impl Model for House {
 
     ghost inverse = { λ h. record { bit = 5 * (h - 1) } };
 
-    ghost inverse_ok = { λ house h i. record { bit = h.whole i } };
+    ghost inverse_ok = { λ house h i. record { bit = bit_of_house h i } };
 }
 
 impl House {
     ghost use Rattle.std.specs.Prelude.{◌+◌, ◌/◌};
-    ghost use Rattle.kalah_rules.specs.Packed.{BeginsHouse};
+    ghost use Rattle.kalah_rules.specs.Fields.{BeginsHouse};
 
     /// Returns house `h`, which is 1 to 6.
     #[inline(always)]
@@ -55,6 +55,20 @@ impl House {
         ensures last { result ≤ 6 }
     {
         self.bit / 5 + 1
+    }
+
+    // Returns the index of this house among the houses of all sides, where sides have `m` houses. House `h` of `m` has
+    /// `m + 5 * (h - 1) - 1`: sides of 1 to 5 houses have 0 to 4, 6 to 9, 12 to 14, 18, 19 and 24, and sides of 6 the multiples of 5 that
+    /// these leave free.
+    #[inline(always)]
+    pub(crate) fn index_in(self, m: u8) -> usize
+        requires last { self ≤ m }
+        requires side { m ≤ 6 }
+        ensures is { result ≡ m + 5 * (self - 1) - 1 }
+        ensures first { 1 ≤ self }
+        ensures small { result < 31 }
+    {
+        (m + self.bit - 1) as usize
     }
 
     /// Returns the bit at which the house begins in a row's number.

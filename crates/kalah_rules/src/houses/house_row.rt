@@ -1,6 +1,6 @@
 //! The houses of one side, put together one by one.
 ghost use Rattle.std.specs.Prelude.{◌≡◌, ◌+◌, ◌<◌, ◌≤◌, ◌^◌, ◌↔◌, [], ◌∷◌, ◌++◌, length, take, drop, sum, All, IsSome, IfSome, IsTrue, MatchBool};
-ghost use Rattle.kalah_rules.specs.Key.{number_of};
+ghost use Rattle.kalah_rules.specs.Key.{row_number};
 ghost use Rattle.kalah_rules.specs.Limits.{most_houses, most_seeds};
 
 use crate::houses::house::House;
@@ -20,13 +20,13 @@ pub struct HouseRow {
 impl Model for HouseRow {
     ghost use Rattle.std.specs.Prelude.{ℕ, List};
     ghost use Rattle.kalah_rules.specs.Key.{cells};
-    ghost use Rattle.kalah_rules.specs.Packed.{IsPackedRow};
+    ghost use Rattle.kalah_rules.specs.Fields.{AreRowFields};
 
     ghost Value = { List ℕ };
 
     ghost view = { λ row. cells row.count row.number };
 
-    ghost invariant = { λ row. IsPackedRow row.count row.number row.seeds };
+    ghost invariant = { λ row. AreRowFields row.count row.number row.seeds };
 }
 
 impl HouseRow {
@@ -89,7 +89,7 @@ impl HouseRow {
     // Returns the houses as a number.
     #[tactic(auto, using(crate::proofs::KeyLemmas::row_is_small))]
     pub(super) fn number(&self) -> u64
-        ensures value { result ≡ number_of self.now }
+        ensures value { result ≡ row_number self.now }
         ensures small { result < 2 ^ 30 }
     {
         self.number

@@ -1,15 +1,15 @@
 //! Moves on houses, by whole rows.
 ghost use Rattle.std.specs.Prelude.{◌≡◌, ◌+◌, ◌-◌, ◌*◌, ◌<◌, ◌≤◌, ◌==◌, ◌&&◌, length, Contains, MatchBool};
-ghost use Rattle.kalah_rules.specs.Position.{storeless, seeds, IsWithinHouses};
+ghost use Rattle.kalah_rules.specs.Position.{storeless, seeds, AreWithinLimits};
 ghost use Rattle.kalah_rules.specs.Lap.{HoldsSeeds};
 ghost use Rattle.kalah_rules.specs.Play.{legal_houses};
-ghost use Rattle.kalah_rules.specs.Sowing.{captures, after, is_again};
-ghost use Rattle.kalah_rules.specs.Sowings.{IsSowing};
+ghost use Rattle.kalah_rules.specs.Sowing.{captures, after, is_again, EndsInStore};
+ghost use Rattle.kalah_rules.specs.SowingTable.{IsSowing};
 
 use crate::houses::Houses;
 use crate::houses::house::House;
-use crate::houses::numbers::{OTHER_ROW, into_store};
-use crate::houses::sowings::{Sowing, Sowings};
+use crate::houses::numbers::{OTHER_ROW_UNIT, into_store};
+use crate::houses::sowing_table::{Sowing, SowingTable};
 use crate::rule::Rule;
 use crate::step::HousesStep;
 
@@ -20,24 +20,33 @@ pub(super) struct RowNumbers {
     store: u32,
 }
 
-// Returns what the last seed captures: seeds to take off both rows, and their number, or 0 and 0. It captures if it is alone in an own
-// house (`single`) and the rule lets it capture the `across` seeds of the house across. That is hard to predict, so both results are
-// masked, without a branch.
+// What the last seed captures: the seeds to take off both rows, and their number.
+#[derive(Clone, Copy)]
+struct Captured {
+    seeds: u64,
+    count: u64,
+}
+
+// Returns what the last seed captures, which may be nothing. It captures if it is alone in an own house (`single`) and the rule lets it
+// capture the `across` seeds of the house across. That is hard to predict, so both numbers are masked, without a branch.
 #[inline(always)]
-fn captured_seeds(rule: Rule, single: bool, across: u64, seeds: u64) -> (u64, u64)
+fn captured_seeds(rule: Rule, single: bool, across: u64, seeds: u64) -> Captured
     requires { across < 32 }
     ensures captured { MatchBool (single && captures rule across)
-        ((result.0 ≡ seeds) × (result.1 ≡ 1 + across)) ((result.0 ≡ 0) × (result.1 ≡ 0)) }
-    ensures few { result.1 ≤ 32 }
+        ((result.seeds ≡ seeds) × (result.count ≡ 1 + across)) ((result.seeds ≡ 0) × (result.count ≡ 0)) }
+    ensures few { result.count ≤ 32 }
 {
-    let captures = rule.captures(across as u8);
+    let allows = rule.captures(across as u8);
     // All bits if the seeds are captured, otherwise none.
-    let mask = 0u64.wrapping_sub(u64::from(single & captures));
-    (seeds & mask, (1 + across) & mask)
+    let mask = 0u64.wrapping_sub(u64::from(single & allows));
+    Captured {
+        seeds: seeds & mask,
+        count: (1 + across) & mask,
+    }
 }
 
 impl Houses {
-    ghost use Rattle.kalah_rules.specs.Packed.{IsPackedPosition};
+    ghost use Rattle.kalah_rules.specs.Fields.{ShowsPosition};
     ghost use Rattle.kalah_rules.specs.HousesStep.{houses_step};
 
     // Returns the rows after the move of this house: those of its sowing, less what the last seed captures.
@@ -45,16 +54,16 @@ impl Houses {
     fn after(&self, house: House, sowing: Sowing) -> RowNumbers
         requires holds { HoldsSeeds (storeless self.now) house }
         requires sowing { IsSowing (length self.now.own) house (seeds self.now.own house) sowing }
-        ensures { IsPackedPosition result (after (storeless self.now) house) }
+        ensures { ShowsPosition result (after (storeless self.now) house) }
     {
         let rows = self.rows.wrapping_sub(sowing.loses);
         let single = rows & sowing.last_mask == sowing.last_seed;
         let across = (rows >> sowing.across_bit) % 32;
         let at_stake = sowing.last_seed + (across << sowing.across_bit);
-        let (seeds, count) = captured_seeds(self.rule(), single, across, at_stake);
+        let captured = captured_seeds(self.rule(), single, across, at_stake);
         RowNumbers {
-            rows: rows - seeds,
-            store: sowing.store as u32 + count as u32,
+            rows: rows - captured.seeds,
+            store: sowing.store as u32 + captured.count as u32,
         }
     }
 
@@ -63,21 +72,20 @@ impl Houses {
     #[inline(always)]
     pub fn play_into_store(&self, house: House) -> HousesStep
         requires legal { Contains (legal_houses (storeless self.now)) house }
-        requires ends { seeds self.now.own house + house ≡ length self.now.own + 1 }
+        requires ends { EndsInStore self.now house }
         ensures { result ≡ houses_step self.now house }
     {
         let rows = self.rows.wrapping_add(into_store(self.m(), house));
         let seeds = self.seeds - 1;
-        if rows % OTHER_ROW > 0 {
-            let variant = self.variant;
-            return HousesStep::Again(
-                1,
-                Houses {
+        if rows % OTHER_ROW_UNIT > 0 {
+            return HousesStep::Again {
+                gained: 1,
+                next: Houses {
                     rows,
                     seeds,
-                    variant,
+                    variant: self.variant,
                 },
-            );
+            };
         }
         HousesStep::Over {
             own: 1,
@@ -89,14 +97,14 @@ impl Houses {
     #[inline(always)]
     fn step(&self, house: House, rows: RowNumbers, again: bool) -> HousesStep
         requires legal { Contains (legal_houses (storeless self.now)) house }
-        requires rows { IsPackedPosition rows (after (storeless self.now) house) }
+        requires rows { ShowsPosition rows (after (storeless self.now) house) }
         requires again { again ≡ is_again (storeless self.now) house }
         ensures { result ≡ houses_step self.now house }
     {
         let seeds = self.seeds - rows.store;
         let gained = rows.store as u8;
-        let own = rows.rows % OTHER_ROW;
-        let other = rows.rows / OTHER_ROW;
+        let own = rows.rows % OTHER_ROW_UNIT;
+        let other = rows.rows / OTHER_ROW_UNIT;
         if own == 0 {
             return HousesStep::Over {
                 own: gained,
@@ -109,27 +117,24 @@ impl Houses {
                 other: 0,
             };
         }
-        let variant = self.variant;
         if again {
-            let rows = rows.rows;
-            HousesStep::Again(
+            HousesStep::Again {
                 gained,
-                Houses {
-                    rows,
+                next: Houses {
+                    rows: rows.rows,
                     seeds,
-                    variant,
+                    variant: self.variant,
                 },
-            )
+            }
         } else {
-            let rows = other + OTHER_ROW * own;
-            HousesStep::Turn(
+            HousesStep::Turn {
                 gained,
-                Houses {
-                    rows,
+                next: Houses {
+                    rows: other + OTHER_ROW_UNIT * own,
                     seeds,
-                    variant,
+                    variant: self.variant,
                 },
-            )
+            }
         }
     }
 
@@ -153,7 +158,7 @@ impl Houses {
     pub fn play(&self, h: u8) -> HousesStep
         requires { Contains (legal_houses (storeless self.now)) h }
         ensures step { result ≡ houses_step self.now h }
-        ensures limits { IsWithinHouses self.now }
+        ensures limits { AreWithinLimits self.now }
     {
         let sowing = Sowing::new(self.m(), h, self.own(h));
         self.play_as(House::new(h), sowing)
@@ -161,11 +166,14 @@ impl Houses {
 
     /// Plays a house of the mover, which must be legal. The result is that of `play`, computed with less work.
     #[inline(always)]
-    pub fn play_by(&self, sowings: &Sowings, house: House) -> HousesStep
+    pub fn play_by(&self, sowings: &SowingTable, house: House) -> HousesStep
         requires { Contains (legal_houses (storeless self.now)) house }
         ensures step { result ≡ houses_step self.now house }
-        ensures limits { IsWithinHouses self.now }
+        ensures limits { AreWithinLimits self.now }
     {
-        self.play_as(house, sowings.get(self.m(), house, self.own_in(house)))
+        self.play_as(
+            house,
+            sowings.get(self.m(), house, self.own_seeds_in(house)),
+        )
     }
 }

@@ -44,3 +44,8 @@ module _ {G : Type 0} (knows : G → ℕ → Bool) where
   -- a fact that holds once each worker has run
   abbrev pub OnceRun : SharedWork G → List Worker → Type 0 → Type 0
   OnceRun shared before fact = (after : List Worker) → HaveRun shared before after → fact
+
+  -- workers that are at work can be run, for a fact that holds once each has
+  pub record CanRun (shared : SharedWork G) (workers : List Worker) (Ended : Type 0) : Type 0 where
+    pub at_work : AreAtWork shared workers
+    pub ends : OnceRun shared workers Ended

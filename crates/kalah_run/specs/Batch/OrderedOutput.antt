@@ -1,26 +1,15 @@
 -- What is known of the output of a batch: what has come, and what was written of it.
-use Rattle.std.specs.Prelude.{◌≡◌, ℕ, ◌+◌, ◌<◌, List, length, take, false, flat_map}
-use Rattle.std.specs.Io.KnownBytes.{Appends, Keeps}
-use Rattle.kalah_run.specs.Types.{Entry, Taken, Job}
+use Rattle.std.specs.Prelude.{◌≡◌, ℕ, ◌+◌, ◌<◌, List, Result, length, take, flat_map}
+use Rattle.kalah_run.specs.Types.{Entry, Taken, Job, Refusal}
 use Rattle.kalah_jobs.specs.Files.JobList.{entries_of, job_list}
 use Rattle.kalah_jobs.specs.Files.Jobs.{job_count}
 use Rattle.kalah_jobs.specs.Collecting.CollectorState.{ArrivalsState, state_of, new_files, HasEnded}
+use Rattle.kalah_jobs.specs.Collecting.CollectorEvents.{Offers}
 use Rattle.kalah_jobs.specs.Collecting.Held.{AreInStep}
 use Rattle.kalah_jobs.specs.Writing.Output.{text_of_line, names_of, output_of_jobs, taken_output}
-use Rattle.kalah_jobs.specs.Writing.Sink.{AppendsPrefix, SinkState}
+use Rattle.kalah_jobs.specs.Writing.Sink.{SinkState, WasGiven}
 use Rattle.kalah_jobs.specs.Files.NamedBytes.{NamedBytes}
 use Rattle.kalah_run.specs.declared.batch.ordered_output.OrderedOutput.{OrderedOutput}
-
--- A sink that had `begun` was given bs, in order. It has all of them after that, unless a call of it has failed; and then it
--- has a prefix of them, and nothing else.
-pub record WasGivenSince (begun out : SinkState) (bs : List ℕ) : Type 0 where
-  pub start : AppendsPrefix begun.written out.written bs
-  pub whole : out.has_failed ≡ false → Appends begun.written out.written bs
-
--- Nothing more is written to a sink, and a failure isn't undone.
-pub record IsOnlyFlushed (old new : SinkState) : Type 0 where
-  pub keeps : Keeps old.written new.written
-  pub sound : new.has_failed ≡ false → old.has_failed ≡ false
 
 -- the text of a job, if `text` gives the text of what is taken of a file
 abbrev pub text_of_job : (ℕ → Taken → List ℕ) → Job → List ℕ
@@ -30,22 +19,7 @@ text_of_job text job = text_of_line text job.file (job.line, job.entry)
 unfoldable pub written_upto : (ℕ → Taken → List ℕ) → List (List Entry) → ℕ → ℕ → List ℕ
 written_upto text jobs f n = flat_map (text_of_job text) (take (job_count (take f jobs) + n) (job_list jobs))
 
--- With these offers made, the files before f are completely taken and those after it not at all. The sink was given the text of each
--- line that was taken, in order.
-pub record IsUnderWay (text : ℕ → Taken → List ℕ) (jobs : List (List Entry)) (past : List Job) (files : List ArrivalsState) (f : ℕ)
-    (begun out : SinkState) : Type 0 where
-  pub kept : AreInStep jobs past files
-  pub before : (g : ℕ) → g < f → (state_of files g).taken ≡ length (entries_of jobs g)
-  pub later : (g : ℕ) → f < g → (state_of files g).taken ≡ 0
-  pub written : WasGivenSince begun out (written_upto text jobs f (state_of files f).taken)
-
--- ==== Of an ordered output
-
--- the answer line of what is taken of file f, followed by a line feed
-unfoldable pub text_of : List NamedBytes → ℕ → Taken → List ℕ
-text_of files = taken_output (names_of files)
-
--- nothing has come, and the first file is the current one
+-- of an output nothing has come, and the first file is the current one
 abbrev pub IsNew : OrderedOutput → Type 0
 IsNew r = (r.collector ≡ new_files r.jobs.now) × (r.current ≡ 0)
 
@@ -53,21 +27,38 @@ IsNew r = (r.collector ≡ new_files r.jobs.now) × (r.current ≡ 0)
 abbrev pub whole_output : OrderedOutput → List ℕ
 whole_output r = output_of_jobs (names_of r.files.now) r.jobs.now
 
--- With these outcomes accepted, the output of these files and their jobs has written what is ready of them, in order, after what
--- the sink had when it began.
-pub record HasWritten (files : List NamedBytes) (jobs : List (List Entry)) (past : List Job) (begun out : SinkState)
-    (r : OrderedOutput) : Type 0 where
-  pub of_files : r.files.now ≡ files
-  pub of_jobs : r.jobs.now ≡ jobs
-  pub progress : IsUnderWay (text_of files) r.jobs.now past r.collector r.current begun out
+-- an outcome was offered to its collector, and nothing else changed
+pub record IsOffered (old : OrderedOutput) (outcome : Job) (new : OrderedOutput) : Type 0 where
+  pub files : new.files.now ≡ old.files.now
+  pub jobs : new.jobs.now ≡ old.jobs.now
+  pub current : new.current ≡ old.current
+  pub offers : (gave : Result ℕ Refusal) × Offers old.jobs.now old.collector outcome gave new.collector
 
--- the current file, if there is one, has a line that is still to come
+-- it waits: the current file, if there is one, has a line that is still to come
 abbrev pub Waits : OrderedOutput → Type 0
 Waits r = r.current < length r.collector → HasEnded (state_of r.collector r.current) → ⊥
 
--- ---- an output before and after, each with the sink then
+-- ==== What the sink of an output was given
 
--- An output writes what is ready, and then waits.
-abbrev pub WritesReady : OrderedOutput → SinkState → OrderedOutput → SinkState → Type 0
-WritesReady r out after more = (files : List NamedBytes) → (jobs : List (List Entry)) → (past : List Job) → (begun : SinkState)
-    → HasWritten files jobs past begun out r → HasWritten files jobs past begun more after × Waits after
+module _ {W : Type 0} (state : W → SinkState) where
+  -- With these offers made, the files before f are completely taken and those after it not at all. The sink was given the text of each
+  -- line that was taken, in order.
+  pub record IsUnderWay (text : ℕ → Taken → List ℕ) (jobs : List (List Entry)) (past : List Job) (files : List ArrivalsState) (f : ℕ)
+      (begun out : W) : Type 0 where
+    pub kept : AreInStep jobs past files
+    pub before : (g : ℕ) → g < f → (state_of files g).taken ≡ length (entries_of jobs g)
+    pub later : (g : ℕ) → f < g → (state_of files g).taken ≡ 0
+    pub written : WasGiven state begun out (written_upto text jobs f (state_of files f).taken)
+
+  -- With these outcomes accepted, the output of these files and their jobs has written what is ready of them, in order, after what
+  -- the sink had when it began.
+  pub record HasWritten (files : List NamedBytes) (jobs : List (List Entry)) (past : List Job) (begun out : W) (r : OrderedOutput)
+      : Type 0 where
+    pub of_files : r.files.now ≡ files
+    pub of_jobs : r.jobs.now ≡ jobs
+    pub progress : IsUnderWay (taken_output (names_of files)) r.jobs.now past r.collector r.current begun out
+
+  -- Whatever an output had written to its sink, it has written that and what became ready of it.
+  abbrev pub WritesOn : OrderedOutput → W → OrderedOutput → W → Type 0
+  WritesOn old old_sink new new_sink = (files : List NamedBytes) → (jobs : List (List Entry)) → (past : List Job) → (begun : W)
+      → HasWritten files jobs past begun old_sink old → HasWritten files jobs past begun new_sink new

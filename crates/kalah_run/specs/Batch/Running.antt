@@ -1,25 +1,24 @@
 -- What is known of a batch: once it is open, while it is run, and when it has ended.
-use Rattle.std.specs.Prelude.{◌≡◌, ℕ, ◌+◌, ◌<◌, ◌≤◌, Bool, max, min, List, [], length, vec_capacity, ◌⊎◌, Option, IfSome, IfNone, All}
+use Rattle.std.specs.Prelude.{◌≡◌, ℕ, ◌+◌, ◌<◌, ◌≤◌, Bool, max, min, List, [], length, vec_capacity, ◌⊎◌, Option, IfNone, All}
 use Rattle.std.specs.declared.alloc.Global.{Global}
 use Rattle.crossbeam_utils.specs.Padded.{padded_value}
 use Rattle.kalah_solve.specs.declared.solver.Solver.{Solver}
 use Rattle.kalah_run.specs.Types.{Entry, Job}
 use Rattle.kalah_jobs.specs.Files.Jobs.{job_count}
-use Rattle.kalah_jobs.specs.Writing.Sink.{SinkState}
+use Rattle.kalah_jobs.specs.Writing.Sink.{SinkState, WasGiven}
 use Rattle.kalah_solve.specs.Table.Entries.{empty_table}
-use Rattle.kalah_run.specs.Desk.States.{DeskState, IsPassAt}
+use Rattle.kalah_run.specs.Desk.States.{IsPassAt}
 use Rattle.kalah_run.specs.Queue.States.{ArePassesFrom, MayGet, outcomes_in}
 use Rattle.kalah_run.specs.Batch.AtWork.{puts_of, AreAtWork}
-use Rattle.kalah_run.specs.Batch.OrderedOutput.{IsNew, IsOnlyFlushed, whole_output, WasGivenSince}
+use Rattle.kalah_run.specs.Batch.OrderedOutput.{IsNew, whole_output}
 use Rattle.kalah_run.specs.declared.batch.request.BatchRequest.{BatchRequest}
 use Rattle.kalah_run.specs.declared.limits.TheConstants.{QUEUE_CAPACITY}
 use Rattle.kalah_run.specs.declared.batch.worker.Worker.{Worker}
 use Rattle.kalah_run.specs.declared.batch.open_batch.OpenBatch.{OpenBatch}
 use Rattle.kalah_run.specs.declared.batch.receiver.CallerPasses.{CallerPasses}
 use Rattle.kalah_jobs.specs.Collecting.AnyOrder.{AreJobsInSomeOrder}
-use Rattle.kalah_run.specs.Batch.Leaving.{rest_by_pass, pass_list, HasDrawnNothing, IsAbandoned, NothingRemains, DrawsOnlyTheRest}
+use Rattle.kalah_run.specs.Batch.Leaving.{HasDrawnNothing, IsAbandoned, NothingRemains, DrawsOnlyTheRest}
 use Rattle.kalah_run.specs.declared.batch.ordered_output.OrderedOutput.{OrderedOutput}
-use Rattle.kalah_run.specs.declared.batch.shared_work.SharedWork.{SharedWork}
 
 -- the worker has an empty table with room for this many entries
 abbrev pub HasOwnTable : ℕ → Worker → Type 0
@@ -32,7 +31,7 @@ module _ {G : Type 0} where
   -- the two lists for the passes' return are empty, and have room for them
   pub record HasRoom (b : OpenBatch G) : Type 0 where
     pub empty : (b.passes.items ≡ []) × (b.puts.items ≡ [])
-    pub passes : length b.workers.items + length (pass_list b.caller.rest_pass) ≤ vec_capacity b.passes
+    pub passes : length b.workers.items < vec_capacity b.passes
     pub puts : length b.workers.items ≤ vec_capacity b.puts
 
   -- for this request, with these jobs and this gate: there are the workers asked for, but at most one for each job, and one for no job;
@@ -42,15 +41,15 @@ module _ {G : Type 0} where
     pub tables : HaveOwnTables request.table b.workers.items
     pub of_files : b.output.files.now ≡ request.files.now
     pub of_jobs : b.shared.jobs.now ≡ jobs
-    pub of_rest : rest_by_pass b.caller.rest_pass ≡ request.rest
+    pub of_rest : b.caller.rest_pass.rest ≡ request.rest
     pub of_gate : b.shared.gate.now ≡ gate
     pub queue : b.shared.queue.capacity ≡ QUEUE_CAPACITY
 
   -- there is a worker; each is at work and has its place, nothing was got, and nothing is written
   pub record IsReadyToRun (knows : G → ℕ → Bool) (b : OpenBatch G) : Type 0 where
     pub some : 0 < length b.workers.items
-    pub passes : length b.workers.items + length (pass_list b.caller.rest_pass) ≡ b.shared.desk.passes
-    pub own : IfSome b.caller.rest_pass (IsPassAt b.shared.desk)
+    pub passes : b.shared.desk.passes ≡ length b.workers.items + 1
+    pub own : IsPassAt b.shared.desk b.caller.rest_pass.pass
     pub drawn : HasDrawnNothing b.caller.rest_pass
     pub at_work : AreAtWork knows b.shared b.workers.items
     pub puts : ArePassesFrom b.shared.queue.id 0 (puts_of b.workers.items)
@@ -59,31 +58,27 @@ module _ {G : Type 0} where
     pub jobs : b.output.jobs.now ≡ b.shared.jobs.now
     pub room : HasRoom b
 
--- The outcome was got, or none if the rest is left and the workers have ended. The calling thread has drawn only the rest, and written
--- nothing.
-pub record MayHaveGot (desk : DeskState) (Ended : Type 0) (before after : CallerPasses) (old new : SinkState) (result : Option Job) : Type 0
-  where
+-- nothing was got of what the workers send, and nothing is written
+abbrev pub IsAtStart : CallerPasses → OrderedOutput → Type 0
+IsAtStart passes output = (passes.get_pass.got ≡ []) × IsNew output
+
+-- with the state of a sink
+module _ {W : Type 0} (state : W → SinkState) where
+  -- The outcome was got, or none if the rest is left and the workers have ended. The calling thread has drawn only the rest, and
+  -- written nothing.
+  pub record MayHaveGot (Ended : Type 0) (before after : CallerPasses) (old new : W) (result : Option Job) : Type 0 where
     pub got : MayGet before.get_pass result after.get_pass
-    pub draws : DrawsOnlyTheRest desk new.has_failed before.rest_pass after.rest_pass
-    pub left : IfNone result (IsAbandoned (rest_by_pass before.rest_pass) new.has_failed × NothingRemains after.rest_pass)
+    pub draws : DrawsOnlyTheRest (state new).has_failed before.rest_pass after.rest_pass
+    pub left : IfNone result (IsAbandoned before.rest_pass.rest (state new).has_failed × NothingRemains after.rest_pass)
     pub ended : IfNone result Ended
-    pub flushed : IsOnlyFlushed old new
+    pub unwritten : WasGiven state old new []
 
--- One outcome was got for each job, unless the rest is left. If they are those of all jobs, or the rest is left, the sink was given
--- what is to be written. The calling thread has drawn only the rest.
-pub record HasCollected (desk : DeskState) (output : OrderedOutput) (begun out : SinkState) (before after : CallerPasses) : Type 0 where
-  pub queue : after.get_pass.queue ≡ before.get_pass.queue
-  pub workers : after.get_pass.workers ≡ before.get_pass.workers
-  pub all_got : (length after.get_pass.got ≡ job_count output.jobs.now) ⊎ IsAbandoned (rest_by_pass before.rest_pass) out.has_failed
-  pub given : AreJobsInSomeOrder output.jobs.now (outcomes_in after.get_pass.got) ⊎ IsAbandoned (rest_by_pass before.rest_pass) out.has_failed
-      → WasGivenSince begun out (whole_output output)
-  pub draws : DrawsOnlyTheRest desk out.has_failed before.rest_pass after.rest_pass
-
--- the workers are at work, nothing was got of what they send, and nothing is written
-pub record CanRun {G : Type 0} (knows : G → ℕ → Bool) (shared : SharedWork G) (workers : List Worker) (passes : CallerPasses)
-    (output : OrderedOutput) : Type 0 where
-  pub at_work : AreAtWork knows shared workers
-  pub queue : passes.get_pass.queue ≡ shared.queue.id
-  pub nothing_got : passes.get_pass.got ≡ []
-  pub own : IfSome passes.rest_pass (IsPassAt shared.desk)
-  pub new : IsNew output
+  -- One outcome was got for each job, unless the rest is left. If they are those of all jobs, or the rest is left, the sink was given
+  -- what is to be written. The calling thread has drawn only the rest.
+  pub record HasCollected (output : OrderedOutput) (old new : W) (before after : CallerPasses) : Type 0 where
+    pub queue : after.get_pass.queue ≡ before.get_pass.queue
+    pub workers : after.get_pass.workers ≡ before.get_pass.workers
+    pub all_got : (length after.get_pass.got ≡ job_count output.jobs.now) ⊎ IsAbandoned before.rest_pass.rest (state new).has_failed
+    pub given : AreJobsInSomeOrder output.jobs.now (outcomes_in after.get_pass.got)
+        ⊎ IsAbandoned before.rest_pass.rest (state new).has_failed → WasGiven state old new (whole_output output)
+    pub draws : DrawsOnlyTheRest (state new).has_failed before.rest_pass after.rest_pass

@@ -2,7 +2,7 @@
 use Rattle.std.specs.Prelude.{◌≡◌, ℕ, ◌<◌, List, [], length, false, slice_index_or, map}
 use Rattle.atomic_table.specs.Seated.{TableId}
 use Rattle.kalah_run.specs.Types.{DrawnRow, DeskView}
-use Rattle.kalah_run.specs.declared.desk.rule.DeskView.TheVariants.{Drawing}
+use Rattle.kalah_run.specs.declared.desk.protocol.DeskView.TheVariants.{Drawing}
 use Rattle.kalah_run.specs.Desk.Rows.{drawn_row}
 
 -- the identity of the desk, the total, and the number of passes

@@ -1,11 +1,11 @@
 //! How the workers of a batch are run.
-ghost use Rattle.kalah_run.specs.Batch.AtWork.{IsAtWork, HasRun};
+ghost use Rattle.kalah_run.specs.Batch.AtWork.{HasRun, IsAtWork};
 
 use crate::batch::gate::Gate;
 use crate::batch::shared_work::SharedWork;
 use crate::batch::worker::Worker;
 use crate::limits::MOST_WORKERS;
-use crate::queue::AfterEnd;
+use crate::queue::EndSignal;
 use std::sync::Wait;
 use std::sync::atomic::{AtomicIn, Rule};
 use std::thread;
@@ -24,6 +24,13 @@ fn work<R: Wait, G: Gate>(rt: &R, shared: &SharedWork<'_, G>, worker: &mut Worke
     }
 }
 
+/// What the workers of a batch leave, after their end is signalled.
+#[derive(Drop)]
+pub(crate) struct AfterEnd {
+    pub(crate) workers: Vec<Worker>,
+    _signal: EndSignal,
+}
+
 /// The workers of a batch and what they share, handed over to be run. The word is 1 once they have ended.
 #[derive(Drop)]
 pub(crate) struct Crew<'a, 'b, G, E: Rule> {
@@ -33,15 +40,13 @@ pub(crate) struct Crew<'a, 'b, G, E: Rule> {
 }
 
 impl<'a, 'b, G: Gate, E: Rule> Crew<'a, 'b, G, E> {
-    ghost use Rattle.kalah_run.specs.Batch.AtWork.{IsAtWork, AreAtWork, HasRun, HaveRun, OnceRun};
+    ghost use Rattle.kalah_run.specs.Batch.AtWork.{CanRun, HasRun, HaveRun, IsAtWork};
 
     /// Runs each worker in a thread of its own, as far as threads can be started, and returns the workers. The receiver learns that they
     /// have ended.
-    pub(crate) fn run<R: Threads + Wait + Sync>(self, rt: &R) -> AfterEnd<Vec<Worker>>
-        requires at_work { AreAtWork G.knows self.shared.now self.workers.items }
-        // That they have ended is known only once each has run.
-        requires ends { OnceRun G.knows self.shared.now self.workers.items (E.invariant 1) }
-        ensures { HaveRun G.knows self.entry.shared.now self.entry.workers.items result.inner.items }
+    pub(crate) fn run<R: Threads + Wait + Sync>(self, rt: &R) -> AfterEnd
+        requires { CanRun G.knows self.shared.now self.workers.items (E.invariant 1) }
+        ensures { HaveRun G.knows self.entry.shared.now self.entry.workers.items result.workers.items }
     {
         let Crew {
             shared,
@@ -57,6 +62,9 @@ impl<'a, 'b, G: Gate, E: Rule> Crew<'a, 'b, G, E> {
                 ensures { HasRun G.knows shared.entry.now worker.old worker.new }
             { work(rt, shared, worker) },
         );
-        shared.queue.end(ended, workers)
+        AfterEnd {
+            _signal: shared.queue.signal_end(ended),
+            workers,
+        }
     }
 }

@@ -1,21 +1,18 @@
 //! A batch that is opened, run and closed.
-ghost use Rattle.std.specs.Prelude.{◌≡◌, ◌≤◌, ◌⊎◌, ◌+◌, ℕ, ◌<◌, [], ◌++◌, length, vec_len, vec_capacity, false, true, IfErr, IfOk, IfSome, OnErr, OnOk};
-ghost use Rattle.kalah_jobs.specs.Limits.{most_lines};
+ghost use Rattle.std.specs.Prelude.{◌≡◌, ◌≤◌, ◌⊎◌, ℕ, ◌<◌, [], ◌∷◌, ◌++◌, length, vec_len, vec_capacity, false, true, IfOk, IfNone, IfSome};
 ghost use Rattle.kalah_jobs.specs.Files.Jobs.{job_count};
-ghost use Rattle.kalah_run.specs.Limits.{AreWorkers, IsTableSize};
-ghost use Rattle.kalah_run.specs.Desk.States.{AreNewPasses, new_pass};
+ghost use Rattle.kalah_run.specs.Limits.{IsTableSize};
 ghost use Rattle.kalah_run.specs.Batch.AtWork.{passes_of, puts_of, OnceRun};
-ghost use Rattle.kalah_run.specs.Batch.Leaving.{rest_by_pass, pass_list};
 ghost use Rattle.kalah_run.specs.Batch.Running.{IsAsAsked, IsReadyToRun, HaveOwnTables};
-ghost use Rattle.kalah_run.specs.Batch.OrderedOutput.{whole_output, WasGivenSince};
+ghost use Rattle.kalah_run.specs.Batch.OrderedOutput.{whole_output};
+ghost use Rattle.kalah_jobs.specs.Writing.Sink.{WasGiven};
 ghost use Rattle.kalah_run.specs.declared.batch.request.Rest.TheVariants.{Solve};
 
 use crate::batch::crew::Crew;
 use crate::batch::gate::Gate;
 use crate::batch::ordered_output::OrderedOutput;
-use crate::batch::receiver::{CallerPasses, Receiver};
-use crate::batch::request::{BatchRequest, Rest};
-use crate::batch::run_fault::RunFault;
+use crate::batch::receiver::{CallerPasses, Receiver, RestPass};
+use crate::batch::request::BatchRequest;
 use crate::batch::running::run_and_write;
 use crate::batch::shared_work::SharedWork;
 use crate::batch::watch::Watch;
@@ -30,35 +27,6 @@ use std::alloc::{AllocError, Global};
 use std::sync::Wait;
 use std::sync::atomic::{AtomicIn, Rule};
 use std::thread::Threads;
-
-// A desk that is open, the passes of the workers, and that of the calling thread, if the rest is to be left.
-#[derive(Drop)]
-struct OpenDesk {
-    desk: Desk,
-    passes: Vec<Pass>,
-    rest_pass: Option<Pass>,
-}
-
-// Opens a desk with a pass for each worker, and with one more if the rest is to be left: that of the calling thread.
-fn open_desk(alloc: Global, total: u32, workers: u32, rest: Rest) -> Result<OpenDesk, AllocError>
-    requires total { total ≤ most_lines }
-    requires workers { AreWorkers workers }
-    ensures total { IfOk result (λ made. made.desk.total ≡ total) }
-    ensures passes { IfOk result (λ made. AreNewPasses made.desk workers made.passes.items) }
-    ensures rest_pass { IfOk result (λ made. IfSome made.rest_pass (λ pass. pass ≡ new_pass made.desk workers)) }
-    ensures rest { IfOk result (λ made. rest_by_pass made.rest_pass ≡ rest) }
-    ensures all { IfOk result (λ made. workers + length (pass_list made.rest_pass) ≡ made.desk.passes) }
-    ensures room { IfOk result (λ made. workers + length (pass_list made.rest_pass) ≤ vec_capacity made.passes) }
-{
-    let leaves = rest == Rest::Leave;
-    let (desk, mut passes) = Desk::open(alloc, total, workers + u32::from(leaves))?;
-    let rest_pass = if leaves { passes.pop() } else { None };
-    Ok(OpenDesk {
-        desk,
-        passes,
-        rest_pass,
-    })
-}
 
 // Makes a worker for each pair of passes, in their order, and leaves the lists empty. All workers share what they learn of endings.
 fn workers_of_passes(
@@ -76,12 +44,15 @@ fn workers_of_passes(
     ensures room { (vec_capacity passes.new ≡ vec_capacity passes.old) × (vec_capacity puts.new ≡ vec_capacity puts.old) }
 {
     let mut workers: Vec<Worker> = Vec::with_capacity(alloc, passes.len())?;
-    while let Some(pass) = passes.pop() {
-        let Some(put) = puts.pop() else {
+    for _ in 0..passes.len() {
+        let solver = Worker::new_solver(alloc, entries, workers.last())?;
+        let Some(pass) = passes.pop() else {
             unreachable!()
         };
-        let worker = Worker::new(alloc, pass, put, entries, workers.last())?;
-        workers.push_reserved(worker);
+        let Some(put_pass) = puts.pop() else {
+            unreachable!()
+        };
+        workers.push_reserved(Worker::new(pass, put_pass, solver));
     }
     workers.reverse();
     Ok(workers)
@@ -90,23 +61,21 @@ fn workers_of_passes(
 // Moves the passes of the workers, in their order, and then that of the calling thread, into two lists that have room for them.
 fn passes_of_workers(
     workers: Vec<Worker>,
-    rest_pass: Option<Pass>,
+    rest_pass: Pass,
     passes: &mut Vec<Pass>,
     puts: &mut Vec<PutPass>,
 )
     requires empty { (passes.old.items ≡ []) × (puts.old.items ≡ []) }
-    requires passes_room { vec_len workers + length (pass_list rest_pass) ≤ vec_capacity passes.old }
+    requires passes_room { vec_len workers < vec_capacity passes.old }
     requires puts_room { vec_len workers ≤ vec_capacity puts.old }
-    ensures passes { passes.new.items ≡ passes_of workers.items ++ pass_list rest_pass }
+    ensures passes { passes.new.items ≡ passes_of workers.items ++ rest_pass ∷ [] }
     ensures puts { puts.new.items ≡ puts_of workers.items }
 {
     for worker in workers {
         passes.push_reserved(worker.pass);
         puts.push_reserved(worker.put_pass);
     }
-    if let Some(pass) = rest_pass {
-        passes.push_reserved(pass);
-    }
+    passes.push_reserved(rest_pass);
 }
 
 /// A batch that is open: what its workers share, the workers, the passes of the calling thread, and what is written of it. The two lists
@@ -137,25 +106,29 @@ impl<'a, G: Gate> OpenBatch<'a, G> {
         let output = OrderedOutput::new(alloc, request.files, jobs)?;
         let total = jobs.total();
         let count = request.workers.min(total).max(1);
-        let OpenDesk {
-            desk,
-            mut passes,
-            rest_pass,
-        } = open_desk(alloc, total, count, request.rest)?;
+        let (desk, mut passes) = Desk::open(alloc, total, count + 1)?;
         let (queue, mut puts, get_pass) = ResultsQueue::open(alloc, QUEUE_CAPACITY, count)?;
+        let shared = SharedWork {
+            desk,
+            queue,
+            jobs,
+            gate,
+        };
+        let Some(pass) = passes.pop() else {
+            unreachable!()
+        };
+        let caller = CallerPasses {
+            get_pass,
+            rest_pass: RestPass {
+                pass,
+                rest: request.rest,
+            },
+        };
         let workers = workers_of_passes(alloc, &mut passes, &mut puts, request.table)?;
         Ok(OpenBatch {
-            shared: SharedWork {
-                desk,
-                queue,
-                jobs,
-                gate,
-            },
+            shared,
             workers,
-            caller: CallerPasses {
-                get_pass,
-                rest_pass,
-            },
+            caller,
             output,
             passes,
             puts,
@@ -163,22 +136,22 @@ impl<'a, G: Gate> OpenBatch<'a, G> {
     }
 
     /// Answers the jobs: runs the workers, and writes each answer line once it is ready and all earlier ones are written. Then it closes
-    /// the batch. Fails with `NoWorker` if no thread could be started; then nothing is written.
+    /// the batch. Returns `None` if no thread could be started; then nothing is written.
     pub(crate) fn run<R: Threads + Wait + Sync, V: Watch, W: Sink, E: Rule + Sync>(
         self,
         rt: &R,
         watch: &mut V,
         out: &mut W,
-    ) -> Result<(), RunFault>
+    ) -> Option<()>
         requires ready { IsReadyToRun G.knows self }
-        // What a 1 says of the workers, for every rule: it holds once each has run, and not before.
+        // `E` stands for any fact. The word `ended` may become 1 only where that fact is known, which is once each worker has run. So
+        // whoever reads a 1 learns it.
         requires begins { E.invariant 0 }
         requires ends { OnceRun G.knows self.shared self.workers.items (E.invariant 1) }
-        ensures given { OnOk result (WasGivenSince (W.state out.old) (W.state out.new) (whole_output self.entry.output)) }
-        ensures fault { IfErr result (λ e. e ≡ RunFault.NoWorker) }
-        ensures untouched { OnErr result (out.new ≡ out.old) }
-        ensures gate_hears_all { (rest_by_pass self.entry.caller.rest_pass ≡ Solve) ⊎ ((W.state out.new).has_failed ≡ false)
-            → OnOk result ((job : ℕ) → job < job_count self.entry.shared.jobs.now → G.knows self.entry.shared.gate.now job ≡ true) }
+        ensures given { IfSome result (λ _. WasGiven W.state out.old out.new (whole_output self.entry.output)) }
+        ensures untouched { IfNone result (out.new ≡ out.old) }
+        ensures gate_hears_all { (self.entry.caller.rest_pass.rest ≡ Solve) ⊎ ((W.state out.new).has_failed ≡ false)
+            → IfSome result (λ _. (job : ℕ) → job < job_count self.entry.shared.jobs.now → G.knows self.entry.shared.gate.now job ≡ true) }
     {
         let OpenBatch {
             shared,
@@ -194,12 +167,16 @@ impl<'a, G: Gate> OpenBatch<'a, G> {
             workers,
             ended: &ended,
         };
-        let receiver = Receiver::new(caller, &ended);
-        let (workers, caller) = run_and_write(rt, crew, receiver, output, watch, out)?;
-        passes_of_workers(workers, caller.rest_pass, &mut passes, &mut puts);
+        let receiver = Receiver::new(&shared.desk, &shared.queue, caller, &ended);
+        let Some((workers, caller)) = run_and_write(rt, crew, receiver, output, watch, out) else {
+            return None;
+        };
+        // Closing has no effect that a caller sees: here the desk proves that each number was drawn once, and the queue that each outcome
+        // sent was got once. New lists of passes could be refused memory, now that the answers are written.
+        passes_of_workers(workers, caller.rest_pass.pass, &mut passes, &mut puts);
         let SharedWork { desk, queue, .. } = shared;
         desk.close(passes);
         queue.close(rt, puts, caller.get_pass);
-        Ok(())
+        Some(())
     }
 }

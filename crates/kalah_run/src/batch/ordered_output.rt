@@ -1,24 +1,25 @@
 //! The answers of a batch, written in the order of its lines.
-ghost use Rattle.std.specs.Prelude.{◌≡◌, length, false, IfOk};
+ghost use Rattle.std.specs.Prelude.{◌≡◌, ℕ, List, length, IfOk};
+ghost use Rattle.kalah_jobs.specs.Writing.Sink.{WasGiven};
 ghost use Rattle.kalah_jobs.specs.Collecting.CollectorState.{HasLinesOf};
 
-use kalah_jobs::{Collector, FileText, Jobs, Sink, write_answer_unless_failed};
+use kalah_jobs::{Collector, FileText, Jobs, Outcome, Sink, write_answer_unless_failed};
 use std::alloc::{AllocError, Global};
 
 /// What has come for a batch, and how much of it is written. `current` is the file whose lines are written next: the
 /// files before it are completely written.
 #[derive(Drop)]
 pub(crate) struct OrderedOutput<'a> {
-    pub(crate) files: &'a [FileText],
+    files: &'a [FileText],
     pub(crate) jobs: &'a Jobs,
-    pub(crate) collector: Collector,
-    pub(crate) current: u32,
+    collector: Collector,
+    current: u32,
     ghost as_many: { length jobs.now ≡ length files.now },
     ghost counts: { HasLinesOf jobs.now collector },
 }
 
 impl<'a> OrderedOutput<'a> {
-    ghost use Rattle.kalah_run.specs.Batch.OrderedOutput.{IsNew, WritesReady};
+    ghost use Rattle.kalah_run.specs.Batch.OrderedOutput.{IsNew, IsOffered, Waits, WritesOn};
 
     /// Makes the output of these files, with no outcome yet. It allocates all its memory here.
     pub(crate) fn new(
@@ -39,11 +40,20 @@ impl<'a> OrderedOutput<'a> {
         })
     }
 
+    /// Accepts the outcome of a job. It is refused, and nothing changes, only if its job had an outcome.
+    #[inline(always)]
+    pub(crate) fn accept(&mut self, outcome: Outcome)
+        ensures { IsOffered self.old outcome self.new }
+    {
+        let _ = self.collector.offer(self.jobs, outcome);
+    }
+
     /// Writes the next lines in output order, as far as they are ready.
     #[inline(always)]
-    pub(crate) fn write<W: Sink>(&mut self, out: &mut W)
-        ensures sound { (W.state out.new).has_failed ≡ false → (W.state out.old).has_failed ≡ false }
-        ensures writes { WritesReady self.old (W.state out.old) self.new (W.state out.new) }
+    pub(crate) fn write_ready<W: Sink>(&mut self, out: &mut W)
+        ensures given { (text : List ℕ) × WasGiven W.state out.old out.new text }
+        ensures writes { WritesOn W.state self.old out.old self.new out.new }
+        ensures waits { Waits self.new }
     {
         while self.current < self.jobs.files() {
             let f = self.current;

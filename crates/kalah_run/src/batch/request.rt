@@ -1,4 +1,4 @@
-//! What is asked of a batch: the question about its files, how it is run, and what a failed write leaves.
+//! What is asked of a batch: the question about its files, how it is run, and what happens to the rest if a write fails.
 ghost use Rattle.kalah_run.specs.Limits.{AreWorkers, IsTableSize};
 
 use kalah_jobs::{FileText, Question};
@@ -14,7 +14,7 @@ pub struct BatchRequest<'a> {
     pub workers: u32,
     /// The number of entries of each worker's table, 1 to 1,048,576.
     pub table: u32,
-    /// What a failed write leaves.
+    /// What happens to the lines that are left if a write fails.
     pub rest: Rest,
     ghost few_workers: { AreWorkers workers },
     ghost table_size: { IsTableSize table },

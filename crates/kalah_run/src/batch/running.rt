@@ -1,24 +1,20 @@
 //! Runs the workers on further threads, while the calling thread accepts what they send.
-ghost use Rattle.std.specs.Prelude.{◌≡◌, ◌⊎◌, [], length, false, IfErr, IfOk, IfSome, OnErr};
+ghost use Rattle.std.specs.Prelude.{◌≡◌, ◌⊎◌, [], length, IfNone, IfSome};
 ghost use Rattle.std.specs.Thread.{IsSync};
 ghost use Rattle.kalah_jobs.specs.Files.Jobs.{job_count};
-ghost use Rattle.kalah_jobs.specs.Writing.Sink.{IsReady};
-ghost use Rattle.kalah_run.specs.Batch.AtWork.{AreAtWork, HaveRun, OnceRun};
-ghost use Rattle.kalah_run.specs.Batch.OrderedOutput.{IsNew, IsOnlyFlushed};
-ghost use Rattle.kalah_run.specs.Batch.Running.{CanRun, HasCollected, MayHaveGot};
+ghost use Rattle.kalah_jobs.specs.Writing.Sink.{IsReady, WasGiven};
+ghost use Rattle.kalah_run.specs.Batch.AtWork.{CanRun, HaveRun};
+ghost use Rattle.kalah_run.specs.Batch.Running.{HasCollected, IsAtStart, MayHaveGot};
 ghost use Rattle.kalah_run.specs.Batch.Leaving.{NothingRemains};
-ghost use Rattle.kalah_run.specs.Desk.States.{IsPassAt};
 
-use crate::batch::crew::Crew;
+use crate::batch::crew::{AfterEnd, Crew};
 use crate::batch::gate::Gate;
 use crate::batch::ordered_output::OrderedOutput;
 use crate::batch::receiver::{CallerPasses, Receiver};
-use crate::batch::run_fault::RunFault;
 use crate::batch::shared_work::SharedWork;
 use crate::batch::watch::Watch;
 use crate::batch::worker::Worker;
 use crate::limits::MOST_TRIES;
-use crate::queue::AfterEnd;
 use kalah_jobs::{Outcome, Sink};
 use std::snapshot::Snapshot;
 use std::sync::Wait;
@@ -33,15 +29,15 @@ struct AllHaveRun<'a, 'b, G> {
     workers: Snapshot<Vec<Worker>>,
 }
 
-impl<'a, 'b, G: Gate> Promise<AfterEnd<Vec<Worker>>> for AllHaveRun<'a, 'b, G> {
+impl<'a, 'b, G: Gate> Promise<AfterEnd> for AllHaveRun<'a, 'b, G> {
     ghost use Rattle.kalah_run.specs.Batch.AtWork.{HaveRun};
 
-    ghost kept_by = { λ p r. HaveRun G.knows p.shared.now p.workers.value.items r.inner.items };
+    ghost kept_by = { λ p r. HaveRun G.knows p.shared.now p.workers.value.items r.workers.items };
 }
 
 // Lets the output flush what it buffers, as its caller may wait then.
 fn flush_to_wait<W: Sink>(out: &mut W)
-    ensures flushed { IsOnlyFlushed (W.state out.old) (W.state out.new) }
+    ensures unwritten { WasGiven W.state out.old out.new [] }
     ensures ready { IsReady (W.state out.new) }
 {
     if !out.failed() {
@@ -53,65 +49,55 @@ fn flush_to_wait<W: Sink>(out: &mut W)
 // and the workers have ended.
 #[cold]
 #[inline(never)]
-fn flush_and_get<R: Wait, G: Gate, V: Watch, W: Sink, E: Rule>(
+fn flush_and_get<R: Wait, V: Watch, W: Sink, E: Rule>(
     rt: &R,
-    shared: &SharedWork<'_, G>,
     receiver: &mut Receiver<'_, E>,
     watch: &mut V,
     out: &mut W,
 ) -> Option<Outcome>
-    requires queue { receiver.old.passes.get_pass.queue ≡ shared.now.queue.id }
-    requires own { IfSome receiver.old.passes.rest_pass (IsPassAt shared.now.desk) }
-    ensures { MayHaveGot shared.now.desk (E.invariant 1) receiver.old.passes receiver.new.passes
-        (W.state out.old) (W.state out.new) result }
+    ensures { MayHaveGot W.state (E.invariant 1) receiver.old.passes receiver.new.passes out.old out.new result }
 {
     flush_to_wait(out);
-    if receiver.leave_after(out.failed(), &shared.desk) {
-        return receiver.get_last(rt, &shared.queue, out);
+    if receiver.leave_after(out.failed()) {
+        return receiver.get_last(rt, out);
     }
     watch.waits();
-    Some(receiver.get(rt, shared, watch, out))
+    Some(receiver.get(rt, watch, out))
 }
 
 // Accepts the outcome of each job, and writes each line once it is ready and all earlier ones are written; then the output may flush.
 // If the output fails and the rest is left, it draws that itself, and accepts what the workers still send. It accepts until they have
 // ended, since a worker may sleep until another outcome is got. Returns both passes, to close the queue and the desk.
-fn collect<R: Wait, G: Gate, V: Watch, W: Sink, E: Rule>(
+fn collect<R: Wait, V: Watch, W: Sink, E: Rule>(
     rt: &R,
-    shared: &SharedWork<'_, G>,
     mut receiver: Receiver<'_, E>,
     mut output: OrderedOutput<'_>,
     watch: &mut V,
     out: &mut W,
 ) -> CallerPasses
-    requires own { IfSome receiver.passes.rest_pass (IsPassAt shared.now.desk) }
-    requires queue { receiver.passes.get_pass.queue ≡ shared.now.queue.id }
-    requires first { receiver.passes.get_pass.got ≡ [] }
-    requires new { IsNew output }
-    ensures collected { HasCollected shared.now.desk output.entry (W.state out.old) (W.state out.new) receiver.entry.passes result }
+    requires { IsAtStart receiver.passes output }
+    ensures collected { HasCollected W.state output.entry out.old out.new receiver.entry.passes result }
     // It ends early only once no job is left, and the workers have ended.
     ensures ended { (length result.get_pass.got ≡ job_count output.entry.jobs.now) ⊎ (NothingRemains result.rest_pass × E.invariant 1) }
     // The thread may wait for the workers to end.
     ensures ready { IsReady (W.state out.new) }
 {
     let total = output.jobs.total();
-    output.write(out);
+    output.write_ready(out);
     let mut tries = 0u32;
     for _ in 0..total {
         // One try more for each outcome, so that tries that find nothing take a small share of the time that the outcomes took.
         tries = (tries + 1).min(MOST_TRIES);
-        receiver.leave_after(out.failed(), &shared.desk);
-        let outcome = match receiver.get_soon(&shared.queue, &mut tries) {
+        receiver.leave_after(out.failed());
+        let outcome = match receiver.get_soon(&mut tries) {
             Some(outcome) => outcome,
-            None => match flush_and_get(rt, shared, &mut receiver, watch, out) {
+            None => match flush_and_get(rt, &mut receiver, watch, out) {
                 Some(outcome) => outcome,
                 None => break,
             },
         };
-        let jobs = output.jobs;
-        // It is refused only if its job had an outcome, and each has one.
-        let _ = output.collector.offer(jobs, outcome);
-        output.write(out);
+        output.accept(outcome);
+        output.write_ready(out);
         watch.accepts();
     }
     flush_to_wait(out);
@@ -119,7 +105,7 @@ fn collect<R: Wait, G: Gate, V: Watch, W: Sink, E: Rule>(
 }
 
 /// Runs the crew on further threads, and meanwhile accepts the outcome of each job and writes what is ready. Returns the workers and the
-/// passes. Fails with `NoWorker` if no thread could be started; then nothing is written.
+/// passes. Returns `None` if no thread could be started; then nothing is written.
 pub(crate) fn run_and_write<R: Threads + Wait + Sync, G: Gate, V: Watch, W: Sink, E: Rule + Sync>(
     rt: &R,
     crew: Crew<'_, '_, G, E>,
@@ -127,51 +113,39 @@ pub(crate) fn run_and_write<R: Threads + Wait + Sync, G: Gate, V: Watch, W: Sink
     output: OrderedOutput<'_>,
     watch: &mut V,
     out: &mut W,
-) -> Result<(Vec<Worker>, CallerPasses), RunFault>
-    requires { CanRun G.knows crew.shared.now crew.workers.items receiver.passes output
-        × OnceRun G.knows crew.shared.now crew.workers.items (E.invariant 1) }
-    ensures ran { IfOk result (λ r. HaveRun G.knows crew.entry.shared.now crew.entry.workers.items r.0.items) }
-    ensures collected { IfOk result (λ r. HasCollected crew.entry.shared.now.desk output.entry (W.state out.old) (W.state out.new)
-        receiver.entry.passes r.1) }
-    ensures fault { IfErr result (λ e. e ≡ RunFault.NoWorker) }
-    ensures untouched { OnErr result (out.new ≡ out.old) }
+) -> Option<(Vec<Worker>, CallerPasses)>
+    requires { CanRun G.knows crew.shared.now crew.workers.items (E.invariant 1) × IsAtStart receiver.passes output }
+    ensures ran { IfSome result (λ r. HaveRun G.knows crew.entry.shared.now crew.entry.workers.items r.0.items) }
+    ensures collected { IfSome result (λ r. HasCollected W.state output.entry out.old out.new receiver.entry.passes r.1) }
+    ensures untouched { IfNone result (out.new ≡ out.old) }
 {
     let (ran, _watch, _out) = thread::scope(
         thread::scope_env(),
         rt,
-        move |scope| -> (
-            Result<(Vec<Worker>, CallerPasses), RunFault>,
-            &mut V,
-            &mut W,
-        )
-            requires { IsSync R.row × IsSync G.row × CanRun G.knows crew.shared.now crew.workers.items receiver.passes output
-                × OnceRun G.knows crew.shared.now crew.workers.items (E.invariant 1) }
+        move |scope| -> (Option<(Vec<Worker>, CallerPasses)>, &mut V, &mut W)
+            requires { IsSync R.row × IsSync G.row
+                × CanRun G.knows crew.shared.now crew.workers.items (E.invariant 1) × IsAtStart receiver.passes output }
             ensures names { (result.1.ghost_name ≡ watch.entry.ghost_name) × (result.2.ghost_name ≡ out.entry.ghost_name) }
-            ensures ran { IfOk result.0 (λ r. HaveRun G.knows crew.entry.shared.now crew.entry.workers.items r.0.items) }
-            ensures collected { IfOk result.0 (λ r. HasCollected crew.entry.shared.now.desk output.entry
-                (W.state out.entry.now) (W.state result.2.now) receiver.entry.passes r.1) }
-            ensures fault { IfErr result.0 (λ e. e ≡ RunFault.NoWorker) }
-            ensures untouched { OnErr result.0 (result.2.now ≡ out.entry.now) }
+            ensures ran { IfSome result.0 (λ r. HaveRun G.knows crew.entry.shared.now crew.entry.workers.items r.0.items) }
+            ensures collected { IfSome result.0 (λ r. HasCollected W.state output.entry out.entry.now result.2.now receiver.entry.passes r.1) }
+            ensures untouched { IfNone result.0 (result.2.now ≡ out.entry.now) }
         {
-            let shared = crew.shared;
             let all_have_run = AllHaveRun {
-                shared,
+                shared: crew.shared,
                 workers: Snapshot::of(&crew.workers),
             };
             let started = scope.spawn_with(
                 all_have_run,
-                move || -> AfterEnd<Vec<Worker>>
-                    requires { IsSync R.row × IsSync G.row × AreAtWork G.knows crew.shared.now crew.workers.items
-                        × OnceRun G.knows crew.shared.now crew.workers.items (E.invariant 1) }
-                    ensures { HaveRun G.knows crew.entry.shared.now crew.entry.workers.items result.inner.items }
+                move || -> AfterEnd
+                    requires { CanRun G.knows crew.shared.now crew.workers.items (E.invariant 1) }
                 { crew.run(rt) },
             );
             let Ok(child) = started else {
-                return (Err(RunFault::NoWorker), watch, out);
+                return (None, watch, out);
             };
-            let passes = collect(rt, shared, receiver, output, watch, out);
-            let workers = child.join(rt).into_inner();
-            (Ok((workers, passes)), watch, out)
+            let passes = collect(rt, receiver, output, watch, out);
+            let AfterEnd { workers, .. } = child.join(rt);
+            (Some((workers, passes)), watch, out)
         },
     );
     ran

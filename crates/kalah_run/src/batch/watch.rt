@@ -1,9 +1,9 @@
 //! The watch: an observer of the progress of a batch.
 ghost use Rattle.std.specs.Prelude.{◌≡◌, Bool, true};
 
-/// An observer of the progress of a batch. The calling thread calls `accepts` for each outcome that it has accepted, once the answers
-/// that are ready are written. It calls `waits` before it waits for an outcome, unless the rest is left after a
-/// failed write. A watch that blocks delays the batch.
+/// An observer of a batch, called on the calling thread: `accepts` after each accepted outcome, once the answers that became ready are
+/// written; `waits` before each wait for an outcome, except while the rest is left after a failed write. A watch that blocks delays the
+/// batch.
 pub trait Watch {
     /// Whether the watch knows that the next outcome has not come yet. `waits` ensures it, and the call that waits requires it. By default
     /// it is true.
@@ -18,7 +18,7 @@ pub trait Watch {
 }
 
 /// The watch that does nothing.
-#[derive(Clone, Copy, Debug, Default, PartialEq, Eq)]
+#[derive(Clone, Copy, Debug, PartialEq, Eq)]
 pub struct NoWatch;
 
 impl Watch for NoWatch {

@@ -3,7 +3,8 @@ ghost use Rattle.std.specs.Prelude.{◌≡◌, ◌<◌, Some, slice_get, true, I
 ghost use Rattle.kalah_jobs.specs.Files.JobList.{job_list};
 ghost use Rattle.kalah_jobs.specs.Files.Jobs.{job_count};
 ghost use Rattle.kalah_run.specs.Limits.{IsTableSize};
-ghost use Rattle.kalah_run.specs.Batch.Running.{HasOwnTable};
+ghost use Rattle.crossbeam_utils.specs.Padded.{padded_value};
+ghost use Rattle.kalah_solve.specs.Table.Entries.{empty_table};
 
 use crate::batch::gate::Gate;
 use crate::desk::pass::Pass;
@@ -23,31 +24,35 @@ pub(crate) struct Worker {
 }
 
 impl Worker {
-    /// Makes a worker with a table of its own for `entries` entries. It shares what it learns of endings with the other worker, if there
-    /// is one. Fails with `AllocError` only if memory was refused.
-    pub(crate) fn new(
+    /// Makes the solver of a worker, with a table of its own for `entries` entries. It shares what it learns of endings with that of the
+    /// other worker, if there is one. Fails with `AllocError` only if memory was refused.
+    pub(crate) fn new_solver(
         alloc: Global,
-        pass: Pass,
-        put_pass: PutPass,
         entries: u32,
         other: Option<&Worker>,
-    ) -> Result<Worker, AllocError>
+    ) -> Result<Solver, AllocError>
         requires { IsTableSize entries }
-        ensures passes { IfOk result (λ w. (w.pass ≡ pass) × (w.put_pass ≡ put_pass)) }
-        ensures table { IfOk result (HasOwnTable entries) }
+        ensures { IfOk result (λ solver. solver.search.table ≡ empty_table entries) }
     {
-        let solver = match other {
-            Some(worker) => worker.solver.sharing_endings(alloc, entries)?,
-            None => Solver::new(Table::new(alloc, entries)?),
-        };
-        Ok(Worker {
+        match other {
+            Some(worker) => worker.solver.sharing_endings(alloc, entries),
+            None => Ok(Solver::new(Table::new(alloc, entries)?)),
+        }
+    }
+
+    /// Makes a worker with these passes and this solver.
+    pub(crate) fn new(pass: Pass, put_pass: PutPass, solver: Solver) -> Worker
+        ensures passes { (result.pass ≡ pass) × (result.put_pass ≡ put_pass) }
+        ensures solver { padded_value result.solver ≡ solver }
+    {
+        Worker {
             pass,
             put_pass,
             solver: CachePadded::new(solver),
-        })
+        }
     }
 
-    /// Solves a job, and returns its outcome. The gate knows that the worker has the job.
+    /// Solves a job, and returns its outcome. `_gate` is not used: its clause makes the caller tell the gate first.
     #[inline(always)]
     pub(crate) fn answer<G: Gate>(&mut self, jobs: &Jobs, job: u32, _gate: &G) -> Outcome
         requires there { job < job_count jobs.now }

@@ -1,5 +1,5 @@
 //! The right to draw numbers at a desk.
-use crate::desk::rule::DeskView;
+use crate::desk::protocol::DeskView;
 use atomic_table::Seat;
 use std::marker::Model;
 

@@ -1,5 +1,11 @@
 //! The passes of a results queue: what each stores, and what contracts see of it.
-use crate::queue::rule::RuledPass;
+ghost use Rattle.std.specs.Prelude.{◌≡◌, []};
+ghost use Rattle.crossbeam_queue.specs.Passes.{view as view_of};
+ghost use Rattle.kalah_run.specs.Queue.Protocol.{sent_in, worker_in, got_in, workers_in};
+ghost use Rattle.kalah_run.specs.Queue.States.{PutPassState, GetPassState};
+ghost use Rattle.kalah_run.specs.declared.queue.protocol.QueueView.TheVariants.{Putting, Getting};
+
+use crate::queue::protocol::RuledPass;
 use std::marker::Model;
 
 /// One worker's right to put. Contracts see it as the identity of its queue, the worker's number, and all that was put through
@@ -10,12 +16,6 @@ pub struct PutPass {
 }
 
 impl Model for PutPass {
-    ghost use Rattle.std.specs.Prelude.{◌≡◌, []};
-    ghost use Rattle.crossbeam_queue.specs.Passes.{view as view_of};
-    ghost use Rattle.kalah_run.specs.declared.queue.rule.QueueView.TheVariants.{Putting};
-    ghost use Rattle.kalah_run.specs.Queue.States.{PutPassState};
-    ghost use Rattle.kalah_run.specs.Queue.Rule.{sent_in, worker_in};
-
     ghost Value = { PutPassState };
 
     ghost view = { λ p. record { queue = p.ruled.table_id; number = worker_in (view_of p.ruled); sent = sent_in (view_of p.ruled) } };
@@ -31,12 +31,6 @@ pub struct GetPass {
 }
 
 impl Model for GetPass {
-    ghost use Rattle.std.specs.Prelude.{◌≡◌, []};
-    ghost use Rattle.crossbeam_queue.specs.Passes.{view as view_of};
-    ghost use Rattle.kalah_run.specs.declared.queue.rule.QueueView.TheVariants.{Getting};
-    ghost use Rattle.kalah_run.specs.Queue.States.{GetPassState};
-    ghost use Rattle.kalah_run.specs.Queue.Rule.{got_in, workers_in};
-
     ghost Value = { GetPassState };
 
     ghost view = { λ p. record { queue = p.ruled.table_id; workers = workers_in (view_of p.ruled); got = got_in (view_of p.ruled) } };

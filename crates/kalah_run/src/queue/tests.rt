@@ -10,7 +10,7 @@ use std::sync::Wait;
 use std::thread;
 use std::thread::Threads;
 
-// Puts the outcome repeatedly.
+// PutOutcome the outcome repeatedly.
 fn put_often<R: Wait>(
     rt: &R,
     queue: &ResultsQueue,
@@ -47,7 +47,7 @@ fn put_all<R: Threads + Wait + Sync>(
     );
 }
 
-// Gets `total` outcomes.
+// GetOutcome `total` outcomes.
 fn get_all<R: Wait>(rt: &R, queue: &ResultsQueue, mut pass: GetPass, total: u32)
     requires { pass.queue ≡ queue.now.id }
 {

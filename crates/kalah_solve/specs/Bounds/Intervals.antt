@@ -1,5 +1,5 @@
 -- Intervals of margins, and the numbers that a window distinguishes.
-use Rattle.std.specs.Prelude.{ℕ, ◌+◌, ℤ, pos, neg_ℤ, ◌≤ℤ◌}
+use Rattle.std.specs.Prelude.{ℕ, ◌+◌, ◌*◌, ℤ, pos, neg_ℤ, ◌-ℤ◌, ◌≤ℤ◌}
 use Rattle.std.specs.Int.{int_max, int_min}
 use Rattle.kalah_rules.specs.Limits.{most_seeds}
 use Rattle.kalah_solve.specs.declared.bounds.interval.Interval.{Interval}
@@ -23,6 +23,10 @@ pub record Encloses (i : Interval) (z : ℤ) : Type 0 where
 -- the number, raised to lo and lowered to hi
 abbrev pub clamped : ℤ → ℤ → ℤ → ℤ
 clamped lo hi z = int_max lo (int_min z hi)
+
+-- the margin of a player who wins t of these seeds
+abbrev pub margin_of : ℕ → ℕ → ℤ
+margin_of t seeds = pos (2 * t) -ℤ pos seeds
 
 -- half of a number, rounded down, and 0 for one below 0
 pub record IsHalf (z : ℤ) (half : ℕ) : Type 0 where

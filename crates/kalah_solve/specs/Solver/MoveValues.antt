@@ -9,7 +9,7 @@ use Rattle.kalah_solve.specs.Solver.Worth.{greatest, value_of_move}
 use Rattle.kalah_solve.specs.Solver.BestPlay.{IsWorthOfMove}
 use Rattle.kalah_solve.specs.Solver.Verdict.{verdict_of}
 use Rattle.kalah_solve.specs.declared.solver.move_values.MoveValue.{MoveValue}
-use Rattle.kalah_solve.specs.declared.solver.move_values.TheConstants.{VALUES, BASE}
+use Rattle.kalah_solve.specs.declared.solver.move_values.TheConstants.{VALUE_COUNT, DIGIT_BASE}
 use Rattle.kalah_solve.specs.declared.solver.Verdict.{Verdict}
 use Rattle.kalah_solve.specs.declared.solver.Verdict.TheVariants.{Best}
 
@@ -22,7 +22,7 @@ abbrev pub values_of : Position → List MoveValue
 values_of p = map (move_value p) (legal_houses p)
 
 -- the houses are the legal ones, in ascending order, each with what its move gets in best play
-pub record StateValues (p : Position) (values : List MoveValue) : Type 0 where
+pub record AreValuesByBestPlay (p : Position) (values : List MoveValue) : Type 0 where
   pub houses : map (λ v. v.house) values ≡ legal_houses p
   pub worth : All (λ v. IsWorthOfMove p v.house v.value) values
 
@@ -42,21 +42,21 @@ pub record IsMoveValue (v : MoveValue) : Type 0 where
 
 -- a value as a digit: each house has one for each of its values, and the least value of house 1 has digit 1
 abbrev pub digit_of : MoveValue → ℕ
-digit_of v = VALUES * (v.house - 1) + nat_or_zero (v.value +ℤ pos (most_in_play + 1))
+digit_of v = VALUE_COUNT * (v.house - 1) + nat_or_zero (v.value +ℤ pos (most_in_play + 1))
 
 -- the value with a digit
 abbrev pub value_at : ℕ → MoveValue
-value_at d = record { house = (d - 1) / VALUES + 1; value = pos ((d - 1) % VALUES) -ℤ pos most_in_play }
+value_at d = record { house = (d - 1) / VALUE_COUNT + 1; value = pos ((d - 1) % VALUE_COUNT) -ℤ pos most_in_play }
 
--- values as a number to the base `BASE`, the digit of the first one lowest
+-- values as a number to the base `DIGIT_BASE`, the digit of the first one lowest
 abbrev pub values_number : List MoveValue → ℕ
 values_number [] = 0
-values_number (v ∷ vs) = digit_of v + BASE * values_number vs
+values_number (v ∷ vs) = digit_of v + DIGIT_BASE * values_number vs
 
 -- the values in the lowest n digits of a number
 abbrev pub values_in : ℕ → ℕ → List MoveValue
 values_in zero k = []
-values_in (suc n) k = if k == 0 then [] else (value_at (k % BASE) ∷ values_in n (k / BASE))
+values_in (suc n) k = if k == 0 then [] else (value_at (k % DIGIT_BASE) ∷ values_in n (k / DIGIT_BASE))
 
 -- the number is that of at most n values
 abbrev pub IsValuesNumber : ℕ → ℕ → Type 0

@@ -1,6 +1,6 @@
 -- What a table of intervals stores.
 use Rattle.std.specs.Prelude.{◌≡◌, ℕ, List, [], Contains}
-use Rattle.kalah_rules.specs.Position.{HousesState, IsWithinHouses}
+use Rattle.kalah_rules.specs.Position.{HousesState, AreWithinLimits}
 use Rattle.kalah_rules.specs.Key.{key_of}
 use Rattle.kalah_solve.specs.Solver.Worth.{houses_worth}
 use Rattle.kalah_solve.specs.Bounds.Intervals.{Encloses}
@@ -22,7 +22,7 @@ empty_table capacity = record { entries = []; capacity = capacity }
 
 -- the key is the key of houses whose worth is in the interval
 abbrev pub IsTrueEntry : ℕ × Interval → Type 0
-IsTrueEntry e = (a : HousesState) × IsWithinHouses a × (key_of a ≡ e.0) × Encloses e.1 (houses_worth a)
+IsTrueEntry e = (a : HousesState) × AreWithinLimits a × (key_of a ≡ e.0) × Encloses e.1 (houses_worth a)
 
 -- each entry of the table is true of its key
 abbrev pub AreTrueEntries : List (ℕ × Interval) → Type 0

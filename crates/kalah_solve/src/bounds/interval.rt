@@ -1,5 +1,5 @@
 //! Intervals of margins.
-ghost use Rattle.std.specs.Prelude.{◌≡◌, ◌≤ℤ◌, ℤ};
+ghost use Rattle.std.specs.Prelude.{◌≡◌, ◌↔◌, ◌≤ℤ◌, ℤ};
 ghost use Rattle.kalah_solve.specs.Bounds.Intervals.{Encloses, from_to, least_margin, most_margin};
 
 use kalah_rules::MOST_SEEDS;
@@ -30,8 +30,7 @@ impl Interval {
 
     // Returns the numbers that are in both intervals.
     pub(crate) fn intersection(self, with: Interval) -> Interval
-        ensures held { (z : ℤ) → Encloses self z → Encloses with z → Encloses result z }
-        ensures no_more { (z : ℤ) → Encloses result z → Encloses self z × Encloses with z }
+        ensures { (z : ℤ) → Encloses result z ↔ (Encloses self z × Encloses with z) }
     {
         Interval {
             lo: self.lo.max(with.lo),

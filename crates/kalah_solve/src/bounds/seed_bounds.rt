@@ -1,8 +1,8 @@
 //! Bounds on the number of seeds that a player wins.
-ghost use Rattle.std.specs.Prelude.{◌≡◌, ◌+◌, ◌*◌, max, min, ◌≤◌, ◌≤ℤ◌, ◌+ℤ◌, ◌-ℤ◌, ℕ, ℤ, pos};
+ghost use Rattle.std.specs.Prelude.{◌≡◌, max, min, ◌≤◌, ◌≤ℤ◌, ◌+ℤ◌, ℕ, ℤ, pos};
 ghost use Rattle.kalah_rules.specs.Limits.{most_seeds};
 ghost use Rattle.kalah_rules.specs.Position.{storeless, seeds_in_houses};
-ghost use Rattle.kalah_solve.specs.Bounds.Intervals.{Encloses, IsHalf, clamped};
+ghost use Rattle.kalah_solve.specs.Bounds.Intervals.{Encloses, IsHalf, clamped, margin_of};
 
 use crate::bounds::interval::Interval;
 use crate::bounds::window::Window;
@@ -28,7 +28,7 @@ pub(crate) fn won_of(margin: i32, seeds: u8) -> u8
 // Returns the margin of a player who wins `won` of `seeds` seeds.
 #[inline(always)]
 pub(crate) fn margin_of(won: u8, seeds: u8) -> i32
-    ensures { result ≡ pos (2 * won) -ℤ pos seeds }
+    ensures { result ≡ margin_of won seeds }
 {
     2 * won as i32 - seeds as i32
 }
@@ -53,8 +53,8 @@ impl SeedBounds {
     pub(crate) fn of_window(window: Window, seeds: u8) -> SeedBounds
         requires { seeds ≤ most_seeds }
         ensures ordered { result.least ≤ result.most }
-        ensures apart { (t : ℕ) → t ≤ seeds → clamped window.lo window.hi (pos (2 * max result.least (min result.most t)) -ℤ pos seeds)
-            ≡ clamped window.lo window.hi (pos (2 * t) -ℤ pos seeds) }
+        ensures apart { (t : ℕ) → t ≤ seeds → clamped window.lo window.hi (margin_of (max result.least (min result.most t)) seeds)
+            ≡ clamped window.lo window.hi (margin_of t seeds) }
     {
         SeedBounds {
             least: won_of(window.lo, seeds),
@@ -65,24 +65,24 @@ impl SeedBounds {
     // Returns the bounds of what is won of `seeds` seeds that a margin in the interval allows.
     pub(crate) fn of_margins(interval: Interval, seeds: u8) -> SeedBounds
         requires { seeds ≤ most_seeds }
-        ensures held { (t : ℕ) → t ≤ seeds → Encloses interval (pos (t + t) -ℤ pos seeds) → IsWithinBounds result t }
-        ensures no_more { pos 0 ≤ℤ (interval.hi +ℤ pos seeds)
-            → (t : ℕ) → t ≤ seeds → IsWithinBounds result t → Encloses interval (pos (t + t) -ℤ pos seeds) }
+        ensures held { (t : ℕ) → t ≤ seeds → Encloses interval (margin_of t seeds) → IsWithinBounds result t }
+        ensures only { pos 0 ≤ℤ (interval.hi +ℤ pos seeds)
+            → (t : ℕ) → t ≤ seeds → IsWithinBounds result t → Encloses interval (margin_of t seeds) }
     {
         SeedBounds {
             least: won_of(interval.lo as i32 + 1, seeds),
-            most: won_of(interval.hi as i32, seeds).min(MOST_SEEDS as u8),
+            most: won_of(interval.hi as i32, seeds).min(MOST_SEEDS),
         }
     }
 
     // Returns the margins of what is won of `seeds` seeds within these bounds.
     pub(crate) fn margins(self, seeds: u8) -> Interval
         requires { seeds ≤ most_seeds }
-        ensures held { (t : ℕ) → t ≤ seeds → IsWithinBounds self t → Encloses result (pos (t + t) -ℤ pos seeds) }
-        ensures no_more { self.least ≤ seeds
-            → (t : ℕ) → t ≤ seeds → Encloses result (pos (t + t) -ℤ pos seeds) → IsWithinBounds self t }
+        ensures held { (t : ℕ) → t ≤ seeds → IsWithinBounds self t → Encloses result (margin_of t seeds) }
+        ensures only { self.least ≤ seeds
+            → (t : ℕ) → t ≤ seeds → Encloses result (margin_of t seeds) → IsWithinBounds self t }
     {
-        let least = self.least.min(MOST_SEEDS as u8);
+        let least = self.least.min(MOST_SEEDS);
         Interval {
             lo: margin_of(least, seeds) as i8,
             hi: margin_of(self.most, seeds) as i8,

@@ -1,5 +1,5 @@
-//! What a search knows of houses, what it learns of them, and how it grows with its nodes.
-ghost use Rattle.kalah_rules.specs.Position.{IsWithinHouses};
+//! Bounds of houses: looked up before a search of them, and stored after it.
+ghost use Rattle.kalah_rules.specs.Position.{AreWithinLimits};
 ghost use Rattle.kalah_solve.specs.Solver.Worth.{houses_worth};
 ghost use Rattle.kalah_solve.specs.Bounds.Intervals.{Encloses};
 ghost use Rattle.kalah_solve.specs.Bounds.Won.{won, IsWithinBounds};
@@ -14,7 +14,7 @@ impl<A: Allocator + Clone> Search<A> {
     // Returns an interval that holds the worth of the houses.
     #[tactic(auto, using(crate::proofs::BoundsLemmas::worth_low, crate::proofs::BoundsLemmas::worth_high))]
     pub(super) fn known_margins(&mut self, houses: &Houses) -> Interval
-        requires { IsWithinHouses houses.now }
+        requires { AreWithinLimits houses.now }
         ensures { Encloses result (houses_worth houses.now) }
     {
         match self.table.look_up(houses) {
@@ -27,7 +27,7 @@ impl<A: Allocator + Clone> Search<A> {
     pub(super) fn known_seeds(&mut self, houses: &Houses) -> SeedBounds
         ensures { IsWithinBounds result (won houses.now) }
     {
-        if houses.seeds() <= self.most_slotted {
+        if houses.seeds() <= self.most_slot_seeds {
             self.table.slots.look_up(houses)
         } else {
             self.known_by_entry(*houses)
@@ -52,7 +52,7 @@ impl<A: Allocator + Clone> Search<A> {
         requires { IsWithinBounds bounds (won houses.now) }
     {
         let seeds = houses.seeds();
-        if seeds <= self.most_slotted {
+        if seeds <= self.most_slot_seeds {
             self.table.slots.keep(houses, bounds);
         } else {
             self.learn_margins(*houses, bounds.margins(seeds), nodes);
@@ -63,33 +63,8 @@ impl<A: Allocator + Clone> Search<A> {
     pub(super) fn learn_margins(&mut self, houses: Houses, interval: Interval, nodes: u64)
         requires { Encloses interval (houses_worth houses) }
     {
-        if nodes >= self.least_nodes {
+        if nodes >= self.least_entry_nodes {
             self.table.keep(&houses, interval);
-        }
-    }
-
-    // Counts one more node, lets the search grow if that is due, and returns how many of the variant there were before.
-    pub(super) fn count_node(&mut self) -> u64 {
-        let before = self.counts.nodes();
-        if self.counts.count() {
-            self.grow();
-        }
-        before
-    }
-
-    // Uses more endings, and all slots.
-    #[cold]
-    #[inline(never)]
-    fn grow(&mut self) {
-        self.counts.set_next_threshold();
-        self.set_ending_limit();
-        self.table.grow();
-    }
-
-    // Uses the endings that pay, if the search uses endings.
-    pub(super) fn set_ending_limit(&mut self) {
-        if self.ending_limit.seeds > 0 {
-            self.ending_limit = self.counts.ending_limit();
         }
     }
 }

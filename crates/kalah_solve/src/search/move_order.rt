@@ -1,37 +1,33 @@
 //! The order of turns: an estimate of how good each is, before its outcome is known. It states nothing about their worth.
-ghost use Rattle.std.specs.Prelude.{◌≡◌, ◌+◌, ◌%◌, ◌≤◌, ◌<◌, ℕ, Contains, slice_index};
+ghost use Rattle.std.specs.Prelude.{◌≡◌, ◌+◌, ◌%◌, ◌≤◌, ◌<◌};
 ghost use Rattle.kalah_rules.specs.Limits.{most_seeds};
 
 mod weights;
 
-use crate::search::move_order::weights::{GAIN, HOUSES, PLACE_PRIORITIES};
+use crate::search::move_order::weights::{GAIN_WEIGHT, HOUSE_WEIGHTS, PLACE_PRIORITIES};
 use kalah_rules::{House, Houses};
 
 // The cells of six pairs of houses, each with 32 numbers of seeds for either.
-const PAIRS: usize = 6 * 1024;
+const WEIGHT_CELLS: usize = 6 * 1024;
 
 /// What orders the turns: the weights of the houses, two neighbours at a time.
 #[derive(Drop)]
 pub(crate) struct MoveOrder {
     // What two neighbouring houses count together, for each of the six pairs and each number of seeds of either. No pair counts more
     // than 255.
-    pairs: [u8; PAIRS],
+    weights: [u8; WEIGHT_CELLS],
 }
 
 impl MoveOrder {
     /// Computes the table.
     pub(crate) fn new() -> MoveOrder {
-        let mut pairs = [0u8; PAIRS];
-        for pair in 0..6usize {
-            for second in 0..32usize {
-                for first in 0..32usize {
-                    let weight = HOUSES[2 * pair][first % 16];
-                    let sum = weight.saturating_add(HOUSES[2 * pair + 1][second % 16]);
-                    pairs[1024 * pair + 32 * second + first] = sum;
-                }
-            }
+        let mut weights = [0u8; WEIGHT_CELLS];
+        for i in 0..WEIGHT_CELLS {
+            let first = HOUSE_WEIGHTS[i / 1024 * 2][i % 16];
+            let second = HOUSE_WEIGHTS[i / 1024 * 2 + 1][i / 32 % 16];
+            weights[i] = first.saturating_add(second);
         }
-        MoveOrder { pairs }
+        MoveOrder { weights }
     }
 
     // Returns what the houses count that a turn leaves.
@@ -45,7 +41,7 @@ impl MoveOrder {
         let mut weight = 0;
         for i in 0..6usize {
             let pair = (cells >> (10 * i)) % 1024;
-            weight += self.pairs[1024 * i + pair as usize] as u32;
+            weight += self.weights[1024 * i + pair as usize] as u32;
         }
         weight
     }
@@ -63,7 +59,7 @@ impl MoveOrder {
         ensures some { 0 < result }
         ensures house { result % 8 + 1 ≡ house }
     {
-        let estimate = GAIN * gained as u32 + self.weight(m, next);
+        let estimate = GAIN_WEIGHT * gained as u32 + self.weight(m, next);
         (8 * estimate + place_priority(m, house) as u32) as u16
     }
 }
@@ -78,19 +74,4 @@ fn place_priority(m: u8, house: House) -> u16
     ensures small { result ≤ 421 }
 {
     PLACE_PRIORITIES[(m / 6) as usize][(m + house.bit() - 1) as usize]
-}
-
-/// As many priorities as the processor compares at once, house 1 first: those past the last house are 0.
-pub(crate) type Priorities = [u16; 8];
-
-/// Returns the highest priority.
-pub(crate) fn highest(priorities: &Priorities) -> u16
-    ensures found { Contains priorities.now result }
-    ensures highest { (k : ℕ) → slice_index priorities.now k ≤ result }
-{
-    let mut most = priorities[0];
-    for i in 1..8usize {
-        most = most.max(priorities[i]);
-    }
-    most
 }

@@ -1,8 +1,8 @@
 //! The nodes of a search: how many it had of each variant, and which endings pay after them.
 ghost use Rattle.std.specs.Prelude.{◌≤◌, ◌<◌};
-ghost use Rattle.kalah_solve.specs.Table.EndgameTable.{most_ending_seeds};
+ghost use Rattle.kalah_solve.specs.Table.EndingTable.{most_ending_seeds};
 
-use crate::table::endgame_table::MOST_ENDING_SEEDS;
+use crate::table::ending_table::MOST_ENDING_SEEDS;
 use kalah_rules::Houses;
 
 /// Endings of up to this many seeds pay in each variant from its first node on.
@@ -15,8 +15,7 @@ const NODES_FOR_ALL_SLOTS: u64 = 8_000;
 // are 75,582 of 8 seeds.
 const NODES_FOR_8_SEEDS: u64 = 42_000;
 
-// The nodes of a variant from which on endings of 9 seeds pay, the most, once houses with many seeds were asked about. There are 167,960 of
-// 9 seeds.
+// The nodes of a variant from which on endings of 9 seeds pay, if houses with many seeds were asked about. There are 167,960 of 9 seeds.
 const NODES_FOR_9_SEEDS: u64 = 120_000;
 
 // Houses with this many seeds or more have many.
@@ -46,7 +45,7 @@ pub(super) struct NodeCounts {
     nodes: u64,
     // The nodes of each variant when it was last left, by its number.
     nodes_before: [u64; 16],
-    // The number of its nodes from which on more may pay: up to it, a node is only counted.
+    // The number of its nodes at which the search may grow next. Up to it, a node is only counted.
     next_threshold: u64,
     // Whether houses with many seeds were asked about.
     seen_many_seeds: bool,
@@ -93,7 +92,7 @@ impl NodeCounts {
         self.nodes
     }
 
-    /// Sets the number of nodes from which on more may pay.
+    /// Sets when the search may grow next.
     pub(super) fn set_next_threshold(&mut self) {
         self.next_threshold = if self.nodes < NODES_FOR_ALL_SLOTS {
             NODES_FOR_ALL_SLOTS
@@ -106,9 +105,9 @@ impl NodeCounts {
         };
     }
 
-    /// Counts one more node, and returns whether more endings or slots may pay by now.
+    /// Counts a node, and returns whether more endings or slots may pay by now.
     #[inline(always)]
-    pub(super) fn count(&mut self) -> bool {
+    pub(super) fn count_node(&mut self) -> bool {
         let before = self.nodes;
         self.nodes = before.wrapping_add(1); // It never wraps: no search has that many nodes.
         before >= self.next_threshold

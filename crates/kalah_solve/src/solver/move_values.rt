@@ -2,7 +2,7 @@
 ghost use Rattle.std.specs.Prelude.{◌≡◌, ◌<◌, ◌≤◌, [], ◌∷◌, length, slice_get, MatchOption, Some};
 ghost use Rattle.kalah_solve.specs.Solver.MoveValues.{IsMoveValue, digit_of, value_at};
 
-use kalah_rules::{MOST_HOUSES, MOST_IN_STORE, MOST_SEEDS};
+use kalah_rules::{MOST_HOUSES, MOST_IN_PLAY};
 use std::marker::Model;
 
 /// A legal move and its value.
@@ -15,13 +15,13 @@ pub struct MoveValue {
 }
 
 // The greatest value, 130: that of a store with all the seeds that can come to it.
-const MOST_VALUE: i16 = MOST_IN_STORE as i16 + MOST_SEEDS as i16;
+const MOST_VALUE: i16 = MOST_IN_PLAY as i16;
 
 // The number of values of a house, from -130 to 130.
-const VALUES: u64 = 2 * MOST_VALUE as u64 + 1;
+const VALUE_COUNT: u64 = 2 * MOST_VALUE as u64 + 1;
 
 // One more than the number of values of all houses. So six digits of this base fit into a word.
-const BASE: u64 = MOST_HOUSES as u64 * VALUES + 1;
+const DIGIT_BASE: u64 = MOST_HOUSES as u64 * VALUE_COUNT + 1;
 
 impl MoveValue {
     // Returns the value as a digit.
@@ -29,19 +29,19 @@ impl MoveValue {
         requires { IsMoveValue self }
         ensures { result ≡ digit_of self }
     {
-        VALUES * u64::from(self.house - 1) + (self.value + MOST_VALUE + 1) as u64
+        VALUE_COUNT * u64::from(self.house - 1) + (self.value + MOST_VALUE + 1) as u64
     }
 
     // Returns the value with this digit, which isn't 0.
     fn of_digit(digit: u64) -> MoveValue
         requires some { 1 ≤ digit }
-        requires small { digit < BASE }
+        requires small { digit < DIGIT_BASE }
         ensures { result ≡ value_at digit }
     {
         let place = digit - 1;
         MoveValue {
-            house: (place / VALUES + 1) as u8,
-            value: (place % VALUES) as i16 - MOST_VALUE,
+            house: (place / VALUE_COUNT + 1) as u8,
+            value: (place % VALUE_COUNT) as i16 - MOST_VALUE,
         }
     }
 }
@@ -85,7 +85,7 @@ impl MoveValues {
         requires small { IsMoveValue value }
         ensures { self.new ≡ value ∷ self.old }
     {
-        self.number = value.digit() + BASE * self.number;
+        self.number = value.digit() + DIGIT_BASE * self.number;
     }
 
     // Returns the first value and those after it, or `None` if there is none.
@@ -97,9 +97,9 @@ impl MoveValues {
             return None;
         }
         let rest = MoveValues {
-            number: self.number / BASE,
+            number: self.number / DIGIT_BASE,
         };
-        Some((MoveValue::of_digit(self.number % BASE), rest))
+        Some((MoveValue::of_digit(self.number % DIGIT_BASE), rest))
     }
 
     /// Returns the number of values: 0 if the game is over, otherwise 1 to 6.

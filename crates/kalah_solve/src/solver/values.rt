@@ -3,9 +3,9 @@ ghost use Rattle.std.specs.Prelude.{◌≡◌, Contains};
 ghost use Rattle.kalah_rules.specs.Position.{IsSmallMargin};
 ghost use Rattle.kalah_rules.specs.Play.{legal_houses};
 ghost use Rattle.kalah_solve.specs.Solver.Worth.{worth, value_of_move};
-ghost use Rattle.kalah_solve.specs.Solver.MoveValues.{move_value, values_of, StateValues};
+ghost use Rattle.kalah_solve.specs.Solver.MoveValues.{move_value, values_of, AreValuesByBestPlay};
 
-use super::{Solver, with_stores};
+use super::{Solver, worth_of_board};
 use crate::solver::move_values::{MoveValue, MoveValues};
 use kalah_rules::{Board, Step};
 use std::alloc::Allocator;
@@ -16,7 +16,7 @@ impl<A: Allocator + Clone> Solver<A> {
     /// there is no memory for an entry, it is left out.
     pub fn values(&mut self, board: &Board) -> MoveValues
         ensures values { result ≡ values_of board.now }
-        ensures best_play { StateValues board.now result }
+        ensures best_play { AreValuesByBestPlay board.now result }
     {
         let moves = board.legal();
         let mut values = MoveValues::none();
@@ -61,6 +61,6 @@ impl<A: Allocator + Clone> Solver<A> {
             return board.returns();
         }
         let best = self.houses_worth(&board.houses());
-        with_stores(best, board)
+        worth_of_board(best, board)
     }
 }

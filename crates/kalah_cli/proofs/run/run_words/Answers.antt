@@ -1,6 +1,6 @@
 use Rattle.std.proofs.Common.{ap, sym}
-use Rattle.kalah_cli.specs.Request.{texts_of}
-use Rattle.kalah_cli.proofs.RunLemmas.{KeepsPromises, accepted_run, by_words, refused_run}
+use Rattle.kalah_cli.specs.Arguments.Request.{texts_of}
+use Rattle.kalah_cli.proofs.RunLemmas.{KeepsPromises, run_of_request, by_arguments, run_without_request}
 use Rattle.kalah_cli.proofs.RequestLemmas.{accepted_at}
 use Rattle.kalah_cli.proofs.GameLemmas.{plays_best, variations_end}
 use Rattle.kalah_cli.proofs.run.run_words.Goals.{After-drop-words, in-Err+in-None-1, in-Err+in-Some-1, in-Ok+in-Files-1, in-Ok+in-Line-1}
@@ -11,20 +11,20 @@ use Rattle.kalah_cli.proofs.run.run_words.Goals as goal
 ran : (g : Over) (c : After-drop-words g) → KeepsPromises g.O.Sink.state (texts_of c.args.words.items) (g.R.Sources.may_give c.args.rt.now)
     c.args.out.now c.match-parse.out c.report_end.result
 ran g c =
-    let words = ap texts_of (sym c.as_slice-arguments.ensures.value) in
+    let arguments = ap texts_of (sym c.as_slice-arguments.ensures.value) in
     elim c.match-parse.branch [
       | in-Ok+in-Line-1 w ↦ rw (c.report_end.ensures, w.ended-is, w.out-is)
-          (accepted_run _ _ _ _ _ _ c.requires.sink (accepted_at words w.in-Ok.ensures.accepted) w.run_request-ended.ensures)
+          (run_of_request _ _ _ _ _ _ c.requires.sink (accepted_at arguments w.in-Ok.ensures.accepted) w.run_request-ended.ensures)
       | in-Ok+in-Files-1 w ↦ rw (c.report_end.ensures, w.ended-is, w.out-is)
-          (accepted_run _ _ _ _ _ _ c.requires.sink (accepted_at words w.in-Ok.ensures.accepted) w.run_request-ended.ensures)
+          (run_of_request _ _ _ _ _ _ c.requires.sink (accepted_at arguments w.in-Ok.ensures.accepted) w.run_request-ended.ensures)
       | in-Err+in-None-1 w ↦
-          let refused = w.refuse-ended.ensures in
-          rw (c.report_end.ensures, w.ended-is, w.out-is) (refused_run _ _ _ _ _ _ w.in-Err.error
+          let refused = w.end_without_request-ended.ensures in
+          rw (c.report_end.ensures, w.ended-is, w.out-is) (run_without_request _ _ _ _ _ _ w.in-Err.error
           (rw c.as_slice-arguments.ensures.value at w.in-Err.ensures.kinds) refused.mistake refused.failed refused.unchanged refused.no_line
           refused.version refused.all_flushed)
       | in-Err+in-Some-1 w ↦
-          let refused = w.refuse-ended.ensures in
-          rw (c.report_end.ensures, w.ended-is, w.out-is) (refused_run _ _ _ _ _ _ w.in-Err.error
+          let refused = w.end_without_request-ended.ensures in
+          rw (c.report_end.ensures, w.ended-is, w.out-is) (run_without_request _ _ _ _ _ _ w.in-Err.error
           (rw c.as_slice-arguments.ensures.value at w.in-Err.ensures.kinds) refused.mistake refused.failed refused.unchanged refused.no_line
           refused.version refused.all_flushed)
     ]
@@ -32,10 +32,10 @@ ran g c =
 pub returns : goal.returns
 returns g c = record {
   accepted = (ran g c).accepted;
-  by_words = by_words _ _ _ _ _ _ (ran g c).accepted;
+  by_arguments = by_arguments _ _ _ _ _ _ (ran g c).accepted;
   best_play = plays_best;
   variations = variations_end;
-  refused = (ran g c).refused;
+  no_request = (ran g c).no_request;
   failed = (ran g c).failed;
   unchanged = (ran g c).unchanged;
   stopped = (ran g c).stopped;

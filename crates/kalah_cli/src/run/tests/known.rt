@@ -1,14 +1,14 @@
 //! Runs over files and a standard input that are known, so that a contract sees them.
 ghost use Rattle.std.specs.Prelude.{◌<◌, vec_len};
 ghost use Rattle.kalah_cli.specs.KnownRuns.{AnswersWhatIsKnown};
-ghost use Rattle.kalah_cli.specs.Request.{texts_of};
-ghost use Rattle.kalah_cli.specs.Sources.{known_bytes};
+ghost use Rattle.kalah_cli.specs.Arguments.Request.{texts_of};
+ghost use Rattle.kalah_cli.specs.System.Sources.{known_bytes};
 
-use super::{Host, run_words, words_of};
-use crate::sources::Sources;
-use crate::status::ExitStatus;
-use crate::status::ExitStatus::{Clean, Failed, LineFaults};
-use crate::terminal::Terminal;
+use super::{Host, arguments_of, run_words};
+use crate::exit::status::ExitStatus;
+use crate::exit::status::ExitStatus::{Clean, Failed, LineFaults};
+use crate::system::sources::Sources;
+use crate::system::terminal::Terminal;
 use kalah_jobs::{FileText, Stream};
 use std::alloc::Global;
 use std::io;
@@ -23,7 +23,7 @@ use std::time::Duration;
 struct Known<'a, R> {
     rt: &'a R,
     disk: &'a [FileText],
-    typed: &'a [u8],
+    input: &'a [u8],
 }
 
 impl<R: Threads> Threads for Known<'_, R> {}
@@ -59,7 +59,7 @@ impl<'a, R> Sources for Known<'a, R> {
 
     type Standard = &'a [u8];
 
-    ghost may_give = { λ known. known_bytes known.disk.now known.typed.now };
+    ghost may_give = { λ known. known_bytes known.disk.now known.input.now };
 
     fn open(&self, name: &str) -> io::Result<&'a [u8]> {
         match self.disk.iter().find(|file| file.name.as_str() == name) {
@@ -69,7 +69,7 @@ impl<'a, R> Sources for Known<'a, R> {
     }
 
     fn standard_input(&self) -> &'a [u8] {
-        self.typed
+        self.input
     }
 }
 
@@ -78,16 +78,16 @@ fn run_over<R: Clock + Threads + Wait + Sync>(
     rt: &R,
     alloc: Global,
     disk: &[FileText],
-    typed: &[u8],
-    words: Vec<String>,
+    input: &[u8],
+    arguments: Vec<String>,
 ) -> (ExitStatus, Vec<u8>)
-    requires { 0 < vec_len words }
-    ensures { AnswersWhatIsKnown result.0 result.1.items disk.now typed.now (texts_of words.items) }
+    requires { 0 < vec_len arguments }
+    ensures { AnswersWhatIsKnown result.0 result.1.items disk.now input.now (texts_of arguments.items) }
 {
-    let known = Known { rt, disk, typed };
+    let known = Known { rt, disk, input };
     let mut out = Stream::new(Vec::new(alloc));
     let mut err = Vec::<u8>::new(alloc);
-    let status = run_words(&known, alloc, words, &mut out, &mut err);
+    let status = run_words(&known, alloc, arguments, &mut out, &mut err);
     (status, out.into_inner())
 }
 
@@ -121,10 +121,10 @@ fn what_is_known_is_answered(rt: HostRuntime) {
         file(&rt, "a", b"1,1/0 1,1/0\n1/0"),
         file(&rt, "b", b"1/0 1/0\n"),
     ];
-    for (words, status, want) in RUNS {
-        let taken = words_of(&rt, *words);
+    for (arguments, status, want) in RUNS {
+        let taken = arguments_of(&rt, *arguments);
         let (ended, out) = run_over(&rt, rt.alloc(), &disk, b"3/0 3/0\n\n", taken);
-        assert!(rt; ended == *status, "{words:?}");
-        assert!(rt; out.as_slice() == want.as_bytes(), "{words:?}");
+        assert!(rt; ended == *status, "{arguments:?}");
+        assert!(rt; out.as_slice() == want.as_bytes(), "{arguments:?}");
     }
 }

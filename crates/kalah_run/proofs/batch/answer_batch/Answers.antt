@@ -1,39 +1,45 @@
 use Rattle.std.proofs.lemmas.Grind.{common_steps}
-use Rattle.std.proofs.Common.{◌≡◌, ◌∙◌, [], Err, false, refl, sym, ap, ⊎_elim, inl, inr, arith, rules}
+use Rattle.std.proofs.Common.{◌∙◌, sym, ap, ⊎_elim, inl, inr, arith}
 use Rattle.kalah_jobs.specs.Files.Jobs.{job_count}
-use Rattle.kalah_run.specs.declared.batch.run_fault.RunFault.TheVariants.{NoWorker}
-use Rattle.kalah_run.proofs.OutputLemmas.{since_kept}
-use Rattle.kalah_run.proofs.BatchLemmas.{answered, as_many_jobs, since_no_output, since_output, starts_none}
-use Rattle.kalah_run.proofs.batch.answer_batch.Goals.{then-total-gt0+in_ok-open+in_ok-run, else-total-gt0}
+use Rattle.kalah_jobs.specs.Writing.Sink.{WasGiven}
+use Rattle.kalah_jobs.specs.Writing.Output.{output_to}
+use Rattle.kalah_jobs.proofs.SinkLemmas.{given_none, given_then_flush}
+use Rattle.kalah_run.proofs.AnsweringLemmas.{answered, as_many_jobs, no_output, whole_output_is}
+use Rattle.kalah_run.proofs.batch.answer_batch.Goals.{then-total-gt0+in_ok-open+in-Some, else-total-gt0}
 use Rattle.kalah_run.proofs.batch.answer_batch.Goals as goal
 
-pub returns-in_err-run-clause-answers : goal.returns-in_err-run-clause-answers
-returns-in_err-run-clause-answers g c =
+-- no thread could be started
+pub returns-in_default-clause-answers : goal.returns-in_default-clause-answers
+returns-in_default-clause-answers g c =
     let jobs = c.in_ok-jobs.ensures in
-    let fault : c.from_residual-in_err-run.result ≡ Err NoWorker = search rules in
-    let sound : (g.W.Sink.state c.run.new.out).has_failed ≡ false = grind (arith, c.in_err-run.ensures.untouched, c.requires.not_failed) in
-    rw fault (
+    let same = c.in_default.ensures.untouched in (
       jobs.0,
       omega (arith, c.if-total-gt0.true, c.total.ensures.lines, as_many_jobs _ _ _ jobs.1),
-      (c.in_err-run.ensures.untouched, sound),
+      (same, ap (λ o. (g.W.Sink.state o).has_failed) same ∙ c.requires.not_failed),
     )
 
--- the sink was given the answers to all lines
+-- the sink was given the answers to all lines, and then flushed
 pub returns-clause-answers : goal.returns-clause-answers
 returns-clause-answers g c =
+    let question = c.args.request.now.question in
+    let files = c.args.request.now.files.now in
     let jobs = c.in_ok-jobs.ensures in
     let end = c.flush_and_count.ensures in
-    answered g.W.Sink.state c.args.request.now.question _ _ jobs _ _ (since_kept {out = g.W.Sink.state c.if-total-gt0.out}
-    (elim c.if-total-gt0.branch [
-      | then-total-gt0+in_ok-open+in_ok-run w ↦
+    let given : WasGiven g.W.Sink.state c.args.out.now c.if-total-gt0.out (output_to question files) =
+    elim c.if-total-gt0.branch [
+      | then-total-gt0+in_ok-open+in-Some w ↦
           let asked = w.in_ok-open.ensures.asked in
-          rw w.out-is (since_output c.args.request.now.question c.args.request.now.files.now w.in_ok-open.field-0.output _ _
-          asked.of_files (w.in_ok-open.ensures.ready.jobs ∙ asked.of_jobs ∙ jobs.1) w.in_ok-run.ensures.given)
+          rw (
+            w.out-is,
+            ← whole_output_is question files w.in_ok-open.field-0.output asked.of_files
+                (w.in_ok-open.ensures.ready.jobs ∙ asked.of_jobs ∙ jobs.1),
+          ) w.in-Some.ensures.given
       | else-total-gt0 w ↦
-          rw w.out-is (since_no_output c.args.request.now.question c.args.request.now.files.now
-          (omega (arith, w.if-total-gt0.false, c.total.ensures.lines, as_many_jobs _ _ _ jobs.1)) _)
-    ])
-    (record { keeps = starts_none _ _ [] refl end.given.start; sound = λ sound. (end.given.whole sound).0 })) end.counted end.all_flushed end.fault
+          rw (w.out-is, no_output question files (omega (arith, w.if-total-gt0.false, c.total.ensures.lines, as_many_jobs _ _ _ jobs.1)))
+          (given_none g.W.Sink.state c.args.out.now)
+    ] in
+    answered g.W.Sink.state question files _ jobs _ _ (given_then_flush g.W.Sink.state _ _ _ _ given end.given) end.counted end.all_flushed
+    end.fault
 
 -- the gate knows each job, if the rest is to be solved or no write has failed
 pub returns-clause-gate_hears_all : goal.returns-clause-gate_hears_all
@@ -41,10 +47,10 @@ returns-clause-gate_hears_all g c = λ unless ok job low.
     let end = c.flush_and_count.ensures in
     let jobs = as_many_jobs _ _ _ c.in_ok-jobs.ensures.1 in
     elim c.if-total-gt0.branch [
-      | then-total-gt0+in_ok-open+in_ok-run w ↦
+      | then-total-gt0+in_ok-open+in-Some w ↦
           let asked = w.in_ok-open.ensures.asked in
           let same = ap (λ o. (g.W.Sink.state o).has_failed) (sym w.out-is) in
-          rw (← asked.of_gate) (w.in_ok-run.ensures.gate_hears_all
+          rw (← asked.of_gate) (w.in-Some.ensures.gate_hears_all
           (⊎_elim (λ solve. inl (asked.of_rest ∙ solve)) (λ sound. inr (same ∙ (end.given.whole sound).0)) unless) job
           (omega (arith, low, jobs, ap job_count asked.of_jobs)))
       | else-total-gt0 w ↦ absurd (omega (arith, low, jobs, w.if-total-gt0.false, c.total.ensures.lines))

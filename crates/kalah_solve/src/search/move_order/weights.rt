@@ -1,7 +1,8 @@
-//! What counts how much for the order of turns. All numbers but `GAIN` were found by hill climbing: positions took the fewest nodes with them.
+//! What counts how much for the order of turns. All numbers but `GAIN_WEIGHT` were found by hill climbing: positions took the fewest
+//! nodes with them.
 
 /// What a seed counts that a turn brings to the store.
-pub(super) const GAIN: u32 = 64;
+pub(super) const GAIN_WEIGHT: u32 = 64;
 
 /// What the house of a turn adds to its priority: 8 times one more than what its place counts, and its number less 1. Places count 51, 43,
 /// 36, 26, 25 and 0, from the store on. House `h` of `m` has cell `m + 5 * (h - 1) - 1`, for sides of up to 5 houses in the first row, and
@@ -19,7 +20,7 @@ pub(super) static PLACE_PRIORITIES: [[u16; 31]; 2] = [
 
 /// What a house counts after a turn, by the number of its seeds modulo 16, as hardly any holds more. First come the houses of the player
 /// who is to move then, and after them those of the one who has moved. Of each player the house farthest from the store comes first.
-pub(super) static HOUSES: [[u8; 16]; 12] = [
+pub(super) static HOUSE_WEIGHTS: [[u8; 16]; 12] = [
     [
         28, 1, 0, 6, 20, 52, 51, 123, 116, 116, 116, 116, 116, 116, 116, 116,
     ],

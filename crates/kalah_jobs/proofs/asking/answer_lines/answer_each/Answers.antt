@@ -1,82 +1,84 @@
+use Rattle.std.proofs.Common.{◌∙◌, refl, sym, arith}
 use Rattle.std.proofs.lemmas.Grind.{common_steps}
-use Rattle.std.proofs.Common.{rules, ◌∙◌, refl, sym, arith}
-use Rattle.kalah_jobs.proofs.AskingLemmas.{all_answered, begun_last, begun_line, begun_so_far, byte_read, cut_off, line_read, no_failure, no_read_failed, nothing_read, write_failed}
+use Rattle.std.proofs.lemmas.Result.{err_from_is_err_and}
+use Rattle.kalah_jobs.proofs.AskingLemmas.{begun_last, begun_line, byte_read, line_read, nothing_read, reading_done, reading_ended, write_failed}
 use Rattle.kalah_jobs.proofs.asking.answer_lines.answer_each.Goals as goal
 
 pub loop-byte-init : goal.loop-byte-init
-loop-byte-init g c = (nothing_read _ _ _ _ c.new-line.ensures, c.requires.sink, refl, refl)
+loop-byte-init g c = record {
+  answered = nothing_read _ _ _ _ c.new-line.ensures;
+  sound = c.requires.not_failed;
+  start = refl;
+  same_reference = refl;
+}
 
 pub returns-in_err-byte-clause-lines : goal.returns-in_err-byte-clause-lines
-returns-in_err-byte-clause-lines g c = record {
-  answered = search rules;
-  cut_off = λ _. cut_off c.loop-byte.invariant.0 c.in_err-byte.ensures.untaken c.in_err-byte.ensures.keeps;
-  begins = begun_so_far c.loop-byte.invariant.0 c.in_err-byte.ensures.untaken c.in_err-byte.ensures.keeps;
-  failed = search rules;
-  all_flushed = search rules;
-}
+returns-in_err-byte-clause-lines g c =
+    let next = c.in_err-byte.ensures in
+    let returned = err_from_is_err_and c.from_residual.result c.from_residual.ensures.1 in
+    rw (returned.1, returned.2) (reading_ended _ _ c.loop-byte.invariant.answered next.untaken next.keeps next.fault)
 
 pub loop-byte-preserved-then-byte-ne-LINE_FEED : goal.loop-byte-preserved-then-byte-ne-LINE_FEED
 loop-byte-preserved-then-byte-ne-LINE_FEED g c =
-    let taken = rw c.in-Some.is at c.in_ok-byte.ensures.taken in
-    let read = byte_read c.loop-byte.invariant.0 _ c.if-byte-ne-LINE_FEED.true taken c.in_ok-byte.ensures.keeps in
-    rw c.push.ensures (
-      read,
-      search rules,
-      c.in_ok-byte.ensures.asking ∙ c.loop-byte.invariant.2,
-      c.in_ok-byte.ensures.same_reference ∙ c.loop-byte.invariant.3,
-    )
+    let so_far = c.loop-byte.invariant in
+    let next = c.in_ok-byte.ensures in
+    let taken = rw c.in-Some.is at next.taken in
+    let answered = byte_read so_far.answered _ c.if-byte-ne-LINE_FEED.true taken next.keeps in
+    rw c.push.ensures (record {
+      answered = answered;
+      sound = next.sound;
+      start = next.start ∙ so_far.start;
+      same_reference = next.same_reference ∙ so_far.same_reference;
+    })
 
 pub loop-byte-preserved : goal.loop-byte-preserved
 loop-byte-preserved g c =
-    let taken = rw (c.in-Some.is, c.if-byte-ne-LINE_FEED.false) at c.in_ok-byte.ensures.taken in
+    let so_far = c.loop-byte.invariant in
+    let next = c.in_ok-byte.ensures in
+    let reply = c.write_reply-all_read.ensures in
+    let taken = rw (c.in-Some.is, c.if-byte-ne-LINE_FEED.false) at next.taken in
     let sound = sym c.failed.ensures ∙ c.if-failed.false in
-    let read = line_read c.loop-byte.invariant.0 _ taken c.in_ok-byte.ensures.keeps
-    (c.write_reply-all_read.ensures.given.whole sound).1 c.write_reply-all_read.ensures.read in
-    rw c.new-line-in-Some.ensures (
-      read,
-      sound,
-      c.in_ok-byte.ensures.asking ∙ c.loop-byte.invariant.2,
-      c.in_ok-byte.ensures.same_reference ∙ c.loop-byte.invariant.3,
-    )
+    let answered = line_read so_far.answered _ taken next.keeps (reply.given.whole sound).1 reply.read in
+    rw c.new-line-in-Some.ensures (record {
+      answered = answered;
+      sound = sound;
+      start = next.start ∙ so_far.start;
+      same_reference = next.same_reference ∙ so_far.same_reference;
+    })
 
 pub returns-then-failed : goal.returns-then-failed
 returns-then-failed g c =
-    let taken = rw (c.in-Some.is, c.if-byte-ne-LINE_FEED.false) at c.in_ok-byte.ensures.taken in
-    let has_failed = sym c.failed.ensures ∙ c.if-failed.true in
+    let so_far = c.loop-byte.invariant in
+    let next = c.in_ok-byte.ensures in
+    let taken = rw (c.in-Some.is, c.if-byte-ne-LINE_FEED.false) at next.taken in
+    let failed = sym c.failed.ensures ∙ c.if-failed.true in
     record {
-      same_reference = c.in_ok-byte.ensures.same_reference ∙ c.loop-byte.invariant.3;
-      lines = write_failed has_failed
-          (begun_line c.loop-byte.invariant.0 _ taken c.in_ok-byte.ensures.keeps c.write_reply-all_read.ensures.given.start);
-      none_left = λ failed. absurd (no_read_failed refl failed);
+      same_reference = next.same_reference ∙ so_far.same_reference;
+      lines = write_failed failed (begun_line so_far.answered _ taken next.keeps c.write_reply-all_read.ensures.given.start);
+      fault = failed;
     }
 
 pub returns-then-failed-2 : goal.returns-then-failed-2
 returns-then-failed-2 g c =
-    let has_failed = sym c.failed-2.ensures ∙ c.if-failed-2.true in
-    let taken = rw c.in_default.is at c.in_ok-byte.ensures.taken in
+    let so_far = c.loop-byte.invariant in
+    let next = c.in_ok-byte.ensures in
+    let taken = rw c.in_default.is at next.taken in
+    let failed = sym c.failed-2.ensures ∙ c.if-failed-2.true in
     record {
-      same_reference = c.in_ok-byte.ensures.same_reference ∙ c.loop-byte.invariant.3;
-      lines = write_failed has_failed
-          (begun_last c.loop-byte.invariant.0 _ taken c.in_ok-byte.ensures.keeps c.write_last_reply-all_read.ensures.given.start);
-      none_left = λ failed. absurd (no_read_failed refl failed);
+      same_reference = next.same_reference ∙ so_far.same_reference;
+      lines = write_failed failed (begun_last so_far.answered _ taken next.keeps c.write_last_reply-all_read.ensures.given.start);
+      fault = failed;
     }
 
 pub returns-clause-lines : goal.returns-clause-lines
 returns-clause-lines g c =
-    let taken = rw c.in_default.is at c.in_ok-byte.ensures.taken in
-    let given = c.write_last_reply-all_read.ensures.given in
+    let so_far = c.loop-byte.invariant.answered in
+    let next = c.in_ok-byte.ensures in
+    let reply = c.write_last_reply-all_read.ensures in
+    let taken = rw c.in_default.is at next.taken in
     let sound = sym c.failed-2.ensures ∙ c.if-failed-2.false in
-    record {
-      answered = all_answered c.loop-byte.invariant.0 _ taken (c.in_ok-byte.ensures.end c.in_default.is) c.in_ok-byte.ensures.keeps
-          (given.whole sound).1 c.write_last_reply-all_read.ensures.read;
-      cut_off = λ failed. absurd (no_failure failed);
-      begins = begun_last c.loop-byte.invariant.0 _ taken c.in_ok-byte.ensures.keeps given.start;
-      failed = search rules;
-      all_flushed = c.write_last_reply-all_read.ensures.all_flushed;
-    }
+    reading_done _ so_far taken (next.end c.in_default.is) next.keeps reply.given.start (reply.given.whole sound).1 reply.read sound
+    (reply.all_flushed sound)
 
 pub loop-byte-smaller : goal.loop-byte-smaller
 loop-byte-smaller g c = grind (arith, common_steps)
-
-pub returns-clause-none_left : goal.returns-clause-none_left
-returns-clause-none_left g c = grind (arith, common_steps)

@@ -1,5 +1,5 @@
 use Rattle.std.proofs.Common.{◌≡◌, false}
-use Rattle.kalah_jobs.specs.Asking.{asking_of, unread}
+use Rattle.kalah_jobs.specs.Asking.{start_of, unread}
 use Rattle.kalah_jobs.proofs.AskingLemmas.{IsAnsweredSoFar}
 use Rattle.kalah_jobs.proofs.asking.answer_lines.answer_each.Given as goal
 
@@ -8,11 +8,13 @@ abbrev pub invariant-loop-byte : goal.invariant-loop-byte
 invariant-loop-byte g l =
     let remaining = g.I.Read.remaining in
     let state = g.O.Sink.state in
-    IsAnsweredSoFar l.question (unread remaining l.fn.input) (unread remaining l.input)
-    (state l.fn.out).written (state l.out).written l.line l.all_read
-    × ((state l.out).has_failed ≡ false)
-    × (asking_of remaining state l.input ≡ asking_of remaining state l.fn.input)
-    × (l.input.input.ghost_name ≡ l.fn.input.input.ghost_name)
+    record {
+      answered : IsAnsweredSoFar l.question (unread remaining l.fn.input) (unread remaining l.input)
+          (state l.fn.out).written (state l.out).written l.line l.all_read;
+      sound : (state l.out).has_failed ≡ false;
+      start : start_of remaining state l.input ≡ start_of remaining state l.fn.input;
+      same_reference : l.input.input.ghost_name ≡ l.fn.input.input.ghost_name;
+    }
 
 abbrev pub decreases-loop-byte : goal.decreases-loop-byte
 decreases-loop-byte g l = l.input.budget

@@ -1,6 +1,6 @@
 use Rattle.std.proofs.Common.{arith}
-use Rattle.std.proofs.lemmas.Grind.{common_steps}
 use Rattle.std.proofs.KnownBytes.{Keeps-trans}
+use Rattle.std.proofs.lemmas.Grind.{common_steps}
 use Rattle.kalah_jobs.proofs.asking.prompt_reader.read_ahead.Goals as goal
 
 pub loop-preserved : goal.loop-preserved
@@ -12,5 +12,5 @@ returns-in-Err-2-clause-keeps g c = Keeps-trans _ _ _ c.loop.invariant c.fill_bu
 pub returns-in-Ok-clause-keeps : goal.returns-in-Ok-clause-keeps
 returns-in-Ok-clause-keeps g c = grind (arith, common_steps)
 
-pub returns-in-Ok-clause-end : goal.returns-in-Ok-clause-end
-returns-in-Ok-clause-end g c = grind (arith, common_steps)
+pub returns-in-Ok-clause-filled : goal.returns-in-Ok-clause-filled
+returns-in-Ok-clause-filled g c = grind (arith, common_steps)

@@ -1,7 +1,12 @@
-use Rattle.std.proofs.Common.{◌∙◌, [], arith, sym}
+use Rattle.std.proofs.Common.{◌∙◌, ◌++◌, ◌∷◌, [], ap, arith, subst, sym}
 use Rattle.std.proofs.lemmas.Grind.{common_steps}
+use Rattle.kalah_jobs.specs.Files.Entry.{entry_to}
+use Rattle.kalah_jobs.specs.Files.Lines.{line_feed}
+use Rattle.kalah_jobs.specs.Writing.Answer.{answer_of, joined_text}
+use Rattle.kalah_jobs.specs.Writing.Sink.{WasGiven}
 use Rattle.kalah_jobs.proofs.FilesLemmas.{asked_fault}
-use Rattle.kalah_jobs.proofs.SinkLemmas.{given_more_after_failure}
+use Rattle.kalah_jobs.proofs.SinkLemmas.{given_more_after_failure, given_none, given_then}
+use Rattle.kalah_jobs.proofs.asking.reply.write_reply.Goals.{else-takes_long, then-takes_long+else-failed}
 use Rattle.kalah_jobs.proofs.asking.reply.write_reply.Goals as goal
 
 pub returns-then-failed-clause-given : goal.returns-then-failed-clause-given
@@ -13,3 +18,14 @@ returns-clause-read g c = grind (arith, common_steps, asked_fault)
 
 pub returns-then-failed-clause-read : goal.returns-then-failed-clause-read
 returns-then-failed-clause-read g c = grind (arith, common_steps, asked_fault)
+
+pub returns-clause-given : goal.returns-clause-given
+returns-clause-given g c =
+    let state = g.O.Sink.state in
+    let flushed : WasGiven state c.args.out.now c.if-takes_long.out [] = elim c.if-takes_long.branch [
+      | then-takes_long+else-failed w ↦ rw w.out-is w.flush_unless_failed.ensures.given
+      | else-takes_long w ↦ rw w.out-is (given_none state c.args.out.now)
+    ] in
+    let answer = c.answer-answer.ensures ∙ ap answer_of (c.of_line-entry.ensures ∙ ap (entry_to c.args.question) c.bytes.ensures) in
+    subst (WasGiven state c.args.out.now c.write_joined_text.new.out) (ap (λ a. joined_text a ++ line_feed ∷ []) answer)
+    (given_then state _ _ _ _ _ flushed c.write_joined_text.ensures)

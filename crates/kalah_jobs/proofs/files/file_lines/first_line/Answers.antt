@@ -1,6 +1,6 @@
-use Rattle.kalah_jobs.proofs.FilesLemmas.{first_lines}
 use Rattle.std.proofs.Common.{arith}
 use Rattle.std.proofs.lemmas.Grind.{common_steps}
+use Rattle.kalah_jobs.proofs.FileLinesLemmas.{first_lines}
 use Rattle.kalah_jobs.proofs.files.file_lines.first_line.Goals as goal
 
 pub returns-in-Some-clause-lines : goal.returns-in-Some-clause-lines

@@ -1,4 +1,4 @@
-use Rattle.kalah_jobs.proofs.LineLemmas.{every_text_is_read_back}
+use Rattle.kalah_jobs.proofs.LineTextLemmas.{every_text_is_read_back}
 use Rattle.kalah_jobs.proofs.line.laws.every_text_is_read_back.Goals as goal
 
 pub returns : goal.returns

@@ -2,8 +2,8 @@ use Rattle.std.proofs.Common.{◌≡◌, ◌∷◌, ◌-◌, arith, drop, length
 use Rattle.std.proofs.lemmas.Grind.{common_steps}
 use Rattle.kalah_rules.specs.Position.{Position}
 use Rattle.kalah_jobs.specs.Line.Line.{space}
-use Rattle.kalah_jobs.proofs.SideLemmas.{houses_are_some, number_at_most_99, rest_is_no_longer}
 use Rattle.kalah_jobs.proofs.LineLemmas.{sides_are_read, line_is_written}
+use Rattle.kalah_jobs.proofs.SideLemmas.{houses_are_some, number_at_most_99, rest_is_no_longer}
 use Rattle.kalah_jobs.proofs.line.reading.read_sides.Goals as goal
 
 pub read-requires-2 : goal.read-requires-2

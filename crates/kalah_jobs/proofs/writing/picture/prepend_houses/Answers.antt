@@ -2,7 +2,7 @@ use Rattle.std.proofs.Common.{◌∙◌, ap, arith}
 use Rattle.kalah_rules.specs.Position.{seeds, side_length}
 use Rattle.kalah_jobs.specs.Writing.Picture.{seeds_in}
 use Rattle.kalah_jobs.specs.Writing.Player.{houses_of}
-use Rattle.kalah_jobs.proofs.WritingLemmas.{columns_before}
+use Rattle.kalah_jobs.proofs.TextLemmas.{columns_before}
 use Rattle.kalah_jobs.proofs.writing.picture.prepend_houses.Goals as goal
 
 pub loop-column-preserved : goal.loop-column-preserved
@@ -12,6 +12,6 @@ loop-column-preserved c =
       within = omega (arith, so_far.within);
       houses = columns_before (seeds_in c.args.player c.args.board.now) (side_length c.args.board.now) c.loop-column.column
           c.args.text.now (c.seeds.ensures ∙ ap (seeds (houses_of c.args.player c.args.board.now)) c.house_in.ensures.house)
-          c.loop-column-test.true so_far.within so_far.houses c.prepend_cell.ensures.cell;
-      longer = omega (arith, so_far.longer, c.prepend_cell.ensures.longer, c.loop-column-test.true);
+          c.loop-column-test.true so_far.within so_far.houses c.prepend_column.ensures.column;
+      longer = omega (arith, so_far.longer, c.prepend_column.ensures.longer, c.loop-column-test.true);
     }

@@ -1,10 +1,10 @@
 use Rattle.std.proofs.Common.{arith}
 use Rattle.std.proofs.lemmas.Grind.{common_steps}
-use Rattle.kalah_jobs.proofs.WritingLemmas.{are_small}
+use Rattle.kalah_jobs.proofs.TextLemmas.{are_small}
 use Rattle.kalah_jobs.proofs.writing.shown.line_below.Goals as goal
 
-pub prepend_columns-requires-clause-small : goal.prepend_columns-requires-clause-small
-prepend_columns-requires-clause-small c = are_small _ _ c.requires c.is_over.ensures.limits
+pub prepend_value_columns-requires-clause-small : goal.prepend_value_columns-requires-clause-small
+prepend_value_columns-requires-clause-small c = are_small _ _ c.requires c.is_over.ensures.limits
 
 pub prepend-requires-then-is_over : goal.prepend-requires-then-is_over
 prepend-requires-then-is_over c = grind (arith, common_steps)

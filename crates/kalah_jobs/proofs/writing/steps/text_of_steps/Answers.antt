@@ -1,15 +1,14 @@
-use Rattle.std.proofs.Common.{◌≡◌, ◌++◌, ◌<◌, ◌∙◌, ℕ, List, ap, ap₂, append_assoc, append-nil, arith, length, sym}
-use Rattle.std.proofs.lemmas.Grind.{common_steps}
+use Rattle.std.proofs.Common.{◌≡◌, ◌++◌, ◌<◌, ◌∙◌, ℕ, List, ap, ap₂, append_assoc, append-nil, arith, length, sym, take_all}
 use Rattle.kalah_rules.specs.Play.{step_of}
 use Rattle.kalah_jobs.specs.Line.Line.{step_text_of}
 use Rattle.kalah_jobs.specs.Writing.Answer.{house_step_text}
-use Rattle.kalah_jobs.proofs.WritingLemmas.{one_line_more}
+use Rattle.kalah_jobs.proofs.TextLemmas.{joined_lines, legal_at, one_line_more}
 use Rattle.kalah_jobs.proofs.writing.steps.text_of_steps.Goals as goal
 
--- three pieces after what is there
-pushed_three : (old before name place step : List ℕ) {one two three line : List ℕ} → one ≡ old ++ before → two ≡ one ++ name
-    → three ≡ two ++ line → line ≡ place ++ step → three ≡ old ++ (before ++ ((name ++ place) ++ step))
-pushed_three old before name place step one two three is = three ∙ simp (is, two, one, append_assoc)
+-- a line after what is there
+line_pushed : (old before name place step : List ℕ) {start line text : List ℕ} → start ≡ old → line ≡ place ++ step
+    → text ≡ start ++ (before ++ (name ++ line)) → text ≡ old ++ (before ++ ((name ++ place) ++ step))
+line_pushed old before name place step start_is line_is text_is = text_is ∙ simp (start_is, line_is, append_assoc)
 
 pub loop-i-preserved : goal.loop-i-preserved
 loop-i-preserved c =
@@ -18,10 +17,16 @@ loop-i-preserved c =
     let low : c.loop-i.i < length moves = omega (arith, c.loop-i-test.true, c.len-i-end.ensures) in
     let step = c.text_of_step-step.ensures.text ∙ append-nil _
     ∙ ap₂ step_text_of c.get-h.ensures (c.apply.ensures.step ∙ ap (step_of c.args.board.now) c.get-h.ensures) in
-    let before = c.in_ok-push_str.ensures.bytes ∙ ap₂ (λ (a b : List ℕ). a ++ b) c.loop-i.invariant c.before_line.ensures in
     let line = c.as_str.ensures ∙ c.prepend.ensures.piece ∙ ap (c.args.place.now ++◌) step in
-    pushed_three _ _ c.args.name.now c.args.place.now _ before c.in_ok-push_str-2.ensures.bytes c.in_ok-push_str-3.ensures.bytes line
+    line_pushed _ _ c.args.name.now c.args.place.now _ c.loop-i.invariant line c.in_ok-push_line.ensures
     ∙ sym (one_line_more (c.args.name.now ++ c.args.place.now) text moves c.loop-i.i low)
 
+pub apply-requires : goal.apply-requires
+apply-requires c =
+    legal_at c.loop-i.i c.legal-moves.ensures.moves (omega (arith, c.loop-i-test.true, c.len-i-end.ensures)) c.get-h.ensures
+
 pub returns : goal.returns
-returns c = grind (arith, common_steps)
+returns c =
+    let moves = c.legal-moves.result in
+    let all = take_all c.loop-i.i moves (omega (arith, c.loop-i-test.false, c.len-i-end.ensures)) ∙ c.legal-moves.ensures.moves in
+    c.loop-i.invariant ∙ ap (joined_lines (c.args.name.now ++ c.args.place.now) (house_step_text c.args.board.now)) all

@@ -1,6 +1,6 @@
 use Rattle.std.proofs.Common.{◌≡◌, ◌++◌, take, string_bytes}
 use Rattle.kalah_jobs.specs.Writing.Answer.{house_step_text}
-use Rattle.kalah_jobs.proofs.WritingLemmas.{joined_lines}
+use Rattle.kalah_jobs.proofs.TextLemmas.{joined_lines}
 use Rattle.kalah_jobs.proofs.writing.steps.text_of_steps.Given as goal
 
 abbrev pub invariant-loop-i : goal.invariant-loop-i

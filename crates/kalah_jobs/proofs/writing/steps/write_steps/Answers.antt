@@ -1,21 +1,34 @@
-use Rattle.std.proofs.Common.{◌≡◌, ◌++◌, ◌∷◌, [], ◌<◌, ◌∙◌, ℕ, List, ap, arith, length, map, subst, sym}
+use Rattle.std.proofs.Common.{◌≡◌, ◌++◌, ◌∷◌, [], ◌<◌, ◌∙◌, ℕ, List, ap, append_assoc, arith, length, map, subst, sym}
 use Rattle.std.specs.List.{join_with_byte}
 use Rattle.kalah_jobs.specs.Files.Lines.{line_feed}
 use Rattle.kalah_jobs.specs.Line.Line.{step_text_of}
 use Rattle.kalah_jobs.specs.Writing.Answer.{house_step_text}
 use Rattle.kalah_jobs.specs.Writing.Sink.{WasGiven}
-use Rattle.kalah_jobs.proofs.SinkLemmas.{given_all, given_more}
-use Rattle.kalah_jobs.proofs.WritingLemmas.{lines_end_in_feeds}
+use Rattle.kalah_jobs.proofs.SinkLemmas.{given_all, given_more, given_none}
+use Rattle.kalah_jobs.proofs.TextLemmas.{legal_at, lines_end_in_feeds}
 use Rattle.kalah_jobs.proofs.writing.steps.write_steps.Goals as goal
+
+-- the line that is put together from its end
+line_of_step : (name place step : List ℕ) {text line : List ℕ} → text ≡ step ++ line_feed ∷ [] → line ≡ place ++ text
+    → name ++ line ≡ ((name ++ place) ++ step) ++ line_feed ∷ []
+line_of_step name place step text_is line_is = rw (line_is, text_is) (simp append_assoc)
 
 pub loop-i-preserved : goal.loop-i-preserved
 loop-i-preserved g c =
     let place = c.args.name.now ++ c.args.place.now in
     let one : ℕ → List ℕ = λ h. (place ++ house_step_text c.args.board.now h) ++ line_feed ∷ [] in
-    let line = subst (λ s. WasGiven g.W.Sink.state c.loop-i.out c.write_step_line.new.out
-    ((place ++ step_text_of c.get-h.result s) ++ line_feed ∷ [])) c.apply.ensures.step c.write_step_line.ensures in
+    let step = c.text_of_step-text.ensures.text ∙ ap (λ s. step_text_of c.get-h.result s ++ line_feed ∷ []) c.apply.ensures.step in
+    let line = subst (WasGiven g.W.Sink.state c.loop-i.out c.write_named.new.out)
+    (line_of_step c.args.name.now c.args.place.now _ step c.prepend.ensures.piece) c.write_named.ensures in
     given_more _ one c.legal-moves.ensures.moves c.loop-i.i _ _ c.loop-i.invariant _ c.get-h.result
     (omega (arith, c.loop-i-test.true, c.len-i-end.ensures)) c.get-h.ensures line
+
+pub loop-i-init : goal.loop-i-init
+loop-i-init g c = given_none _ _
+
+pub apply-requires : goal.apply-requires
+apply-requires g c =
+    legal_at c.loop-i.i c.legal-moves.ensures.moves (omega (arith, c.loop-i-test.true, c.len-i-end.ensures)) c.get-h.ensures
 
 pub returns : goal.returns
 returns g c =

@@ -1,6 +1,5 @@
 use Rattle.std.proofs.Common.{◌≡◌, arith}
-use Rattle.kalah_rules.specs.Position.{with_stores}
-use Rattle.kalah_rules.specs.declared.step.HousesStep.{HousesStep}
+use Rattle.kalah_rules.specs.{with_stores, HousesStep.HousesStep}
 use Rattle.kalah_rules.proofs.PackedLemmas.{IsStepOf, step_of_board}
 use Rattle.kalah_rules.proofs.board.Board.apply.Goals as goal
 use Rattle.kalah_rules.proofs.board.Board.apply.Goals.{After-play}

@@ -1,6 +1,5 @@
 use Rattle.std.proofs.Common.{◌∙◌, ap, sym}
-use Rattle.kalah_rules.specs.Position.{HousesState, storeless}
-use Rattle.kalah_rules.specs.Ways.{ways}
+use Rattle.kalah_rules.specs.{HousesState, storeless, ways}
 use Rattle.kalah_rules.proofs.WaysLemmas.{ways_of_houses}
 use Rattle.kalah_rules.proofs.board.Board.ways.Goals as goal
 

@@ -1,8 +1,5 @@
 use Rattle.std.proofs.Common.{arith, inl, inr, sym, ◌≡◌, ◌+◌, ◌-◌, ◌∙◌, ◌==◌, ◌≤◌, ◌^◌}
-use Rattle.kalah_rules.specs.Position.{storeless}
-use Rattle.kalah_rules.specs.Lap.{HoldsSeeds}
-use Rattle.kalah_rules.specs.Limits.{most_houses}
-use Rattle.kalah_rules.specs.Ways.{ways_by}
+use Rattle.kalah_rules.specs.{storeless, HoldsSeeds, most_houses, ways_by}
 use Rattle.kalah_rules.proofs.PlayLemmas.{holds_legal, legal_holds}
 use Rattle.kalah_rules.proofs.WaysLemmas.{one_if, one_way, ways_none, ways_over, ways_by_step, before_none, before_more, before_same, before_all, before_small, power_fits}
 use Rattle.kalah_rules.proofs.houses.Houses.+ways.Goals as goal

@@ -1,5 +1,5 @@
 use Rattle.std.proofs.Common.{◌≡◌, ◌+◌, ◌-◌, sym, arith, refl, lt-ltb, append-nil, nat_lt, true, false, le-ltb}
-use Rattle.kalah_rules.specs.Position.{seeds}
+use Rattle.kalah_rules.specs.{seeds}
 use Rattle.kalah_rules.proofs.PlayLemmas.{filter_range-suc, length-filter_range}
 use Rattle.kalah_rules.proofs.houses.Houses.legal.Goals as goal
 use Rattle.kalah_rules.proofs.houses.Houses.legal.Goals.{then-own-gt0, else-own-gt0}

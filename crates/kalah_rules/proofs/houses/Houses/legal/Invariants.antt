@@ -1,6 +1,6 @@
 use Rattle.std.proofs.Common.{◌≡◌, ◌-◌, filter, nat_lt}
 use Rattle.std.specs.List.{range_with_len}
-use Rattle.kalah_rules.specs.Position.{seeds}
+use Rattle.kalah_rules.specs.{seeds}
 use Rattle.kalah_rules.proofs.houses.Houses.legal.Given as goal
 
 abbrev pub invariant-loop-h : goal.invariant-loop-h

@@ -1,14 +1,14 @@
 use Rattle.std.proofs.Common.{arith, ◌+◌}
-use Rattle.kalah_rules.proofs.KeyLemmas.{packed_rows}
+use Rattle.kalah_rules.proofs.KeyLemmas.{fields_of_rows}
 use Rattle.kalah_rules.proofs.houses.Houses.of_rows.Goals as goal
 
 pub invariant_of-result : goal.invariant_of-result
 invariant_of-result c =
-    (packed_rows (record { some_house = omega arith; at_most_six = omega arith; same_side = omega arith; few_seeds = omega arith })
+    (fields_of_rows (record { some_house = omega arith; at_most_six = omega arith; same_side = omega arith; few_seeds = omega arith })
     c.number.ensures.value c.number-2.ensures.value c.len-m.ensures.is c.variant_number.ensures (omega arith)).0
 
 pub returns-clause-value : goal.returns-clause-value
 returns-clause-value c =
-    (packed_rows {seeds = c.seeds.result + c.seeds-2.result}
+    (fields_of_rows {seeds = c.seeds.result + c.seeds-2.result}
     (record { some_house = omega arith; at_most_six = omega arith; same_side = omega arith; few_seeds = omega arith })
     c.number.ensures.value c.number-2.ensures.value c.len-m.ensures.is c.variant_number.ensures (omega arith)).1

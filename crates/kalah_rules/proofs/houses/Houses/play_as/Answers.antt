@@ -1,5 +1,5 @@
 use Rattle.std.proofs.Common.{◌∙◌, sym}
-use Rattle.kalah_rules.specs.Position.{storeless}
+use Rattle.kalah_rules.specs.{storeless}
 use Rattle.kalah_rules.proofs.PlayLemmas.{legal_holds}
 use Rattle.kalah_rules.proofs.PackedLemmas.{again_at}
 use Rattle.kalah_rules.proofs.houses.Houses.play_as.Goals as goal

@@ -1,10 +1,10 @@
 use Rattle.std.proofs.Common.{arith}
-use Rattle.kalah_rules.specs.Position.{storeless}
+use Rattle.kalah_rules.specs.{storeless}
 use Rattle.kalah_rules.proofs.PlayLemmas.{legal_holds}
 use Rattle.kalah_rules.proofs.houses.Houses.play_by.Goals as goal
 
-pub own_in-requires : goal.own_in-requires
-own_in-requires c = (legal_holds (storeless c.args.self.now) c.args.house c.requires).last
+pub own_seeds_in-requires : goal.own_seeds_in-requires
+own_seeds_in-requires c = (legal_holds (storeless c.args.self.now) c.args.house c.requires).last
 
 pub get-requires-clause-last : goal.get-requires-clause-last
 get-requires-clause-last c = omega (arith, (legal_holds (storeless c.args.self.now) c.args.house c.requires).last)

@@ -1,5 +1,5 @@
 use Rattle.std.proofs.Common.{arith, ◌+◌, ◌%◌, ◌^◌}
-use Rattle.kalah_rules.specs.Position.{storeless}
+use Rattle.kalah_rules.specs.{storeless}
 use Rattle.kalah_rules.proofs.PlayLemmas.{legal_holds}
 use Rattle.kalah_rules.proofs.PackedLemmas.{MovesIntoStore, moves_into_store}
 use Rattle.kalah_rules.proofs.houses.Houses.play_into_store.Goals as goal
@@ -16,7 +16,7 @@ moved c =
     (rw c.m.ensures.side at c.into_store.ensures)
 
 pub invariant_of-result : goal.invariant_of-result
-invariant_of-result c = ((moved c.before).goes_on c.if-rows-gt0.true).packed
+invariant_of-result c = ((moved c.before).goes_on c.if-rows-gt0.true).fields
 
 pub returns-then-rows-gt0 : goal.returns-then-rows-gt0
 returns-then-rows-gt0 c = ((moved c.before).goes_on c.if-rows-gt0.true).step_is

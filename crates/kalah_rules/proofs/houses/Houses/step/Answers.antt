@@ -1,7 +1,7 @@
 use Rattle.std.proofs.Common.{arith, sym, refl, ◌∙◌, ◌+◌, ◌-◌, ◌*◌, ◌/◌, ◌%◌, ◌^◌}
-use Rattle.kalah_rules.specs.declared.step.HousesStep.TheVariants.{Again, Turn}
-use Rattle.kalah_rules.proofs.KeyLemmas.{pack_of, rows_of_pack}
-use Rattle.kalah_rules.proofs.PackedLemmas.{IsPackedStep, store_within, store_small, over_own, over_other, again_packed, turn_packed}
+use Rattle.kalah_rules.specs.{Again, Turn}
+use Rattle.kalah_rules.proofs.KeyLemmas.{fields_of, rows_of_fields}
+use Rattle.kalah_rules.proofs.PackedLemmas.{IsStepOfFields, store_within, store_small, over_own, over_other, again_fields, turn_fields}
 use Rattle.kalah_rules.proofs.houses.Houses.step.Goals as goal
 use Rattle.kalah_rules.proofs.houses.Houses.step.Goals.{Then-again, Else-again}
 
@@ -9,41 +9,41 @@ pub overflow_sub-seeds : goal.overflow_sub-seeds
 overflow_sub-seeds c = store_within c.self.invariant c.self.view_is c.requires.legal c.requires.rows
 
 pub overflow_cast-gained : goal.overflow_cast-gained
-overflow_cast-gained c = omega (arith, store_small (pack_of c.self.invariant c.self.view_is).limits c.requires.legal c.requires.rows)
+overflow_cast-gained c = omega (arith, store_small (fields_of c.self.invariant c.self.view_is).limits c.requires.legal c.requires.rows)
 
 pub returns-then-own-eq0 : goal.returns-then-own-eq0
 returns-then-own-eq0 c = over_own c.self.invariant c.self.view_is c.requires.legal c.requires.rows c.if-own-eq0.true
 
 pub returns-then-other-eq0 : goal.returns-then-other-eq0
 returns-then-other-eq0 c =
-    let pack = pack_of c.self.invariant c.self.view_is in
-    rw (c.seeds.ensures.seeds, pack.seeds_are) (over_other c.self.invariant c.self.view_is c.requires.legal c.requires.rows
+    let fields = fields_of c.self.invariant c.self.view_is in
+    rw (c.seeds.ensures.seeds, fields.seeds_are) (over_other c.self.invariant c.self.view_is c.requires.legal c.requires.rows
     c.if-other-eq0.true)
 
 -- the step on which the mover moves again
-again : (c : Then-again) → IsPackedStep c.args.self.now c.args.house c.args.rows.rows (c.self.inside.seeds - c.args.rows.store)
+again : (c : Then-again) → IsStepOfFields c.args.self.now c.args.house c.args.rows.rows (c.self.inside.seeds - c.args.rows.store)
     c.self.inside.variant (Again c.args.rows.store)
-again c = again_packed c.self.invariant c.self.view_is c.requires.legal c.requires.rows c.if-own-eq0.false c.if-other-eq0.false
+again c = again_fields c.self.invariant c.self.view_is c.requires.legal c.requires.rows c.if-own-eq0.false c.if-other-eq0.false
     (sym c.requires.again ∙ c.if-again.true)
 
 pub invariant_of-result : goal.invariant_of-result
-invariant_of-result c = (again c).packed
+invariant_of-result c = (again c).fields
 
 pub returns-then-again : goal.returns-then-again
 returns-then-again c = (again c).step_is
 
 -- the step by which the turn passes
 turn : (c : Else-again)
-    → IsPackedStep c.args.self.now c.args.house (c.args.rows.rows / 2 ^ 30 + 2 ^ 30 * (c.args.rows.rows % 2 ^ 30))
+    → IsStepOfFields c.args.self.now c.args.house (c.args.rows.rows / 2 ^ 30 + 2 ^ 30 * (c.args.rows.rows % 2 ^ 30))
     (c.self.inside.seeds - c.args.rows.store) c.self.inside.variant (Turn c.args.rows.store)
-turn c = turn_packed c.self.invariant c.self.view_is c.requires.legal c.requires.rows c.if-own-eq0.false c.if-other-eq0.false
+turn c = turn_fields c.self.invariant c.self.view_is c.requires.legal c.requires.rows c.if-own-eq0.false c.if-other-eq0.false
     (sym c.requires.again ∙ c.if-again.false)
 
-pub overflow_add-rows : goal.overflow_add-rows
-overflow_add-rows c = omega (arith, (rows_of_pack (pack_of (turn c).packed refl)).fit)
+pub overflow_add-result : goal.overflow_add-result
+overflow_add-result c = omega (arith, (rows_of_fields (fields_of (turn c).fields refl)).fit)
 
 pub invariant_of-result-else-again : goal.invariant_of-result-else-again
-invariant_of-result-else-again c = (turn c).packed
+invariant_of-result-else-again c = (turn c).fields
 
 pub returns-else-again : goal.returns-else-again
 returns-else-again c = (turn c).step_is

@@ -1,6 +1,6 @@
 use Rattle.std.proofs.Common.{arith, ◌≡◌, ◌+◌, ◌<◌, ◌^◌, ◌&&◌, ℕ, Bool, true, false, MatchBool, cond, bit_and, refl, ◌≤◌, ◌-◌, ◌%◌}
 use Rattle.std.proofs.lemmas.Nat.{and_le_l, and_le_r, and_mask}
-use Rattle.kalah_rules.specs.Sowing.{captures}
+use Rattle.kalah_rules.specs.{captures}
 use Rattle.kalah_rules.proofs.houses.play.captured_seeds.Goals as goal
 
 -- a number under a mask of all bits or none

@@ -1,4 +1,4 @@
-use Rattle.kalah_run.proofs.BatchLemmas.{nothing_answered}
+use Rattle.kalah_run.proofs.AnsweringLemmas.{nothing_answered}
 use Rattle.kalah_run.proofs.batch.laws.no_line_is_answered.Goals as goal
 
 pub returns : goal.returns

@@ -1,13 +1,12 @@
 use Rattle.std.proofs.Common.{◌≡◌, ◌+◌, ◌≤◌, length, vec_len, vec_capacity}
 use Rattle.std.specs.Vec.Iter.{into_iter_items}
 use Rattle.kalah_run.specs.Batch.AtWork.{passes_of, puts_of}
-use Rattle.kalah_run.specs.Batch.Leaving.{pass_list}
 use Rattle.kalah_run.proofs.batch.open_batch.passes_of_workers.Given as goal
 
 abbrev pub invariant-loop-worker : goal.invariant-loop-worker
 invariant-loop-worker l = record {
   passes : l.passes.items ≡ passes_of l.yielded;
   puts : l.puts.items ≡ puts_of l.yielded;
-  passes_room : length (into_iter_items l.worker-iterator) + (vec_len l.passes + length (pass_list l.rest_pass)) ≤ vec_capacity l.passes;
+  passes_room : length (into_iter_items l.worker-iterator) + (vec_len l.passes + 1) ≤ vec_capacity l.passes;
   puts_room : length (into_iter_items l.worker-iterator) + (vec_len l.puts + 0) ≤ vec_capacity l.puts;
 }

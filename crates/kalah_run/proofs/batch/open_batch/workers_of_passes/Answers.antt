@@ -1,19 +1,20 @@
 use Rattle.std.proofs.lemmas.Grind.{common_steps}
-use Rattle.std.proofs.Common.{arith, ◌∙◌}
+use Rattle.std.proofs.Common.{arith, ap, ◌∙◌}
 use Rattle.kalah_run.specs.declared.batch.worker.Worker.{Worker}
 use Rattle.kalah_run.proofs.WorkerLemmas.{one_given, tables_more}
 use Rattle.kalah_run.proofs.batch.open_batch.workers_of_passes.Goals as goal
 
-pub loop-pass-preserved : goal.loop-pass-preserved
-loop-pass-preserved c =
-    let so_far = c.loop-pass.invariant in
+pub loop-preserved : goal.loop-preserved
+loop-preserved c =
+    let so_far = c.loop.invariant in
     let is = c.push_reserved.ensures.items in
-    let of = c.in_ok-worker.ensures in
+    let of = c.new.ensures in
     record {
+      left = omega (arith, c.in-Some.ensures.len);
       as_many = omega (arith, c.in-Some.ensures.len, c.in-Some-pop.ensures.len);
       passes = one_given (λ (w : Worker). w.pass) _ _ is of.passes.0 c.in-Some.ensures.items so_far.passes;
       puts = one_given (λ (w : Worker). w.put_pass) _ _ is of.passes.1 c.in-Some-pop.ensures.items so_far.puts;
-      tables = tables_more _ _ _ _ is of.table so_far.tables;
+      tables = tables_more _ _ _ _ is (ap (λ s. s.search.table) of.solver ∙ c.in_ok-solver.ensures) so_far.tables;
       passes_room = c.in-Some.ensures.capacity ∙ so_far.passes_room;
       puts_room = c.in-Some-pop.ensures.capacity ∙ so_far.puts_room;
       room = omega (arith, c.in-Some.ensures.len);
@@ -24,3 +25,6 @@ returns-clause-empty c = grind (arith, common_steps)
 
 pub returns-clause-puts : goal.returns-clause-puts
 returns-clause-puts c = grind (arith, common_steps)
+
+pub returns-clause-passes : goal.returns-clause-passes
+returns-clause-passes c = grind (arith, common_steps)

@@ -3,8 +3,9 @@ use Rattle.kalah_run.specs.Batch.AtWork.{passes_of, puts_of}
 use Rattle.kalah_run.specs.Batch.Running.{HaveOwnTables}
 use Rattle.kalah_run.proofs.batch.open_batch.workers_of_passes.Given as goal
 
-abbrev pub invariant-loop-pass : goal.invariant-loop-pass
-invariant-loop-pass l = record {
+abbrev pub invariant-loop : goal.invariant-loop
+invariant-loop l = record {
+  left : vec_len l.passes + l.counter ≡ vec_len l.fn.passes;
   as_many : vec_len l.passes ≡ vec_len l.puts;
   passes : l.passes.items ++ passes_of (reverse l.workers.items) ≡ l.fn.passes.items;
   puts : l.puts.items ++ puts_of (reverse l.workers.items) ≡ l.fn.puts.items;
@@ -13,6 +14,3 @@ invariant-loop-pass l = record {
   puts_room : vec_capacity l.puts ≡ vec_capacity l.fn.puts;
   room : vec_len l.passes + vec_len l.workers ≤ vec_capacity l.workers;
 }
-
-abbrev pub decreases-loop-pass : goal.decreases-loop-pass
-decreases-loop-pass l = vec_len l.passes

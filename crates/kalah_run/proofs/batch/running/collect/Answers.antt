@@ -1,6 +1,6 @@
-use Rattle.std.proofs.Common.{◌+◌, inl, inr, length, refl, ap, ◌∙◌, arith, rules, Some}
+use Rattle.std.proofs.Common.{◌+◌, inl, inr, length, ap, ◌∙◌, arith, rules, Some}
 use Rattle.std.proofs.lemmas.Grind.{common_steps}
-use Rattle.std.proofs.KnownBytes.{Keeps-refl}
+use Rattle.kalah_jobs.proofs.SinkLemmas.{given_none}
 use Rattle.kalah_run.specs.Batch.Running.{MayHaveGot}
 use Rattle.kalah_run.proofs.BatchLemmas.{failed_still, got_after, has_collected, collected_at_start, one_collected, one_longer, rest_left}
 use Rattle.kalah_run.proofs.batch.running.collect.Given as given
@@ -9,14 +9,14 @@ use Rattle.kalah_run.proofs.batch.running.collect.Goals.{in-Some, in-None+in-Som
 
 pub loop-init : goal.loop-init
 loop-init g c = record {
-  collected = collected_at_start c.requires.first c.requires.own c.requires.new c.write.ensures.writes;
-  counted = ap length c.requires.first;
+  collected = collected_at_start c.requires c.write_ready.ensures.writes c.write_ready.ensures.waits;
+  counted = ap length c.requires.0;
   few_tries = omega arith;
 }
 
 -- an outcome was got, soon or later
-outcome_got : (g : given.Over) (c : goal.After-accepts g) → MayHaveGot c.args.shared.now.desk (g.E.Rule.invariant 1) c.loop.receiver.passes
-    c.match-get_soon.receiver.passes (g.W.Sink.state c.loop.out) (g.W.Sink.state c.match-get_soon.out) (Some c.match-get_soon.outcome)
+outcome_got : (g : given.Over) (c : goal.After-accepts g) → MayHaveGot g.W.Sink.state (g.E.Rule.invariant 1) c.loop.receiver.passes
+    c.match-get_soon.receiver.passes c.loop.out c.match-get_soon.out (Some c.match-get_soon.outcome)
 outcome_got g c =
     let draws = rw c.failed.ensures at c.leave_after.ensures.draws in
     elim c.match-get_soon.branch [
@@ -25,7 +25,7 @@ outcome_got g c =
         draws = rw w.in-Some.ensures.rest_pass draws;
         left = tt;
         ended = tt;
-        flushed = record { keeps = Keeps-refl _; sound = λ still. still };
+        unwritten = given_none _ _;
       })
       | in-None+in-Some-flush_and_get w ↦ rw (w.out-is, w.receiver-is, w.outcome-is)
           (got_after (w.in-None.ensures.got ∙ c.leave_after.ensures.get_pass) draws w.in-None.ensures.rest_pass
@@ -36,8 +36,8 @@ pub loop-preserved : goal.loop-preserved
 loop-preserved g c =
     let next = outcome_got g c in
     record {
-      collected = one_collected c.loop.invariant.collected _ next refl refl refl c.offer.ensures.offers c.write-in-loop.ensures.sound
-          c.write-in-loop.ensures.writes;
+      collected = one_collected c.loop.invariant.collected next c.accept.ensures c.write_ready-in-loop.ensures.given.1
+          c.write_ready-in-loop.ensures.writes c.write_ready-in-loop.ensures.waits;
       counted = one_longer _ _ next.got ∙ ap (◌+ 1) c.loop.invariant.counted;
       few_tries = search rules;
     }
@@ -45,18 +45,18 @@ loop-preserved g c =
 -- the last outcome was got, or the rest is left
 pub returns-clause-collected : goal.returns-clause-collected
 returns-clause-collected g c =
-    let flushed = c.flush_to_wait.ensures.flushed in
+    let unwritten = c.flush_to_wait.ensures.unwritten in
     let so_far = c.loop.invariant in
     elim c.loop-test.branch [
       | else-loop-test w ↦ has_collected so_far.collected (c.into_passes.ensures ∙ ap (λ r. r.passes) w.receiver-is)
           (inl (omega (arith, so_far.counted, w.loop-test.false, c.total-total.ensures.lines)))
-          (rw w.out-is at flushed)
+          (rw w.out-is at unwritten)
       | then-loop-test+in-None+in-None-flush_and_get w ↦
           let last = rest_left so_far.collected (got_after (w.in-None.ensures.got ∙ w.leave_after.ensures.get_pass)
           (rw w.failed.ensures at w.leave_after.ensures.draws) w.in-None.ensures.rest_pass w.in-None-flush_and_get.ensures) in
-          let flushed = rw w.out-is at flushed in
+          let after = rw w.out-is at unwritten in
           has_collected last.0 (c.into_passes.ensures ∙ ap (λ r. r.passes) w.receiver-is)
-          (inr (last.1.0, failed_still _ flushed.sound last.1.1)) flushed
+          (inr (last.1.0, failed_still after last.1.1)) after
     ]
 
 pub returns-clause-ended : goal.returns-clause-ended

@@ -5,8 +5,7 @@ use Rattle.kalah_run.proofs.batch.running.collect.Given as goal
 
 abbrev pub invariant-loop : goal.invariant-loop
 invariant-loop g l = record {
-  collected : AreCollected l.fn.shared.desk l.fn.output (g.W.Sink.state l.fn.out) (g.W.Sink.state l.out) l.fn.receiver.passes
-      l.receiver.passes l.output;
+  collected : AreCollected g.W.Sink.state l.fn.output l.fn.out l.out l.fn.receiver.passes l.receiver.passes l.output;
   counted : length l.receiver.passes.get_pass.got ≡ l.counter;
   few_tries : l.tries ≤ MOST_TRIES;
 }

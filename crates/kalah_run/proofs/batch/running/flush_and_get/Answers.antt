@@ -8,7 +8,7 @@ returns g c = record {
   draws = rw c.get.ensures.rest_pass (rw c.failed.ensures at c.leave_after.ensures.draws);
   left = tt;
   ended = tt;
-  flushed = c.flush_to_wait.ensures.flushed;
+  unwritten = c.flush_to_wait.ensures.unwritten;
 }
 
 pub returns-then-leave_after : goal.returns-then-leave_after

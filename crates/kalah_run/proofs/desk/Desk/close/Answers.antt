@@ -1,9 +1,9 @@
 use Rattle.std.proofs.Common.{rules, List, [], ◌∷◌, ◌++◌, length, get_or, length-append, arith, ◌≡◌, ◌<◌, sym, ap, ◌∙◌}
 use Rattle.std.proofs.lemmas.List.{length-map, map-append, append_assoc, get_or_append_left}
-use Rattle.kalah_run.specs.Desk.Rule.{rows_in}
+use Rattle.kalah_run.specs.Desk.Protocol.{rows_in}
 use Rattle.kalah_run.specs.Desk.States.{PassState, drawn_rows}
-use Rattle.kalah_run.specs.declared.desk.rule.DeskView.TheVariants.{Closing}
-use Rattle.kalah_run.proofs.DeskLemmas.{Determines, reclaim_is_lawful, rows_at_end, start_closing_is_lawful}
+use Rattle.kalah_run.specs.declared.desk.protocol.DeskView.TheVariants.{Closing}
+use Rattle.kalah_run.proofs.DeskLemmas.{Determines, rows_at_end, start_closing_is_lawful}
 use Rattle.kalah_run.proofs.desk.Desk.close.Goals as goal
 
 pub load_new_seat-closer-requires : goal.load_new_seat-closer-requires
@@ -26,16 +26,6 @@ returns-clause-deals c = rw (c.min.ensures, ← ap (λ d. d.total) c.self.view_i
 
 pub returns-clause-spent : goal.returns-clause-spent
 returns-clause-spent c = rw c.self.invariant.2 at (last c).spent
-
-pub join_seat-requires : goal.join_seat-requires
-join_seat-requires c = (
-  search rules,
-  search rules,
-  search rules,
-  search rules,
-  reclaim_is_lawful _ _ _ _ _ c.loop-pass.invariant.closing
-      (ap (λ m. m.0) c.pass.invariant.0),
-)
 
 pub loop-pass-preserved : goal.loop-pass-preserved
 loop-pass-preserved c =

@@ -1,12 +1,10 @@
 use Rattle.std.proofs.Common.{◌∙◌, ◌+◌, [], rules, ap, arith, subst, sym}
-use Rattle.kalah_run.proofs.DeskLemmas.{opening_is_lawful, hand_out_is_lawful, draw_pass_more}
-use Rattle.kalah_run.specs.Desk.Rule.{after_handing_out, pass_handed_out}
+use Rattle.kalah_run.proofs.DeskLemmas.{hand_out_is_lawful}
+use Rattle.kalah_run.proofs.PassLemmas.{draw_pass_more}
+use Rattle.kalah_run.specs.Desk.Protocol.{after_handing_out, pass_handed_out}
 use Rattle.kalah_run.specs.Desk.States.{DeskState, AreNewPasses, number_in, row_in, total_in}
-use Rattle.kalah_run.specs.declared.desk.rule.DeskView.TheVariants.{Opening}
+use Rattle.kalah_run.specs.declared.desk.protocol.DeskView.TheVariants.{Opening}
 use Rattle.kalah_run.proofs.desk.Desk.open.Goals as goal
-
-pub of_words-requires : goal.of_words-requires
-of_words-requires c = opening_is_lawful _ (search rules) (search rules)
 
 pub split_seat-seat-requires : goal.split_seat-seat-requires
 split_seat-seat-requires c = (search rules, search rules, hand_out_is_lawful _ _ _ _ _ _ (ap (λ m. m.0) c.loop.invariant.opener) (omega arith))

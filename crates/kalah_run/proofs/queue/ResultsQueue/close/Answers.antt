@@ -3,9 +3,9 @@ use Rattle.std.proofs.Common.{◌≡◌, ◌∷◌, ◌++◌, [], ◌∙◌, ap,
 use Rattle.std.proofs.lemmas.List.{length-map, length_push}
 use Rattle.std.specs.Vec.Iter.{into_iter_deque, into_iter_items}
 use Rattle.crossbeam_queue.specs.Passes.{view}
-use Rattle.kalah_run.specs.declared.queue.rule.QueueView.TheVariants.{Getting, Putting}
+use Rattle.kalah_run.specs.declared.queue.protocol.QueueView.TheVariants.{Getting, Putting}
 use Rattle.kalah_run.specs.Queue.States.{ArePassesFrom, PutPassState, sent_by}
-use Rattle.kalah_run.proofs.QueueLemmas.{reclaim_is_lawful, getter_knows_sent, reclaimed, whole_when_reclaimed, known_in}
+use Rattle.kalah_run.proofs.QueueLemmas.{reclaim_is_lawful, getter_knows_sent, reclaimed, whole_when_reclaimed, ended_in}
 use Rattle.kalah_run.proofs.queue.ResultsQueue.close.Goals as goal
 
 pub absorb-requires-clause-rule : goal.absorb-requires-clause-rule
@@ -23,27 +23,27 @@ returns-clause-whole g c =
     let rest = c.loop-put.put-iterator in
     whole_when_reclaimed (sent_by (into_iter_items rest)) so_far.getting
     (omega (arith, c.in-None.ensures.steps.0, (into_iter_deque rest).ok.0, length-map (into_iter_items rest) (λ (p : PutPassState). p.sent)))
-    so_far.known c.len_as-left.ensures.rule.1
+    so_far.ended c.len_as-left.ensures.rule.1
 
 pub loop-put-preserved : goal.loop-put-preserved
 loop-put-preserved g c =
     let so_far = c.loop-put.invariant in
     let same = c.absorb.ensures.queue in
-    let known = known_in (view c.loop-put.ruled) in
+    let ended = ended_in (view c.loop-put.ruled) in
     let put = c.in-Some.put in
     let rest = into_iter_items c.next.new.self in
     let step : into_iter_items c.loop-put.put-iterator ≡ put ∷ rest = c.in-Some.ensures.steps.0 in
     let passes = rw step at so_far.passes in
     let now = reclaimed so_far.getting
     (c.put.invariant.1 ∙ ap (λ p. Putting p.number p.sent) c.put.view_is) c.absorb.ensures.rule in
-    let more = ap known_in now in
+    let more = ap ended_in now in
     record {
       place = (same.0 ∙ so_far.place.0, same.2 ∙ so_far.place.1);
       getting = now ∙ ap (Getting c.args.pass.workers c.args.pass.got) (sym more);
       passes = subst (λ n. ArePassesFrom c.self.inside.outcomes.table.shared.table_id n rest)
-          (omega (arith, ap length more, length_push known put.sent)) passes.2;
-      known = ap (◌++ sent_by rest) more ∙ append_assoc known (put.sent ∷ []) (sent_by rest)
-          ∙ ap (λ l. known ++ sent_by l) (sym step) ∙ so_far.known;
+          (omega (arith, ap length more, length_push ended put.sent)) passes.2;
+      ended = ap (◌++ sent_by rest) more ∙ append_assoc ended (put.sent ∷ []) (sent_by rest)
+          ∙ ap (λ l. ended ++ sent_by l) (sym step) ∙ so_far.ended;
     }
 
 pub returns-clause-few : goal.returns-clause-few

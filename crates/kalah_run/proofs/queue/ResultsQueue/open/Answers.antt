@@ -1,28 +1,29 @@
 use Rattle.std.proofs.lemmas.Grind.{common_steps}
 use Rattle.std.proofs.Common.{rules, arith, ◌≡◌, [], ap, ◌∙◌}
 use Rattle.std.proofs.lemmas.List.Elements.{All-push}
-use Rattle.kalah_run.specs.Queue.Rule.{sent_in, after_making_one, one_made}
-use Rattle.kalah_run.proofs.QueueLemmas.{new_queue_is_lawful, new_pass_is_lawful, put_pass_more}
+use Rattle.kalah_run.specs.Queue.Protocol.{sent_in, after_handing_out, pass_handed_out}
+use Rattle.kalah_run.proofs.QueueLemmas.{opening_is_lawful, hand_out_is_lawful}
+use Rattle.kalah_run.proofs.PassLemmas.{put_pass_more}
 use Rattle.kalah_run.proofs.queue.ResultsQueue.open.Goals as goal
 
 pub ruled-requires-clause-rule : goal.ruled-requires-clause-rule
-ruled-requires-clause-rule c = new_queue_is_lawful
+ruled-requires-clause-rule c = opening_is_lawful
 
 pub another-theirs-requires-clause-rule : goal.another-theirs-requires-clause-rule
-another-theirs-requires-clause-rule c = new_pass_is_lawful _ c.loop.invariant.made
+another-theirs-requires-clause-rule c = hand_out_is_lawful _ c.loop.invariant.made
 
 pub loop-preserved : goal.loop-preserved
 loop-preserved c =
     let so_far = c.loop.invariant in
     let views = c.another-theirs.ensures.rule in record {
       place = search rules;
-      made = views.0 ∙ ap after_making_one so_far.made;
+      made = views.0 ∙ ap after_handing_out so_far.made;
       count = search rules;
       room = omega arith;
       passes = rw c.push_reserved.ensures.items (put_pass_more _ 0 _ _ so_far.passes (search rules) (search rules));
       unsent =
           rw c.push_reserved.ensures.items (All-push (λ p. p.sent ≡ []) _ _ so_far.unsent
-          (ap sent_in (views.1 ∙ ap one_made so_far.made)));
+          (ap sent_in (views.1 ∙ ap pass_handed_out so_far.made)));
     }
 
 pub returns-clause-puts : goal.returns-clause-puts

@@ -1,4 +1,4 @@
-use Rattle.kalah_run.proofs.QueueLemmas.{all_are_of}
+use Rattle.kalah_run.proofs.PassLemmas.{all_are_of}
 use Rattle.kalah_run.proofs.queue.tests.run_batch.Goals as goal
 
 pub through_threads-requires-clause-puts : goal.through_threads-requires-clause-puts

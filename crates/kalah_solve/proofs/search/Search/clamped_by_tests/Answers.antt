@@ -1,7 +1,6 @@
 use Rattle.std.proofs.Common.{refl, rules, ◌≡◌, ◌∙◌, w8, w32, to_z, of_z, SFits}
 use Rattle.std.proofs.lemmas.Int.{to_z-of_z}
-use Rattle.kalah_solve.specs.Bounds.Intervals.{clamped}
-use Rattle.kalah_solve.specs.Solver.Worth.{houses_worth}
+use Rattle.kalah_solve.specs.{clamped, houses_worth}
 use Rattle.kalah_solve.proofs.BoundsLemmas.{worth_low, worth_high, clamped_within, worth_by_bounds}
 use Rattle.kalah_solve.proofs.search.Search.clamped_by_tests.Given.{Over}
 use Rattle.kalah_solve.proofs.search.Search.clamped_by_tests.Goals as goal
@@ -27,8 +26,10 @@ pub learn_margins-requires : goal.learn_margins-requires
 learn_margins-requires g c =
     let limits = c.seeds-seeds.ensures.limits in
     let worth = houses_worth c.args.houses.now in
-    c.intersection.ensures.held worth (c.interval_of.ensures.held worth (worth_low _ limits) (worth_high _ limits) (found g c))
-    c.known_margins-known.ensures
+    (c.intersection.ensures worth).1 (
+      c.interval_of.ensures.held worth (worth_low _ limits) (worth_high _ limits) (found g c),
+      c.known_margins-known.ensures,
+    )
 
 pub returns : goal.returns
 returns g c = found g c.before ∙ c.in-Some.ensures.some (houses_worth c.args.houses.now) c.known_margins-known.ensures

@@ -1,5 +1,5 @@
 use Rattle.std.proofs.Common.{◌-◌, ◌≤◌, ◌≡◌, max, min}
-use Rattle.kalah_solve.specs.Bounds.Won.{won}
+use Rattle.kalah_solve.specs.{won}
 use Rattle.kalah_solve.proofs.search.Search.won_within.Given as goal
 
 abbrev pub invariant-loop-low : goal.invariant-loop-low

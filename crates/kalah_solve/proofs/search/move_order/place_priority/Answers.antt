@@ -1,6 +1,5 @@
 use Rattle.std.proofs.Common.{arith, refl, ◌≡◌, ◌<◌, ◌+◌, ◌-◌, ◌/◌, ◌%◌, ◌==◌, ◌&&◌, [], Bool, ℕ, zero, suc, true, nat_lt, get_or}
-use Rattle.std.proofs.lemmas.Bool.{agree_below_at}
-use Rattle.std.proofs.lemmas.Bool.Decides.{nat_tests}
+use Rattle.std.proofs.lemmas.{Bool.agree_below_at, Bool.Decides.nat_tests}
 use Rattle.kalah_solve.specs.declared.search.move_order.weights.TheConstants.{PLACE_PRIORITIES}
 use Rattle.kalah_solve.proofs.search.move_order.place_priority.Goals as goal
 
@@ -9,6 +8,7 @@ abbrev is_right : ℕ → ℕ → Bool
 is_right list k = (get_or (get_or PLACE_PRIORITIES list []) k 0 % 8 == k / 5 - list) && nat_lt 0 (get_or (get_or PLACE_PRIORITIES list []) k 0)
     && nat_lt (get_or (get_or PLACE_PRIORITIES list []) k 0) 422
 
+-- each cell is right: there are 31 in either list
 all_right : (list k : ℕ) → list < 2 → k < 31 → is_right list k ≡ true
 all_right zero k few within = agree_below_at (is_right 0) (λ k. true) 31 k refl within
 all_right (suc zero) k few within = agree_below_at (is_right 1) (λ k. true) 31 k refl within

@@ -1,6 +1,6 @@
 use Rattle.std.proofs.Common.{arith, refl, sym, ap, ◌∙◌, ◌≡◌, ◌<◌, ◌≤◌, ◌-◌, ℕ, List, length, get_or}
 use Rattle.std.proofs.lemmas.List.Elements.{Contains-get_or}
-use Rattle.kalah_rules.specs.Position.{HousesState, storeless, IsWithinHouses}
+use Rattle.kalah_rules.specs.Position.{HousesState, storeless, AreWithinLimits}
 use Rattle.kalah_rules.specs.Play.{legal_houses}
 use Rattle.kalah_rules.proofs.PlayLemmas.{legal_holds}
 use Rattle.kalah_solve.proofs.WorthLemmas.{legal_some}
@@ -20,7 +20,7 @@ looked_at : (moves legal : List ℕ) (i count house : ℕ) → count ≡ length 
 looked_at moves legal i count house many before house_is are = (omega (arith, ap length are), house_is ∙ ap (λ xs. get_or xs i 0) are)
 
 -- it is one of 1 to 6
-legal_within : {a : HousesState} {i h : ℕ} → IsWithinHouses a
+legal_within : {a : HousesState} {i h : ℕ} → AreWithinLimits a
     → (i < length (legal_houses (storeless a))) × (h ≡ get_or (legal_houses (storeless a)) i 0) → (1 ≤ h) × (h ≤ 6)
 legal_within {a} {i} {h} limits place =
     let holds = legal_holds (storeless a) h (rw place.1 (Contains-get_or _ i 0 place.0)) in

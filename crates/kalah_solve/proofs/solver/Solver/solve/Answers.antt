@@ -2,7 +2,7 @@ use Rattle.std.proofs.Common.{arith, rules, sym, ap, ◌∙◌, ◌≡◌, w32}
 use Rattle.std.proofs.lemmas.Int.{ints, to_z-of_z}
 use Rattle.kalah_rules.specs.Position.{HousesState, storeless}
 use Rattle.kalah_rules.proofs.PackedLemmas.{houses_within}
-use Rattle.kalah_solve.specs.Solver.Worth.{best_house, houses_worth}
+use Rattle.kalah_solve.specs.{best_house, houses_worth}
 use Rattle.kalah_solve.specs.declared.solver.Verdict.TheVariants.{Over}
 use Rattle.kalah_solve.proofs.SolverLemmas.{verdict_of_going, verdict_of_over, small_best, verdict_states}
 use Rattle.kalah_solve.proofs.WorthLemmas.{best_of_houses, best_found, board_equal_sides}
@@ -31,20 +31,20 @@ best_house-house-requires-clause-best g c =
     half_is_won c.houses-houses.result _ _ c.seeds.ensures.limits c.houses_worth-best.ensures
     (rw (c.seeds.ensures.seeds, to_z-of_z w32 c.houses_worth-best.result (search rules)) at c.won_of-beta.ensures)
 
-pub with_stores-margin-requires-clause-best : goal.with_stores-margin-requires-clause-best
-with_stores-margin-requires-clause-best g c =
+pub worth_of_board-margin-requires-clause-best : goal.worth_of_board-margin-requires-clause-best
+worth_of_board-margin-requires-clause-best g c =
     to_z-of_z w32 c.houses_worth-best.result (search rules) ∙ c.houses_worth-best.ensures ∙ ap houses_worth c.houses-houses.ensures
 
 -- the house is the best one
-house_is : (g : given.Over) (c : goal.After-with_stores-margin g) → c.best_house-house.result ≡ best_house c.args.board.now
+house_is : (g : given.Over) (c : goal.After-worth_of_board-margin g) → c.best_house-house.result ≡ best_house c.args.board.now
 house_is g c = c.best_house-house.ensures ∙ ap (λ (a : HousesState). best_house (storeless a)) c.houses-houses.ensures
     ∙ sym (best_of_houses c.args.board.now)
 
 pub returns-clause-verdict : goal.returns-clause-verdict
 returns-clause-verdict g c =
-    rw (to_z-of_z w32 c.with_stores-margin.result (search rules))
-    (verdict_of_going c.args.board.now c.with_stores-margin.result c.best_house-house.result (sym c.if-is_over.ensures.over)
-    c.with_stores-margin.ensures.worth (house_is g c))
+    rw (to_z-of_z w32 c.worth_of_board-margin.result (search rules))
+    (verdict_of_going c.args.board.now c.worth_of_board-margin.result c.best_house-house.result (sym c.if-is_over.ensures.over)
+    c.worth_of_board-margin.ensures.worth (house_is g c))
 
 pub returns-clause-best_play : goal.returns-clause-best_play
 returns-clause-best_play g c =
@@ -54,5 +54,5 @@ pub returns-clause-small : goal.returns-clause-small
 returns-clause-small g c =
     let p = c.args.board.now in
     let limits = c.is_over.ensures.limits in
-    rw (to_z-of_z w32 c.with_stores-margin.result (search rules)) (small_best p c.with_stores-margin.result c.best_house-house.result limits
-    (rw (house_is g c) (best_found p (board_equal_sides p limits) (sym c.if-is_over.ensures.over)).0) c.with_stores-margin.ensures.small)
+    rw (to_z-of_z w32 c.worth_of_board-margin.result (search rules)) (small_best p c.worth_of_board-margin.result c.best_house-house.result limits
+    (rw (house_is g c) (best_found p (board_equal_sides p limits) (sym c.if-is_over.ensures.over)).0) c.worth_of_board-margin.ensures.small)

@@ -1,9 +1,7 @@
-use Rattle.std.proofs.lemmas.Grind.{common_steps}
+use Rattle.std.proofs.lemmas.{Grind.common_steps, List.drop_more, List.Elements.Contains-get_or}
 use Rattle.std.proofs.Common.{◌≡◌, ℕ, ◌<◌, ◌≤◌, ◌-◌, ◌+◌, List, ◌∷◌, arith, length, subst, sym, map, drop, get_or, Contains, refl}
-use Rattle.std.proofs.lemmas.List.{drop_more}
-use Rattle.std.proofs.lemmas.List.Elements.{Contains-get_or}
 use Rattle.kalah_rules.specs.Position.{Position}
-use Rattle.kalah_solve.specs.Solver.MoveValues.{IsMoveValue, move_value, StateValues}
+use Rattle.kalah_solve.specs.{IsMoveValue, move_value, AreValuesByBestPlay}
 use Rattle.kalah_solve.specs.declared.solver.move_values.MoveValue.{MoveValue}
 use Rattle.kalah_solve.proofs.SolverLemmas.{values_state, move_value_small}
 use Rattle.kalah_solve.proofs.solver.Solver.values.Goals as goal
@@ -42,7 +40,7 @@ pub returns-clause-best_play : goal.returns-clause-best_play
 returns-clause-best_play g c =
     let none : c.loop-i.i ≡ 0 = omega arith in
     let done = rw (none, c.legal-moves.ensures.moves) at c.loop-i.invariant.done in
-    subst (StateValues c.args.board.now) (sym done) (values_state _)
+    subst (AreValuesByBestPlay c.args.board.now) (sym done) (values_state _)
 
 pub prepend-requires-clause-room : goal.prepend-requires-clause-room
 prepend-requires-clause-room g c = grind (arith, common_steps)

@@ -1,5 +1,5 @@
 use Rattle.std.proofs.Common.{◌≡◌, ◌≤◌, drop, length, map}
-use Rattle.kalah_solve.specs.Solver.MoveValues.{move_value}
+use Rattle.kalah_solve.specs.{move_value}
 use Rattle.kalah_solve.proofs.solver.Solver.values.Given as goal
 
 -- the values of the moves from place i on

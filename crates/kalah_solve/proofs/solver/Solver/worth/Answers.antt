@@ -1,7 +1,7 @@
 use Rattle.std.proofs.Common.{rules, sym, ap, ◌∙◌, w32}
 use Rattle.std.proofs.lemmas.Int.{to_z-of_z}
 use Rattle.kalah_rules.proofs.PackedLemmas.{houses_within}
-use Rattle.kalah_solve.specs.Solver.Worth.{houses_worth}
+use Rattle.kalah_solve.specs.{houses_worth}
 use Rattle.kalah_solve.proofs.WorthLemmas.{worth_of_over}
 use Rattle.kalah_solve.proofs.solver.Solver.worth.Goals as goal
 
@@ -12,6 +12,6 @@ returns-then-is_over-clause-worth g c =
 pub houses_worth-best-requires-clause-limits : goal.houses_worth-best-requires-clause-limits
 houses_worth-best-requires-clause-limits g c = rw c.houses.ensures (houses_within _ c.is_over.ensures.limits)
 
-pub with_stores-requires-clause-best : goal.with_stores-requires-clause-best
-with_stores-requires-clause-best g c =
+pub worth_of_board-requires-clause-best : goal.worth_of_board-requires-clause-best
+worth_of_board-requires-clause-best g c =
     to_z-of_z w32 c.houses_worth-best.result (search rules) ∙ c.houses_worth-best.ensures ∙ ap houses_worth c.houses.ensures

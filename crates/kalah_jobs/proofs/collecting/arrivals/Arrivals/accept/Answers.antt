@@ -7,7 +7,7 @@ use Rattle.kalah_jobs.proofs.collecting.arrivals.Arrivals.accept.Goals as goal
 
 pub invariant_of-self : goal.invariant_of-self
 invariant_of-self c =
-    let stops : front_of c.loop-self.self-inside.arrived.items ≤ c.loop-self.self-inside.ready = elim c.loop-self-test.branch [
+    let stops : front_of c.loop-self.self-inside.arrived.items ≤ c.loop-self.self-inside.front = elim c.loop-self-test.branch [
       | then-loop-self-test+else-is_some w ↦ front_stops _ _ (search rules)
       | else-loop-self-test w ↦ omega (arith, front_within c.loop-self.self-inside.arrived.items, w.loop-self-test.false)
     ] in

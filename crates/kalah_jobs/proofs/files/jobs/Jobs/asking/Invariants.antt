@@ -1,10 +1,10 @@
-use Rattle.std.proofs.Common.{◌≤◌, length, map, vec_capacity}
+use Rattle.std.proofs.Common.{◌≤◌, length, vec_capacity}
+use Rattle.kalah_jobs.specs.Files.Jobs.{entries_in, starts_in}
 use Rattle.kalah_jobs.proofs.FilesLemmas.{AreRead}
 use Rattle.kalah_jobs.proofs.files.jobs.Jobs.asking.Given as goal
 
 abbrev pub invariant-loop-file : goal.invariant-loop-file
 invariant-loop-file l = record {
-  files : AreRead l.question l.files l.file-index (map (λ own. own.items) l.read.items) l.starts.items l.before l.faults;
+  files : AreRead l.question l.files l.file-index (entries_in l.read.items) (starts_in l.read.items) l.before l.faults;
   room : length l.files ≤ vec_capacity l.read;
-  starts_room : length l.files ≤ vec_capacity l.starts;
 }

@@ -10,13 +10,13 @@ overflow_cast-result c =
     let found = c.loop-past.invariant in
     omega (arith, found.some, found.within, ap length c.self.view_is, c.self.invariant.0.few_files)
 
-pub index-requires-4 : goal.index-requires-4
-index-requires-4 c = grind (arith, common_steps, lines_between c.args.self.now c.loop-past.file, c.self.invariant.1.before c.loop-past.file)
+pub index-requires-2 : goal.index-requires-2
+index-requires-2 c = grind (arith, common_steps, lines_between c.args.self.now c.loop-past.file, c.self.invariant.1.before c.loop-past.file)
 
 pub returns : goal.returns
 returns c =
-    let line = c.args.n - c.index-2.result.now in
-    let entry = c.index-4.result.now in
+    let line = c.args.n - c.index-found.result.now.start in
+    let entry = c.index-2.result.now in
     grind (
       arith,
       get_or_default,
@@ -24,6 +24,6 @@ returns c =
       length-map,
       lines_between c.args.self.now c.loop-past.file,
       slice_get-job_list c.args.self.now c.loop-past.file line c.args.n entry,
-      slice_get-get_or c.index-3.result.now.items line entry,
+      slice_get-get_or c.index-found.result.now.entries.items line entry,
       c.self.invariant.1.before c.loop-past.file,
     )

@@ -1,7 +1,7 @@
-use Rattle.std.proofs.lemmas.Grind.{common_steps}
 use Rattle.std.proofs.Common.{◌≡◌, ◌∷◌, ◌++◌, ◌-◌, [], arith, drop, length, take}
+use Rattle.std.proofs.lemmas.Grind.{common_steps}
 use Rattle.kalah_jobs.specs.Line.Line.{comma, slash}
-use Rattle.kalah_jobs.proofs.SideLemmas.{read_at_start, house_follows, store_follows}
+use Rattle.kalah_jobs.proofs.SideLemmas.{house_follows, no_store_follows, read_at_start, store_follows}
 use Rattle.kalah_jobs.proofs.line.side.Side.read.Goals as goal
 
 pub loop-seeds-init : goal.loop-seeds-init
@@ -26,4 +26,11 @@ loop-seeds-preserved c =
     house_follows so_far c.in_ok-seeds.ensures.read comma_next (c.push.ensures.houses so_far.houses so_far.are_kept) c.push.ensures.one
 
 pub returns-in_err-store-in-47-clause-none : goal.returns-in_err-store-in-47-clause-none
-returns-in_err-store-in-47-clause-none c = grind (arith, common_steps)
+returns-in_err-store-in-47-clause-none c =
+    let after = c.in_ok-seeds.after.now in
+    let slash_next : after ≡ slash ∷ take (length after - 1) (drop 1 after) = grind (arith, common_steps) in
+    rw c.from_residual-in_err-store-in-47.ensures
+    (no_store_follows c.loop-seeds.invariant c.in_ok-seeds.ensures.read slash_next c.in_err-store-in-47.ensures.none)
+
+pub returns-in_default-clause-none : goal.returns-in_default-clause-none
+returns-in_default-clause-none c = grind (arith, common_steps)

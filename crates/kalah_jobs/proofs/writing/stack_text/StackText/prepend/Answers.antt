@@ -1,6 +1,6 @@
 use Rattle.std.proofs.Common.{drop, arith}
 use Rattle.std.proofs.lemmas.Grind.{common_steps}
-use Rattle.kalah_jobs.proofs.WritingLemmas.{piece_before}
+use Rattle.kalah_jobs.proofs.TextLemmas.{piece_before}
 use Rattle.kalah_jobs.proofs.writing.stack_text.StackText.prepend.Goals as goal
 
 pub invariant_of-self : goal.invariant_of-self

@@ -1,6 +1,6 @@
-use Rattle.std.proofs.lemmas.Grind.{common_steps}
 use Rattle.std.proofs.Common.{rules, arith}
-use Rattle.kalah_jobs.proofs.WritingLemmas.{piece_before, number_is_text}
+use Rattle.std.proofs.lemmas.Grind.{common_steps}
+use Rattle.kalah_jobs.proofs.TextLemmas.{piece_before, number_is_text}
 use Rattle.kalah_jobs.proofs.writing.stack_text.StackText.prepend_number.Goals as goal
 
 pub invariant_of-self : goal.invariant_of-self

@@ -8,16 +8,13 @@ use Rattle.kalah_run.proofs.batch.crew.Crew.run.Goals as goal
 pub for_each_mut-requires-send-T : goal.for_each_mut-requires-send-T
 for_each_mut-requires-send-T g c κs within = search (sendable, worker_send)
 
-pub end-requires : goal.end-requires
-end-requires g c = c.requires.ends _ (have_run c.as_mut_slice.ensures.value c.for_each_mut.auto.s (λ k w low.
+pub signal_end-requires : goal.signal_end-requires
+signal_end-requires g c = c.requires.ends _ (have_run c.as_mut_slice.ensures.value c.for_each_mut.auto.s (λ k w low.
     let ran = (c.for_each_mut.ensures k w low).1 in rw (← ran.left, ← ran.argument_is) ran.call))
 
 pub returns : goal.returns
 returns g c =
     let as_many = c.for_each_mut.auto.s in
-    rw (
-      c.end.ensures,
-      with_items_is c.args.self.workers c.for_each_mut.new.s (as_many ∙ ap length c.as_mut_slice.ensures.value
-          ∙ sym c.args.self.workers.ok.0),
-    ) (have_run c.as_mut_slice.ensures.value as_many (λ k w low.
+    rw (with_items_is c.args.self.workers c.for_each_mut.new.s (as_many ∙ ap length c.as_mut_slice.ensures.value ∙ sym c.args.self.workers.ok.0))
+    (have_run c.as_mut_slice.ensures.value as_many (λ k w low.
     let ran = (c.for_each_mut.ensures k w low).1 in rw (← ran.left, ← ran.argument_is) ran.call))

@@ -1,83 +1,84 @@
-use Rattle.std.proofs.Common.{◌≡◌, ⊎_elim, inl, inr, length, ap, ◌∙◌}
+use Rattle.std.proofs.lemmas.Grind.{common_steps}
+use Rattle.std.proofs.Common.{arith, ◌≡◌, ⊎_elim, inl, inr, length, ap, ◌∙◌}
 use Rattle.kalah_jobs.specs.Collecting.AnyOrder.{AreJobsInSomeOrder}
 use Rattle.kalah_jobs.specs.Files.Jobs.{job_count}
 use Rattle.kalah_run.specs.Desk.Rows.{DealsEachOnce}
 use Rattle.kalah_run.specs.Desk.States.{drawn_rows}
 use Rattle.kalah_run.specs.Queue.States.{GetPassState, outcomes_in}
 use Rattle.kalah_run.specs.Batch.AtWork.{passes_of}
-use Rattle.kalah_run.specs.Batch.Leaving.{rest_by_pass, HasDrawnNothing}
+use Rattle.kalah_run.specs.Batch.Leaving.{HasDrawnNothing}
 use Rattle.kalah_run.proofs.WorkerLemmas.{each_job_known, each_job_got}
 use Rattle.kalah_run.proofs.BatchLemmas.{passes_are_back, nothing_drawn, own_back, passes_fit, puts_back, unless_left}
-use Rattle.kalah_run.proofs.DeskLemmas.{deals_to_others}
+use Rattle.kalah_run.proofs.RowLemmas.{deals_to_others}
 use Rattle.kalah_run.proofs.batch.open_batch.OpenBatch.run.Given.{Over}
 use Rattle.kalah_run.proofs.batch.open_batch.OpenBatch.run.Goals as goal
 
+pub new-receiver-requires-clause-gets : goal.new-receiver-requires-clause-gets
+new-receiver-requires-clause-gets g c = ap (λ (p : GetPassState). p.queue) c.requires.ready.get
+
 pub run_and_write-requires-after_bounds : goal.run_and_write-requires-after_bounds
 run_and_write-requires-after_bounds g c κs within =
-    let ready = c.requires.ready in
-    let get = ap (λ p. p.get_pass) c.new-receiver.ensures ∙ ready.get in (
-      record {
-        at_work = ready.at_work;
-        queue = ap (λ (p : GetPassState). p.queue) get;
-        nothing_got = ap (λ (p : GetPassState). p.got) get;
-        own = rw c.new-receiver.ensures ready.own;
-        new = ready.output;
-      },
-      c.requires.ends,
+    let ready = c.requires.ready in (
+      record { at_work = ready.at_work; ends = c.requires.ends },
+      rw c.new-receiver.ensures (ap (λ (p : GetPassState). p.got) ready.get, ready.output),
     )
 
 -- ---- the passes come back
 
 pub passes_of_workers-requires-clause-passes_room : goal.passes_of_workers-requires-clause-passes_room
-passes_of_workers-requires-clause-passes_room g c = passes_fit c.in_ok-workers.ensures.ran _ _
-    (c.in_ok-workers.ensures.collected.draws.rest ∙ ap (λ p. rest_by_pass p.rest_pass) c.new-receiver.ensures) c.in_ok-workers.workers.ok.0
-    c.requires.ready.room.passes
+passes_of_workers-requires-clause-passes_room g c =
+    passes_fit c.in-Some.ensures.ran c.in-Some.workers.ok.0 c.requires.ready.room.passes
 
 pub passes_of_workers-requires-clause-puts_room : goal.passes_of_workers-requires-clause-puts_room
 passes_of_workers-requires-clause-puts_room g c =
-    rw (c.in_ok-workers.workers.ok.0 ∙ c.in_ok-workers.ensures.ran.as_many) c.requires.ready.room.puts
+    rw (c.in-Some.workers.ok.0 ∙ c.in-Some.ensures.ran.as_many) c.requires.ready.room.puts
 
 pub close-requires-clause-all : goal.close-requires-clause-all
-close-requires-clause-all g c = passes_are_back c.in_ok-workers.ensures.ran _ _
-    (c.in_ok-workers.ensures.collected.draws.rest ∙ ap (λ p. rest_by_pass p.rest_pass) c.new-receiver.ensures) c.passes_of_workers.ensures.passes
-    c.requires.ready.passes
+close-requires-clause-all g c = passes_are_back c.in-Some.ensures.ran _ c.passes_of_workers.ensures.passes c.requires.ready.passes
 
 pub close-requires-clause-own : goal.close-requires-clause-own
 close-requires-clause-own g c =
-    own_back c.in_ok-workers.ensures.ran _ c.in_ok-workers.ensures.collected.draws.own c.passes_of_workers.ensures.passes
+    let draws = c.in-Some.ensures.collected.draws in
+    let same = ap (λ p. p.rest_pass.pass) c.new-receiver.ensures in
+    own_back c.in-Some.ensures.ran _ c.passes_of_workers.ensures.passes (
+      draws.desk ∙ ap (λ p. p.desk) same ∙ c.requires.ready.own.0,
+      draws.total ∙ ap (λ p. p.total) same ∙ c.requires.ready.own.1,
+    )
 
 pub close-requires-2-clause-puts : goal.close-requires-2-clause-puts
 close-requires-2-clause-puts g c =
-    puts_back c.in_ok-workers.ensures.ran c.passes_of_workers.new.puts.ok.0 c.passes_of_workers.ensures.puts
-    (c.in_ok-workers.ensures.collected.workers ∙ ap (λ p. p.get_pass.workers) c.new-receiver.ensures
-    ∙ ap (λ p. p.workers) c.requires.ready.get)
+    puts_back c.in-Some.ensures.ran c.passes_of_workers.new.puts.ok.0 c.passes_of_workers.ensures.puts
+    (c.in-Some.ensures.collected.workers ∙ ap (λ p. p.get_pass.workers) c.new-receiver.ensures ∙ ap (λ p. p.workers) c.requires.ready.get)
     c.requires.ready.puts
 
 -- ---- what has come is written
 
 -- each job was drawn once, by a worker if the calling thread has drawn nothing
-dealt : (g : Over) (c : goal.After-drop-ended-2 g) → HasDrawnNothing c.in_ok-workers.caller.rest_pass
-    → DealsEachOnce (job_count c.args.self.shared.jobs.now) c.close.result.drawn (drawn_rows (passes_of c.in_ok-workers.workers.items))
-dealt g c nothing = deals_to_others (passes_of c.in_ok-workers.workers.items) c.in_ok-workers.caller.rest_pass nothing
+dealt : (g : Over) (c : goal.After-drop-ended-2 g) → HasDrawnNothing c.in-Some.caller.rest_pass
+    → DealsEachOnce (job_count c.args.self.shared.jobs.now) c.close.result.drawn (drawn_rows (passes_of c.in-Some.workers.items))
+dealt g c nothing = deals_to_others (passes_of c.in-Some.workers.items) c.in-Some.caller.rest_pass.pass nothing
     (rw c.args.self.shared.each_job at (rw c.passes_of_workers.ensures.passes at c.close.ensures.deals))
 
 -- each job's outcome was got once, if as many were got as there are jobs
-each_got : (g : Over) (c : goal.After-drop-ended-2 g) → HasDrawnNothing c.in_ok-workers.caller.rest_pass
-    → length c.in_ok-workers.caller.get_pass.got ≡ job_count c.args.self.output.jobs.now
-    → AreJobsInSomeOrder c.args.self.output.jobs.now (outcomes_in c.in_ok-workers.caller.get_pass.got)
+each_got : (g : Over) (c : goal.After-drop-ended-2 g) → HasDrawnNothing c.in-Some.caller.rest_pass
+    → length c.in-Some.caller.get_pass.got ≡ job_count c.args.self.output.jobs.now
+    → AreJobsInSomeOrder c.args.self.output.jobs.now (outcomes_in c.in-Some.caller.get_pass.got)
 each_got g c nothing all =
-    let workers = c.in_ok-workers.ensures.collected.workers ∙ ap (λ p. p.get_pass.workers) c.new-receiver.ensures
+    let workers = c.in-Some.ensures.collected.workers ∙ ap (λ p. p.get_pass.workers) c.new-receiver.ensures
     ∙ ap (λ p. p.workers) c.requires.ready.get in
-    each_job_got c.in_ok-workers.ensures.ran c.in_ok-workers.caller.get_pass.got workers (dealt g c nothing)
+    each_job_got c.in-Some.ensures.ran c.in-Some.caller.get_pass.got workers (dealt g c nothing)
     c.passes_of_workers.ensures.puts c.close-2.ensures.whole c.requires.ready.jobs all
 
 pub returns-clause-given : goal.returns-clause-given
 returns-clause-given g c =
-    let collected = c.in_ok-workers.ensures.collected in
+    let collected = c.in-Some.ensures.collected in
     collected.given (⊎_elim (λ nothing. ⊎_elim (λ all. inl (each_got g c nothing all)) inr collected.all_got) inr
     (nothing_drawn (rw c.new-receiver.ensures c.requires.ready.drawn) collected.draws))
 
 pub returns-clause-gate_hears_all : goal.returns-clause-gate_hears_all
 returns-clause-gate_hears_all g c = λ unless job low.
-    let drawn = nothing_drawn c.requires.ready.drawn (rw c.new-receiver.ensures at c.in_ok-workers.ensures.collected.draws) in
-    each_job_known c.in_ok-workers.ensures.ran c.requires.ready.some (dealt g c (unless_left drawn unless)) job low
+    let drawn = nothing_drawn c.requires.ready.drawn (rw c.new-receiver.ensures at c.in-Some.ensures.collected.draws) in
+    each_job_known c.in-Some.ensures.ran c.requires.ready.some (dealt g c (unless_left drawn unless)) job low
+
+pub returns-in_default-clause-untouched : goal.returns-in_default-clause-untouched
+returns-in_default-clause-untouched g c = grind (arith, common_steps)

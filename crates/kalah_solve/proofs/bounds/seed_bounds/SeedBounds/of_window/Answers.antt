@@ -1,13 +1,15 @@
 use Rattle.std.proofs.Common.{arith, pos, ◌+ℤ◌, w32}
 use Rattle.std.proofs.lemmas.Int.{ints, to_z-of_z}
-use Rattle.kalah_solve.specs.Bounds.Intervals.{IsHalf}
+use Rattle.kalah_solve.specs.{IsHalf}
 use Rattle.kalah_solve.proofs.BoundsLemmas.{bounds_ordered, bounds_high, bounds_apart}
 use Rattle.kalah_solve.proofs.bounds.seed_bounds.SeedBounds.of_window.Goals as goal
 
 module _ (c : goal.After-won_of-2) where
+  -- the least is half of the lower end and all seeds
   low_half : IsHalf (c.args.window.lo +ℤ pos c.args.seeds) c.won_of.result
   low_half = rw (to_z-of_z w32 c.args.window.lo (omega (arith, ints))) at c.won_of.ensures
 
+  -- the most is half of one more than the upper end and all seeds
   high_half : IsHalf (c.args.window.hi +ℤ pos 1 +ℤ pos c.args.seeds) c.won_of-2.result
   high_half =
       rw (to_z-of_z w32 c.args.window.hi (omega (arith, ints)), to_z-of_z w32 (c.args.window.hi +ℤ pos 1) (omega (arith, ints))) at c.won_of-2.ensures

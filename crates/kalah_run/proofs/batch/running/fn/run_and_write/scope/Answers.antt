@@ -14,9 +14,8 @@ spawn_with-started-requires-send-T g c κs within = search (sendable, crosses, w
 pub returns : goal.returns
 returns g c = record {
   names = (refl, refl);
-  ran = rw (c.into_inner-workers.ensures, ← c.of.ensures) (rw c.in-Ok.ensures.ok at c.join.ensures);
+  ran = rw (← c.of.ensures) (rw c.in-Ok.ensures.ok at c.join-workers.ensures);
   collected = c.collect-passes.ensures.collected;
-  fault = tt;
   untouched = tt;
 }
 

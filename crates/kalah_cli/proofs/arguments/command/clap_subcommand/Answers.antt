@@ -1,0 +1,15 @@
+use Rattle.std.proofs.Common.{arith}
+use Rattle.std.proofs.lemmas.Grind.{common_steps}
+use Rattle.kalah_cli.proofs.CommandLemmas.{argument_added}
+use Rattle.kalah_cli.proofs.arguments.command.clap_subcommand.Goals as goal
+
+pub loop-argument-preserved : goal.loop-argument-preserved
+loop-argument-preserved c =
+    argument_added _ c.args.subcommand.now.arguments.now c.loop-argument.argument-index _ c.loop-argument-test.true c.clap_arg.ensures
+    c.loop-argument.invariant c.in_ok-command.ensures
+
+pub returns : goal.returns
+returns c = grind (arith, common_steps)
+
+pub loop-argument-init : goal.loop-argument-init
+loop-argument-init c = grind (arith, common_steps)

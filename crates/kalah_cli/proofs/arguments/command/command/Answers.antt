@@ -1,0 +1,18 @@
+use Rattle.std.proofs.lemmas.Grind.{common_steps}
+use Rattle.std.proofs.Common.{◌∙◌, ap, arith, fold, take_all}
+use Rattle.kalah_cli.specs.Arguments.Command.{program_app, with_listed}
+use Rattle.kalah_cli.proofs.CommandLemmas.{subcommand_added}
+use Rattle.kalah_cli.proofs.arguments.command.command.Goals as goal
+
+pub loop-subcommand-init : goal.loop-subcommand-init
+loop-subcommand-init c = grind (arith, common_steps)
+
+pub loop-subcommand-preserved : goal.loop-subcommand-preserved
+loop-subcommand-preserved c =
+    subcommand_added (λ s. s.now) program_app _ c.loop-subcommand.subcommand-index _ c.loop-subcommand-test.true
+    c.in_ok-clap_subcommand.ensures c.loop-subcommand.invariant c.in_ok-command.ensures
+
+pub returns : goal.returns
+returns c = c.loop-subcommand.invariant
+    ∙ ap (fold (λ app s. with_listed app s.now) program_app)
+    (take_all c.loop-subcommand.subcommand-index _ (omega (arith, c.loop-subcommand-test.false)))

@@ -1,0 +1,48 @@
+use Rattle.std.proofs.Common.{[], ◌∙◌, ◌≡◌, ◌∷◌, ap, arith, codes, inl, inr, is_some, length, map, refl, sym, unwrap_or}
+use Rattle.std.proofs.lemmas.List.{length-map}
+use Rattle.clap.specs.Words.{found_of}
+use Rattle.clap.proofs.CallerLemmas.{some_of_text}
+use Rattle.clap.proofs.WalkLemmas.{raw_values-rows}
+use Rattle.kalah_run.specs.Limits.{IsTableSize}
+use Rattle.kalah_cli.specs.Arguments.Request.{entries_asked, rows_in}
+use Rattle.kalah_cli.proofs.RequestLemmas.{may_have_number, takes_files, takes_table, value_given, values_are}
+use Rattle.kalah_cli.proofs.arguments.request.files_request.Goals.{in-BestMove, in-Steps}
+use Rattle.kalah_cli.proofs.arguments.request.files_request.Goals as goal
+
+pub worker_count-requires : goal.worker_count-requires
+worker_count-requires c = may_have_number (codes "workers") c.requires (takes_files c.args.question).0 refl
+
+pub table_entries-requires : goal.table_entries-requires
+table_entries-requires c = may_have_number (codes "table") c.requires (takes_table c.args.question c.in-BestMove.is) refl
+
+pub unwrap-requires : goal.unwrap-requires
+unwrap-requires c =
+    some_of_text _ c.get_strs.result _ (c.get_strs.ensures ∙ raw_values-rows (found_of c.args.matches.now) (codes "file"))
+    (ap is_some (value_given (codes "file") c.requires (takes_files c.args.question).1 refl).all)
+
+pub returns-clause-asked : goal.returns-clause-asked
+returns-clause-asked c =
+    let files = values_are (found_of c.args.matches.now) (codes "file") c.get_strs.result c.unwrap.result _ c.get_strs.ensures
+    c.unwrap.ensures (c.in_ok-to_vec.ensures.items_if_clones_equal (λ x y h. h)) in
+    let table : c.match-question.result ≡ entries_asked c.args.question (rows_in c.args.matches.now) =
+    elim c.match-question.branch [
+      | in-BestMove w ↦ elim w.in-BestMove.is [
+        | inl best ↦ rw (best, w.result-is) w.table_entries.ensures.number
+        | inr values ↦ rw (values, w.result-is) w.table_entries.ensures.number
+      ]
+      | in-Steps w ↦ rw (w.in-Steps.is, w.result-is) refl
+    ] in
+    rw (table, c.worker_count.ensures.number, files, c.is_set.ensures) refl
+
+pub returns-clause-range : goal.returns-clause-range
+returns-clause-range c =
+    let names = values_are (found_of c.args.matches.now) (codes "file") c.get_strs.result c.unwrap.result _ c.get_strs.ensures
+    c.unwrap.ensures (c.in_ok-to_vec.ensures.items_if_clones_equal (λ x y h. h)) in
+    let file = value_given (codes "file") c.requires (takes_files c.args.question).1 refl in
+    let same : map (λ f. f.now) c.in_ok-to_vec.field-0.items ≡ file.value ∷ file.more = ap (λ o. unwrap_or o []) (sym names ∙ file.all) in
+    let count : length (map (λ f. f.now) c.in_ok-to_vec.field-0.items) ≡ length c.in_ok-to_vec.field-0.items = simp length-map in
+    let table : IsTableSize c.match-question.result = elim c.match-question.branch [
+      | in-BestMove w ↦ rw w.result-is w.table_entries.ensures.range
+      | in-Steps w ↦ rw w.result-is (omega arith, omega arith)
+    ] in
+    (c.worker_count.ensures.range, table, omega (arith, ap length same, count))

@@ -1,8 +1,0 @@
-use Rattle.std.proofs.Common.{arith}
-use Rattle.clap.specs.Words.{found_of}
-use Rattle.kalah_cli.proofs.RequestLemmas.{number_read}
-use Rattle.kalah_cli.proofs.request.byte_given.Goals as goal
-
-pub returns : goal.returns
-returns c = number_read 8 0 255 (found_of c.args.found.now) c.args.id.now c.get_one.result c.get_one.ensures.none c.get_one.ensures.value
-    (omega arith) c.requires

@@ -1,0 +1,20 @@
+use Rattle.std.proofs.lemmas.Grind.{common_steps}
+use Rattle.std.proofs.Common.{◌∙◌, arith, subst, sym}
+use Rattle.std.proofs.lemmas.Bool.{false_from_ne_true}
+use Rattle.kalah_cli.specs.Exit.Ends.{IsPrinted}
+use Rattle.kalah_cli.specs.Runs.{version_line}
+use Rattle.kalah_cli.proofs.EndsLemmas.{statuses_differ}
+use Rattle.kalah_cli.proofs.run.end_without_request.Goals.{in-DisplayHelp, in-DisplayVersion}
+use Rattle.kalah_cli.proofs.run.end_without_request.Goals as goal
+
+pub returns-clause-version : goal.returns-clause-version
+returns-clause-version g c = λ help clean. elim c.match-kind.branch [
+  | in-DisplayHelp w ↦ absurd (help (sym w.in-DisplayHelp.ensures))
+  | in-DisplayVersion w ↦
+      let printed = subst (λ o. IsPrinted g.O.Sink.state c.args.out.now o version_line)
+      (sym w.out-is) w.print_text-in-DisplayVersion.ensures in
+      (printed.given.whole (false_from_ne_true _ (λ failed. statuses_differ.0 (sym clean ∙ c.status_of_sink.ensures.failed.0 failed)))).1
+]
+
+pub returns-in_default-kind : goal.returns-in_default-kind
+returns-in_default-kind g c = grind (arith, common_steps)

@@ -1,6 +1,0 @@
-use Rattle.std.proofs.Common.{arith}
-use Rattle.std.proofs.lemmas.Grind.{common_steps}
-use Rattle.kalah_cli.proofs.solver.GameSolver.new.Goals as goal
-
-pub returns-clause-begun : goal.returns-clause-begun
-returns-clause-begun c = grind (arith, common_steps)

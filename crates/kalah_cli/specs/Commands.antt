@@ -1,0 +1,9 @@
+pub mod Moves
+pub mod Game
+pub mod Play
+pub mod Show
+pub mod GameSolver
+pub mod LineCommand
+pub mod Count
+pub mod AnswerFiles
+pub mod Ask

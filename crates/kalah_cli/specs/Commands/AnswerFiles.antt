@@ -1,0 +1,28 @@
+-- What `kalah solve`, `kalah values` and `kalah steps` write, by the names of its files.
+use Rattle.std.specs.Prelude.{◌≡◌, ◌≢◌, ◌↔◌, ◌⊎◌, ◌==◌, ℕ, All, Bool, false, List, map}
+use Rattle.std.specs.List.{list_any}
+use Rattle.kalah_jobs.specs.Files.Lines.{line_feed}
+use Rattle.kalah_jobs.specs.Files.NamedBytes.{NamedBytes}
+use Rattle.kalah_jobs.specs.Writing.Output.{output_to, tally_of}
+use Rattle.kalah_jobs.specs.declared.files.question.Question.{Question}
+use Rattle.kalah_jobs.specs.Writing.Sink.{SinkState}
+use Rattle.kalah_cli.specs.Exit.Ends.{Ends, FailsWithoutOutput, PrintsByStatus, ExitStatus, Clean, Failed}
+use Rattle.kalah_cli.specs.System.Sources.{Source, file_named}
+
+-- the name has a line feed in it
+abbrev pub has_line_feed : List ℕ → Bool
+has_line_feed name = list_any (λ byte. byte == line_feed) name
+
+-- what a request about files does: there are bytes for files of these names, in order, and a prefix of their output, if this is asked of
+-- their positions, was written, and nothing else was. Unless it failed without output, each file may give its bytes. Unless it failed,
+-- all of the output was written, no name has a line feed in it, and the status is clean exactly when no line of the files is a fault
+module _ {O : Type 0} (state : O → SinkState) (old new : O) (status : ExitStatus)
+    (may_give : Source → List ℕ → Type 0) where
+  pub record AnswersFiles (question : Question) (names : List (List ℕ)) : Type 0 where
+    pub files : List NamedBytes
+    pub named : map (λ file. file.name) files ≡ names
+    pub given : FailsWithoutOutput old new status ⊎ All (λ file. may_give (file_named file.name) file.bytes) files
+    pub printed : PrintsByStatus state old new status (output_to question files)
+    pub no_line_feed : status ≢ Failed → list_any has_line_feed names ≡ false
+    pub clean : status ≢ Failed → status ≡ Clean ↔ (tally_of files).faults ≡ 0
+    pub ends : Ends state old new status

@@ -1,0 +1,26 @@
+-- What a command about a line prints of the line's position.
+use Rattle.std.specs.Prelude.{◌≡◌, ℕ, List, true, ⊤}
+use Rattle.kalah_rules.specs.Position.{Position}
+use Rattle.kalah_cli.specs.Commands.Count.{count_output}
+use Rattle.kalah_cli.specs.Commands.Moves.{moves_output}
+use Rattle.kalah_cli.specs.Commands.Play.{MayBegin, play_output}
+use Rattle.kalah_cli.specs.Commands.Show.{show_output}
+use Rattle.kalah_cli.specs.declared.arguments.request.LineCommand.{LineCommand}
+use Rattle.kalah_cli.specs.declared.arguments.request.LineCommand.TheVariants.{Moves, Play, Show, Count}
+
+abbrev pub command_output : LineCommand → Position → List ℕ
+command_output (Moves boards) = moves_output boards
+command_output (Play command) = play_output command
+command_output (Show command) = show_output command.plain command.lines
+command_output (Count depth) = count_output depth
+
+-- it is printed: a game can't begin with a house that may not be moved
+abbrev pub MayPrint : LineCommand → Position → Type 0
+MayPrint (Play command) p = MayBegin command.first p
+MayPrint command p = ⊤
+
+-- without a search
+abbrev pub SearchesNothing : LineCommand → Type 0
+SearchesNothing (Play command) = ⊥
+SearchesNothing (Show command) = command.plain ≡ true
+SearchesNothing command = ⊤

@@ -1,0 +1,16 @@
+-- What `kalah play` prints.
+use Rattle.std.specs.Prelude.{ℕ, List, ◌++◌, Option, Some, None, Contains, ⊤}
+use Rattle.kalah_rules.specs.Position.{Position}
+use Rattle.kalah_rules.specs.Play.{legal_houses}
+use Rattle.kalah_cli.specs.declared.arguments.request.PlayCommand.{PlayCommand}
+use Rattle.kalah_cli.specs.Commands.Moves.{board_lines}
+use Rattle.kalah_cli.specs.Commands.Game.{game_played, game_text, Lines}
+
+-- the position, if boards are drawn, and the moves of the game, with the value of the position of each, if values are asked for
+abbrev pub play_output : PlayCommand → Position → List ℕ
+play_output c p = board_lines c.boards p ++ game_text (Lines c.boards c.values) p (game_played c.first p)
+
+-- the house that is asked for may be moved
+abbrev pub MayBegin : Option ℕ → Position → Type 0
+MayBegin None p = ⊤
+MayBegin (Some h) p = Contains (legal_houses p) h

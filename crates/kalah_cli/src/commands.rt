@@ -1,0 +1,10 @@
+//! What each subcommand does.
+pub(crate) mod answer_files;
+pub(crate) mod ask;
+pub(crate) mod count;
+pub(crate) mod game;
+pub(crate) mod game_solver;
+pub(crate) mod line_command;
+pub(crate) mod moves;
+pub(crate) mod play;
+pub(crate) mod show;

@@ -1,0 +1,70 @@
+//! `kalah ask`.
+ghost use Rattle.std.specs.Prelude.{◌≡◌, ◌↔◌, IfOk, IsErr, false, true};
+ghost use Rattle.std.specs.Io.Buffered.{reader_remaining};
+ghost use Rattle.kalah_run.specs.Limits.{IsTableSize};
+ghost use Rattle.kalah_cli.specs.Commands.Ask.{AnswersInput};
+ghost use Rattle.kalah_cli.specs.Exit.Ends.{exit_status_of};
+
+use crate::commands::game_solver::new_solver;
+use crate::exit::failure::Failure;
+use crate::exit::status::ExitStatus;
+use kalah_jobs::{AskFault, Question, Sink, answer_lines};
+use kalah_run::RunFault;
+use std::alloc::Global;
+use std::io;
+use std::io::{BufReader, Read, Write};
+
+// What is written to a terminal before lines are typed.
+const HINT: &str = "kalah: waits for positions, one a line, as 1,1/0 1,1/0; Ctrl-D ends\n";
+
+// Returns a reader that reads ahead, with all that the reader has left.
+#[tactic(auto, using(crate::proofs::EndsLemmas::all_unread))]
+fn reading_ahead<I: Read + Drop>(alloc: Global, input: I) -> io::Result<BufReader<I>>
+    ensures { IfOk result (λ r. I.remaining input ≡ reader_remaining I.remaining r) }
+{
+    BufReader::new(alloc, input)
+}
+
+// Returns how the program ends after such an answer to all lines.
+fn status_of_answers(answered: Result<bool, AskFault>) -> Result<ExitStatus, Failure<'static>>
+    ensures clean { IfOk answered (λ all_read. exit_status_of result ≡ ExitStatus.Clean ↔ all_read ≡ true) }
+    ensures failed { IsErr answered ↔ exit_status_of result ≡ ExitStatus.Failed }
+{
+    match answered {
+        Ok(true) => Ok(ExitStatus::Clean),
+        Ok(false) => Ok(ExitStatus::LineFaults),
+        Err(AskFault::Read) => Err(Failure::StandardInput),
+        Err(AskFault::Write) => Err(Failure::Run(RunFault::Write)),
+    }
+}
+
+/// Answers what is asked of each line of a reader, all with one solver. It reads more only after the answers to all that was read are
+/// written. Memory is requested before the first read, except for what the table takes as it grows. If the reader is a terminal,
+/// it first says on `err` what it waits for.
+///
+/// Returns `Clean` if each line was read, and `LineFaults` if one was not. Fails if memory was refused, or a read or a write failed.
+#[inline(never)] // Only this command's stack holds its solver.
+pub(crate) fn run_ask<I: Read + Drop, O: Sink, E: Write>(
+    alloc: Global,
+    input: I,
+    is_typed: bool,
+    question: Question,
+    table_entries: u32,
+    out: &mut O,
+    err: &mut E,
+) -> Result<ExitStatus, Failure<'static>>
+    requires table { IsTableSize table_entries }
+    requires sink { (O.state out.old).has_failed ≡ false }
+    ensures { AnswersInput O.state out.old out.new (exit_status_of result) question (I.remaining input) }
+{
+    let Ok(mut input) = reading_ahead(alloc, input) else {
+        return Err(Failure::Run(RunFault::OutOfMemory));
+    };
+    let Ok(mut solver) = new_solver(alloc, table_entries) else {
+        return Err(Failure::Run(RunFault::OutOfMemory));
+    };
+    if is_typed {
+        let _ = err.write_all(HINT.as_bytes());
+    }
+    status_of_answers(answer_lines(&mut input, question, &mut solver, out))
+}

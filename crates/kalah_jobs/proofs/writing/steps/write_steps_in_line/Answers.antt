@@ -1,0 +1,34 @@
+use Rattle.std.proofs.Common.{◌++◌, ◌∷◌, [], ◌==◌, ◌∙◌, ℕ, List, ap, arith, codes, cond, subst, sym, take, take_all}
+use Rattle.kalah_jobs.specs.Files.Lines.{line_feed}
+use Rattle.kalah_jobs.specs.Writing.Answer.{house_step_text}
+use Rattle.kalah_jobs.specs.Writing.Sink.{WasGiven}
+use Rattle.kalah_jobs.proofs.SinkLemmas.{given_none, given_then}
+use Rattle.kalah_jobs.proofs.TextLemmas.{legal_at, one_text_more, texts_in_line}
+use Rattle.kalah_jobs.proofs.writing.steps.write_steps_in_line.Goals as goal
+
+pub loop-i-preserved : goal.loop-i-preserved
+loop-i-preserved g c =
+    let text : ℕ → List ℕ = house_step_text c.args.board.now in
+    let moves = c.legal-moves.result in
+    let i = c.loop-i.i in
+    let more = one_text_more text moves i (omega (arith, c.loop-i-test.true, c.len-i-end.ensures)) in
+    subst (WasGiven g.W.Sink.state c.args.out.now c.write_unless_failed.new.out)
+    (ap (texts_in_line text (take i moves) ++◌) (c.bytes.ensures.bytes ∙ c.next_text.ensures)
+    ∙ sym (more ∙ ap (λ h. texts_in_line text (take i moves) ++ (cond (i == 0) [] (codes "; ") ++ text h)) (sym c.get.ensures)))
+    (given_then _ _ _ _ _ _ c.loop-i.invariant c.write_unless_failed.ensures)
+
+pub next_text-requires : goal.next_text-requires
+next_text-requires g c =
+    legal_at c.loop-i.i c.legal-moves.ensures.moves (omega (arith, c.loop-i-test.true, c.len-i-end.ensures)) c.get.ensures
+
+pub loop-i-init : goal.loop-i-init
+loop-i-init g c = given_none _ _
+
+pub returns : goal.returns
+returns g c =
+    let text : ℕ → List ℕ = house_step_text c.args.board.now in
+    let moves = c.legal-moves.result in
+    let all = take_all c.loop-i.i moves (omega (arith, c.loop-i-test.false, c.len-i-end.ensures)) ∙ c.legal-moves.ensures.moves in
+    subst (WasGiven g.W.Sink.state c.args.out.now c.write_unless_failed-2.new.out)
+    (ap (λ ms. texts_in_line text ms ++ line_feed ∷ []) all)
+    (given_then _ _ _ _ _ _ c.loop-i.invariant c.write_unless_failed-2.ensures)

@@ -1,0 +1,23 @@
+use Rattle.std.proofs.Common.{arith, rules, ◌∙◌, length-set}
+use Rattle.kalah_rules.proofs.PackedLemmas.{sowings_more}
+use Rattle.kalah_rules.proofs.houses.sowing_table.SowingTable.new.Goals as goal
+
+pub loop-i-init : goal.loop-i-init
+loop-i-init c = record {
+  all = search rules;
+  right = λ m h c k d cell below. absurd (omega arith);
+}
+
+pub loop-i-preserved : goal.loop-i-preserved
+loop-i-preserved c =
+    let before = c.loop-i.invariant in
+    let sowing = c.sowing_at.result in
+    record {
+      all = length-set c.loop-i.cells c.loop-i.i sowing ∙ before.all;
+      right = sowings_more _ _ _ (omega arith) before.right
+          c.sowing_at.ensures;
+    }
+
+pub invariant_of-result : goal.invariant_of-result
+invariant_of-result c = λ m h count k d cell below.
+    c.loop-i.invariant.right m h count k d cell (omega arith)

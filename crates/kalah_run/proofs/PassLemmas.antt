@@ -1,0 +1,52 @@
+-- Lists of passes: those that a desk and a queue hand out, one by one.
+use Rattle.std.proofs.Common.{◌≡◌, ⊎_elim, ℕ, zero, suc, ◌+◌, ◌≤◌, List, [], ◌∷◌, ◌++◌, length, sym, ap, ◌∙◌, arith, length-append, ◌<◌, All}
+use Rattle.kalah_run.specs.Types.{DrawnRow}
+use Rattle.kalah_run.specs.Desk.Rows.{drawn_numbers}
+use Rattle.std.proofs.lemmas.Bool.{cases_lt}
+use Rattle.kalah_run.specs.Desk.States.{PassState, DeskState, new_pass, AreNewPasses, drawn_rows}
+use Rattle.std.proofs.lemmas.List.{get_or_push, get_or_append_left, length-map}
+use Rattle.atomic_table.specs.Seated.{TableId}
+use Rattle.kalah_run.specs.Queue.States.{PutPassState, ArePassesFrom}
+
+-- ==== Of a desk
+
+-- one new pass more
+pub draw_pass_more : (desk : DeskState) (count : ℕ) (passes : List PassState) (p : PassState) → AreNewPasses desk count passes
+    → p ≡ new_pass desk count → AreNewPasses desk (count + 1) (passes ++ p ∷ [])
+draw_pass_more desk count passes p handed_out p_is = (
+  omega (arith, length-append passes (p ∷ []), handed_out.0),
+  λ k d within. ⊎_elim
+      (λ (old : k < count). get_or_append_left passes (p ∷ []) d k (omega (arith, handed_out.0)) ∙ handed_out.1 k d old)
+      (λ (new : count ≤ k). let same : k ≡ count = omega arith in get_or_push passes p d k (handed_out.0 ∙ sym same) ∙ p_is
+      ∙ ap (new_pass desk) (sym same))
+      (cases_lt k count),
+)
+
+-- new passes but the last, and the last
+pub last_new_pass : (desk : DeskState) (count : ℕ) (passes : List PassState) {all : List PassState} (p : PassState) → all ≡ passes ++ p ∷ []
+    → AreNewPasses desk (count + 1) all → AreNewPasses desk count passes × (p ≡ new_pass desk count)
+last_new_pass desk count passes p all_is new =
+    let many : length passes ≡ count = omega (arith, new.0, ap length all_is, length-append passes (p ∷ [])) in
+    let both = rw all_is at new.1 in (
+      (many, λ k d low. sym (get_or_append_left passes (p ∷ []) d k (omega (arith, many))) ∙ both k d (omega arith)),
+      sym (get_or_push passes p p count many) ∙ both count p (omega arith),
+    )
+
+-- there are as many rows of numbers as passes
+pub length-drawn_numbers : (passes : List PassState) → length (drawn_numbers (drawn_rows passes)) ≡ length passes
+length-drawn_numbers passes = length-map (drawn_rows passes) (λ (r : DrawnRow). r.numbers)
+    ∙ length-map passes (λ (p : PassState). p.row)
+
+-- ==== Of a queue
+
+-- one pass more, of the next worker
+pub put_pass_more : (id : TableId) (n : ℕ) (ps : List PutPassState) (p : PutPassState) → ArePassesFrom id n ps → p.queue ≡ id
+    → p.number ≡ n + length ps → ArePassesFrom id n (ps ++ p ∷ [])
+put_pass_more id n [] p from same_queue number_is = (same_queue, omega arith, tt)
+put_pass_more id n (x ∷ xs) p from same_queue number_is = (from.0, from.1, put_pass_more id (suc n) xs p from.2 same_queue (omega arith))
+
+-- the passes to put to one queue are all of that queue
+pub all_are_of : (id : TableId) (n : ℕ) (ps : List PutPassState) → ArePassesFrom id n ps → All (λ p. p.queue ≡ id) ps
+all_are_of id n [] from k d lt = absurd (omega arith)
+all_are_of id n (x ∷ xs) from zero d lt = from.0
+all_are_of id n (x ∷ xs) from (suc k) d lt = all_are_of id (suc n) xs from.2 k d (omega arith)

@@ -1,0 +1,15 @@
+use super::*;
+use kalah_rules::Rule;
+
+#[test]
+fn an_ending_is_known_once_it_was_asked_for(rt: HostRuntime) {
+    let threes = [3, 0, 0, 0, 0, 0];
+    let houses = Houses::new(1, threes, threes, Rule::Classic).expect(&rt, "beyond the limits");
+    assert!(rt; !houses.is_over());
+    assert!(rt; houses.seeds() <= MOST_ENDING_SEEDS);
+    let endings = EndingTable::new(rt.alloc()).expect(&rt, "no memory");
+    let rank = endings.rank(&houses);
+    assert!(rt; endings.look_up(&houses, rank) == None);
+    assert!(rt; endings.won::<1>(houses) == 6);
+    assert!(rt; endings.look_up(&houses, rank) == Some(6));
+}
