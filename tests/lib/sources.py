@@ -1,6 +1,7 @@
 """What pages say of the sources: docs/INTERFACE.md lists all that the crates export, with the signatures that are kept and the parts of
-each type; docs/PROOFS.md names the clauses and laws that carry each promise; CONTRIBUTING.md quotes lines of files; and all pages
-name files, lemmas, types and calls. The functions that compare these return how they differ, or None."""
+each type; docs/PROOFS.md names the clauses and laws that carry each promise; CONTRIBUTING.md quotes lines of files; docs/CERTIFICATES.md
+counts those of the checker; and all pages name files, lemmas, types and calls. The functions that compare these return how they differ, or
+None."""
 
 import re
 
@@ -8,9 +9,12 @@ from lib.crates import TOP, crates
 
 INTERFACE = "docs/INTERFACE.md"
 PROMISES, EXCERPTS = "docs/PROOFS.md", "CONTRIBUTING.md"
+CERTIFICATES, CHECKER = "docs/CERTIFICATES.md", "python/kalah/check.py"
 # Pages that also name what is not there: what has gone, and what a caller has added.
 CHANGELOG = "CHANGELOG.md"
-ADDED = {"docs/CALLING.md": {"may_wait", "tests_may"}, "docs/DECISIONS.md": {"join_mut"}}
+ADDED = {"docs/CALLING.md": {"may_wait", "tests_may"}}
+# What stands for the name of a file, and a file that the reader makes.
+FORMS = {"MODULE.edits", "NAME.edits", "array.sh"}
 # Where an implementation or a trait begins, and where a function begins.
 ROOT = re.compile(r"(?:impl(?:<[^{]*?>)? (?:\w+(?:<.*?>)? for )?&?|pub trait )(\w+)")
 FUNCTION = re.compile(r"( *)(pub )?(?:const )?fn (\w+)")
@@ -103,9 +107,15 @@ def interface_differs():
     return f"{INTERFACE} differs from the sources in {sorted(map(str, lost))}" if lost else None
 
 
+def items_named(name, files):
+    """Returns the text of each function, type or trait of this name, and of each implementation for it."""
+    begins = re.compile(rf"^( *)(?:pub(?:\(crate\))? )?(?:fn|struct|enum|trait|impl\b.*?) {name}\b(?s:.*?)^\1\}}", re.MULTILINE)
+    return [found[0] for text in files.values() for found in begins.finditer(text)]
+
+
 def promises_differ():
     """Each row of the table names functions, types or files, and then clauses there, laws, or definitions. A clause is an `ensures`, or a
-    `requires` where the row says that it is required."""
+    `requires` where the row says that it is required. A definition has a capital, or stands after `over`."""
     files = {path: path.read_text() for path in (TOP / "crates").glob("*/src/**/*.rt") if "tests" not in path.parts}
     laws = "\n".join(text for path, text in files.items() if path.name in ("laws.rt", "limits.rt"))
     specs = "\n".join(path.read_text() for path in (TOP / "crates").glob("*/specs/**/*.antt"))
@@ -113,15 +123,22 @@ def promises_differ():
     for promise, places, carried in rows:
         code = ""
         for place in re.findall(r"`([\w:.]+)`", places):
-            begins = re.compile(rf"\b(fn|struct|trait) {place.rpartition('::')[2]}\b")
-            there = [text for path, text in files.items() if path.name == place or begins.search(text)]
+            there = [text for path, text in files.items() if path.name == place] or items_named(place.rpartition("::")[2], files)
             if not there:
                 return f"{PROMISES}: {promise}: there is no {place}"
             code += "\n".join(there)
         for name, required in re.findall(r"`(\w+)`( \(required\))?", carried):
-            if not (re.search(rf"\b{'requires' if required else 'ensures'} {name} ", code) or re.search(rf"\bfn {name}\b", laws) or re.search(rf"\bpub (record )?{name}\b", specs)):
+            is_clause = re.search(rf"\b{'requires' if required else 'ensures'} {name} ", code)
+            is_law = not required and re.search(rf"\bfn {name}\b", laws)
+            is_definition = (name[0].isupper() or f"over `{name}`" in carried) and re.search(rf"\bpub (record )?{name}\b", specs)
+            if not (is_clause or is_law or is_definition):
                 return f"{PROMISES}: {promise}: there is no {name}"
     return None if rows else f"{PROMISES}: no promise"
+
+
+def pages():
+    """Returns the pages of the repository."""
+    return [page for folder in (".", "docs", "tests", "packaging", "bench") for page in (TOP / folder).glob("*.md")]
 
 
 def excerpts_differ():
@@ -134,13 +151,24 @@ def excerpts_differ():
     return None if len(parts) > 1 else f"{EXCERPTS}: no excerpt"
 
 
+def checker_differs():
+    """Where the page names the checker of certificates it has the number of its lines that are rules, and perhaps that of all its lines."""
+    checker = (TOP / CHECKER).read_text()
+    rules = checker.partition("# The rules.\n")[2].partition("# The claims.\n")[0]
+    counts = [len(re.findall("^.", rules, re.MULTILINE)), checker.count("\n")]
+    named = re.search(rf"`{CHECKER}`,([^;]*);", (TOP / CERTIFICATES).read_text())
+    numbers = [int(number) for number in re.findall(r"\d+", named[1])] if named else []
+    return None if counts[0] in numbers and {*numbers} <= {*counts} else f"{CERTIFICATES}: {CHECKER} has {counts} lines, not {numbers}"
+
+
 def files_differ():
-    """Each file of the repository that a page names in backticks is there, with as many of its folders as are named."""
+    """Each file of the repository that a page names in backticks is there, with as many of its folders as are named. `MODULE.edits` and the
+    like are no files."""
     tops = [TOP / folder for folder in ("crates", "tests", "docs", "examples", "python", "bench", "packaging", "completions")]
     paths = [f"/{path.relative_to(TOP)}" for top in tops for path in top.rglob("*.*") if "/out/" not in f"{path}"]
-    for page in [*TOP.glob("*.md"), *(TOP / "docs").glob("*.md")]:
-        for name in set(re.findall(r"`([\w/.]+\.(?:rt|antt|py|c|js|txt|md|edit))`", page.read_text())):
-            if not (TOP / name).exists() and not any(path.endswith(f"/{name}") for path in paths):
+    for page in pages():
+        for name in set(re.findall(r"`([\w/.]+\.(?:rt|antt|py|c|js|sh|gp|svg|css|html|txt|md|edits))`", page.read_text())):
+            if name.rpartition("/")[2] not in FORMS and not (TOP / name).exists() and not any(path.endswith(f"/{name}") for path in paths):
                 return f"{page.relative_to(TOP)}: there is no file {name}"
     return None
 
@@ -151,8 +179,9 @@ def names_differ():
     kinds = ("*.rt", "*.antt", "*.py", "*.c", "*.js")
     files = [path for top in ("crates", "tests", "examples", "python", "bench") for kind in kinds for path in (TOP / top).rglob(kind)]
     files += [path for path in (TOP / "tests").iterdir() if path.is_file()]
+    files.remove(TOP / "tests/lib/sources.py")  # It has the names that are not there.
     words = set(re.findall(r"\w+", "\n".join(path.read_text() for path in files if "/out/" not in f"{path}")))
-    for page in [*TOP.glob("*.md"), *(TOP / "docs").glob("*.md")]:
+    for page in pages():
         name_of_page = f"{page.relative_to(TOP)}"
         prose = re.sub(r"^```(?s:.*?)^```|^    .*$", "", page.read_text(), flags=re.MULTILINE)
         for name in re.findall(r"`([A-Za-z][\w:]*)(?:\(\))?`", prose) if page.name != CHANGELOG else ():

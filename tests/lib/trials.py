@@ -21,11 +21,11 @@ from itertools import product, zip_longest
 from pathlib import Path
 
 from lib import reference
-from lib.asked import ASK_KINDS, AskTrials
-from lib.differing import SOON, Differs, piece_in, read_piece, read_soon
-from lib.drawn import BYTES, DEPTHS, FILES, LINES, LINES_OF_MOVES, LONG_GAME, MORE, NO_FILES, PLAIN, SEARCHING, SUBCOMMANDS, TABLES, Drawn
+from lib.ask_trials import ASK_KINDS, AskTrials
+from lib.failing import SOON, Failed, piece_in, read_piece, read_soon
+from lib.random_data import BYTES, DEPTHS, FILES, LINES, LINES_OF_MOVES, LONG_GAME, MORE, NO_FILES, PLAIN, SEARCHING, SUBCOMMANDS, TABLES, Drawn
 from lib.reference import Run
-from lib.waits import EASY, HARD_LINE, WAIT_KINDS, WaitTrials, ticks_of
+from lib.wait_trials import EASY, HARD_LINE, WAIT_KINDS, WaitTrials, ticks_of
 
 TESTS = Path(__file__).resolve().parents[1]
 
@@ -33,7 +33,7 @@ TESTS = Path(__file__).resolve().parents[1]
 sys.setrecursionlimit(100_000)
 
 # Words that are not taken, or are no text, where there is a file `a`; those of `solve` are none of `values` or `steps` either.
-MISTAKES = [
+REFUSED_ARGUMENTS = [
     *([], ["stop"], ["help"], ["Solve", "a"], ["--version=1"], ["--versio"], ["-x"], [""], ["--", "solve", "a"], ["--workers", "1", "solve", "a"]),
     *(["moves"], ["moves", "--"], ["moves", "-1/0 1/0"], ["moves", "1/0 1/0", "1/0 1/0"], ["moves", "--workers", "1", "1/0 1/0"]),
     *(["moves", "--table", "1", "1/0 1/0"], ["moves", "--boards"], ["moves", "--boards=true", "1/0 1/0"], ["moves", "--boards", "--boards", "1/0 1/0"]),
@@ -57,10 +57,10 @@ MISTAKES = [
     *([b"\xff"], ["moves", b"1/0 1/0\x80"], ["solve", "a", b"\xed\xa0\x80"], ["solve", "a", "--workers", b"4\xc3"]),
 ]
 
-MISTAKES += [["ask", "--steps=1"], ["ask", "--steps", "--steps"], ["ask", "--step"], ["ask", "--table=", "--values"], ["ask", "--table", "a"]]
-MISTAKES += [["ask", "--values", "--steps"], ["ask", "--table=1", "--steps"], ["ask", "--table", "65536", "--values", "--steps"]]
-MISTAKES += [[other, *words[1:]] for other in ("values", "steps") for words in MISTAKES if words[:1] == ["solve"]]
-MISTAKES += [["steps", "--table", "1", "a"], ["steps", "a", "--table=65536"], ["steps", "--boards", "a"]]
+REFUSED_ARGUMENTS += [["ask", "--steps=1"], ["ask", "--steps", "--steps"], ["ask", "--step"], ["ask", "--table=", "--values"], ["ask", "--table", "a"]]
+REFUSED_ARGUMENTS += [["ask", "--values", "--steps"], ["ask", "--table=1", "--steps"], ["ask", "--table", "65536", "--values", "--steps"]]
+REFUSED_ARGUMENTS += [[other, *words[1:]] for other in ("values", "steps") for words in REFUSED_ARGUMENTS if words[:1] == ["solve"]]
+REFUSED_ARGUMENTS += [["steps", "--table", "1", "a"], ["steps", "a", "--table=65536"], ["steps", "--boards", "a"]]
 
 # The subcommands, and arguments that ask for help.
 NAMED = ["moves", "play", "solve", "values", "ask", "steps", "show", "count"]
@@ -404,7 +404,7 @@ def read_all(reader, process):
                 return got
             got += piece
         process.kill()
-        raise Differs(f"what the run writes has not ended after {PATIENCE} seconds")
+        raise Failed(f"what the run writes has not ended after {PATIENCE} seconds")
     return got
 
 
@@ -449,7 +449,7 @@ def soon(holds):
     end = time.monotonic() + SOON
     while not holds():
         if time.monotonic() > end:
-            raise Differs("what is waited for has not come")
+            raise Failed("what is waited for has not come")
         time.sleep(0.001)
 
 
@@ -514,13 +514,13 @@ class Trials(AskTrials, WaitTrials):
             out, err = process.communicate(timeout=patience)
         except subprocess.TimeoutExpired:
             process.kill()
-            raise Differs(f"the run has not ended after {patience} seconds") from None
+            raise Failed(f"the run has not ended after {patience} seconds") from None
         return Run(out or b"", err or b"", process.returncode)
 
     def compare(self, want, got):
         self.lines += want.out.count(b"\n")
         if want != got:
-            raise Differs(difference(want, got))
+            raise Failed(difference(want, got))
 
     def subcommand(self):
         return self.drawn.card("subcommands", SUBCOMMANDS)
@@ -620,10 +620,10 @@ class Trials(AskTrials, WaitTrials):
         want = answer(line, flag, *more) if is_text(line) else reference.failed(b"a word is not UTF-8")
         self.compare(want, self.run(words))
 
-    def mistakes(self):
+    def refused_arguments(self):
         """Of the message for refused arguments only the start is compared: the rest is the command line's own."""
         self.put({"a": b"1/0 1/0"})
-        words = self.drawn.card("mistakes", MISTAKES)
+        words = self.drawn.card("refused_arguments", REFUSED_ARGUMENTS)
         got = self.run(words, self.drawn.card("program names", PROGRAM_NAMES))
         if all(map(is_text, words)):
             self.compare(Run(b"", b"error: ", 2), got._replace(err=got.err[:7]))
@@ -681,7 +681,7 @@ class Trials(AskTrials, WaitTrials):
         got, spent = self.timed(lambda: self.run_into(place, words, len(first)))
         self.compare(Run(first, b"kalah: write failed\n", 2), got)
         if spent > of_some / 60 * len(lines) / 5:
-            raise Differs(f"60 lines took {of_some:.2f} s of processor, and {len(lines)} that nobody reads {spent:.2f} s")
+            raise Failed(f"60 lines took {of_some:.2f} s of processor, and {len(lines)} that nobody reads {spent:.2f} s")
 
     def left_after_a_pause(self):
         """A run ends though its reader leaves only once the pipe and all that holds answers are full. There are more workers than
@@ -730,7 +730,7 @@ class Trials(AskTrials, WaitTrials):
         os.close(writer)
         self.compare(Run(want, b"", 0), Run(got, b"", 0))
         if has_ended:
-            raise Differs("the run has ended, though its last lines take long")
+            raise Failed("the run has ended, though its last lines take long")
 
     def first_picture(self):
         """The first position of a game is read before its first move is found, and a picture before its values are."""
@@ -747,7 +747,7 @@ class Trials(AskTrials, WaitTrials):
         self.put({})
         got = self.before_more([*words, "--table", "1"], place)
         if got not in rows:
-            raise Differs(f"the first move came with the next ones: {got.decode()!r}")
+            raise Failed(f"the first move came with the next ones: {got.decode()!r}")
 
     def before_more(self, words, place, lines=b"", rows=1):
         """Returns what a run that is asked these lines writes at first, which should have this number of rows. What follows must take a
@@ -758,7 +758,7 @@ class Trials(AskTrials, WaitTrials):
                 return got
         if is_early:
             return got
-        raise Differs(f"what is written first came as late as what follows: {got.decode()!r}")
+        raise Failed(f"what is written first came as late as what follows: {got.decode()!r}")
 
     def first_piece(self, words, place, lines):
         """Returns what the run writes at first, and whether nothing follows until the run has spent a quarter more processor time."""
@@ -782,7 +782,7 @@ class Trials(AskTrials, WaitTrials):
         got, spent = self.timed(lambda: self.run_into("/dev/full", words, 0))
         self.compare(reference.failed(b"write failed"), got)
         if spent > of_all / 3:
-            raise Differs(f"the run took {of_all:.2f} s of processor, and {spent:.2f} s where its first row can't be written")
+            raise Failed(f"the run took {of_all:.2f} s of processor, and {spent:.2f} s where its first row can't be written")
 
     def endings_are_kept(self):
         """A search that reaches the same few endings again and again takes a small part of the time of a count, as it keeps each."""
@@ -791,7 +791,7 @@ class Trials(AskTrials, WaitTrials):
         subcommand = self.drawn.card("endings kept", ENDINGS_KEPT)
         _, spent = self.timed(lambda: self.run([subcommand, "--table", "1", MANY_ENDINGS]))
         if spent > of_count / 2:
-            raise Differs(f"{subcommand} took {spent:.2f} s of processor, and a count {of_count:.2f} s")
+            raise Failed(f"{subcommand} took {spent:.2f} s of processor, and a count {of_count:.2f} s")
 
     def busy_workers(self):
         """The number of threads that work in parallel is the requested number of workers. They share one table of endings: with a
@@ -805,9 +805,9 @@ class Trials(AskTrials, WaitTrials):
             busy, kilobytes = busy_threads(process), in_memory(process)
             process.kill()
         if busy < workers:
-            raise Differs(f"{busy} threads are at work")
+            raise Failed(f"{busy} threads are at work")
         if kilobytes > 4000 + 200 * workers:
-            raise Differs(f"{workers} workers take {kilobytes} kB")
+            raise Failed(f"{workers} workers take {kilobytes} kB")
 
     def few_lines(self):
         """A run with fewer lines than workers starts one thread, which starts at most one for each line. Each line takes so long that all
@@ -821,7 +821,7 @@ class Trials(AskTrials, WaitTrials):
             busy, threads = busy_threads(process), len(os.listdir(f"/proc/{process.pid}/task"))
             process.kill()
         if busy < lines or threads > lines + 2:
-            raise Differs(f"of {threads} threads {busy} are at work on {lines} lines")
+            raise Failed(f"of {threads} threads {busy} are at work on {lines} lines")
 
     def progress(self):
         """Standard error shows how many lines are answered, and standard output is the same as without."""
@@ -888,7 +888,7 @@ class Trials(AskTrials, WaitTrials):
         os.close(reader)
         rows = rb"(\rkalah: \d+ of 200 lines, \d+ %(, \d+ \w+ left)?\x1b\[K)+\nkalah: write failed\n  tip: the disk is full, or the reader of the output has left\n"
         if status != 2 or not re.fullmatch(rows, said) or b" 200 of " in said:
-            raise Differs(f"status {status}, and progress is shown as {said[-200:]!r}")
+            raise Failed(f"status {status}, and progress is shown as {said[-200:]!r}")
 
     def files_of_progress(self, lines):
         """Returns two files for a run with `--progress`."""
@@ -901,21 +901,21 @@ class Trials(AskTrials, WaitTrials):
         """The shown numbers rise from none to all lines, each with its share: a line for each per cent, or one line that is rewritten.
         The time left is what the other lines take at the rate so far, in a run that took so many seconds. Behind it stands this tip."""
         if not said.endswith(tip):
-            raise Differs(f"{tip} is missing after {said[-100:]!r}")
+            raise Failed(f"{tip} is missing after {said[-100:]!r}")
         shown = said.removesuffix(tip).decode()
         begin, end = ("\r", "\x1b[K") if in_place else ("", "\n")
         rows = [(int(answered), left) for answered, left in re.findall(r"kalah: (\d+) of \d+ lines, \d+ %(, \d+ (?:s|min|h) left)?", shown)]
         again = [f"{begin}kalah: {n} of {lines} lines, {100 * n // lines if lines else 100} %{left}{end}" for n, left in rows]
         counts = [n for n, _ in rows]
         if shown != "".join(again) + "\n" * in_place or counts != sorted(set(counts)) or rows[0] != (0, "") or rows[-1] != (lines, ""):
-            raise Differs(f"progress is shown as {shown[:300]!r} .. {shown[-100:]!r}")
+            raise Failed(f"progress is shown as {shown[:300]!r} .. {shown[-100:]!r}")
         for answered, left in rows:
             if left and in_seconds(left) > took * (lines - answered) / answered:
-                raise Differs(f"{left} is shown after {answered} of {lines} lines, in a run of {took:.1f} s")
+                raise Failed(f"{left} is shown after {answered} of {lines} lines, in a run of {took:.1f} s")
         parts = 1000 if in_place else 100
         steps = {-(-lines * part // parts) for part in range(parts + 1)}
         if steps - set(counts) or (set(counts) - steps and not in_place):
-            raise Differs(f"progress leaves out a share, or shows one twice: {shown[:300]!r}")
+            raise Failed(f"progress leaves out a share, or shows one twice: {shown[:300]!r}")
 
     def one_pipe_twice(self):
         """A file is read for each time that it is named: of a pipe, all there is the first time, and nothing more."""
@@ -965,6 +965,8 @@ class Trials(AskTrials, WaitTrials):
         ):
             self.compare(Run(b"", said.format(name).encode(), 2), self.run_on_terminal(word, "stdout", "stderr"))
             self.compare(Run(b"", (said + tip).format(seen).encode(), 2), self.run_on_terminal(word, "stderr", "stdout"))
+        said = "kalah: cannot read 1/0 1/0\\015\n  tip: for a position, use `kalah show '1/0 1/0\\015'`, or `kalah ask`\n"
+        self.compare(Run(b"", said.encode(), 2), self.run_on_terminal(["solve", "1/0 1/0\r"], "stderr", "stdout"))
         want = reference.answers("solve", [(f"{name}.txt".encode(), b"1/0 1/0")])
         self.compare(want, self.run_on_terminal(["solve", f"{name}.txt"], "stdout", "stderr"))
 
@@ -1001,7 +1003,7 @@ class Trials(AskTrials, WaitTrials):
         self.compare(want, self.run_within(SPACE_OF_MANY, [*words, "a"]))
         kilobytes = self.memory_of([*words, "b"])
         if kilobytes > MEMORY_OF_MANY:
-            raise Differs(f"64 workers with large tables take {kilobytes} kB for quick lines")
+            raise Failed(f"64 workers with large tables take {kilobytes} kB for quick lines")
 
     def tables_as_asked(self):
         """The table is as large as it is asked to be: a search fills it."""
@@ -1009,7 +1011,7 @@ class Trials(AskTrials, WaitTrials):
         self.put({"a": LONG_GAME})
         small, large = (self.memory_of_search(subcommand, entries) for entries in (1, 1 << 20))
         if large < small + FILLED:
-            raise Differs(f"{subcommand} takes {small} kB with a table of one entry, and {large} kB with the largest")
+            raise Failed(f"{subcommand} takes {small} kB with a table of one entry, and {large} kB with the largest")
 
     def memory_of_search(self, subcommand, entries):
         """Returns the most that a long search has in memory, in kB, after some time at work."""
@@ -1064,7 +1066,7 @@ class Trials(AskTrials, WaitTrials):
             pieces = list(iter(lambda: reader.recv(1 << 20), b""))
             self.compare(want, self.end_of(process)._replace(out=b"".join(pieces)))
         if len(pieces) > lines // share:
-            raise Differs(f"{lines} lines went out in {len(pieces)} writes")
+            raise Failed(f"{lines} lines went out in {len(pieces)} writes")
 
     def waits_at_rest(self):
         """While one worker is at work, the other threads together take at most a tenth of its processor time. A thread that spins beside
@@ -1079,7 +1081,7 @@ class Trials(AskTrials, WaitTrials):
                 waiting = sum(others)
             process.kill()
         if worker < AT_WORK or waiting > worker // 10:
-            raise Differs(f"while the worker took {worker} ticks of the clock, the threads that wait took {waiting}")
+            raise Failed(f"while the worker took {worker} ticks of the clock, the threads that wait took {waiting}")
 
 
 # How often each trial is made in one round of all of them.
@@ -1096,7 +1098,7 @@ KINDS = {
     "show": len(LINES_OF_MOVES),
     "count": 4 * len(DEPTHS) + len(LINES_OF_MOVES),
     "plain_positions": 10,
-    "mistakes": len(MISTAKES),
+    "refused_arguments": len(REFUSED_ARGUMENTS),
     "help": len(HELP),
     "version": len(VERSION),
     "streams": len(STREAMS_OF_RUNS),

@@ -18,11 +18,12 @@ from contextlib import ExitStack, contextmanager, redirect_stderr
 from urllib.parse import quote
 
 from lib import reference
-from lib.clients import LINES, MISBEHAVING, SHORT, command, fake
-from lib.scripts import drawn_game, drawn_line, must
+from lib.client_trials import LINES, MISBEHAVING, SHORT, command, fake
+from lib.tool_trials import drawn_game, drawn_line, must
 
-from kalah import web
-from kalah.web_limits import IN_ALL, Connections, Quota, host
+from kalah import Fault
+from kalah.web import server as web
+from kalah.web.limits import IN_ALL, Connections, Quota, host
 
 DRAWN, THREADS, MOST, GAMES = 200, 40, 10, 20
 # A class behind one address: its pupils, the moves that each makes, and the questions that they have in a minute.
@@ -86,7 +87,7 @@ def wanted(path, line):
     """Returns the status and the answer that a question must get."""
     position = reference.read(line.encode())
     if isinstance(position, str):
-        return 422, {"error": f"fault {position}"}
+        return 422, {"error": str(Fault(position, line))}
     margin, house = reference.best_play(position)
     if house is None:
         return 200, {"is_over": True, "margin": margin}
@@ -228,16 +229,18 @@ class ServerTrials:
                 elsewhere = "(?:src|href|action)=\"(?!data:,|/[a-z])|(?<!\\^)https?:|url\\(|\\bimport\\b"
                 risky = [word for word in RISKY if word in text] + re.findall(elsewhere, text)
                 must(not risky, f"web, {path}: {risky}")
+                missing = {*re.findall("(?:src|href)=\"(/[^\"]*)\"", text)} - {*web.FILES}
+                must(not missing, f"web, {path}: its {missing} isn't served")
         self.pictures(web.PAGES["/rules"].decode())
 
     def pictures(self, page):
         """The rules show what the moves of their pictures lead to."""
         found = re.findall('data-line="([^"]*)" data-house="([1-6])" data-after="([^"]*)"', page)
-        must(len(found) == page.count("data-house") == 5, f"web_rules.html: {found}")
+        must(len(found) == page.count("data-house") == 5, f"rules.html: {found}")
         for line, house, after in found:
             reached, word = reference.after(reference.read(line.encode()), int(house))
             south = reached._replace(own=reached.other, other=reached.own) if word == "turn" else reached
-            must(after == reference.text(south), f"web_rules.html: house {house} of {line} leads to {after}")
+            must(after == reference.text(south), f"rules.html: house {house} of {line} leads to {after}")
 
     def refused(self, port):
         for data, status, part in refusals(port):
@@ -266,16 +269,24 @@ class ServerTrials:
                 status, answer = asked(port, "/game", text)
                 must((status, answer) == (200, want), f"web, /game, {text}: {status} {answer} in place of {want}")
             status, answer = asked(port, "/game", f"{record} 1{north}")
-            want["flaw"] = f"move {len(houses) + 1}: the game is over"
+            mover = ["South", "North"][places[-1]["player"]]
+            want["flaw"] = f"move {len(houses) + 1}: {mover} can't move house 1: the game is over"
             must((status, answer) == (200, want), f"web, /game, {record} 1: {answer}")
             compare_line(line, asked(port, "/line", line))
             compare_ahead(line, asked(port, "/ahead", line))
             status, headers, body = sent(port, request(port, b"", f"/review?{quote(record + north)}", "GET"))
             must(status == 200 and headers["Content-Type"].startswith("text/html"), f"web, /review, {record}: {status} {body}")
             must(body.count(b"moves house") == len(houses) and b"<script" not in body, f"web, /review, {record}: {body}")
-        for text, status, part in [("1,1/0 1,1/0 e 1 7", 200, "move 2: house 7 can't be moved"), ("x/0 1 2", 422, "fault shape")]:
+        for text, status, why in (
+            ("1,1/0 1,1/0 e 1 7", 200, "move 2: North can't move house 7: houses are 1 to 2"),
+            ("1,1/0 1,1/0 B B", 200, "move 2: South can't move house B: it is empty"),
+            ("1,1/0 1,1/0 B a", 200, "move 2: South moves, and a is a move of North"),
+            ("1,1/0 1,1/0 1... b A", 200, "move 2: North moves, and A is a move of South"),
+            ("1,1/0 1,1/0 B1 A3", 200, "move 2: house A has 1 seed, and its number is 1"),
+            ("x/0 1 2", 422, str(Fault("shape", "x/0 1"))),
+        ):
             got, answer = asked(port, "/game", text)
-            must(got == status and part in answer.get("flaw", answer.get("error")), f"web, /game, {text}: {got} {answer}")
+            must((got, answer.get("flaw", answer.get("error"))) == (status, why), f"web, /game, {text}: {got} {answer}")
         for text in ("1,1/0 1,1/0 <script>", "<script>"):
             _, _, body = sent(port, request(port, b"", f"/review?{quote(text)}", "GET"))
             must(b"<script" not in body or body.startswith(b"{"), f"web, /review, {text}: {body}")
@@ -457,10 +468,12 @@ class ServerTrials:
         page = re.sub(b'data-version="[^"]+"', web.UNKNOWN, page)
         must(page == usual.replace(web.USUAL, f'data-start="{LINE}"'.encode()) != usual, "web: the page does not begin with the position")
         _, err = self.start(self.program, f"--port={port[1]}", LINE).communicate(timeout=SOON)
-        must(err.startswith("web: ") and err.count("\n") == 1, f"web, with a port that is taken: {err}")
-        for word in ("--port=65536", "--port=-1", "--port=x", "--per-minute=0", "--per-minute=-1", "--per-minute=x"):
-            _, err = self.start(self.program, word, LINE).communicate(timeout=SOON)
-            must("usage:" in err and "Traceback" not in err, f"web {word}: {err}")
+        want = f"web: port {port[1]}: address already in use; with --port 0 it takes one that is free\n"
+        must(err == want, f"web, with a port that is taken: {err}")
+        for name, most in (("port", 65535), ("per-minute", 1000000)):
+            for number in (f"{most + 1}", "-1", "x"):
+                _, err = self.start(self.program, f"--{name}={number}", LINE).communicate(timeout=SOON)
+                must("usage:" in err and f"'{number}' is not a " in err and f" to {most}\n" in err, f"web --{name}={number}: {err}")
         self.ends(script, int(port[1]))
         script = self.start(fake(self.folder, self.program, [': > "$0.begun"; exec sleep 600']), "--port=0", LINE)
         port = int(re.search(":([0-9]+)/", script.stdout.readline())[1])

@@ -15,14 +15,16 @@ from urllib.parse import quote, quote_plus
 from xml.dom import minidom
 
 from lib import reference
-from lib.clients import Client, Wrong, command, kalah
-from lib.drawn import FAULTS, Drawn
-from lib.scripts import HOSTILE, drawn_game, drawn_line, must
-from lib.serving import asked, served
+from lib.client_trials import Client, command, kalah
+from lib.failing import Failed
+from lib.random_data import FAULTS, Drawn
+from lib.tool_trials import HOSTILE, drawn_game, drawn_line, fault, must
+from lib.http_trials import asked, served
 
-from kalah import Board, Game, handout, positions, review, rules
+from kalah import Board, Game, rules
 from kalah.game import Record
-from kalah.played import played_in, values_of
+from kalah.tools import handout, positions, review
+from kalah.tools.played import played_in, values_of
 
 # The positions that are compared with the program's moves, those above its limit, and the lines that may have a fault.
 BELOW, ABOVE, READ = 20_000, 2_000, 1_000
@@ -77,7 +79,7 @@ def try_rules_above(draw):
     for _ in range(ABOVE):
         position = position_above(draw)
         line = reference.text(position)
-        must(rules.start(line) == line and rules.read(line) == position, f"rules, {line}: {rules.read(line)}")
+        must(rules.start_line(line) == line and rules.read(line) == position, f"rules, {line}: {rules.read(line)}")
         for house in reference.legal(position):
             got, want = rules.after(rules.read(line), house), reference.after(position, house)
             must(got == want, f"rules, {line}, house {house}: {got} in place of {want}")
@@ -91,7 +93,7 @@ def try_faults(drawn):
     for line in [*lines, *ends, b"100,1/0 1,1/0", b"1,1/100 1,1/0", b"1" * 81, b"", b"01/0 1/0"]:
         want = reference.read(line)
         try:
-            rules.start(line.decode(errors="surrogateescape"))
+            rules.start_line(line.decode(errors="surrogateescape"))
             got = None
         except kalah.Fault as fault:
             got = fault.word
@@ -133,7 +135,7 @@ def try_values(draw, solver, client):
     for line, seeds in ((USUAL, 48), ("16,0/3 0,16/0 e", 32)):
         must(values_of(solver, Board(line)) is None, f"rules, {line}: it has values")
         try:
-            raise Wrong(f"rules, {line}: {rules.ask(client, line)}")
+            raise Failed(f"rules, {line}: {rules.ask(client, line)}")
         except rules.TooMany as why:
             must(str(why) == f"{seeds} seeds in houses: no values above 31 seeds" and why.word == "seeds", f"rules, {line}: {why}")
     must(rules.ask(client, "16,0/3 0,15/0").by_house == {1: -4}, f"rules: {rules.ask(client, '16,0/3 0,15/0')}")
@@ -152,7 +154,7 @@ def try_plain(draw, folder):
     must(out[:-2] == seen_best and out[-2] in "123456" and out[-1] == "none", f"plain.py: {out} in place of {seen_best}")
     (folder / "a b.txt").write_text(text + "1/0\n")
     again, err = output(folder, "plain.py", 3, "a b.txt", status=1)
-    must(again.splitlines() == out and err == "plain.py: fault shape\n", f"plain.py: {again}{err}")
+    must(again.splitlines() == out and err == f"plain.py: {fault('shape', '1/0')}\n", f"plain.py: {again}{err}")
 
 
 class GameTrials:
@@ -280,16 +282,20 @@ def try_usual_board(program, folder):
     """The scripts take the board of 48 seeds, and say where there are no values yet."""
     must(">99<" in output(folder, "board", "99,4/0 4,4/0")[0], "board: 99 seeds in a house are not drawn")
     _, err = output(folder, "board", "100,4/0 4,4/0", status=1)
-    must(err == "board: fault shape\n", f"board: {err}")
+    must(err == f"board: {fault('shape', '100,4/0 4,4/0')}\n", f"board: {err}")
     out, _ = output(folder, "duel", "--second", USUAL, text="6\n")
     said = f"the solver: house {rules.guess(USUAL)} (48 seeds in houses: no values above 31 seeds; it looks 4 moves ahead)\n"
     must(out.startswith(said) and "your house, " in out, f"duel: {out}")
     page, _ = output(folder, "handout", "--first", 1, "9,9/0 9,9/0")
     for said in ("moves house 1.", "no value above 31 seeds", "nothing is proved", ", worth "):
         must(said in page, f"handout: {said} is not in {page}")
-    for first, line in ((2, "1,0/0 1,1/0"), (0, "1,1/0 1,1/0"), (1, "0,0/1 1,1/0")):
+    for first, line, why in (
+        (2, "1,0/0 1,1/0", "move 1: South can't move house 2: it is empty"),
+        (0, "1,1/0 1,1/0", "move 1: South can't move house 0: houses are 1 to 2"),
+        (1, "0,0/1 1,1/0", "move 1: South can't move house 1: the game is over"),
+    ):
         out, err = output(folder, "handout", "--first", first, line, status=2)
-        must(out == "" and err.startswith(f"handout: house {first} can't be moved"), f"handout --first {first} {line}: {err}")
+        must(out == "" and err == f"handout: {why}\n", f"handout --first {first} {line}: {err}")
     out, _ = output(folder, "review", USUAL, "3", "6")
     must(out.startswith("Moves 1 to 2: no value above 31 seeds.\n1. South moves house 3, and moves again.\n"), f"review: {out}")
     must(out.endswith("South: moves 2, with values 0, mistakes 0, lost 0.\nNorth: moves 0, mistakes 0, lost 0.\n"), f"review: {out}")
@@ -372,7 +378,7 @@ def try_drawn_positions(folder, draw):
         ((2, 4, "--sample", 3, "--start", USUAL), "--start needs --games"),
         ((2, 4, "--sample", 3, "--games", "--start", USUAL), "no game starts there with 2 houses a side and 4 seeds or more"),
         ((2, 4, "--balanced", "-1"), "'-1' is not a number from 0 on"),
-        ((1, 31, "--sample", 3, "--games", "random"), "only 0 positions are found"),
+        ((1, 31, "--sample", 3, "--games", "random"), "--sample 3: only 0 positions are found"),
     ):
         out, err = output(folder, "positions", *words, status=2)
         must(out == "" and why in err, f"positions {words}: {err}")

@@ -15,15 +15,19 @@ from itertools import product
 from xml.dom import minidom
 
 from lib import reference
-from lib.clients import EXAMPLES, Client, Wrong, command, find, kalah
+from lib.client_trials import EXAMPLES, Client, command, kalah
+from lib.failing import Failed
 
-from kalah import certify, check, drawing, positions, review, rules
+from kalah import check, rules
 from kalah.game import Record
+from kalah.tools import certify, positions, review
 
 CERTIFICATES, CUTS, GAMES = 100, 5, 30
 RULES = ["", " e"]
 # A claim of seven houses a side.
 SEVEN = "1,0,0,0,0,0,0/0 1,0,0,0,0,0,0/0 at least -9 house 1"
+# A search of 3 moves sees what each move is worth here, and one of 4 moves sees something else.
+STRAYS = "4,0,1/0 0,1,1/9 e"
 HOSTILE = "</title><script>alert(1)</script>"
 # The most memory of a script, in kilobytes.
 KILOBYTES = 100_000
@@ -31,7 +35,12 @@ KILOBYTES = 100_000
 
 def must(holds, what):
     if not holds:
-        raise Wrong(what)
+        raise Failed(what)
+
+
+def fault(word, line):
+    """Returns what the package says of a line with this fault."""
+    return str(kalah.Fault(word, line))
 
 
 def drawn_line(draw, houses, seeds):
@@ -94,7 +103,7 @@ class CertificateTrials:
             self.refuse([stronger if one == root else one for one in lines], "no line proves")
         changed = least.replace(" at least", ""), least.replace("/", ",0/", 1)
         for bad in (SEVEN, "", least + " ", least.upper(), *changed, f"0{least}", f"{least}0"):
-            self.refuse([*lines[:-1], bad, least], "has another form")
+            self.refuse([*lines[:-1], bad, least], f"line {len(lines)} is neither `POSITION at least MARGIN house H` nor ")
         inner = [number for number, one in enumerate(lines[:-1]) if one != most]
         if inner:
             self.change_inner(lines, self.draw.choice(inner))
@@ -128,7 +137,7 @@ class CertificateTrials:
         except ValueError as refusal:
             must(why in str(refusal), f"check: {refusal}, in place of {why}")
             return
-        raise Wrong(f"check: {said}, for\n" + "\n".join(lines))
+        raise Failed(f"check: {said}, for\n" + "\n".join(lines))
 
 
 def drawn_game(draw, line):
@@ -178,10 +187,13 @@ class ReviewTrials:
         player, _, values = moved[number]
         house = self.draw.choice(sorted({*range(8)} - {*values}))
         game = self.review(line, [*houses[:number], house, *houses[number:]])
-        want = f"move {number + 1}: {['South', 'North'][player]} can't move house {house}"
+        houses_there = line.partition("/")[0].count(",") + 1
+        why = "it is empty" if house in range(1, houses_there + 1) else f"houses are 1 to {houses_there}"
+        want = f"move {number + 1}: {['South', 'North'][player]} can't move house {house}: {why}"
         must(game.flaw == want and len(game.played) == number, f"review: {game.flaw} in place of {want}")
         game = self.review(line, [*houses, 1])
-        must(game.flaw == f"move {len(houses) + 1}, house 1: the game is over", f"review: {line} {houses} 1: {game.flaw}")
+        want = f"move {len(houses) + 1}: {game.game.mover} can't move house 1: the game is over"
+        must(game.flaw == want, f"review: {line} {houses} 1: {game.flaw} in place of {want}")
         must(not number or "isn't over" in self.review(line, houses[:number]).end(), f"review: {line} {houses[:number]}")
 
 
@@ -193,10 +205,11 @@ def try_board():
 
 
 def try_pictures(draw):
-    """duel draws each position as the program does."""
+    """A board is drawn in text as the program draws it."""
     for _ in range(GAMES):
         line = drawn_line(draw, 6, 31)
-        must(drawing.picture(line) == reference.picture(reference.read(line.encode())), f"duel, {line}: {drawing.picture(line)}")
+        picture = kalah.Board(line).picture()
+        must(f"{picture}\n" == reference.picture(reference.read(line.encode())), f"Board, {line}: {picture}")
 
 
 def try_positions():
@@ -276,6 +289,7 @@ class ScriptTrials:
         self.booklet()
         self.drawn_booklet()
         self.table()
+        self.empty()
         self.games()
 
     def script(self, name, *words, status=0):
@@ -289,14 +303,14 @@ class ScriptTrials:
         first, again, other = (self.script("positions", *sizes, seed)[0].splitlines() for seed in (1, 1, 2))
         must(first == again != other and len({*first}) == 100, "positions: a sample is not that of its seed")
         _, err = self.script("positions", 3, 5, "--sample", 1000, status=2)
-        must(err == "positions: there are 210 positions\n", f"positions: {err}")
+        must(err == "positions: --sample 1000: there are only 210 positions\n", f"positions: {err}")
 
     def puzzles(self):
         """Each puzzle has exactly one move that wins, and others; no other position has; and faults are named."""
         lines = [*positions.Positions(2, 6), "1,1,1/0 3,0,0/0 e", "2,1/0 3,0/0 e", "1,1/0", "0,0/3 1,2/4"]
         (self.folder / "a b.txt").write_text("".join(line + "\n" for line in lines))
         out, err = self.script("puzzles", "--again", "--greedy", "a b.txt", status=1)
-        must(err == f"puzzles: a b.txt:{len(lines) - 1}: fault shape\n", f"puzzles: {err}")
+        must(err == f"puzzles: a b.txt:{len(lines) - 1}: {fault('shape', '1,1/0')}\n", f"puzzles: {err}")
         rows, near = ([one for line in lines if (one := puzzle_of(line, most))] for most in (8, 2))
         for some in (rows, near):
             some.sort(key=lambda one: (-one.level, -one.far, one.gap, one.line))
@@ -309,6 +323,8 @@ class ScriptTrials:
             got, _ = self.script("puzzles", *options, "a b.txt", status=1)
             must(got.splitlines() == [one.text for one in kept] != out.splitlines(), f"puzzles {options}: {got} in place of {kept}")
             must(kept, f"puzzles {options}: no position tries this")
+        _, err = self.script("puzzles", "--depth", 41, "a b.txt", status=2)
+        must(err.endswith("error: argument --depth: '41' is not a number from 1 to 40\n"), f"puzzles --depth 41: {err}")
 
     def real_boards(self):
         """Puzzles and certificates of six houses take little time and memory."""
@@ -321,6 +337,8 @@ class ScriptTrials:
         (self.folder / "certificate").write_text("1,1/0 1,1/0 at least 3 house 2\n")
         _, err = self.script("check", "certificate", status=1)
         must(err == "check: line 1 doesn't follow: it needs 1,0/1 1,1/0 at least 3, which no line proves\n", f"check: {err}")
+        _, err = self.script("check", "no file", status=2)
+        must(err == "check: cannot read no file: No such file or directory\n", f"check: {err}")
 
     def measured(self, name, *words, seconds):
         """Returns what a script prints within these seconds, with little memory."""
@@ -339,13 +357,13 @@ class ScriptTrials:
         must(counts == [4, 4, 4, 2, 2, 2] and "<script" not in page, f"booklet: {counts}")
         (self.folder / "c.txt").write_text("0,0/3 1,2/4\n1,1/0 1,1/0\n1/0\n")
         page, err = self.script("booklet", "c.txt", status=1)
-        want = "booklet: c.txt:1: the game is over\nbooklet: c.txt:3: fault shape\n"
+        want = f"booklet: c.txt:1: the game is over\nbooklet: c.txt:3: {fault('shape', '1/0')}\n"
         must(page.count("<svg") == 1 and err == want, f"booklet: {err}")
 
     def drawn_booklet(self):
         """The puzzles come by level, numbered from 1, each with its question and its solution: the outcome of every move, the best first,
         and the game of best play: who moves, and who wins. A page has four of them, and pages are numbered."""
-        lines = [drawn_line(self.draw, 4, 8).replace("/99", "/9") for _ in range(GAMES)]
+        lines = [STRAYS, *(drawn_line(self.draw, 4, 8).replace("/99", "/9") for _ in range(GAMES - 1))]
         (self.folder / "drawn.txt").write_text("\n".join(lines))
         page, _ = self.script("booklet", "--paper", "Letter", "drawn.txt")
         found = re.findall(r"<section><p><b>(\d+)\.</b> (.*?) <i>Level (\d)\.</i></p>\n.*?<title>(.*?)</title>", page, re.DOTALL)
@@ -384,16 +402,18 @@ class ScriptTrials:
             [lines[5], "18", "2", "1", "2", "2", "-4", "", "", ""],
         ]
         columns = ["position", "seeds", "margin", "best", *(f"house{house}" for house in range(1, 7))]
-        must(rows == [columns, *want] and err == "table: a b.txt:4: fault shape\n", f"table: {out}{err}")
+        shape = f"table: a b.txt:4: {fault('shape', '1/0')}\n"
+        must(rows == [columns, *want] and err == shape, f"table: {out}{err}")
         out, err = self.script("table", "--json", "a b.txt", status=1)
         objects = [json.loads(line) for line in out.splitlines()]
         wanted = [{"position": "1/0", "fault": "shape"}]
         for position, seeds, margin, house, *worth in want:
             values = {str(number): int(value) for number, value in enumerate(worth, 1) if value}
-            known = {"seeds": int(seeds), "margin": int(margin), "house": int(house) if house else None}
+            best = int(house) if house else None
+            known = {"seeds": int(seeds), "margin": int(margin), "best": best, "house": best}
             wanted.append({"position": position, **known, "values": values})
         wanted.insert(3, wanted.pop(0))
-        must(objects == wanted and err == "table: a b.txt:4: fault shape\n", f"table --json: {out}{err} in place of {wanted}")
+        must(objects == wanted and err == shape, f"table --json: {out}{err} in place of {wanted}")
         answers = ["x:1 1:-2 2:2", "y:2 1:-10", "x:3 -4 over", "x:4 too large: 20 seeds", "a b:5 3:6 4:10 6:0", "x:6 1:2 2:2 3:-4"]
         (self.folder / "answers").write_text("\n".join(answers))
         for words in (["--name", "kalah"], ["--name", 'a "b', "--answers", "answers"], ["--name", "kalah"]):
@@ -403,13 +423,31 @@ class ScriptTrials:
             stored = sqlite3.connect(self.folder / "data.db").execute(f'SELECT {", ".join(columns)} FROM "{quoted}"')
             found = [["" if cell is None else str(cell) for cell in row] for row in stored]
             must(found == want, f"table, {name}: {found}")
-        for wrong in (answers[:5], [*answers, "x:7 0 over"], [answers[1], answers[0], *answers[2:]]):
+        for wrong, why in (
+            (answers[:5], "answers has 5 answers, and a b.txt 6 lines"),
+            ([*answers, "x:7 0 over"], "answers has 7 answers, and a b.txt 6 lines"),
+            ([answers[1], answers[0], *answers[2:]], "answer 1 of answers is not that to a b.txt:1: y:2 1:-10"),
+        ):
             (self.folder / "answers").write_text("\n".join(wrong))
-            must(self.script("table", "--answers", "answers", "a b.txt", status=2)[0] == "", f"table: {wrong}")
+            got = self.script("table", "--answers", "answers", "a b.txt", status=2)
+            must(got == ("", f"table: {why}\n"), f"table, {wrong}: {got}")
         (self.folder / "a b.txt").write_text(f"{lines[5]}\n\n")
         out, err = self.script("table", "a b.txt", status=1)
         rows = [*csv.reader(out.splitlines())]
-        must(rows == [columns, want[4]] and err == "table: a b.txt:2: fault empty\n", f"table, an empty line at the end: {out}{err}")
+        empty = f"table: a b.txt:2: {fault('empty', '')}\n"
+        must(rows == [columns, want[4]] and err == empty, f"table, an empty line at the end: {out}{err}")
+
+    def empty(self):
+        """Of a file without a line there is nothing, or that is said."""
+        (self.folder / "empty").write_text("")
+        for name, *options in (["table", "--json"], ["puzzles"]):
+            must(self.script(name, *options, "empty") == ("", ""), f"{name} {options} of an empty file")
+        must(self.script("table", "empty")[0].count("\n") == 1, "table of an empty file")
+        for name, *options in (["booklet"], ["review", "--games"], ["match", "kalah", "kalah", "--positions"]):
+            out, err = self.script(name, *options, "empty", status=2)
+            must(out == "" and err.startswith(f"{name}: empty has no "), f"{name} {options} of an empty file: {out}{err}")
+        _, err = self.script("puzzles", "-", status=2)
+        must(err == "puzzles: cannot read -: there is no such file; standard input is /dev/stdin\n", f"puzzles -: {err}")
 
     def games(self):
         (self.folder / "a b.txt").write_text("1,1/0 1,1/0 2 1\n\n1,1/0 1,1/0 1 2 2\n1/0 1 2\n")
@@ -419,7 +457,7 @@ class ScriptTrials:
         must([lines[0], lines[1], lines[-1]] == want and len(lines) == 12, f"review: {out}")
         want = "1. South moves house 1, worth -2, which loses 4 (house 2 is worth +2).\n"
         must(want in out and "\nSouth: moves 1, mistakes 1, lost 4.\n" in out, f"review: {out}")
-        want = "review: a b.txt:3: move 3: North can't move house 2\nreview: a b.txt:4: fault shape\n"
+        want = "review: a b.txt:3: move 3: North can't move house 2: it is empty\nreview: a b.txt:4: " + fault("shape", "1/0 1") + "\n"
         must(err == want, f"review: {err}")
         page, _ = self.script("review", "--html", "--games", "a b.txt", status=1)
         counts = [page.count(part) for part in ("<h2>", "<svg xmlns", '<svg class="curve"', "worst move", "which loses 4")]
@@ -431,7 +469,6 @@ class ScriptTrials:
 def try_scripts(program, folder, seed):
     """Makes all trials."""
     os.environ["KALAH"] = str(program)
-    find.cache_clear()
     draw = random.Random(seed)
     try_each_step()
     try_board()

@@ -8,8 +8,8 @@ import time
 SOON = 30
 
 
-class Differs(Exception):
-    """A run has left something else than it must."""
+class Failed(Exception):
+    """A trial has failed: a run did something else than it must."""
 
 
 def read_soon(reader, size):

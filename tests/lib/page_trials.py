@@ -5,8 +5,8 @@ from contextlib import contextmanager
 from urllib.parse import quote, unquote
 
 from lib import browser, reference
-from lib.scripts import drawn_game, drawn_line, must
-from lib.shown import (
+from lib.tool_trials import drawn_game, drawn_line, must
+from lib.page_wanted import (
     BUTTON,
     CLASSED,
     CONTRAST,
@@ -24,9 +24,10 @@ from lib.shown import (
     way_of,
 )
 
-from kalah import rules, web
+from kalah import rules
 from kalah.answers import Late
-from kalah.web_answers import Busy
+from kalah.web import server as web
+from kalah.web.answers import Busy
 
 START, USUAL = "1,1/0 1,1/0", "4,4,4,4,4,4/0 4,4,4,4,4,4/0"
 # Addresses that are no position, and what is said of them.
@@ -359,7 +360,7 @@ class PageTrials:
         self.shows("1,0/1 1,1/0", rest="&at=1")
         self.soon("element('undo').disabled", True)
         self.open(START, 1, 3, 2)
-        self.soon("element('wrong').innerText.trim()", f"{START} 1 3 2: move 2: house 3 can't be moved")
+        self.soon("element('wrong').innerText.trim()", f"{START} 1 3 2: move 2: North can't move house 3: houses are 1 to 2")
         self.played = [START, 1]
         self.shows("1,1/0 0,2/0", player=1)
         self.open(START, 2, 1)

@@ -12,12 +12,13 @@ from pathlib import Path
 from statistics import mean, stdev
 
 from lib import reference
-from lib.clients import command, fake
-from lib.games import USUAL, output
-from lib.scripts import drawn_line, must
+from lib.client_trials import command, fake
+from lib.game_trials import USUAL, output
+from lib.tool_trials import drawn_line, fault, must
 from lib.trials import soon
 
-from kalah import match, rules
+from kalah import rules
+from kalah.tools import match
 
 GRADED, MATCHES = 60, 12
 # An engine that answers with the next word of a file; but for `late` it waits, for `gone` it ends, and for `twice` it answers twice. It
@@ -252,7 +253,7 @@ class MatchTrials:
             must(margin <= best if number % 2 else margin >= best, f"match: kalah gets {margin} in {game}")
         (self.folder / "a b.txt").write_text(f"{USUAL}\n0,0/3 1,2/4\n1/0\n{lines[0]}\n")
         out, err, _ = self.match("kalah", self.command(0), status=1)
-        want = ["a b.txt:2: the game is over", "a b.txt:3: fault shape"]
+        want = ["a b.txt:2: the game is over", f"a b.txt:3: {fault('shape', '1/0')}"]
         is_right = "over 2 pairs of games" in out and "kalah has looked 4 moves ahead in " in out
         must(err == "".join(f"match: {one}\n" for one in want) and is_right, f"match: {out}{err}")
         (self.folder / "a b.txt").write_text(f"{USUAL}\n")

@@ -12,8 +12,8 @@ from itertools import product
 from pathlib import Path
 
 from lib import reference
-from lib.differing import Differs, read_soon
-from lib.drawn import LONG_GAME, SEARCHING, SUBCOMMANDS, TABLES
+from lib.failing import Failed, read_soon
+from lib.random_data import LONG_GAME, SEARCHING, SUBCOMMANDS, TABLES
 from lib.reference import Run
 
 # The number of lines that are sent one by one to a run.
@@ -160,7 +160,7 @@ class AskTrials:
         out, err = process.communicate(b"\n1/0 1/0")
         self.compare(Run(b"fault long\n0 house 1\n", b"", 1), Run(out, err, process.returncode))
         if most > ROOM:
-            raise Differs(f"{most} KB were taken for a long line")
+            raise Failed(f"{most} KB were taken for a long line")
 
     def asked_again(self):
         """What was learned for a line is kept for the next: a hundred equal lines take little longer than one."""
@@ -172,9 +172,9 @@ class AskTrials:
             out, _ = process.communicate(AGAIN * times)
             spent.append(resource.getrusage(resource.RUSAGE_CHILDREN).ru_utime - before)
             if len(set(out.splitlines())) != 1 or out.count(b"\n") != times:
-                raise Differs(f"{times} times the same is answered by {out[:200]}")
+                raise Failed(f"{times} times the same is answered by {out[:200]}")
         if spent[1] > 10 * spent[0] + 0.5:
-            raise Differs(f"one question took {spent[0]:.2f} s, and a hundred times the same {spent[1]:.2f} s")
+            raise Failed(f"one question took {spent[0]:.2f} s, and a hundred times the same {spent[1]:.2f} s")
 
 
 # How often each of these trials is made in one round of all of them.

@@ -10,7 +10,7 @@ from contextlib import contextmanager, suppress
 from pathlib import Path
 
 from lib import reference
-from lib.differing import SOON, piece_in
+from lib.failing import SOON, piece_in
 from lib.reference import Run
 
 # A line that takes no time.

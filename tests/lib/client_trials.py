@@ -14,7 +14,8 @@ from functools import partial
 from itertools import groupby, zip_longest
 from pathlib import Path
 
-from lib.drawn import Drawn
+from lib.failing import Failed
+from lib.random_data import Drawn
 
 TOP = Path(__file__).resolve().parents[2]
 EXAMPLES, PACKAGE = TOP / "examples", TOP / "python"
@@ -24,7 +25,7 @@ os.environ["PYTHONPATH"] = str(PACKAGE)
 os.environ.pop("PYTHONUNBUFFERED", None)
 
 import kalah
-from kalah.client import Client, find
+from kalah.client import Client
 
 QUESTIONS = 10_000
 LINES = ["1,1/30 1,1/0", "0,0/3 1,2/4", "1/0", "2,2,2/0 2,2,2/0"]
@@ -111,10 +112,6 @@ const { Gone, Solver } = require(process.argv[1]);
 """
 
 
-class Wrong(Exception):
-    """A client does something other than it must."""
-
-
 def command(name):
     """Returns the words that run a tool, or a script of the examples, with warnings as errors."""
     return [sys.executable, "-B", "-W", "error", *([str(EXAMPLES / name)] if name.endswith(".py") else ["-m", "kalah", name])]
@@ -134,7 +131,7 @@ def outcome(solver, line):
     try:
         return text_of(solver.ask(line))
     except kalah.Fault as fault:
-        return str(fault)
+        return f"fault {fault.word}"
     except ValueError:
         return INVALID
     except kalah.Gone:
@@ -200,7 +197,7 @@ class C:
 def compare(client, what, want, got):
     for number, (wanted, found) in enumerate(zip_longest(want, got), 1):
         if wanted != found:
-            raise Wrong(f"{client.name}, {what}, question {number}: {found!r} in place of {wanted!r}")
+            raise Failed(f"{client.name}, {what}, question {number}: {found!r} in place of {wanted!r}")
 
 
 def answers(program, form, lines):
@@ -324,11 +321,11 @@ class SolverTrials:
         late = f'echo $$ > "$0.pid"; read -r line; kill -ALRM $PPID; sleep 0.3; echo "$line" | "{self.program}" ask; exec sleep 600'
         with Client(kalah.Best, str(fake(self.folder, self.program, [late]))) as solver:
             try:
-                raise Wrong(f"{outcome(solver, LINES[-1])} has come in spite of a signal")
+                raise Failed(f"{outcome(solver, LINES[-1])} has come in spite of a signal")
             except Interrupted:
                 with suppress(ProcessLookupError):
                     os.kill(int((self.folder / "fake.pid").read_text()), signal.SIGKILL)
-                    raise Wrong("Python: an interrupted question leaves its run")
+                    raise Failed("Python: an interrupted question leaves its run")
                 compare(self.client, "interrupted", self.want, [outcome(solver, line) for line in LINES])
 
     def forked(self):
@@ -342,7 +339,7 @@ class SolverTrials:
                 os._exit(got != want * 100)
             compare(self.client, "after a fork", want * 100, got)
             if os.waitpid(child, 0)[1]:
-                raise Wrong("Python: a forked process got another answer")
+                raise Failed("Python: a forked process got another answer")
 
     def shared(self):
         """Threads ask one solver, which is one run."""
@@ -367,4 +364,4 @@ class SolverTrials:
         with kalah.Solver(str(self.program)) as solver:
             for house in (-1, 0, 3, 7, 9):
                 with suppress(ValueError):
-                    raise Wrong(f"Python: a game begins with house {house}: {solver.line(LINES[0], house)}")
+                    raise Failed(f"Python: a game begins with house {house}: {solver.line(LINES[0], house)}")

@@ -1,4 +1,4 @@
-"""What the page of `web` must show, by the rules of the reference, and expressions for what it shows, for tests/lib/thinking.py."""
+"""What the page of `web` must show, by the rules of the reference, and expressions for what it shows, for tests/lib/page_trials.py."""
 
 from dataclasses import dataclass
 
