@@ -13,7 +13,7 @@ from pathlib import Path
 
 from lib import reference
 from lib.failing import Failed, read_soon
-from lib.random_data import LONG_GAME, SEARCHING, SUBCOMMANDS, TABLES
+from lib.random_data import LONG_GAME, SEARCHING, FILE_SUBCOMMANDS, TABLES
 from lib.reference import Run
 
 # The number of lines that are sent one by one to a run.
@@ -60,7 +60,7 @@ class AskTrials:
 
     def form(self):
         """Returns `solve`, `values` or `steps`, and the arguments of `ask` for it."""
-        form = self.drawn.card("asked forms", SUBCOMMANDS)
+        form = self.drawn.card("asked forms", FILE_SUBCOMMANDS)
         table = self.drawn.card("asked tables", TABLES) if form in SEARCHING else None
         options = [[] if form == "solve" else [f"--{form}"], [] if table is None else [f"--table={table}"]]
         self.drawn.chance.shuffle(options)
@@ -92,7 +92,8 @@ class AskTrials:
         data = self.drawn.file(self.drawn.chance.randint(0, 20 if place == "terminal" else 500))
         if place == "terminal":
             # Only keys that a terminal does not take for commands; the key that ends its input follows.
-            data = b"".join(b"%b\n" % line for line in reference.lines_of(data) if len(line) < 1000 and all(32 <= byte < 127 for byte in line))
+            lines = [line for line in reference.lines_of(data) if len(line) < 1000 and all(32 <= byte < 127 for byte in line)]
+            data = b"".join(b"%b\n" % line for line in lines)
         self.put({"asked": data})
         want = reference.asked(form, data)
         if place == "file":

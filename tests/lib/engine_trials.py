@@ -14,8 +14,8 @@ from statistics import mean, stdev
 from lib import reference
 from lib.client_trials import command, fake
 from lib.game_trials import USUAL, output
+from lib.processes import soon
 from lib.tool_trials import drawn_line, fault, must
-from lib.trials import soon
 
 from kalah import rules
 from kalah.tools import match

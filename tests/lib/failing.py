@@ -1,4 +1,4 @@
-"""The error of a trial that fails, and the time that trials wait for the output of a run."""
+"""The error of a trial that fails, and how long trials wait for the output and the end of a run."""
 
 import os
 import select
@@ -6,6 +6,9 @@ import time
 
 # The seconds after which an answer is considered missing while the run goes on.
 SOON = 30
+
+# The seconds after which a run counts as endless.
+PATIENCE = 120
 
 
 class Failed(Exception):

@@ -6,7 +6,6 @@ To have games whose values the reference finds, some trials lower the limit.
 
 import re
 import subprocess
-import sys
 from argparse import Namespace
 from collections import Counter
 from contextlib import contextmanager
@@ -307,7 +306,8 @@ def try_usual_board(program, folder):
         status, answer = asked(server.server_port, "/values", USUAL)
         must((status, answer) == (422, {"error": "48 seeds in houses: no values above 31 seeds"}), f"web, /values: {status} {answer}")
         status, answer = asked(server.server_port, "/best", USUAL)
-        want = {"is_over": False, "house": rules.guess(USUAL), "guessed": "48 seeds in houses: no values above 31 seeds; it looks 4 moves ahead"}
+        why = "48 seeds in houses: no values above 31 seeds; it looks 4 moves ahead"
+        want = {"is_over": False, "house": rules.guess(USUAL), "guessed": why}
         must((status, answer) == (200, want), f"web, /best: {status} {answer} in place of {want}")
         status, answer = asked(server.server_port, "/best", "1,1/200 1,1/0")
         must(answer == {"is_over": False, "margin": 202, "house": 2}, f"web, with large stores: {status} {answer}")

@@ -8,7 +8,6 @@ import signal
 import subprocess
 import sys
 import tempfile
-import time
 from itertools import count, islice
 from pathlib import Path
 from shutil import which
@@ -19,8 +18,8 @@ from lib.client_trials import PACKAGE, fake, kalah
 from lib.failing import Failed
 from lib.skipping import skip
 from lib.game_trials import position_above
+from lib.processes import soon
 from lib.tool_trials import drawn_game, drawn_line, must
-from lib.trials import soon
 
 from kalah import Best, Board, Fault, Game, Gone, IllegalMove, KalahError, Late, Over, Solver, TooMany, Values, solve_many
 from kalah.client import Client, find

@@ -21,7 +21,7 @@ ENDINGS = [(ending, last) for ending in ([b"\n"], [b"\r\n"], [b"\n", b"\r\n"]) f
 
 # What answers files, by a search or without one.
 SEARCHING = ["solve", "values"]
-SUBCOMMANDS = [*SEARCHING, "steps"]
+FILE_SUBCOMMANDS = [*SEARCHING, "steps"]
 
 # How often a name is that of the previous file, and how often that of some earlier file.
 REPEATS = [(0, 0), (0.5, 0), (0, 0.5), (0.3, 0.3), (1, 0)]
@@ -60,6 +60,14 @@ LINES_OF_MOVES = [*(line for line in LINES_AT_LIMITS if b"\0" not in line), *FUL
 
 # A game whose first moves take long, each about a second with a table of one entry.
 LONG_GAME = b"3,2,1,4,4,3/0 1,0,1,3,4,5/0"
+
+# Lines that are answered at once.
+QUICK = b"1/0 1/0\n"
+EASY = b"1,1/0 1,1/0\n"
+
+# With a table of one entry the first takes long, and no run finishes the second.
+HARD_LINE = b"2,3,2,3,2,3/0 3,2,3,2,3,3/0\n"
+HARD = HARD_LINE * 1000
 
 # The place of `--boards` among the arguments: missing, before the line or after it.
 BOARDS = [None, 0, 1]

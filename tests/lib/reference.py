@@ -4,8 +4,12 @@ Best play is a plain memoized recursion, quick for few seeds. Each subcommand is
 """
 
 import re
+import sys
 from collections import namedtuple
 from functools import lru_cache
+
+# The recursion of best play is as deep as a game has moves.
+sys.setrecursionlimit(100_000)
 
 MOST_HOUSES = 6
 MOST_SEEDS = 31

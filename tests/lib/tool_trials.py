@@ -9,7 +9,6 @@ import random
 import re
 import sqlite3
 import subprocess
-import sys
 from collections import namedtuple
 from itertools import product
 from xml.dom import minidom

@@ -1,4 +1,4 @@
-"""The trials of runs whose threads wait for one another: no thread sleeps on beside what it waits for."""
+"""The trials of runs whose threads wait for one another: no thread sleeps on beside what it waits for, or spins until it comes."""
 
 import fcntl
 import os
@@ -6,18 +6,14 @@ import re
 import subprocess
 import sys
 import time
-from contextlib import contextmanager, suppress
+from contextlib import contextmanager
 from pathlib import Path
 
 from lib import reference
-from lib.failing import SOON, piece_in
+from lib.failing import SOON, Failed, piece_in
+from lib.processes import ticks_of
+from lib.random_data import EASY, HARD, HARD_LINE
 from lib.reference import Run
-
-# A line that takes no time.
-EASY = b"1,1/0 1,1/0\n"
-
-# With a table of one entry this line takes long.
-HARD_LINE = b"2,3,2,3,2,3/0 3,2,3,2,3,3/0\n"
 
 # The numbers of workers of a run whose reader leaves after a second at most, and how many hard lines it has.
 LEFT_WITH_LINES_UNDER_WAY = [*[(4, 10), (8, 10)] * 7, *[(4, 0), (8, 0)] * 2, *[(64, 10), (64, 0)]]
@@ -25,22 +21,15 @@ LEFT_WITH_LINES_UNDER_WAY = [*[(4, 10), (8, 10)] * 7, *[(4, 0), (8, 0)] * 2, *[(
 # How often outcomes are put late, by how many workers, and for how many ticks of the clock these may be at work until all have come.
 LATE_OUTCOMES, LATE_WORKERS, LATE_TICKS = 12, 4, 20
 
+# For how many ticks of the clock a worker is observed.
+AT_WORK = 100
+
 # The places of the results queue.
 LIMITS = Path(__file__).resolve().parents[2] / "crates/kalah_run/src/limits.rt"
 CAPACITY = int(re.search(r"const QUEUE_CAPACITY: u32 = (\d+);", LIMITS.read_text())[1])
 
 # The call that sets the size of a pipe, and the least and a great size.
 F_SETPIPE_SZ, SMALL, LARGE = 1031, 1 << 12, 1 << 20
-
-
-def ticks_of(process):
-    """Returns the processor time of each thread of the process, in ticks of the clock."""
-    ticks = {}
-    for thread in Path(f"/proc/{process.pid}/task").iterdir():
-        with suppress(FileNotFoundError):
-            numbers = (thread / "stat").read_text().rpartition(")")[2].split()
-            ticks[int(thread.name)] = int(numbers[11]) + int(numbers[12])
-    return ticks
 
 
 def workers_of(process):
@@ -97,7 +86,7 @@ class WaitTrials:
             self.compare(Run(want, b"", 0), Run(got[SMALL:], b"", 0))
 
     def read_late(self, process, reader, size):
-        """Reads so much of a full pipe and of what is written to it, once the workers wait for room, for as long as they take little time."""
+        """Reads so much of a full pipe and of what is written to it, once the workers wait for room, as long as they take little time."""
         time.sleep(0.5)
         with hardly_runs(workers_of(process)):
             fcntl.fcntl(reader, F_SETPIPE_SZ, LARGE)
@@ -107,9 +96,25 @@ class WaitTrials:
             got += piece_in(reader, 0.01)
         return got[:size]
 
+    def waits_at_rest(self):
+        """While one worker is at work, the other threads together take at most a tenth of its processor time. A thread that spins beside
+        the worker on one processor may yield to it each time, so it isn't seen in each trial."""
+        self.put({"a": HARD})
+        with self.start([self.searching(), "--table", "1", "--workers", "1", "a"]) as process:
+            end = time.monotonic() + SOON
+            worker = waiting = 0
+            while worker < AT_WORK and time.monotonic() < end:
+                time.sleep(0.05)
+                *others, worker = sorted(ticks_of(process).values())
+                waiting = sum(others)
+            process.kill()
+        if worker < AT_WORK or waiting > worker // 10:
+            raise Failed(f"while the worker took {worker} ticks of the clock, the threads that wait took {waiting}")
+
 
 # How often each of these trials is made in one round of all of them.
 WAIT_KINDS = {
     "left_with_lines_under_way": 2 * len(LEFT_WITH_LINES_UNDER_WAY),
     "late_outcomes": 1,
+    "waits_at_rest": 3,
 }
