@@ -1,13 +1,8 @@
 -- The command line, made of its table.
-use Rattle.std.proofs.Common.{◌≡◌, ℕ, ◌+◌, ◌<◌, ◌∙◌, List, [], ◌∷◌, true, ap, get_or, length, refl, sym, take, fold}
-use Rattle.std.proofs.lemmas.List.Sums.{fold_more}
-use Rattle.clap.specs.Words.{AddsArg, AddsSubcommand, App, app_of, new_app, with_rule, with_subcommand}
-use Rattle.clap.specs.declared.builder.arg.Arg.{Arg}
-use Rattle.clap.specs.declared.builder.command.Command.{Command}
+use Rattle.std.proofs.{Common.{◌≡◌, ℕ, ◌+◌, ◌<◌, ◌∙◌, List, [], ◌∷◌, true, ap, get_or, length, refl, sym, take, fold}, lemmas.List.Sums.{fold_more}}
+use Rattle.clap.specs.{Words.{AddsArg, AddsSubcommand, App, app_of, new_app, with_rule, with_subcommand}, declared.builder.{arg.Arg.{Arg}, command.Command.{Command}}}
 use Rattle.clap.proofs.SimpleLemmas.{plain_fields}
-use Rattle.kalah_cli.specs.Arguments.Command.{IsReadBy, argument_rule, subcommand_app, with_argument, with_listed}
-use Rattle.kalah_cli.specs.declared.arguments.subcommands.Argument.{Argument}
-use Rattle.kalah_cli.specs.declared.arguments.subcommands.Subcommand.{Subcommand}
+use Rattle.kalah_cli.specs.{IsReadBy, argument_rule, subcommand_app, with_argument, with_listed, declared.arguments.subcommands.{Argument.{Argument}, Subcommand.{Subcommand}}}
 
 -- one argument more
 pub argument_added : (start : App) (arguments : List Argument) (i : ℕ) (argument : Argument) {arg : Arg} {old new : Command}

@@ -1,34 +1,13 @@
 -- How a run ends, and what it has answered: a line, files, or the lines of the standard input.
-use Rattle.std.proofs.Common.{◌≡◌, ◌≢◌, ◌∙◌, ℕ, List, true, false, refl, sym, subst, [], ◌↔◌, IsErr, Result, Ok, Err, ◌++◌, Bool, Option, ◌∷◌, ap, map, inl, inr, append-nil, All, IfOk, IsErrOf, None, Some, ◌==◌, if◌then◌else◌, Bor}
-use Rattle.std.proofs.lemmas.Bool.{both_ways, false_from_ne_true}
+use Rattle.std.proofs.{Common.{◌≡◌, ◌≢◌, ◌∙◌, ℕ, List, true, false, refl, sym, subst, [], ◌↔◌, IsErr, Result, Ok, Err, ◌++◌, Bool, Option, ◌∷◌, ap, map, inl, inr, append-nil, All, IfOk, IsErrOf, None, Some, ◌==◌, if◌then◌else◌, Bor}, lemmas.Bool.{both_ways, false_from_ne_true}, KnownBytes.{Keeps-refl}}
 use Rattle.kalah_rules.specs.Position.{Position}
-use Rattle.kalah_jobs.specs.Line.Line.{Reads}
-use Rattle.kalah_jobs.specs.Writing.Sink.{SinkState, WasGiven}
-use Rattle.kalah_jobs.proofs.LineLemmas.{no_line_reads_twice}
-use Rattle.kalah_jobs.proofs.SinkLemmas.{given_then_flush, prefix_none, prefix_then}
-use Rattle.kalah_cli.specs.Exit.Ends.{Ends, IsPrinted, WritesNoPosition, PrintsByStatus, ExitStatus, Failed, LineFaults, Clean}
-use Rattle.kalah_cli.specs.Commands.LineCommand.{MayPrint, command_output}
-use Rattle.kalah_cli.specs.System.Sources.{AreFilesOf, any_bytes, MayBeLeft, Source}
-use Rattle.kalah_cli.specs.Arguments.Request.{about_line, Question, LineCommand}
-use Rattle.kalah_cli.specs.Runs.{Does}
-use Rattle.kalah_jobs.specs.declared.asking.ask_fault.AskFault.{AskFault}
-use Rattle.kalah_jobs.specs.declared.asking.ask_fault.AskFault.TheVariants.{Read, Write}
-use Rattle.std.specs.List.{list_any}
+use Rattle.kalah_jobs.specs.{Line.Line.{Reads}, Writing.{Sink.{SinkState, WasGiven}, Output.{output_to}}, declared.{asking.ask_fault.AskFault.{AskFault, TheVariants.{Read, Write}}, writing.tally.Tally.{Tally}}, Files.NamedBytes.{NamedBytes}, Asking.{IsAnswered, IsBegun, IsCutOff}}
+use Rattle.kalah_jobs.proofs.{LineLemmas.{no_line_reads_twice}, SinkLemmas.{given_then_flush, prefix_none, prefix_then}, AskingLemmas.{begun_so_far, cut_off, nothing_read}}
+use Rattle.kalah_cli.specs.{FailsOrFlushes, IsPrinted, WritesNoPosition, PrintsByStatus, ExitStatus, Failed, LineFaults, Clean, MayPrint, command_output, AreFilesOf, any_bytes, MayBeLeft, Source, Question, LineCommand, Does, AnswersFiles, has_line_feed, AnswersInput, StopsBetweenLines, Arguments.Request.{about_line}}
+use Rattle.std.specs.{List.{list_any}, Io.{Buffered.{reader_buffer, reader_capacity, reader_inner, reader_remaining}, KnownBytes.{Consumes, IsAtEnd, prepend_known}}, declared.io.buffered.BufReader.{BufReader}}
 use Rattle.clap.proofs.WalkLemmas.{list_any-map}
-use Rattle.kalah_jobs.specs.Files.NamedBytes.{NamedBytes}
-use Rattle.kalah_jobs.specs.Writing.Output.{output_to}
-use Rattle.kalah_jobs.specs.declared.writing.tally.Tally.{Tally}
-use Rattle.kalah_run.specs.Batch.Answering.{AnswersAll, AnswersBatch}
-use Rattle.kalah_run.specs.declared.batch.run_fault.RunFault.{RunFault}
+use Rattle.kalah_run.specs.{Batch.Answering.{AnswersAll, AnswersBatch}, declared.batch.run_fault.RunFault.{RunFault}}
 use Rattle.kalah_run.specs.declared.batch.run_fault.RunFault.TheVariants as fault
-use Rattle.kalah_cli.specs.Commands.AnswerFiles.{AnswersFiles, has_line_feed}
-use Rattle.std.specs.Io.Buffered.{reader_buffer, reader_capacity, reader_inner, reader_remaining}
-use Rattle.std.specs.Io.KnownBytes.{Consumes, IsAtEnd, prepend_known}
-use Rattle.std.specs.declared.io.buffered.BufReader.{BufReader}
-use Rattle.std.proofs.KnownBytes.{Keeps-refl}
-use Rattle.kalah_jobs.specs.Asking.{IsAnswered, IsBegun, IsCutOff}
-use Rattle.kalah_jobs.proofs.AskingLemmas.{begun_so_far, cut_off, nothing_read}
-use Rattle.kalah_cli.specs.Commands.Ask.{AnswersInput, StopsBetweenLines}
 
 -- ---- how any run ends
 
@@ -40,11 +19,11 @@ statuses_differ = ((λ same. cc), (λ same. cc), (λ same. cc))
 pub printed_flushed : {O : Type 0} (state : O → SinkState) {old between new : O} {text : List ℕ} → WasGiven state old between text
     → WasGiven state between new [] → ((state new).has_failed ≡ false → (state new).is_flushed ≡ true) → IsPrinted state old new text
 printed_flushed state given flushed all_flushed =
-    record { given = given_then_flush state _ _ _ _ given flushed; all_flushed = all_flushed }
+    record { given = given_then_flush state given flushed; all_flushed = all_flushed }
 
 module _ {O : Type 0} (state : O → SinkState) {status : ExitStatus} where
   -- nothing was written
-  pub ends_unchanged : {out : O} → (state out).has_failed ≡ false → Ends state out out status
+  pub ends_unchanged : {out : O} → (state out).has_failed ≡ false → FailsOrFlushes state out out status
   ends_unchanged sound = record {
     failed = λ failed. absurd (both_ways _ sound failed);
     unchanged = λ _ _. refl;

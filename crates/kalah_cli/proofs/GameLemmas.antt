@@ -1,25 +1,11 @@
 -- The game of best play, move by move.
-use Rattle.std.proofs.Common.{◌⊎◌, ◌<◌, ◌≤◌, ◌-◌, ◌≡◌, ℕ, zero, suc, List, [], ◌∷◌, ◌++◌, Bool, true, false, inl, inr, of_z, refl, sym, subst, to_z, w32, ap, ◌∙◌, arith, Contains, ℤ, None, Option, Some, if◌then◌else◌, unwrap_or}
-use Rattle.std.proofs.lemmas.Bool.{both_ways, cases_Bool}
-use Rattle.std.proofs.lemmas.Int.{ints, to_z-of_z}
-use Rattle.kalah_rules.specs.Position.{Position, HasEqualSides, final_margin, is_over, swapped, swept}
-use Rattle.kalah_rules.specs.Sowing.{after, is_again}
-use Rattle.kalah_rules.specs.Measure.{moves_left}
-use Rattle.kalah_rules.proofs.PlayLemmas.{after_equal_sides, legal_going, row_distance_le, sum-zeros}
-use Rattle.kalah_rules.specs.Play.{legal_houses, position_after, step_of}
+use Rattle.std.proofs.{Common.{◌⊎◌, ◌<◌, ◌≤◌, ◌-◌, ◌≡◌, ℕ, zero, suc, List, [], ◌∷◌, ◌++◌, Bool, true, false, inl, inr, of_z, refl, sym, subst, to_z, w32, ap, ◌∙◌, arith, Contains, ℤ, None, Option, Some, if◌then◌else◌, unwrap_or}, lemmas.{Bool.{both_ways, cases_Bool}, Int.{ints, to_z-of_z}, List.Elements.{Contains-push}}}
+use Rattle.kalah_rules.specs.{Position.{Position, HasEqualSides, final_margin, is_over, swapped, swept}, Sowing.{after, moves_again}, Measure.{moves_left}, Play.{legal_houses, position_after, step_of}, declared.step.Step.{Step}}
+use Rattle.kalah_rules.proofs.{PlayLemmas.{after_equal_sides, legal_going, row_distance_le, sum-zeros}, PackedLemmas.{is_over-swapped}}
 use Rattle.kalah_rules.specs.declared.step.Step.TheVariants as step
-use Rattle.kalah_rules.specs.declared.step.Step.{Step}
-use Rattle.kalah_solve.specs.Solver.BestPlay.{Game, Policy, follow}
-use Rattle.kalah_solve.specs.Solver.BestPlay.Game.{is_at_end, moves_on, passes_turn}
-use Rattle.kalah_solve.specs.Solver.Verdict.{IsSmallBest, StatesBestMove, verdict_of}
-use Rattle.kalah_solve.specs.Solver.Worth.{best_house, value_of_move, worth}
-use Rattle.kalah_solve.specs.declared.solver.Verdict.TheVariants.{Best, Over}
-use Rattle.std.proofs.lemmas.List.Elements.{Contains-push}
-use Rattle.kalah_solve.proofs.SolverLemmas.{best_is_strategy, best_plays, game_is_bounded, strategy_within, widened}
-use Rattle.kalah_rules.proofs.PackedLemmas.{is_over-swapped}
-use Rattle.kalah_solve.proofs.WorthLemmas.{final_swapped, value_moving_again, value_of_again, value_of_turn, value_passing, worth_of_over, again_fewer, over_at_end, over_ends, step_states, swapped_equal_sides, turn_fewer}
-use Rattle.kalah_cli.specs.Commands.Game.{IsNextMove, PlaysBestGames, VariationsEndWithTheirValue, best_game, best_moves, game_played, game_text, move_text, printed_value, MoveForm}
-use Rattle.kalah_cli.specs.Commands.Play.{MayBegin}
+use Rattle.kalah_solve.specs.{Solver.{BestPlay.{Game, Policy, follow, Game.{is_at_end, moves_on, passes_turn}}, Verdict.{IsBestInRange, StatesBestMove, verdict_of}, Worth.{best_house, value_of_move, worth}}, declared.solver.Verdict.TheVariants.{Best, Over}}
+use Rattle.kalah_solve.proofs.{SolverLemmas.{best_is_strategy, best_plays, game_is_bounded, strategy_within, widened}, WorthLemmas.{final_swapped, value_moving_again, value_of_again, value_of_turn, value_passing, worth_of_over, again_fewer, over_at_end, over_ends, step_states, swapped_equal_sides, turn_fewer}}
+use Rattle.kalah_cli.specs.{IsNextMove, PlaysBestGames, VariationsEndWithTheirValue, best_game, best_moves, game_played, game_text, move_text, printed_value, MoveForm, MayBegin}
 
 -- both players always move the lowest best house
 abbrev pub BestGame : Position → List ℕ → Position → Type 0
@@ -33,16 +19,9 @@ best_of_verdict p margin house going verdict =
     verdict ∙ ap (λ b. if b then Over (final_margin p) else Best (worth p) (best_house p)) going in
     (cc both, cc both)
 
--- the position after a step, in each case
-pub after_step : (s : Step) (p : Position) → (s ≡ step.Again p) ⊎ ((s ≡ step.Turn p) ⊎ (s ≡ step.Over p))
-    → p ≡ position_after s
-after_step s p (inl again) = sym (ap position_after again)
-after_step s p (inr (inl turn)) = sym (ap position_after turn)
-after_step s p (inr (inr over)) = sym (ap position_after over)
-
 -- the position after any move has as many houses on each side
 equal_after : (p : Position) (h : ℕ) → HasEqualSides (position_after (step_of p h))
-equal_after p h = go (is_over (after p h)) (is_again p h)
+equal_after p h = go (is_over (after p h)) (moves_again p h)
   where
     go : (over again : Bool) → HasEqualSides (position_after (if over then step.Over (swept (after p h)) else
         (if again then step.Again (after p h) else step.Turn (swapped (after p h)))))
@@ -79,23 +58,23 @@ game_before : {policy : Policy} {p : Position} {h : ℕ} {houses : List ℕ} {fi
     → Contains (policy p) h → s ≡ step_of p h → Game policy policy (position_after s) houses final
     → LongerGame policy p h houses (position_after s) final
 game_before {policy} {p} {h} {houses} {final} (step.Again q) going allowed step_is game =
-    let states = step_states (is_over (after p h)) (is_again p h) (after p h) (step.Again q) step_is in
+    let states = step_states (is_over (after p h)) (moves_again p h) (after p h) (step.Again q) step_is in
     record {
       end = final;
       game = moves_on going allowed states.1 (subst (λ r. Game policy policy r houses final) states.2 game);
       margin = λ margin. margin ∙ value_of_again p h q step_is;
     }
 game_before {policy} {p} {h} {houses} {final} (step.Turn q) going allowed step_is game =
-    let states = step_states (is_over (after p h)) (is_again p h) (after p h) (step.Turn q) step_is in
+    let states = step_states (is_over (after p h)) (moves_again p h) (after p h) (step.Turn q) step_is in
     record {
       end = swapped final;
       game = passes_turn going allowed states.1 (subst (λ r. Game policy policy r houses final) states.2 game);
       margin = λ margin. omega (arith, ints, final_swapped final, margin, value_of_turn p h q step_is);
     }
 game_before {p = p} {h = h} (step.Over q) going allowed step_is (is_at_end _) =
-    let over = (step_states (is_over (after p h)) (is_again p h) (after p h) (step.Over q) step_is).0 in
+    let over = (step_states (is_over (after p h)) (moves_again p h) (after p h) (step.Over q) step_is).0 in
     let over_swapped = is_over-swapped (after p h) ∙ over in
-    elim (cases_Bool (is_again p h)) [
+    elim (cases_Bool (moves_again p h)) [
       | inl again ↦ record {
         end = after p h;
         game = moves_on going allowed again (is_at_end over);
@@ -195,7 +174,7 @@ no_text form (Some h) p may_begin over = absurd (both_ways _ (legal_going p h ma
 
 -- the verdict determines the next move, by a margin of thirty-two bits
 pub next_of_verdict : (form : MoveForm) (first : Option ℕ) (p : Position) {margin : ℤ} {house : ℕ} → MayBegin first p
-    → IsSmallBest margin house → StatesBestMove p margin house → Best margin house ≡ verdict_of p
+    → IsBestInRange margin house → StatesBestMove p margin house → Best margin house ≡ verdict_of p
     → IsNextMove form first p (printed_value form (to_z w32 (of_z w32 margin))) (unwrap_or first house)
 next_of_verdict form first p {margin} {house} may_begin small states verdict =
     let best = best_of_verdict p margin house states.going verdict in

@@ -2,16 +2,8 @@
 use Rattle.std.proofs.Common.{◌≡◌, ◌≢◌, ◌∷◌, ℕ, List, [], Option, arith, None, Some, ap, inl, inr, length, subst, suc, true, ◌↔◌, IfSome}
 use Rattle.std.specs.Io.KnownBytes.{Appends}
 use Rattle.clap.specs.Words.{Text}
-use Rattle.kalah_jobs.specs.Asking.{answers_to, are_all_read}
-use Rattle.kalah_jobs.specs.Files.NamedBytes.{NamedBytes}
-use Rattle.kalah_jobs.specs.Writing.Sink.{SinkState}
-use Rattle.kalah_cli.specs.Commands.Ask.{AnswersInput}
-use Rattle.kalah_cli.specs.KnownRuns.{AnswersWhatIsKnown, IsAnswerTo, IsAnswerToLines}
-use Rattle.kalah_cli.specs.Arguments.Request.{about_files, about_input, Question}
-use Rattle.kalah_cli.specs.Runs.{DoesWhatIsAsked}
-use Rattle.kalah_cli.specs.Commands.AnswerFiles.{AnswersFiles}
-use Rattle.kalah_cli.specs.System.Sources.{AreFilesOf, MayBeLeft, known_bytes}
-use Rattle.kalah_cli.specs.Exit.Status.{ExitStatus, Clean, Failed}
+use Rattle.kalah_jobs.specs.{Asking.{answers_to, are_all_read}, Files.NamedBytes.{NamedBytes}, Writing.Sink.{SinkState}}
+use Rattle.kalah_cli.specs.{AnswersInput, AnswersWhatIsKnown, IsAnswerTo, IsAnswerToLines, Question, DoesWhatIsAsked, AnswersFiles, AreFilesOf, MayBeLeft, known_bytes, ExitStatus, Clean, Failed, Arguments.Request.{about_files, about_input}}
 
 -- a standard input that may be left is the one that is known
 known_left : (input : List ℕ) (unread : Option (List ℕ)) → MayBeLeft (λ bytes. bytes ≡ input) unread → unread ≡ Some input

@@ -5,5 +5,5 @@ pub mod RequestLemmas
 pub mod EndsLemmas
 pub mod RunLemmas
 pub mod GameLemmas
-pub mod SolverLemmas
+pub mod GameSolverLemmas
 pub mod KnownLemmas

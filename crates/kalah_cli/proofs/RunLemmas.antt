@@ -1,31 +1,21 @@
 -- What a run promises of its arguments.
-use Rattle.std.proofs.Common.{◌≡◌, ◌≢◌, ◌∙◌, ℕ, List, true, false, sym, subst, inl, inr}
-use Rattle.std.proofs.lemmas.Bool.{false_from_ne_true}
+use Rattle.std.proofs.{Common.{◌≡◌, ◌≢◌, ◌∙◌, ℕ, List, true, false, sym, subst, inl, inr}, lemmas.Bool.{false_from_ne_true}}
 use Rattle.kalah_jobs.specs.Writing.Sink.{SinkState}
-use Rattle.kalah_cli.specs.Exit.Ends.{Ends, FailsWithoutOutput, ExitStatus, Failed, LineFaults, Clean}
-use Rattle.kalah_cli.specs.System.Sources.{Source}
+use Rattle.kalah_cli.specs.{FailsOrFlushes, FailsWithoutOutput, ExitStatus, Failed, LineFaults, Clean, Source, StopsBetweenLines, kalah_app, Task, DoesNotAskFor, IsAcceptedAs, Question, Moves, Does, DoesWhatIsAsked, NeedsNoInput, MovesByItsArguments, EndsWithoutRequest, version_line, Arguments.Request.{about_line, about_files, about_input, conflict}}
 use Rattle.std.specs.Io.KnownBytes.{Appends}
-use Rattle.kalah_cli.specs.Commands.Ask.{StopsBetweenLines}
-use Rattle.clap.specs.Words.{HasKind, IsAmong, Text, fault_of, kind_of}
-use Rattle.clap.specs.declared.error.Error.{Error}
-use Rattle.clap.specs.declared.error.kind.ErrorKind.{ErrorKind}
-use Rattle.clap.specs.declared.error.kind.ErrorKind.TheVariants.{DisplayHelp, DisplayVersion, OutOfMemory}
-use Rattle.kalah_cli.specs.Arguments.Command.{kalah_app}
-use Rattle.kalah_cli.specs.Arguments.Request.{Task, DoesNotAskFor, IsAcceptedAs, about_line, about_files, about_input, conflict, Question, Moves}
-use Rattle.kalah_cli.specs.Runs.{Does, DoesWhatIsAsked, NeedsNoInput, MovesByItsArguments, EndsWithoutRequest, version_line}
-use Rattle.kalah_cli.proofs.RequestLemmas.{moves_accepted, accepted_at, accepted_once, read_is_no_flag}
-use Rattle.kalah_cli.proofs.EndsLemmas.{ends_unchanged, stops_at_once}
+use Rattle.clap.specs.{Words.{HasKind, IsAmong, Text, fault_of, kind_of}, declared.error.{Error.{Error}, kind.ErrorKind.{ErrorKind, TheVariants.{DisplayHelp, DisplayVersion, OutOfMemory}}}}
+use Rattle.kalah_cli.proofs.{RequestLemmas.{moves_accepted, accepted_at, accepted_once, read_is_no_flag}, EndsLemmas.{ends_unchanged, stops_at_once}}
 
 -- ---- what arguments are accepted as, and what is done for them
 
 module _ {O : Type 0} (state : O → SinkState) {old new : O} {status : ExitStatus} (may_give : Source → List ℕ → Type 0)
     (sound : (state old).has_failed ≡ false) where
   -- how a run ends that does what is asked, unless lines of the standard input are to be answered
-  run_ends : (task : Task) → NeedsNoInput task → Does state old new status may_give task → Ends state old new status
+  run_ends : (task : Task) → NeedsNoInput task → Does state old new status may_give task → FailsOrFlushes state old new status
   run_ends (about_line command line) _ does = does.0.ends
   run_ends (about_files question workers table_entries progress names) _ does = does.ends
   run_ends (about_input question table_entries) no_input does = absurd no_input
-  run_ends conflict _ does = subst (λ o. Ends state old o status) (sym does.1) (ends_unchanged state sound)
+  run_ends conflict _ does = subst (λ o. FailsOrFlushes state old o status) (sym does.1) (ends_unchanged state sound)
 
   -- if a write failed, it failed
   run_fails : (task : Task) → Does state old new status may_give task → (state new).has_failed ≡ true → status ≡ Failed
@@ -52,6 +42,19 @@ kind_not_asked_for k arguments e other has_kind unasked = λ asked.
 
 module _ {O : Type 0} (state : O → SinkState) (arguments : List Text) (may_give : Source → List ℕ → Type 0) (old new : O)
     (status : ExitStatus) where
+  -- what is promised of every run, but for what follows from these
+  pub record KeepsPromises : Type 0 where
+    pub accepted : DoesWhatIsAsked state old new status may_give arguments
+    pub no_request : EndsWithoutRequest state arguments old new status
+    pub failed : (state new).has_failed ≡ true → status ≡ Failed
+    pub unchanged : ((task : Task) → IsAcceptedAs arguments task → NeedsNoInput task) → status ≡ Failed
+        → (state new).has_failed ≡ false → new ≡ old
+    pub stopped : (question : Question) (table_entries : ℕ) → IsAcceptedAs arguments (about_input question table_entries) → status ≡ Failed
+        → (state new).has_failed ≡ false → StopsBetweenLines question (state old).written (state new).written
+    pub all_flushed : status ≢ Failed → (state old).is_flushed ≡ true → (state new).is_flushed ≡ true
+
+module _ {O : Type 0} {state : O → SinkState} {arguments : List Text} {may_give : Source → List ℕ → Type 0} {old new : O}
+    {status : ExitStatus} where
   -- what is promised of arguments that are accepted covers those of `moves`
   pub by_arguments : DoesWhatIsAsked state old new status may_give arguments → MovesByItsArguments state arguments old new status
   by_arguments accepted = record {
@@ -67,20 +70,9 @@ module _ {O : Type 0} (state : O → SinkState) (arguments : List Text) (may_giv
         ];
   }
 
-  -- what is promised of every run, but for what follows from these
-  pub record KeepsPromises : Type 0 where
-    pub accepted : DoesWhatIsAsked state old new status may_give arguments
-    pub no_request : EndsWithoutRequest state arguments old new status
-    pub failed : (state new).has_failed ≡ true → status ≡ Failed
-    pub unchanged : ((task : Task) → IsAcceptedAs arguments task → NeedsNoInput task) → status ≡ Failed
-        → (state new).has_failed ≡ false → new ≡ old
-    pub stopped : (question : Question) (table_entries : ℕ) → IsAcceptedAs arguments (about_input question table_entries) → status ≡ Failed
-        → (state new).has_failed ≡ false → StopsBetweenLines question (state old).written (state new).written
-    pub all_flushed : status ≢ Failed → (state old).is_flushed ≡ true → (state new).is_flushed ≡ true
-
   -- the arguments are accepted, and what they ask for is done
   pub run_of_request : {b : Task} → (state old).has_failed ≡ false → IsAcceptedAs arguments b → Does state old new status may_give b
-      → KeepsPromises
+      → KeepsPromises state arguments may_give old new status
   run_of_request {b} sound accepted_as done =
       let does : (a : Task) → IsAcceptedAs arguments a → Does state old new status may_give a =
       λ a also_as. subst (Does state old new status may_give) (accepted_once arguments b a accepted_as also_as) done in
@@ -104,7 +96,7 @@ module _ {O : Type 0} (state : O → SinkState) (arguments : List Text) (may_giv
       → ((state new).has_failed ≡ true → status ≡ Failed)
       → (status ≡ Failed → (state new).has_failed ≡ false → new ≡ old) → status ≢ LineFaults
       → (kind_of error ≢ DisplayHelp → status ≡ Clean → Appends (state old).written (state new).written version_line)
-      → (status ≢ Failed → (state new).is_flushed ≡ true) → KeepsPromises
+      → (status ≢ Failed → (state new).is_flushed ≡ true) → KeepsPromises state arguments may_give old new status
   run_without_request error has_kind mistake failed unchanged no_line version all_flushed =
       let without_output : DoesNotAskFor DisplayHelp arguments → DoesNotAskFor DisplayVersion arguments
       → FailsWithoutOutput old new status =

@@ -1,3 +1,4 @@
+pub mod Printing
 pub mod Moves
 pub mod Game
 pub mod Play
@@ -5,5 +6,5 @@ pub mod Show
 pub mod GameSolver
 pub mod LineCommand
 pub mod Count
-pub mod AnswerFiles
+pub mod Files
 pub mod Ask

@@ -1,12 +1,8 @@
 -- Runs over a disk and a standard input that are known.
 use Rattle.std.specs.Prelude.{◌≡◌, ◌≢◌, ◌↔◌, ℕ, Bool, true, List}
 use Rattle.clap.specs.Words.{Text}
-use Rattle.kalah_jobs.specs.Asking.{answers_to, are_all_read}
-use Rattle.kalah_jobs.specs.Files.NamedBytes.{NamedBytes}
-use Rattle.kalah_jobs.specs.Writing.Output.{output_to, tally_of}
-use Rattle.kalah_cli.specs.Arguments.Request.{IsAcceptedAs, about_files, about_input, Question}
-use Rattle.kalah_cli.specs.System.Sources.{AreFilesOf, known_bytes}
-use Rattle.kalah_cli.specs.Exit.Status.{ExitStatus, Clean, Failed}
+use Rattle.kalah_jobs.specs.{Asking.{answers_to, are_all_read}, Files.NamedBytes.{NamedBytes}, Writing.Output.{output_to, tally_of}}
+use Rattle.kalah_cli.specs.{Arguments.Request.{IsAcceptedAs, about_files, about_input, Question}, System.Sources.{AreFilesOf, known_bytes}, Exit.Status.{ExitStatus, Clean, Failed}}
 
 module _ (status : ExitStatus) (output : List ℕ) where
   -- this output and this status answer the files

@@ -1,19 +1,9 @@
 -- What the program does for each request.
-use Rattle.std.specs.Prelude.{◌≡◌, ◌≢◌, ◌++◌, ◌∷◌, ◌⊎◌, ℕ, List, [], Option, codes, false, ⊤}
-use Rattle.std.specs.Io.KnownBytes.{Appends}
-use Rattle.clap.specs.Words.{Text}
-use Rattle.clap.specs.declared.error.kind.ErrorKind.TheVariants.{DisplayHelp, DisplayVersion}
+use Rattle.std.specs.{Prelude.{◌≡◌, ◌≢◌, ◌++◌, ◌∷◌, ◌⊎◌, ℕ, List, [], Option, codes, false, ⊤}, Io.KnownBytes.{Appends}}
+use Rattle.clap.specs.{Words.{Text}, declared.error.kind.ErrorKind.TheVariants.{DisplayHelp, DisplayVersion}}
 use Rattle.kalah_rules.specs.Position.{Position}
-use Rattle.kalah_jobs.specs.Files.Lines.{line_feed}
-use Rattle.kalah_jobs.specs.Line.Line.{Reads}
-use Rattle.kalah_jobs.specs.Writing.Sink.{SinkState}
-use Rattle.kalah_cli.specs.Commands.LineCommand.{MayPrint, command_output}
-use Rattle.kalah_cli.specs.Commands.Moves.{moves_output}
-use Rattle.kalah_cli.specs.Arguments.Request.{Task, DoesNotAskFor, MakesNoRequest, IsAcceptedAs, Question, about_line, about_files, about_input, conflict}
-use Rattle.kalah_cli.specs.Commands.Ask.{AnswersInput}
-use Rattle.kalah_cli.specs.Commands.AnswerFiles.{AnswersFiles}
-use Rattle.kalah_cli.specs.System.Sources.{MayBeLeft, Source, standard_input}
-use Rattle.kalah_cli.specs.Exit.Ends.{AnswersLine, FailsWithoutOutput, WritesNoPosition, ExitStatus, Clean, LineFaults, Failed}
+use Rattle.kalah_jobs.specs.{Files.Lines.{line_feed}, Line.Line.{Reads}, Writing.Sink.{SinkState}}
+use Rattle.kalah_cli.specs.{Commands.{LineCommand.{MayPrint, command_output}, Moves.{moves_output}, Ask.{AnswersInput}, Files.{AnswersFiles}, Printing.{PrintsForLine, WritesNoPosition}}, Arguments.Request.{Task, DoesNotAskFor, MakesNoRequest, IsAcceptedAs, Question, about_line, about_files, about_input, conflict}, System.Sources.{MayBeLeft, Source, standard_input}, Exit.{Ends.{FailsWithoutOutput}, Status.{ExitStatus, Clean, LineFaults, Failed}}}
 
 -- nothing is asked of the standard input
 abbrev pub NeedsNoInput : Task → Type 0
@@ -35,13 +25,13 @@ module _ {O : Type 0} (state : O → SinkState) (old new : O) (status : ExitStat
   -- what the program does for each request. A game that is asked to begin with a house that may not be moved fails without output, and
   -- so do options that exclude each other
   abbrev pub Does : Task → Type 0
-  Does (about_line command line) = AnswersLine state old new status line (command_output command)
+  Does (about_line command line) = PrintsForLine state old new status line (command_output command)
       × ((p : Position) → Reads line p → (MayPrint command p → ⊥) → FailsWithoutOutput old new status)
   Does (about_files question workers table_entries progress names) = AnswersFiles state old new status may_give question names
   Does (about_input question table_entries) = AnswersStandardInput question
   Does conflict = FailsWithoutOutput old new status
 
-  -- accepted arguments: the program does what they ask for, or it fails without output
+  -- accepted arguments: the program does what they ask for (if it fails, a prefix of that), or it fails without output
   abbrev pub DoesWhatIsAsked : List Text → Type 0
   DoesWhatIsAsked arguments = (task : Task) → IsAcceptedAs arguments task → Does task ⊎ FailsWithoutOutput old new status
 
@@ -53,7 +43,7 @@ IsNoFlag [] = ⊥
 IsNoFlag (x ∷ xs) = x ≢ 45
 
 module _ {O : Type 0} (state : O → SinkState) (arguments : List Text) (old new : O) (status : ExitStatus) where
-  -- the arguments of `moves` without options: an example whose promise names no parse
+  -- the words of `moves` without options. It shows that some arguments are accepted, so that `DoesWhatIsAsked` isn't empty
   pub record MovesByItsArguments : Type 0 where
     -- `moves` and a line that can be read: its moves are written, if nothing fails
     pub moves : (name line : Text) → arguments ≡ name ∷ codes "moves" ∷ line ∷ [] → (p : Position) → Reads line p

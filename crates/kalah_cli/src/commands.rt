@@ -1,7 +1,7 @@
 //! What each subcommand does.
-pub(crate) mod answer_files;
 pub(crate) mod ask;
 pub(crate) mod count;
+pub(crate) mod files;
 pub(crate) mod game;
 pub(crate) mod game_solver;
 pub(crate) mod line_command;

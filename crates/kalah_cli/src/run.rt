@@ -1,19 +1,13 @@
 //! The program, run on its arguments.
-ghost use Rattle.std.specs.Prelude.{◌≡◌, ◌≢◌, ◌<◌, ℕ, false, true, vec_len};
-ghost use Rattle.std.specs.Io.KnownBytes.{Appends};
-ghost use Rattle.clap.specs.Values.{kind_of};
-ghost use Rattle.clap.specs.declared.error.kind.ErrorKind.TheVariants.{DisplayHelp, DisplayVersion};
+ghost use Rattle.std.specs.{Prelude.{◌≡◌, ◌≢◌, ◌<◌, ℕ, false, true, vec_len}, Io.KnownBytes.{Appends}};
+ghost use Rattle.clap.specs.{Values.{kind_of}, declared.error.kind.ErrorKind.TheVariants.{DisplayHelp, DisplayVersion}};
 ghost use Rattle.kalah_jobs.specs.declared.files.question.Question.{Question};
-ghost use Rattle.kalah_cli.specs.Commands.Ask.{StopsBetweenLines};
-ghost use Rattle.kalah_cli.specs.Exit.Ends.{FailsWithoutOutput, IsPrinted, exit_status_of};
-ghost use Rattle.kalah_cli.specs.Commands.Game.{PlaysBestGames, VariationsEndWithTheirValue};
-ghost use Rattle.kalah_cli.specs.Arguments.Request.{Task, IsInRange, IsAcceptedAs, about_input, task_of, texts_of};
-ghost use Rattle.kalah_cli.specs.Runs.{Does, DoesWhatIsAsked, NeedsNoInput, MovesByItsArguments, EndsWithoutRequest, version_line};
+ghost use Rattle.kalah_cli.specs.{Commands.{Ask.{StopsBetweenLines}, Game.{PlaysBestGames, VariationsEndWithTheirValue}, Printing.{IsPrinted}}, Exit.Ends.{FailsWithoutOutput, exit_status_of}, Arguments.Request.{Task, IsInRange, IsAcceptedAs, about_input, task_of, texts_of}, Runs.{Does, DoesWhatIsAsked, NeedsNoInput, MovesByItsArguments, EndsWithoutRequest, version_line}};
 
 use crate::arguments::help::VERSION_LINE;
 use crate::arguments::request::{Request, parse};
-use crate::commands::answer_files::run_files;
 use crate::commands::ask::run_ask;
+use crate::commands::files::run_files;
 use crate::commands::line_command::run_line;
 use crate::exit::failure::{Failure, report_end, status_of_sink};
 use crate::exit::status::ExitStatus;
@@ -118,9 +112,9 @@ pub fn run_words<R: Sources + Clock + Terminal + Threads + Wait + Sync, O: Sink,
 ) -> ExitStatus
     requires sink { (O.state out.old).has_failed ≡ false }
     requires named { 0 < vec_len words }
-    // Arguments that make a request: the program does what they ask for, or fails and writes nothing. What it does for `moves LINE` is
-    // also promised without a parse.
+    // Arguments that make a request: the program does what they ask for (if it fails, in part), or fails and writes nothing.
     ensures accepted { DoesWhatIsAsked O.state out.old out.new result (R.may_give rt.now) (texts_of words.items) }
+    // The same of `moves LINE`, named by its words. It shows that some arguments are accepted, so that `accepted` isn't empty.
     ensures by_arguments { MovesByItsArguments O.state (texts_of words.items) out.old out.new result }
     // The game that `play` prints is one of best play, from the second move on if the first is given. A line of `show --lines` ends with
     // the value of its move.

@@ -1,1 +1,2 @@
+//! The tests of the whole crate.
 mod calling;

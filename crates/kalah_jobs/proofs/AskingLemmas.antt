@@ -1,30 +1,10 @@
 -- Lines that come as a stream: what is answered of them, and how far.
-use Rattle.std.proofs.Common.{◌≡◌, ◌≢◌, ◌∙◌, ℕ, zero, suc, ◌+◌, ◌≤◌, Bool, true, false, List, [], ◌∷◌, ◌++◌, length, take, inl, inr, refl, sym, ap, ap₂, arith, append-nil, append_assoc, Err, not, ◌||◌, ◌&&◌, subst, length-take-le, take_all, Result, Ok, Option, IsErrOf}
-use Rattle.std.proofs.KnownBytes.{Appends-kept, Appends-nil, Appends-trans, Consumes-kept, Consumes-nil, Consumes-trans, Consumes-whole, Keeps-refl}
-use Rattle.std.proofs.Math.Bool.{and-true}
-use Rattle.std.proofs.lemmas.Bool.{cases_lt, cond_both}
-use Rattle.std.proofs.lemmas.Grind.{flat_map-append}
-use Rattle.std.proofs.lemmas.List.Elements.{All-nil, All-push}
-use Rattle.std.proofs.lemmas.List.Folds.{list_any-append}
-use Rattle.std.specs.Io.KnownBytes.{Appends, Consumes, IsAtEnd, Keeps}
-use Rattle.std.specs.List.{flat_map, enumerate_from}
+use Rattle.std.proofs.{Common.{◌≡◌, ◌≢◌, ◌∙◌, ℕ, zero, suc, ◌+◌, ◌≤◌, Bool, true, false, List, [], ◌∷◌, ◌++◌, length, take, inl, inr, refl, sym, ap, ap₂, arith, append-nil, append_assoc, Err, not, ◌||◌, ◌&&◌, subst, length-take-le, take_all, Result, Ok, Option, IsErrOf}, KnownBytes.{Appends-kept, Appends-nil, Appends-trans, Consumes-kept, Consumes-nil, Consumes-trans, Consumes-whole, Keeps-refl}, Math.Bool.{and-true}, lemmas.{Bool.{cases_lt, cond_both}, Grind.{flat_map-append}, List.{Elements.{All-nil, All-push}, Folds.{list_any-append}}}}
+use Rattle.std.specs.{Io.KnownBytes.{Appends, Consumes, IsAtEnd, Keeps}, List.{flat_map, enumerate_from}}
 use Rattle.kalah_rules.specs.Position as position
 use Rattle.kalah_rules.specs.Position.{is_over}
-use Rattle.kalah_jobs.specs.Asking.{kept_bytes, reply, last_reply, is_last_read, answers_to, are_all_read, AnswersAreThoseOfAFile, AnswersLines, AreAnswered, IsAnswered, IsBegun, IsCutOff, LeavesBy, StreamStart}
-use Rattle.kalah_jobs.specs.Files.Entry.{entry_of_reading, entry_to, is_faulty, is_faulty_entry}
-use Rattle.kalah_jobs.specs.Files.Lines.{line_feed, lines_of, EndsWithItsLine, HasNoLineFeed}
-use Rattle.kalah_jobs.specs.Line.Line.{without_cr}
-use Rattle.kalah_jobs.specs.Line.Reading.{reading_of}
-use Rattle.kalah_jobs.specs.Types.{AskFault, Question, LineFault, Read, Write, Long}
-use Rattle.kalah_jobs.specs.Writing.Answer.{answer_of, joined_text, place_text, HasOneText}
-use Rattle.kalah_jobs.specs.Writing.Output.{line_output}
-use Rattle.kalah_jobs.specs.Writing.Sink.{AppendsPrefix, SinkState}
-use Rattle.kalah_jobs.specs.declared.files.entry.Entry.TheVariants.{Bad}
-use Rattle.kalah_jobs.specs.declared.files.question.Question.TheVariants.{BestMove, Values, Steps}
-use Rattle.kalah_jobs.proofs.FileLinesLemmas.{IsNoFeed, lines_of-ended, lines_of-open, lines_of-empty}
-use Rattle.kalah_jobs.proofs.LineLemmas.{long_is_read}
-use Rattle.kalah_jobs.proofs.TextLemmas.{one_line_parts}
-use Rattle.kalah_jobs.proofs.WritingLemmas.{files_split_between_lines}
+use Rattle.kalah_jobs.specs.{kept_bytes, reply, last_reply, is_last_read, answers_to, are_all_read, AnswersAreThoseOfAFile, AnswersLines, AreAnswered, IsAnswered, IsBegun, IsCutOff, LeavesBy, StreamStart, entry_of_reading, entry_to, is_faulty, is_faulty_entry, line_feed, lines_of, EndsWithItsLine, HasNoLineFeed, without_cr, reading_of, AskFault, Question, LineFault, Read, Write, Long, answer_of, joined_text, place_text, HasOneText, line_output, AppendsPrefix, SinkState, declared.files.{entry.Entry.TheVariants.{Bad}, question.Question.TheVariants.{BestMove, Values, Steps}}}
+use Rattle.kalah_jobs.proofs.{FileLinesLemmas.{IsNoFeed, lines_of-ended, lines_of-open, lines_of-empty}, LineLemmas.{long_is_read}, TextLemmas.{one_line_parts}, WritingLemmas.{files_split_between_lines}}
 
 -- ==== What is answered, line by line
 

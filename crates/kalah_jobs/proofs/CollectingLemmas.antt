@@ -1,24 +1,8 @@
 -- The collector: how far each file has come, and what any list of offers and takes makes of it.
-use Rattle.std.proofs.Common.{◌≡◌, ℕ, zero, suc, ◌+◌, ◌<◌, ◌≤◌, List, [], ◌∷◌, length, set, get_or, replicate, true, false, refl, arith, ap, eq-eqb, ◌≢◌, inl, inr, cond, ◌++◌, map, ◌∙◌, sym, ne_eqb, length-set, get_or-set_other, get_or-set_same, take, Option, Some, None, is_some, IsSome, Contains, Result, Ok, Err, IsOk}
-use Rattle.std.proofs.lemmas.Bool.{cases_eq}
-use Rattle.std.proofs.lemmas.Bool.Decides.{nat_tests}
-use Rattle.std.proofs.lemmas.List.{length-map, get_or_default, length-replicate, get_or-replicate, get_or_past, append-nil, append_assoc, take_all, take_more, get_or-map}
-use Rattle.std.proofs.lemmas.List.Elements.{Contains-append_left, Contains-push, Contains-push_cases}
-use Rattle.std.proofs.lemmas.List.FromFn.{length-enumerate_from, get_or-enumerate_from}
-use Rattle.std.proofs.lemmas.List.Sums.{sum_by-append}
-use Rattle.std.proofs.lemmas.Option.{slice_get_within, get_or_from_slice_get, slice_get-get_or}
+use Rattle.std.proofs.{Common.{◌≡◌, ℕ, zero, suc, ◌+◌, ◌<◌, ◌≤◌, List, [], ◌∷◌, length, set, get_or, replicate, true, false, refl, arith, ap, eq-eqb, ◌≢◌, inl, inr, cond, ◌++◌, map, ◌∙◌, sym, ne_eqb, length-set, get_or-set_other, get_or-set_same, take, Option, Some, None, is_some, IsSome, Contains, Result, Ok, Err, IsOk}, lemmas.{Bool.{cases_eq, Decides.{nat_tests}}, List.{length-map, get_or_default, length-replicate, get_or-replicate, get_or_past, append-nil, append_assoc, take_all, take_more, get_or-map, Elements.{Contains-append_left, Contains-push, Contains-push_cases}, FromFn.{length-enumerate_from, get_or-enumerate_from}, Sums.{sum_by-append}}, Option.{slice_get_within, get_or_from_slice_get, slice_get-get_or}}}
 use Rattle.std.specs.List.{enumerate_from}
-use Rattle.kalah_jobs.specs.Collecting.AnyOrder.{AreJobsInSomeOrder, AcceptsEachJob, MakesEveryLineReady}
-use Rattle.kalah_jobs.specs.Collecting.CollectorEvents.{Event, Offered, Took, Offers, Gives, offered_in, taken_in, with_taken, HasArrived, answered_line, answered_lines}
-use Rattle.kalah_jobs.specs.Collecting.CollectorLaw.{Runs, KeepsItsLaw}
-use Rattle.kalah_jobs.specs.Collecting.CollectorState.{front_of, ArrivalsState, no_file, state_of, line_count, arrived_for, HasLinesOf, with_answer, with_one_taken, after_offer, after_take, new_files, front, IsNext, HasEnded}
-use Rattle.kalah_jobs.specs.Collecting.Held.{IsOffered, HoldsOffered, AreInStep}
-use Rattle.kalah_jobs.specs.Collecting.Refusals.{IsWanted, IsRefusedFor, AnswersInOneWay}
-use Rattle.kalah_jobs.specs.Files.JobList.{entries_of, entry_at, line_job, no_job}
-use Rattle.kalah_jobs.specs.Types.{Answer, Job, Entry, Refusal, Taken}
-use Rattle.kalah_jobs.specs.Writing.Answer.{answer_of}
-use Rattle.kalah_jobs.proofs.CountingLemmas.{same_job, same_entry_itself, times_offered, contains_from_times, times_from_contains, hits, hit, times_in_jobs}
-use Rattle.kalah_jobs.proofs.ListLemmas.{count_by-cons, some_value}
+use Rattle.kalah_jobs.specs.{IsPermutationOfJobs, AcceptsEachJob, MakesEveryLineReady, Event, Offers, Gives, offered_in, taken_in, with_taken, HasArrived, answered_line, answered_lines, IsAfterEvents, KeepsItsLaw, front_of, ArrivalsState, no_file, state_of, line_count, arrived_for, HasLinesOf, with_answer, with_one_taken, after_offer, after_take, new_files, front, IsNext, HasEnded, IsOffered, HoldsOffered, AgreeWithOffers, IsWanted, IsRefusedFor, AnswersInOneWay, entries_of, entry_at, line_job, no_job, Answer, Job, Entry, Refusal, Taken, answer_of, Collecting.CollectorEvents.{Offered, Took}}
+use Rattle.kalah_jobs.proofs.{CountingLemmas.{same_job, same_entry_itself, times_offered, contains_from_times, times_from_contains, hits, hit, times_in_jobs}, ListLemmas.{count_by-cons, some_value}}
 
 -- ==== How many of the first lines of a file have come without a gap
 
@@ -250,10 +234,10 @@ WereTaken jobs files took after = (f : ℕ) →
     take (state_of files f).taken (answered_lines_of jobs f) ++ took f ≡ take (state_of after f).taken (answered_lines_of jobs f)
 
 -- the state is kept by each event
-module _ {jobs : List (List Entry)} {past : List Job} {files after : List ArrivalsState} (kept : AreInStep jobs past files) where
+module _ {jobs : List (List Entry)} {past : List Job} {files after : List ArrivalsState} (kept : AgreeWithOffers jobs past files) where
   -- by an offer, accepted or refused, which takes nothing
-  pub kept_by_offer : (o : Job) (gave : Result ℕ Refusal) → Offers jobs files o gave after
-      → AreInStep jobs (past ++ o ∷ []) after × ((f : ℕ) → (state_of after f).taken ≡ (state_of files f).taken)
+  pub kept_by_offer : (o : Job) (result : Result ℕ Refusal) → Offers jobs files o result after
+      → AgreeWithOffers jobs (past ++ o ∷ []) after × ((f : ℕ) → (state_of after f).taken ≡ (state_of files f).taken)
   kept_by_offer o (Ok ready) step =
       let low : o.file < length files = step.wanted.file_there in
       let new : ArrivalsState = with_answer (state_of files o.file) o.line (answer_of o.entry) in
@@ -272,7 +256,7 @@ module _ {jobs : List (List Entry)} {past : List Job} {files after : List Arriva
       (record { offered = holds_refused kept.offered o r step.cause; within = kept.within }, λ f. refl)
 
   -- by a take of a line
-  pub kept_by_take : (g : ℕ) (t : Taken) → Gives files g t after → AreInStep jobs past after
+  pub kept_by_take : (g : ℕ) (t : Taken) → Gives files g t after → AgreeWithOffers jobs past after
   kept_by_take g t step =
       let taken : ArrivalsState = with_one_taken (state_of files g) in
       rw step.kept (record {
@@ -291,12 +275,12 @@ module _ {jobs : List (List Entry)} {past : List Job} {files after : List Arriva
 
 -- any list of events
 runs_keep : (jobs : List (List Entry)) (past : List Job) (events : List Event) (files after : List ArrivalsState)
-    → Runs jobs files events after → AreInStep jobs past files
-    → AreInStep jobs (past ++ offered_in events) after × WereTaken jobs files (λ f. taken_in f events) after
+    → IsAfterEvents jobs files events after → AgreeWithOffers jobs past files
+    → AgreeWithOffers jobs (past ++ offered_in events) after × WereTaken jobs files (λ f. taken_in f events) after
 runs_keep jobs past [] files after run kept =
     rw (← run, append-nil) (kept, λ f. append-nil (take (state_of files f).taken (answered_lines_of jobs f)))
-runs_keep jobs past (Offered o gave ∷ events) files after run kept =
-    let now = kept_by_offer kept o gave run.1 in
+runs_keep jobs past (Offered o result ∷ events) files after run kept =
+    let now = kept_by_offer kept o result run.1 in
     let rest = runs_keep jobs (past ++ o ∷ []) events run.0 after run.2 now.0 in (
       rw (append_assoc past (o ∷ []) (offered_in events)) at rest.0,
       λ f. ap (λ n. take n (answered_lines_of jobs f) ++ taken_in f events) (sym (now.1 f)) ∙ rest.1 f,
@@ -328,8 +312,8 @@ new_taken (entries ∷ jobs) zero = refl
 new_taken (entries ∷ jobs) (suc f) = new_taken jobs f
 
 -- to new files nothing was offered, and nothing was taken of them
-pub new_files_are_in_step : (jobs : List (List Entry)) → AreInStep jobs [] (new_files jobs)
-new_files_are_in_step jobs = record {
+pub new_files_agree : (jobs : List (List Entry)) → AgreeWithOffers jobs [] (new_files jobs)
+new_files_agree jobs = record {
   offered = record {
     counts = new_lines jobs;
     arrived = λ f k e entry_is offered. absurd (omega (arith, offered.1));
@@ -341,14 +325,14 @@ new_files_are_in_step jobs = record {
 -- ---- the law
 
 -- after these events the offers have come
-offers_held : (jobs : List (List Entry)) (events : List Event) (files : List ArrivalsState) → Runs jobs (new_files jobs) events files
+offers_held : (jobs : List (List Entry)) (events : List Event) (files : List ArrivalsState) → IsAfterEvents jobs (new_files jobs) events files
     → HoldsOffered jobs (offered_in events) files
-offers_held jobs events files run = (runs_keep jobs [] events (new_files jobs) files run (new_files_are_in_step jobs)).0.offered
+offers_held jobs events files run = (runs_keep jobs [] events (new_files jobs) files run (new_files_agree jobs)).0.offered
 
 -- any list of offers and takes leads to the state that it determines
 pub keeps_its_law : KeepsItsLaw
 keeps_its_law jobs events files run =
-    let all = runs_keep jobs [] events (new_files jobs) files run (new_files_are_in_step jobs) in
+    let all = runs_keep jobs [] events (new_files jobs) files run (new_files_agree jobs) in
     let holds = all.0.offered in
     let arrived : (f k : ℕ) → HasArrived jobs events f k → IsSome (arrived_for (state_of files f) k) =
     λ f k has_arrived. grind (arith, has_arrived, holds.arrived f k) in
@@ -377,7 +361,7 @@ pub ruleset new_counts = (new_lines, take_all)
 -- ---- each job once, in any order
 
 -- each line was offered with its entry
-each_arrived : (jobs : List (List Entry)) (got : List Job) → AreJobsInSomeOrder jobs got → (f k : ℕ) (e : Entry)
+each_arrived : (jobs : List (List Entry)) (got : List Job) → IsPermutationOfJobs jobs got → (f k : ℕ) (e : Entry)
     → entry_at jobs f k ≡ Some e → Contains got (line_job f k e)
 each_arrived jobs got each_once f k e entry_is =
     let o : Job = line_job f k e in
@@ -385,7 +369,7 @@ each_arrived jobs got each_once f k e entry_is =
 
 -- an offer among the jobs that was not offered before
 module _ {jobs : List (List Entry)} {past : List Job} {files : List ArrivalsState} (o : Job) (rest : List Job)
-    (each_once : AreJobsInSomeOrder jobs (past ++ o ∷ rest)) (holds : HoldsOffered jobs past files) where
+    (each_once : IsPermutationOfJobs jobs (past ++ o ∷ rest)) (holds : HoldsOffered jobs past files) where
   -- it is refused for nothing
   not_refused : (r : Refusal) → IsRefusedFor jobs files o r → ⊥
   not_refused r refused =
@@ -407,12 +391,12 @@ module _ {jobs : List (List Entry)} {past : List Job} {files : List ArrivalsStat
       omega (arith, once, is_hit.1, times_from_contains o past (rw same at offer.offered))
 
   -- so it is accepted
-  each_accepted : (after : List ArrivalsState) (gave : Result ℕ Refusal) → Offers jobs files o gave after → IsOk gave
+  each_accepted : (after : List ArrivalsState) (result : Result ℕ Refusal) → Offers jobs files o result after → IsOk result
   each_accepted after (Ok ready) step = refl
   each_accepted after (Err r) step = absurd (not_refused r step.cause)
 
 -- if each job was offered, each file has ended
-pub fronts_full : (jobs : List (List Entry)) (past : List Job) (files : List ArrivalsState) → AreJobsInSomeOrder jobs past
+pub fronts_full : (jobs : List (List Entry)) (past : List Job) (files : List ArrivalsState) → IsPermutationOfJobs jobs past
     → HoldsOffered jobs past files → (f : ℕ) → HasEnded (state_of files f)
 fronts_full jobs past files each_once holds f =
     let arrived = (state_of files f).arrived in
@@ -427,8 +411,8 @@ fronts_full jobs past files each_once holds f =
 
 -- each offer is accepted
 pub accepts_each_job : AcceptsEachJob
-accepts_each_job jobs past o rest files after gave each_once run step =
-    each_accepted o rest each_once (offers_held jobs past files run) after gave step
+accepts_each_job jobs past o rest files after result each_once run step =
+    each_accepted o rest each_once (offers_held jobs past files run) after result step
 
 -- in the end every line is ready
 pub makes_every_line_ready : MakesEveryLineReady

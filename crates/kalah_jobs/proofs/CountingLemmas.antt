@@ -1,18 +1,8 @@
 -- Jobs counted by tests: what is got of jobs that were shared out, and how often a job stands in a list.
-use Rattle.std.proofs.Common.{◌≡◌, ℕ, ◌+◌, ◌<◌, List, [], ◌∷◌, length, set, get_or, true, refl, arith, Bool, ◌&&◌, ◌==◌, ap, eq-eqb, if◌then◌else◌, cond, ◌++◌, map, slice_index_or, ◌∙◌, sym, subst, length-set, get_or-set_other, get_or-set_same, lt-ltb, sum_by, count_by, nat_lt, sum, ◌⊎◌, suc, ◌-◌, ◌≤◌, false, ◌≢◌, inl, inr, Option, Some, None, Contains, not, slice_get}
-use Rattle.std.proofs.lemmas.Bool.{cases_eq, cases_Bool}
-use Rattle.std.proofs.lemmas.Bool.Decides.{nat_tests}
-use Rattle.std.proofs.lemmas.List.{length-map, length-append, nil_from_length, get_or_default, append-nil, get_or-map}
-use Rattle.std.proofs.lemmas.List.Elements.{All-head, All-tail, Contains-append_right}
-use Rattle.std.proofs.lemmas.List.FromFn.{fill_by_all, length-range_with_len, length-map-range_with_len, get_or-map-range_with_len}
-use Rattle.std.proofs.lemmas.List.Sums.{get_or-le-sum_by, sum_by-le, sum_by-set, sum-map, sum_by-append}
-use Rattle.std.specs.Coded.{Coded, codes}
-use Rattle.std.specs.List.{All, flat_map, range_with_len}
+use Rattle.std.proofs.{Common.{◌≡◌, ℕ, ◌+◌, ◌<◌, List, [], ◌∷◌, length, set, get_or, true, refl, arith, Bool, ◌&&◌, ◌==◌, ap, eq-eqb, if◌then◌else◌, cond, ◌++◌, map, slice_index_or, ◌∙◌, sym, subst, length-set, get_or-set_other, get_or-set_same, lt-ltb, sum_by, count_by, nat_lt, sum, ◌⊎◌, suc, ◌-◌, ◌≤◌, false, ◌≢◌, inl, inr, Option, Some, None, Contains, not, slice_get}, lemmas.{Bool.{cases_eq, cases_Bool, Decides.{nat_tests}}, List.{length-map, length-append, nil_from_length, get_or_default, append-nil, get_or-map, Elements.{All-head, All-tail, Contains-append_right}, FromFn.{fill_by_all, length-range_with_len, length-map-range_with_len, get_or-map-range_with_len}, Sums.{get_or-le-sum_by, sum_by-le, sum_by-set, sum-map, sum_by-append}}}}
+use Rattle.std.specs.{Coded.{Coded, codes}, List.{All, flat_map, range_with_len}}
 use base.Stored.{Gv, gnil, gnum, gcons}
-use Rattle.kalah_jobs.specs.Collecting.AnyOrder.{job, GetsEachJobOnce}
-use Rattle.kalah_jobs.specs.Collecting.Shares.{times_in, sent_by_worker, AreShared}
-use Rattle.kalah_jobs.specs.Files.JobList.{line_job, no_job, job_list, entry_at, file_jobs, jobs_from}
-use Rattle.kalah_jobs.specs.Types.{Job, Entry}
+use Rattle.kalah_jobs.specs.{job, GetsEachJobOnce, times_in, sent_by_worker, AreShared, line_job, no_job, job_list, entry_at, file_jobs, jobs_from, Job, Entry}
 use Rattle.kalah_jobs.proofs.ListLemmas.{count_by-cons, count_map, count_flat}
 
 -- ==== What is got of jobs that were shared out: each job's result, once
@@ -61,7 +51,7 @@ class_of_number : (q : ℕ → Bool) (x : ℕ) (xs : List ℕ) → in_class (λ 
 class_of_number q x [] = grind arith
 class_of_number q x (y ∷ ys) = grind (arith, class_of_number q x ys, count_by-cons (λ z. z == x) y ys, nat_tests)
 
--- in lawful rows, as many numbers pass a test as among all numbers below n
+-- in rows that have each number below n once, as many numbers pass a test as among all numbers below n
 rows_count : (n : ℕ) (rows : List (List ℕ)) (q : ℕ → Bool) → ((x : ℕ) → times_in x rows ≡ (if nat_lt x n then 1 else 0))
     → sum_by (count_by q) rows ≡ count_by q (range_with_len 0 n)
 rows_count n rows q once =

@@ -1,41 +1,25 @@
 -- The entries of lines, the jobs of a batch, and equal boards.
-use Rattle.std.proofs.Common.{◌≡◌, ℕ, ◌+◌, ◌<◌, ◌≤◌, List, [], ◌∷◌, ◌++◌, length, get_or, take, drop, refl, ap, sym, ◌∙◌, arith, length-append, Some, count_by, Ok, Err, zero, suc, Bool, true, false, map, slice_get, sum_by, flat_map}
-use Rattle.std.proofs.Math.Seq.{get_or-append_seam}
-use Rattle.std.proofs.lemmas.Bool.Decides.{nat_tests}
-use Rattle.std.proofs.lemmas.List.{take_all, take_more, take-append-le, get_or_append_left, length-map, map-append, get_or-map}
-use Rattle.std.proofs.lemmas.List.Concat.{length-flat_map}
-use Rattle.std.proofs.lemmas.List.Sums.{sum_by-cons, sum_by_push, sum_by-drop_more, get_or-le-sum_by, count_by-le-length}
-use Rattle.std.proofs.lemmas.Option.{slice_get_within}
-use Rattle.kalah_rules.proofs.KeyLemmas.{key-injective}
-use Rattle.kalah_rules.proofs.PackedLemmas.{houses_within}
+use Rattle.std.proofs.{Common.{◌≡◌, ℕ, ◌+◌, ◌<◌, ◌≤◌, List, [], ◌∷◌, ◌++◌, length, get_or, take, drop, refl, ap, sym, ◌∙◌, arith, length-append, Some, count_by, Ok, Err, zero, suc, Bool, true, false, map, slice_get, sum_by, flat_map}, Math.Seq.{get_or-append_seam}, lemmas.{Bool.Decides.{nat_tests}, List.{take_all, take_more, take-append-le, get_or_append_left, length-map, map-append, get_or-map, Concat.{length-flat_map}, Sums.{sum_by-cons, sum_by_push, sum_by-drop_more, get_or-le-sum_by, count_by-le-length}}, Option.{slice_get_within}}}
+use Rattle.kalah_rules.proofs.{KeyLemmas.{key-injective}, PackedLemmas.{houses_within}}
 use Rattle.kalah_rules.specs.Position as position
-use Rattle.kalah_rules.specs.Position.{IsWithinLimits, houses_in}
-use Rattle.kalah_rules.specs.contracts.board.BoardEq.TheImpl.Laws.{laws-law}
+use Rattle.kalah_rules.specs.{Position.{IsWithinLimits, houses_in}, contracts.board.BoardEq.TheImpl.Laws.{laws-law}}
 use Rattle.kalah_rules.specs.contracts.board.BoardPartialEq.TheImpl as board_eq
-use Rattle.kalah_jobs.specs.Files.Entry.{Says, entry_asked, entry_of_reading, entry_of, entry_to, is_faulty, is_faulty_entry, EntriesAreOne}
-use Rattle.kalah_jobs.specs.Files.JobList.{entries_of, line_job, file_jobs, jobs_from, job_list, is_faulty_job}
-use Rattle.kalah_jobs.specs.Files.Jobs.{lines_in_all, lines_in, entries_to, jobs_to, job_count, AreStarts}
-use Rattle.kalah_jobs.specs.Files.Lines.{lines_of}
-use Rattle.kalah_jobs.specs.Files.NamedBytes.{NamedBytes}
-use Rattle.kalah_jobs.specs.Line.Reading.{reading_of}
-use Rattle.kalah_jobs.specs.Types.{BestMove, Entry, Job, Question}
-use Rattle.kalah_jobs.specs.declared.files.entry.Entry.TheVariants.{Position, Bad}
-use Rattle.kalah_jobs.proofs.LineLemmas.{is_reading, only_reading}
-use Rattle.kalah_jobs.proofs.ListLemmas.{count_map, count_flat, slice_get-append_left, slice_get-append_right}
+use Rattle.kalah_jobs.specs.{ReadsAs, entry_asked, entry_of_reading, entry_of, entry_to, is_faulty, is_faulty_entry, EntriesAreOne, entries_of, line_job, file_jobs, jobs_from, job_list, is_faulty_job, lines_in_all, lines_in, entries_to, jobs_to, job_count, AreStarts, lines_of, NamedBytes, reading_of, BestMove, Entry, Job, Question, declared.files.entry.Entry.TheVariants.{Position, Bad}}
+use Rattle.kalah_jobs.proofs.{LineLemmas.{is_reading, only_reading}, ListLemmas.{count_map, count_flat, slice_get-append_left, slice_get-append_right}}
 
 -- ==== Each line has one entry
 
 -- a line says its entry only
-says_once : (line : List ℕ) (entry : Entry) → Says line entry → entry ≡ entry_of line
+reads_once : (line : List ℕ) (entry : Entry) → ReadsAs line entry → entry ≡ entry_of line
 unfolding entry_to
-says_once line (Position p) said = ap (entry_of_reading BestMove) (sym (only_reading line (Ok p) said))
-says_once line (Bad fault) said = ap (entry_of_reading BestMove) (sym (only_reading line (Err fault) said))
-says_once line entry said = absurd said
+reads_once line (Position p) said = ap (entry_of_reading BestMove) (sym (only_reading line (Ok p) said))
+reads_once line (Bad fault) said = ap (entry_of_reading BestMove) (sym (only_reading line (Err fault) said))
+reads_once line entry said = absurd said
 
 -- each line has an entry, and only one
 pub entries_are_one : EntriesAreOne
 unfolding entry_to
-entries_are_one = record { some = λ line. grind (arith, is_reading line); one = says_once }
+entries_are_one = record { some = λ line. grind (arith, is_reading line); one = reads_once }
 
 -- ==== The number of jobs before each file, and the place of a line in the list of jobs
 

@@ -1,15 +1,7 @@
 -- The line of a position: how it is read, what its end says, and the first fault of any other line.
-use Rattle.std.proofs.Common.{◌≡◌, ℕ, ◌+◌, ◌<◌, ◌≤◌, inl, inr, List, [], ◌∷◌, ◌++◌, length, Some, refl, sym, ap, subst, ◌∙◌, arith, ◌==◌, Option, None, append_assoc, eqb-true, Result, Ok, Err, ◌≢◌, append-nil, codes}
-use Rattle.std.proofs.lemmas.Bool.{cases_lt, lt-ltb, le-ltb, ne_eqb}
-use Rattle.std.proofs.lemmas.Bool.Decides.{nat_tests, eqb_tells}
-use Rattle.kalah_rules.specs.Limits.{most_houses, most_seeds}
-use Rattle.kalah_rules.specs.Position.{Position, side_length, seeds_in_houses}
-use Rattle.kalah_jobs.specs.Limits.{most_line_bytes}
-use Rattle.kalah_jobs.specs.Line.Line.{IsNumber, zero_digit, slash, IsSide, space, suffix_of, IsLineOf, without_cr, HasSidesInLimits, Reads, Holds, HasFault, carriage_return, letter_e}
-use Rattle.kalah_jobs.specs.Line.LineFault.{order_of}
-use Rattle.kalah_jobs.specs.Line.LineLaws.{NoLineReadsTwice, OnlyTheSuffixNamesTheRule}
-use Rattle.kalah_jobs.specs.Line.Reading.{◌>>=◌, SideRead, side_at, rule_of_suffix, position_of_sides, position_from, position_of_text, admitted, admitted_if_written, reading_of}
-use Rattle.kalah_jobs.specs.Types.{LineFault, Rule, Classic, EmptyCapture, Long, Empty, Shape, Houses, Seeds}
+use Rattle.std.proofs.{Common.{◌≡◌, ℕ, ◌+◌, ◌<◌, ◌≤◌, inl, inr, List, [], ◌∷◌, ◌++◌, length, Some, refl, sym, ap, subst, ◌∙◌, arith, ◌==◌, Option, None, append_assoc, eqb-true, Result, Ok, Err, ◌≢◌, append-nil, codes}, lemmas.Bool.{cases_lt, lt-ltb, le-ltb, ne_eqb, Decides.{nat_tests, eqb_tells}}}
+use Rattle.kalah_rules.specs.{Limits.{most_houses, most_seeds}, Position.{Position, side_length, seeds_in_houses}}
+use Rattle.kalah_jobs.specs.{most_line_bytes, IsNumber, zero_digit, slash, IsSide, space, suffix_of, IsLineOf, without_cr, HasSidesInLimits, Reads, Holds, HasFault, carriage_return, letter_e, order_of, NoLineReadsTwice, OnlyTheSuffixNamesTheRule, ◌>>=◌, SideRead, side_at, rule_of_suffix, position_of_sides, position_from, position_of_text, admitted, admitted_if_written, reading_of, LineFault, Rule, Classic, EmptyCapture, Long, Empty, Shape, Houses, Seeds}
 use Rattle.kalah_jobs.proofs.SideLemmas.{both_succeed, passes_and_succeeds, side_is_written, side_is_read}
 
 -- ==== What writes a position, and what it is read as

@@ -1,10 +1,5 @@
 -- Lists of any elements: what of them passes a test, what stands at an index, and numbered elements.
-use Rattle.std.proofs.Common.{◌≡◌, ℕ, zero, suc, ◌+◌, ◌<◌, List, [], ◌∷◌, length, refl, arith, Bool, ap, cond, ◌++◌, map, ◌∙◌, sym, drop, Option, Some, None, sum_by, count_by, IsSome, sum, slice_get}
-use Rattle.std.proofs.lemmas.Bool.{false≢true}
-use Rattle.std.proofs.lemmas.List.{drop_more}
-use Rattle.std.proofs.lemmas.List.Sums.{sum_by-cons, sum_by-append, sum-map}
-use Rattle.std.proofs.lemmas.Option.{slice_get_within, get_or_from_slice_get}
-use Rattle.std.proofs.lemmas.Simd.{map-map}
+use Rattle.std.proofs.{Common.{◌≡◌, ℕ, zero, suc, ◌+◌, ◌<◌, List, [], ◌∷◌, length, refl, arith, Bool, ap, cond, ◌++◌, map, ◌∙◌, sym, drop, Option, Some, None, sum_by, count_by, IsSome, sum, slice_get}, lemmas.{Bool.{false≢true}, List.{drop_more, Sums.{sum_by-cons, sum_by-append, sum-map}}, Option.{slice_get_within, get_or_from_slice_get}, Simd.{map-map}}}
 use Rattle.std.specs.List.{flat_map, enumerate_from, onto_first}
 
 -- a test counts one element more if it passes

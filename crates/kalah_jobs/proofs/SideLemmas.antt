@@ -1,15 +1,7 @@
 -- Numbers and sides of a line: what writes them is read, and what is read is written.
-use Rattle.std.proofs.Common.{◌≡◌, ℕ, ◌+◌, ◌-◌, ◌<◌, ◌≤◌, inl, inr, true, List, [], ◌∷◌, ◌++◌, length, Some, refl, sym, ap, ◌∙◌, length-append, arith, zero, suc, pred, ◌==◌, Bool, cond, Option, None, append_assoc, eqb-true}
-use Rattle.std.proofs.lemmas.Bool.{cases_Bool, cond-true, cond-false}
-use Rattle.std.proofs.lemmas.Bool.Decides.{nat_tests}
-use Rattle.std.proofs.lemmas.Fmt.{decimal_digit, decimal_step}
-use Rattle.std.proofs.lemmas.Option.{cond_some}
-use Rattle.std.specs.Char.{is_ascii_digit, IsAsciiDigit}
-use Rattle.std.specs.Prelude.{decimal, ◌&&◌, nat_lt, ⊤}
-use Rattle.kalah_jobs.specs.Line.Line.{IsNumber, zero_digit, comma, slash, AreHouses, IsSide}
-use Rattle.kalah_jobs.specs.Line.Reading.{number_from, number_at, ◌>>=◌, SideRead, store_at, after_house, side_from, side_at}
-use Rattle.kalah_jobs.specs.Line.Side.{AreKept}
-use Rattle.kalah_jobs.specs.declared.line.side.Side.{Side}
+use Rattle.std.proofs.{Common.{◌≡◌, ℕ, ◌+◌, ◌-◌, ◌<◌, ◌≤◌, inl, inr, true, List, [], ◌∷◌, ◌++◌, length, Some, refl, sym, ap, ◌∙◌, length-append, arith, zero, suc, pred, ◌==◌, Bool, cond, Option, None, append_assoc, eqb-true}, lemmas.{Bool.{cases_Bool, cond-true, cond-false, Decides.{nat_tests}}, Fmt.{decimal_digit, decimal_step}, Option.{cond_some}}}
+use Rattle.std.specs.{Char.{is_ascii_digit, IsAsciiDigit}, Prelude.{decimal, ◌&&◌, nat_lt, ⊤}}
+use Rattle.kalah_jobs.specs.{IsNumber, zero_digit, comma, slash, AreHouses, IsSide, number_from, number_at, ◌>>=◌, SideRead, store_at, after_house, side_from, side_at, AreKept, declared.line.side.Side.{Side}}
 
 -- ==== What writes a number, what it is read as, and its text
 

@@ -1,11 +1,7 @@
 -- What a sink is given: prefixes of bytes, bytes that are written in part, and texts one after the other.
-use Rattle.std.proofs.Common.{ℕ, ◌<◌, ◌≤◌, length, arith, ◌≡◌, List, ◌++◌, subst, sym, refl, ◌+◌, [], ap, ◌∙◌, take, drop, append_assoc, ◌∷◌, get_or, flat_map, append-nil, Bool, true, false, ◌-◌, Option, ◌↔◌, IsErr, Ok, Err, OnOk, Result}
-use Rattle.std.proofs.KnownBytes.{Appends-kept, Appends-nil, Appends-trans}
-use Rattle.std.proofs.Math.Seq.{take-append-add}
-use Rattle.std.proofs.lemmas.Grind.{flat_map-append}
-use Rattle.std.proofs.lemmas.List.{take-append-drop, length-drop, flat_map_more, take_more, take_all}
+use Rattle.std.proofs.{Common.{ℕ, ◌<◌, ◌≤◌, length, arith, ◌≡◌, List, ◌++◌, subst, sym, refl, ◌+◌, [], ap, ◌∙◌, take, drop, append_assoc, ◌∷◌, get_or, flat_map, append-nil, Bool, true, false, ◌-◌, Option, ◌↔◌, IsErr, Ok, Err, OnOk, Result}, KnownBytes.{Appends-kept, Appends-nil, Appends-trans}, Math.Seq.{take-append-add}, lemmas.{Grind.{flat_map-append}, List.{take-append-drop, length-drop, flat_map_more, take_more, take_all}}}
 use Rattle.std.specs.Io.KnownBytes.{Appends, Keeps}
-use Rattle.kalah_jobs.specs.Writing.Sink.{AppendsPrefix, SinkState, WasGiven}
+use Rattle.kalah_jobs.specs.{AppendsPrefix, SinkState, WasGiven}
 
 -- ==== Prefixes of what was to be written
 
@@ -103,9 +99,9 @@ module _ {O : Type 0} (state : O → SinkState) where
       record { start = prefix_none (state out).written text; whole = λ sound. absurd cc; quiet = λ _. refl }
 
   -- a text, and then another
-  pub given_then : (old between new : O) (text more : List ℕ) → WasGiven state old between text → WasGiven state between new more
+  pub given_then : {old between new : O} {text more : List ℕ} → WasGiven state old between text → WasGiven state between new more
       → WasGiven state old new (text ++ more)
-  given_then old between new text more first second = record {
+  given_then {old} {between} {new} {text} {more} first second = record {
     start = by (state between).has_failed refl;
     whole = λ sound. (
       (first.whole (second.whole sound).0).0,
@@ -122,18 +118,18 @@ module _ {O : Type 0} (state : O → SinkState) where
       → ((state between).has_failed ≡ false → more ≡ right) → WasGiven state between new more → WasGiven state old new (text ++ right)
   given_then_if_sound old between new text more right first same second = by (state between).has_failed refl where
     by : (b : Bool) → (state between).has_failed ≡ b → WasGiven state old new (text ++ right)
-    by true failed = given_then _ _ _ _ _ first (rw (second.quiet failed) (given_after_failure between right failed))
-    by false sound = given_then _ _ _ _ _ first (subst (WasGiven state between new) (same sound) second)
+    by true failed = given_then first (rw (second.quiet failed) (given_after_failure between right failed))
+    by false sound = given_then first (subst (WasGiven state between new) (same sound) second)
 
   -- a text, and then a flush
-  pub given_then_flush : (old between new : O) (text : List ℕ) → WasGiven state old between text → WasGiven state between new []
+  pub given_then_flush : {old between new : O} {text : List ℕ} → WasGiven state old between text → WasGiven state between new []
       → WasGiven state old new text
-  given_then_flush old between new text first second = subst (WasGiven state old new) (append-nil text) (given_then _ _ _ _ _ first second)
+  given_then_flush {old} {between} {new} {text} first second = subst (WasGiven state old new) (append-nil text) (given_then first second)
 
   -- a text that goes on after a failure
-  pub given_more_after_failure : (old between : O) (text more : List ℕ) → WasGiven state old between text
+  pub given_more_after_failure : {old between : O} {text : List ℕ} (more : List ℕ) → WasGiven state old between text
       → (state between).has_failed ≡ true → WasGiven state old between (text ++ more)
-  given_more_after_failure old between text more first failed = given_then _ _ _ _ _ first (given_after_failure between more failed)
+  given_more_after_failure {old} {between} {text} more first failed = given_then first (given_after_failure between more failed)
 
   -- the texts of the first elements were given
   module _ (one : ℕ → List ℕ) {elements all : List ℕ} (same : elements ≡ all) (i : ℕ) (old between : O)
@@ -144,13 +140,13 @@ module _ {O : Type 0} (state : O → SinkState) where
     given_more new element within element_is more = subst (WasGiven state old new)
         (flat_map_more one [] (take i elements) element
         ∙ ap (flat_map one) (ap (λ e. take i elements ++ e ∷ []) element_is ∙ sym (take_more elements i 0 within)))
-        (given_then _ _ _ _ _ so_far more)
+        (given_then so_far more)
 
     -- a call had failed, so the sink was given all
     pub given_all_after_failure : (state between).has_failed ≡ true → WasGiven state old between (flat_map one all)
     given_all_after_failure failed = subst (WasGiven state old between)
         (sym (flat_map-append one (take i elements) (drop i elements)) ∙ ap (flat_map one) (take-append-drop i elements ∙ same))
-        (given_then _ _ _ _ _ so_far (given_after_failure between (flat_map one (drop i elements)) failed))
+        (given_then so_far (given_after_failure between (flat_map one (drop i elements)) failed))
 
     -- there are no more elements
     pub given_all : length elements ≤ i → WasGiven state old between (flat_map one all)

@@ -1,27 +1,10 @@
 -- How positions, moves and answers are put together as text.
-use Rattle.std.proofs.Common.{SFits, of_z, to_z, w16, w32, ℕ, ◌<◌, ◌≤◌, ◌^◌, length, arith, ◌≡◌, zero, suc, List, ◌++◌, IsAscii, IsUtf8, subst, sym, refl, ◌+◌, [], ap, ◌∙◌, take, drop, append_assoc, ◌∷◌, map, get_or, flat_map, cond, ◌==◌, append-nil, add-one, Bool, false, codes, ◌-◌, filter, length-append, replicate, Contains, ℤ, pos, negsuc, slice_get, Some, drop_of_length-le}
-use Rattle.std.proofs.lemmas.Bool.{ne_eqb, cond_both}
-use Rattle.std.proofs.lemmas.Fmt.{length-decimal-le, IsAscii-decimal, length_signed_le}
-use Rattle.std.proofs.lemmas.Int.{ints, to_z-of_z}
-use Rattle.std.proofs.lemmas.List.{length-take-le, length-drop, drop_at, drop-drop, drop_more}
-use Rattle.std.proofs.lemmas.List.Elements.{All-head, All-tail, All-map, All-from_get_or, Contains-get_or}
-use Rattle.std.proofs.lemmas.Str.{IsUtf8-append, IsUtf8-from_ascii}
-use Rattle.std.proofs.lemmas.Str.Ascii.{IsAscii-nil, IsAscii-cons}
-use Rattle.std.specs.Fmt.{decimal, signed_decimal}
-use Rattle.std.specs.Int.Signed.{mag}
-use Rattle.std.specs.List.{join_with_byte, range_with_len}
-use Rattle.kalah_rules.specs.Play.{legal_houses}
-use Rattle.kalah_rules.specs.Position.{Position, side_length, IsWithinLimits, IsSmallMargin, is_over}
+use Rattle.std.proofs.{Common.{SFits, of_z, to_z, w16, w32, ℕ, ◌<◌, ◌≤◌, ◌^◌, length, arith, ◌≡◌, zero, suc, List, ◌++◌, IsAscii, IsUtf8, subst, sym, refl, ◌+◌, [], ap, ◌∙◌, take, drop, append_assoc, ◌∷◌, map, get_or, flat_map, cond, ◌==◌, append-nil, add-one, Bool, false, codes, ◌-◌, filter, length-append, replicate, Contains, ℤ, pos, negsuc, slice_get, Some, drop_of_length-le}, lemmas.{Bool.{ne_eqb, cond_both}, Fmt.{length-decimal-le, IsAscii-decimal, length_signed_le}, Int.{ints, to_z-of_z}, List.{length-take-le, length-drop, drop_at, drop-drop, drop_more, Elements.{All-head, All-tail, All-map, All-from_get_or, Contains-get_or}}, Str.{IsUtf8-append, IsUtf8-from_ascii, Ascii.{IsAscii-nil, IsAscii-cons}}}}
+use Rattle.std.specs.{Fmt.{decimal, signed_decimal}, Int.Signed.{mag}, List.{join_with_byte, range_with_len}}
+use Rattle.kalah_rules.specs.{Play.{legal_houses}, Position.{Position, side_length, IsWithinLimits, IsMarginInRange, is_over}}
 use Rattle.kalah_solve.proofs.SolverLemmas.{move_value_small}
 use Rattle.kalah_solve.specs.Solver.MoveValues.{IsMoveValue, move_value, values_of}
-use Rattle.kalah_jobs.specs.Files.Lines.{line_feed}
-use Rattle.kalah_jobs.specs.Line.Line.{comma, space, side_text}
-use Rattle.kalah_jobs.specs.Types.{Player, Answer, Taken, Mover, Other, MoveValue}
-use Rattle.kalah_jobs.specs.Writing.Answer.{in_one_line, answer_line, joined_text, place_text, value_text, values_text, HasOneText}
-use Rattle.kalah_jobs.specs.Writing.Picture.{column_text, column_width, empty_columns}
-use Rattle.kalah_jobs.specs.Writing.Player.{houses_of}
-use Rattle.kalah_jobs.specs.Writing.Shown.{AreMoveValues, AscendFrom, value_column, value_columns}
-use Rattle.kalah_jobs.specs.declared.writing.answer.Answer.TheVariants.{Best, Over, Values, Steps, Fault}
+use Rattle.kalah_jobs.specs.{line_feed, comma, space, side_text, Player, Answer, Taken, Mover, Other, MoveValue, in_one_line, answer_line, joined_text, place_text, value_text, values_text, HasOneText, column_text, column_width, empty_columns, houses_of, AreMoveValues, AscendFrom, value_column, value_columns, declared.writing.answer.Answer.TheVariants.{Best, Over, Values, Steps, Fault}}
 use Rattle.kalah_jobs.proofs.ListLemmas.{items_from}
 
 -- ==== How long the parts of lines are at most
@@ -196,17 +179,17 @@ line_before name taken after words text one words_are text_is =
 -- ==== Values below the houses of a picture
 
 -- the absolute value of a margin of a game is small
-small_mag : (z : ℤ) → IsSmallMargin z → mag z < 2 ^ 63
+small_mag : (z : ℤ) → IsMarginInRange z → mag z < 2 ^ 63
 small_mag (pos n) small = omega (arith, ints, small.high)
 small_mag (negsuc n) small = omega (arith, ints, small.low)
 
 -- a value of a game has at most four bytes
-value_length : (v : ℤ) → IsSmallMargin v → length (signed_decimal v) ≤ 4
+value_length : (v : ℤ) → IsMarginInRange v → length (signed_decimal v) ≤ 4
 value_length (pos n) small = length_signed_le 3 (pos n) (omega (arith, ints, small.high)) (small_mag (pos n) small)
 value_length (negsuc n) small = length_signed_le 3 (negsuc n) (omega (arith, ints, small.low)) (small_mag (negsuc n) small)
 
 -- it is put in front of a text, from its bits, and then blanks
-module _ {v z : ℤ} {end len : ℕ} (old : List ℕ) {text : List ℕ} (small : IsSmallMargin v) (z_is : z ≡ to_z w16 (of_z w16 v))
+module _ {v z : ℤ} {end len : ℕ} (old : List ℕ) {text : List ℕ} (small : IsMarginInRange v) (z_is : z ≡ to_z w16 (of_z w16 v))
     (text_is : text ≡ signed_decimal (to_z w32 (of_z w32 z)) ++ old) (end_is : end ≡ length old) (len_is : len ≡ length text) where
   -- the value is read back from its bits
   same_value : to_z w32 (of_z w32 z) ≡ v

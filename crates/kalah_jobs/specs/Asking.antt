@@ -1,22 +1,8 @@
 -- What is written if lines come as a stream, and each is answered. A reader is seen as the bytes that it has left, and a
 -- sink as those that were written to it, before and after, if these are known.
-use Rattle.std.specs.Io.Buffered.{reader_remaining}
-use Rattle.std.specs.Io.KnownBytes.{Appends, Consumes}
-use Rattle.std.specs.List.{flat_map, enumerate_from, join_with_byte, list_any}
-use Rattle.std.specs.Prelude.{◌≡◌, ◌≢◌, ◌↔◌, ℕ, ◌+◌, ◌<◌, ◌≤◌, List, [], ◌∷◌, ◌++◌, Bool, true, false, not, IfSome, IfOk, IsErrOf, Option, Result, length, take, map}
+use Rattle.std.specs.{Io.{Buffered.{reader_remaining}, KnownBytes.{Appends, Consumes}}, List.{flat_map, enumerate_from, join_with_byte, list_any}, Prelude.{◌≡◌, ◌≢◌, ◌↔◌, ℕ, ◌+◌, ◌<◌, ◌≤◌, List, [], ◌∷◌, ◌++◌, Bool, true, false, not, IfSome, IfOk, IsErrOf, Option, Result, length, take, map}}
 use Rattle.kalah_rules.specs.Position.{seeds_in_houses}
-use Rattle.kalah_jobs.specs.Files.Entry.{entry_to, is_faulty}
-use Rattle.kalah_jobs.specs.Files.Lines.{line_feed, lines_of, EndsWithItsLine, HasNoLineFeed}
-use Rattle.kalah_jobs.specs.Files.NamedBytes.{NamedBytes}
-use Rattle.kalah_jobs.specs.Limits.{most_line_bytes}
-use Rattle.kalah_jobs.specs.Types.{AskFault, Entry, Question, Read, Write}
-use Rattle.kalah_jobs.specs.Writing.Answer.{answer_of, answer_texts, joined_text, in_one_line, place_text}
-use Rattle.kalah_jobs.specs.Writing.Output.{output_to, line_output}
-use Rattle.kalah_jobs.specs.Writing.Sink.{SinkState}
-use Rattle.kalah_jobs.specs.declared.asking.prompt_reader.PromptReader.{PromptReader}
-use Rattle.kalah_jobs.specs.declared.asking.prompt_solver.TheConstants.{QUICK_SEEDS}
-use Rattle.kalah_jobs.specs.declared.files.entry.Entry.TheVariants.{Position, ValuesOf}
-use Rattle.kalah_jobs.specs.declared.files.question.Question.TheVariants.{Steps}
+use Rattle.kalah_jobs.specs.{Files.{Entry.{entry_to, is_faulty}, Lines.{line_feed, lines_of, EndsWithItsLine, HasNoLineFeed}, NamedBytes.{NamedBytes}}, Limits.{most_line_bytes}, Types.{AskFault, Entry, Question, Read, Write}, Writing.{Answer.{answer_of, answer_texts, joined_text, in_one_line, place_text}, Output.{output_to, line_output}, Sink.{SinkState}}, declared.{asking.{prompt_reader.PromptReader.{PromptReader}, prompt_solver.TheConstants.{QUICK_SEEDS}}, files.{entry.Entry.TheVariants.{Position, ValuesOf}, question.Question.TheVariants.{Steps}}}}
 
 -- the bytes of a line that are kept, enough to determine its entry: a line with that many, with its CR or not, is too long
 abbrev pub kept_bytes : ℕ
@@ -44,7 +30,7 @@ answers_to question bytes = flat_map (reply question) (lines_of bytes)
 abbrev pub are_all_read : List ℕ → Bool
 are_all_read bytes = not (list_any is_faulty (lines_of bytes))
 
--- Some bytes were read, which are all that there were, and the answers to their lines were written, and nothing else was.
+-- All bytes were read, and the answers to their lines were written, and nothing else was.
 pub record IsAnswered (question : Question) (before after old new : Option (List ℕ)) (all_read : Bool) : Type 0 where
   pub read : List ℕ
   pub taken : Consumes before after read
@@ -81,12 +67,12 @@ module _ {I O : Type 0} (remaining : I → Option (List ℕ)) where
 abbrev pub AreAnswered : StreamStart → Option (List ℕ) → Option (List ℕ) → Type 0
 AreAnswered start after new = IsCutOff start.question start.before after start.old new
 
--- how a fault leaves the sink, and how many bytes may still be given. Before a read all was flushed; after a failed one none is given
+-- how a failed call leaves the sink, and how many bytes may still be given: after a failed read all is flushed, and no byte is given
 abbrev pub LeavesBy : AskFault → SinkState → ℕ → Type 0
 LeavesBy Read out budget = (out.has_failed ≡ false) × (out.is_flushed ≡ true) × (budget ≡ 0)
 LeavesBy Write out budget = out.has_failed ≡ true
 
--- the most seeds in houses of a position that is solved in no time
+-- the most seeds in houses of a position that is solved without a flush before it
 abbrev pub quick_seeds : ℕ
 quick_seeds = QUICK_SEEDS
 

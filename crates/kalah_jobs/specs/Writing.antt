@@ -4,6 +4,6 @@ pub mod Output
 pub mod Sink
 pub mod Counts
 pub mod Picture
-pub mod Shown
+pub mod ValuesLine
 pub mod Variation
 pub mod Splitting

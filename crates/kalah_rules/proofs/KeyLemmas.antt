@@ -1,13 +1,7 @@
 -- Rows as numbers, and what a key determines of its houses.
-use Rattle.std.proofs.Common.{zero, suc, ◌≡◌, ℕ, ◌+◌, ◌-◌, ◌*◌, ◌/◌, ◌%◌, ◌^◌, ◌<◌, ◌≤◌, inl, inr, List, [], ◌∷◌, ◌++◌, length, get_or, arith, ap, sym, ◌∙◌, refl, add-one, take, drop, replicate, rules, Option, Some, None, length-take-le, length-append, slice_set, sum, nat_lt, if◌then◌else◌, ◌==◌, nat_eq, All, IsSome, IfSome, ◌↔◌, length-set}
-use Rattle.std.proofs.lemmas.{Nat.pow-add, Nat.mul-le, List.map_push, List.length-drop, List.length-replicate, List.get_or-replicate, List.take-append-drop, List.Sums.sum_by-cons, List.Sums.sum_by-append, Bool.cases_eq, Grind.same_number_lists, List.Folds.sum_by-replicate, List.Elements.All-replicate}
-use Rattle.std.proofs.Math.Nat.{pow-succ', mul_assoc, div-div-eq-div-mul}
-use Rattle.kalah_rules.specs.{seeds, HousesState, AreWithinLimits, seeds_in_houses, storeless, without_seeds, row_of, lap_length, gain, own_distance, other_distance, row_number, cells, rule_bit, rows_number, key_of, variant_of, side_in_key, houses_in_key, IsKey, ones, up_to, houses_of_fields, AreFieldsOf, AreFields, AreRowFields, own_gains, other_gains, store_gains, padded, houses_from, CanBeHouses}
+use Rattle.std.proofs.{Common.{zero, suc, ◌≡◌, ℕ, ◌+◌, ◌-◌, ◌*◌, ◌/◌, ◌%◌, ◌^◌, ◌<◌, ◌≤◌, inl, inr, List, [], ◌∷◌, ◌++◌, length, get_or, arith, ap, sym, ◌∙◌, refl, add-one, take, drop, replicate, rules, Option, Some, None, length-take-le, length-append, slice_set, sum, nat_lt, if◌then◌else◌, ◌==◌, nat_eq, All, IsSome, IfSome, ◌↔◌, length-set}, lemmas.{Nat.pow-add, Nat.mul-le, List.map_push, List.length-drop, List.length-replicate, List.get_or-replicate, List.take-append-drop, List.Sums.sum_by-cons, List.Sums.sum_by-append, Bool.cases_eq, Grind.same_number_lists, List.Folds.sum_by-replicate, List.Elements.All-replicate}, Math.{Nat.{pow-succ', mul_assoc, div-div-eq-div-mul}, Seq.{take-append_seam, drop-append_seam}}}
+use Rattle.kalah_rules.specs.{seeds, HousesState, AreWithinLimits, seeds_in_houses, storeless, without_seeds, row_of, lap_length, gain, own_distance, other_distance, packed_row, cells, rule_bit, packed_rows, key_of, variant_of, side_in_key, houses_in_key, IsKey, ones, up_to, houses_of_fields, AreFieldsOf, AreFields, AreRowFields, own_gains, other_gains, store_gains, padded, houses_from, CanBeHouses, declared.{rule.Rule.{Rule, TheVariants.{Classic, EmptyCapture}}, houses.numbers.TheConstants.{MOST_LAPS, ONE_EACH}}}
 use Rattle.kalah_rules.proofs.PlayLemmas.{range-suc, length-row_of, same_as_row, row_of_same, seeds-set_same, seeds-set_other, sum-zeros}
-use Rattle.std.proofs.Math.Seq.{take-append_seam, drop-append_seam}
-use Rattle.kalah_rules.specs.declared.rule.Rule.{Rule}
-use Rattle.kalah_rules.specs.declared.rule.Rule.TheVariants.{Classic, EmptyCapture}
-use Rattle.kalah_rules.specs.declared.houses.numbers.TheConstants.{MOST_LAPS, ONE_EACH}
 
 -- ==== Rows as numbers: houses read and written, and rows of seeds added
 
@@ -42,65 +36,65 @@ times_power : (k n : ℕ) → 32 ^ suc k * n ≡ 32 * (32 ^ k * n)
 times_power k n = simp (pow-succ', mul_assoc)
 
 -- a row after another counts from its place
-pub row_number-append : (xs ys : List ℕ) → row_number (xs ++ ys) ≡ row_number xs + 32 ^ length xs * row_number ys
-row_number-append [] ys = omega arith
-row_number-append (x ∷ xs) ys = omega (arith, row_number-append xs ys, times_power)
+pub packed_row-append : (xs ys : List ℕ) → packed_row (xs ++ ys) ≡ packed_row xs + 32 ^ length xs * packed_row ys
+packed_row-append [] ys = omega arith
+packed_row-append (x ∷ xs) ys = omega (arith, packed_row-append xs ys, times_power)
 
 -- a house is read off a row's number
-pub read_seeds : (xs : List ℕ) (k : ℕ) → k < length xs → sum xs ≤ 31 → row_number xs / 32 ^ k % 32 ≡ get_or xs k 0
+pub read_seeds : (xs : List ℕ) (k : ℕ) → k < length xs → sum xs ≤ 31 → packed_row xs / 32 ^ k % 32 ≡ get_or xs k 0
 read_seeds [] k inside few = omega arith
 read_seeds (x ∷ xs) zero inside few = omega (arith, sum_by-cons)
 read_seeds (x ∷ xs) (suc k) inside few =
     let cons = sum_by-cons (λ (y : ℕ). y) x xs in
-    let high : (x + 32 * row_number xs) / 32 ≡ row_number xs = omega arith in
-    let past : (x + 32 * row_number xs) / 32 ^ suc k ≡ row_number xs / 32 ^ k =
+    let high : (x + 32 * packed_row xs) / 32 ≡ packed_row xs = omega arith in
+    let past : (x + 32 * packed_row xs) / 32 ^ suc k ≡ packed_row xs / 32 ^ k =
     rw (pow-succ', ← div-div-eq-div-mul _ 32 _, high) refl in
     rw past (read_seeds xs k (omega arith) (omega arith))
 
 -- a house is written into a row's number
-pub row_number-set : (xs : List ℕ) (k v : ℕ) → k < length xs
-    → row_number (slice_set xs k v) + 32 ^ k * get_or xs k 0 ≡ row_number xs + 32 ^ k * v
-row_number-set [] k v inside = omega arith
-row_number-set (x ∷ xs) zero v inside = omega arith
-row_number-set (x ∷ xs) (suc k) v inside = omega (arith, row_number-set xs k v (omega arith), times_power)
+pub packed_row-set : (xs : List ℕ) (k v : ℕ) → k < length xs
+    → packed_row (slice_set xs k v) + 32 ^ k * get_or xs k 0 ≡ packed_row xs + 32 ^ k * v
+packed_row-set [] k v inside = omega arith
+packed_row-set (x ∷ xs) zero v inside = omega arith
+packed_row-set (x ∷ xs) (suc k) v inside = omega (arith, packed_row-set xs k v (omega arith), times_power)
 
 -- ---- rows that are given house by house
 
 -- one house more at the end
-row_number-suc : (n : ℕ) (f : ℕ → ℕ) → row_number (row_of (suc n) f) ≡ row_number (row_of n f) + 32 ^ n * f (suc n)
-row_number-suc n f =
-    let more : row_number (row_of (n + 1) f) ≡ row_number (row_of n f) + 32 ^ n * f (n + 1) =
-    grind (arith, range-suc, map_push, row_number-append, length-row_of) in
+packed_row-suc : (n : ℕ) (f : ℕ → ℕ) → packed_row (row_of (suc n) f) ≡ packed_row (row_of n f) + 32 ^ n * f (suc n)
+packed_row-suc n f =
+    let more : packed_row (row_of (n + 1) f) ≡ packed_row (row_of n f) + 32 ^ n * f (n + 1) =
+    grind (arith, range-suc, map_push, packed_row-append, length-row_of) in
     rw add-one at more
 
 -- rows are added house by house
-row_number-plus : (n : ℕ) (f g : ℕ → ℕ)
-    → row_number (row_of n (λ i. f i + g i)) ≡ row_number (row_of n f) + row_number (row_of n g)
-row_number-plus zero f g = refl
-row_number-plus (suc n) f g =
-    let before = row_number-plus n f g in
-    row_number-suc n (λ i. f i + g i) ∙ omega (arith, row_number-suc)
+packed_row-plus : (n : ℕ) (f g : ℕ → ℕ)
+    → packed_row (row_of n (λ i. f i + g i)) ≡ packed_row (row_of n f) + packed_row (row_of n g)
+packed_row-plus zero f g = refl
+packed_row-plus (suc n) f g =
+    let before = packed_row-plus n f g in
+    packed_row-suc n (λ i. f i + g i) ∙ omega (arith, packed_row-suc)
 
 -- a row with the same number of seeds in each house
-row_number-same : (n q : ℕ) → row_number (row_of n (λ i. q)) ≡ q * ones n
-row_number-same zero q = omega arith
-row_number-same (suc n) q =
-    let before = row_number-same n q in
-    row_number-suc n (λ i. q) ∙ omega arith ∙ sym (ap (λ z. q * z) (row_number-suc n (λ i. 1)))
+packed_row-same : (n q : ℕ) → packed_row (row_of n (λ i. q)) ≡ q * ones n
+packed_row-same zero q = omega arith
+packed_row-same (suc n) q =
+    let before = packed_row-same n q in
+    packed_row-suc n (λ i. q) ∙ omega arith ∙ sym (ap (λ z. q * z) (packed_row-suc n (λ i. 1)))
 
 -- one seed in each house, if x lies past them all
-pub row_number-all : (n x : ℕ) → n ≤ x → row_number (row_of n (up_to x)) ≡ ones n
-row_number-all n x past = grind (arith, row_of_same)
+pub packed_row-all : (n x : ℕ) → n ≤ x → packed_row (row_of n (up_to x)) ≡ ones n
+packed_row-all n x past = grind (arith, row_of_same)
 
 -- one seed in each house up to x
-pub row_number-up_to : (n x : ℕ) → x ≤ n → row_number (row_of n (up_to x)) ≡ ones x
-row_number-up_to zero x within = grind arith
-row_number-up_to (suc n) x within = elim (cases_eq x (suc n)) [
-  | inl all ↦ row_number-all (suc n) x (omega arith) ∙ ap (λ k. ones k) (sym all)
+pub packed_row-up_to : (n x : ℕ) → x ≤ n → packed_row (row_of n (up_to x)) ≡ ones x
+packed_row-up_to zero x within = grind arith
+packed_row-up_to (suc n) x within = elim (cases_eq x (suc n)) [
+  | inl all ↦ packed_row-all (suc n) x (omega arith) ∙ ap (λ k. ones k) (sym all)
   | inr less ↦
       let past : up_to x (suc n) ≡ 0 = grind arith in
-      let before = row_number-up_to n x (omega arith) in
-      row_number-suc n (up_to x) ∙ rw past (omega arith)
+      let before = packed_row-up_to n x (omega arith) in
+      packed_row-suc n (up_to x) ∙ rw past (omega arith)
 ]
 
 -- a row whose house h is emptied
@@ -120,28 +114,28 @@ other_lap m h r j low high j_low = grind arith
 -- ---- what a sowing adds
 
 -- the own row after a sowing, by what was lifted and what it gains
-pub own_sown : (xs : List ℕ) (h c : ℕ) → 1 ≤ h → h ≤ length xs → row_number
+pub own_sown : (xs : List ℕ) (h c : ℕ) → 1 ≤ h → h ≤ length xs → packed_row
     (row_of (length xs) (λ i. (if i == h then 0 else seeds xs i) + gain (lap_length (length xs)) c (own_distance (length xs) h i)))
-    + 32 ^ (h - 1) * seeds xs h ≡ row_number xs + own_gains (length xs) h c
+    + 32 ^ (h - 1) * seeds xs h ≡ packed_row xs + own_gains (length xs) h c
 own_sown xs h c low high =
-    let plus = row_number-plus (length xs) (λ i. if i == h then 0 else seeds xs i)
+    let plus = packed_row-plus (length xs) (λ i. if i == h then 0 else seeds xs i)
     (λ i. gain (lap_length (length xs)) c (own_distance (length xs) h i)) in
-    let lifted = ap row_number (lifted_row xs h low high) in
-    let set = row_number-set xs (h - 1) 0 (omega arith) in
+    let lifted = ap packed_row (lifted_row xs h low high) in
+    let set = packed_row-set xs (h - 1) 0 (omega arith) in
     omega arith
 
 -- what it adds to the other row
 pub other_sown : (ys : List ℕ) (h c : ℕ)
-    → row_number (row_of (length ys) (λ j. seeds ys j + gain (lap_length (length ys)) c (other_distance (length ys) h j))) ≡ row_number
+    → packed_row (row_of (length ys) (λ j. seeds ys j + gain (lap_length (length ys)) c (other_distance (length ys) h j))) ≡ packed_row
     ys + other_gains (length ys) h c
 other_sown ys h c =
-    let plus = row_number-plus (length ys) (seeds ys) (λ j. gain (lap_length (length ys)) c (other_distance (length ys) h j)) in
-    let kept = ap row_number (sym (same_as_row ys _ (seeds ys) refl (omega arith))) in
+    let plus = packed_row-plus (length ys) (seeds ys) (λ j. gain (lap_length (length ys)) c (other_distance (length ys) h j)) in
+    let kept = ap packed_row (sym (same_as_row ys _ (seeds ys) refl (omega arith))) in
     omega arith
 
 module _ (m h c : ℕ) (low : 1 ≤ h) (high : h ≤ m) where
   -- what the own row gains, and one seed more in each house up to the one that is emptied
-  pub own_gain : own_gains m h c + ones h ≡ c / lap_length m * ones m + row_number (row_of m (up_to (h + c % lap_length m))) + row_number
+  pub own_gain : own_gains m h c + ones h ≡ c / lap_length m * ones m + packed_row (row_of m (up_to (h + c % lap_length m))) + packed_row
       (row_of m (up_to (h + c % lap_length m - lap_length m)))
   own_gain =
       let q = c / lap_length m in
@@ -150,24 +144,24 @@ module _ (m h c : ℕ) (low : 1 ≤ h) (high : h ≤ m) where
       let round = up_to (h + c % lap_length m - lap_length m) in
       let each = row_of_same m (λ i. q + past i + round i) (λ i. gains i + up_to h i)
       (λ i i_low i_high. omega (arith, own_lap)) in
-      let left = row_number-plus m gains (up_to h) in
-      let first = row_number-plus m (λ i. q) past in
-      let second = row_number-plus m (λ i. q + past i) round in
-      let whole = row_number-same m q in
-      let until = row_number-up_to _ _ high in
-      let rows = ap row_number each in
+      let left = packed_row-plus m gains (up_to h) in
+      let first = packed_row-plus m (λ i. q) past in
+      let second = packed_row-plus m (λ i. q + past i) round in
+      let whole = packed_row-same m q in
+      let until = packed_row-up_to _ _ high in
+      let rows = ap packed_row each in
       omega arith
 
   -- what the other row gains
-  pub other_gain : other_gains m h c ≡ c / lap_length m * ones m + row_number (row_of m (up_to (h + c % lap_length m - (m + 1))))
+  pub other_gain : other_gains m h c ≡ c / lap_length m * ones m + packed_row (row_of m (up_to (h + c % lap_length m - (m + 1))))
   other_gain =
       let q = c / lap_length m in
       let gains : ℕ → ℕ = λ j. gain (lap_length m) c (other_distance m h j) in
       let past = up_to (h + c % lap_length m - (m + 1)) in
       let each = row_of_same m (λ j. q + past j) gains (λ j j_low j_high. omega (arith, other_lap)) in
-      let first = row_number-plus m (λ j. q) past in
-      let whole = row_number-same m q in
-      let rows = ap row_number each in
+      let first = packed_row-plus m (λ j. q) past in
+      let whole = packed_row-same m q in
+      let rows = ap packed_row each in
       omega arith
 
   -- what the store gains
@@ -179,7 +173,7 @@ pub ones_le : (a b : ℕ) → a ≤ b → ones a ≤ ones b
 ones_le a zero fewer = grind arith
 ones_le a (suc b) fewer = elim (cases_eq a (suc b)) [
   | inl same ↦ rw same (omega arith)
-  | inr less ↦ let on = ones_le a b (omega arith) in omega (arith, row_number-suc)
+  | inr less ↦ let on = ones_le a b (omega arith) in omega (arith, packed_row-suc)
 ]
 
 -- a row moved up by a few houses fits sixty-four bits
@@ -208,8 +202,8 @@ laps_few m c some few =
     omega (arith, mul-le 3 q (2 * m + 1) q (omega arith) (omega arith))
 
 -- what lies up to x holds what lies up to h
-pub up_to_past : (m h x : ℕ) → h ≤ m → h ≤ x → ones h ≤ row_number (row_of m (up_to x))
-up_to_past m h x within past = grind (arith, row_number-up_to, ones_le, row_number-all)
+pub up_to_past : (m h x : ℕ) → h ≤ m → h ≤ x → ones h ≤ packed_row (row_of m (up_to x))
+up_to_past m h x within past = grind (arith, packed_row-up_to, ones_le, packed_row-all)
 
 -- ==== Padded rows, cells of a key, and the houses that it determines
 
@@ -223,21 +217,21 @@ padded_from_zeros m cells long high zeros =
     rw (length-take-le m cells (omega arith), ← past) (take-append-drop m _)
 
 -- empty houses have the number 0
-row_number-zeros : (n : ℕ) → row_number (replicate n 0) ≡ 0
-row_number-zeros zero = refl
-row_number-zeros (suc n) = omega (arith, row_number-zeros n)
+packed_row-zeros : (n : ℕ) → packed_row (replicate n 0) ≡ 0
+packed_row-zeros zero = refl
+packed_row-zeros (suc n) = omega (arith, packed_row-zeros n)
 
 -- empty houses at the end of a row do not count
-row_number-append_zeros : (xs : List ℕ) (n : ℕ) → row_number (xs ++ replicate n 0) ≡ row_number xs
-row_number-append_zeros xs n = rw (row_number-append, row_number-zeros) (omega arith)
+packed_row-append_zeros : (xs : List ℕ) (n : ℕ) → packed_row (xs ++ replicate n 0) ≡ packed_row xs
+packed_row-append_zeros xs n = rw (packed_row-append, packed_row-zeros) (omega arith)
 
 -- the cells past the houses do not count
-row_number-shown : (m : ℕ) (cells : List ℕ) → padded (take m cells) ≡ cells → row_number (take m cells) ≡ row_number cells
-row_number-shown m cells same = grind (arith, row_number-append_zeros)
+packed_row-shown : (m : ℕ) (cells : List ℕ) → padded (take m cells) ≡ cells → packed_row (take m cells) ≡ packed_row cells
+packed_row-shown m cells same = grind (arith, packed_row-append_zeros)
 
 -- thirty bits are six cells
-row_number-cells : (k : ℕ) → row_number (cells 6 k) + 2 ^ 30 * (k / 2 ^ 30) ≡ k
-row_number-cells k = omega arith
+packed_row-cells : (k : ℕ) → packed_row (cells 6 k) + 2 ^ 30 * (k / 2 ^ 30) ≡ k
+packed_row-cells k = omega arith
 
 -- the number of cells that are read
 pub length-cells : (n k : ℕ) → length (cells n k) ≡ n
@@ -245,19 +239,19 @@ length-cells zero k = refl
 length-cells (suc n) k = omega (arith, length-cells n (k / 32))
 
 -- the cells of a row's number are the row, with anything above it
-cells-row_number : (n : ℕ) (xs : List ℕ) (rest : ℕ) → length xs ≡ n → sum xs ≤ 31
-    → cells n (row_number xs + 32 ^ n * rest) ≡ xs
-cells-row_number zero [] rest long few = refl
-cells-row_number zero (x ∷ xs) rest long few = cc
-cells-row_number (suc n) [] rest long few = cc
-cells-row_number (suc n) (x ∷ xs) rest long few =
+cells-packed_row : (n : ℕ) (xs : List ℕ) (rest : ℕ) → length xs ≡ n → sum xs ≤ 31
+    → cells n (packed_row xs + 32 ^ n * rest) ≡ xs
+cells-packed_row zero [] rest long few = refl
+cells-packed_row zero (x ∷ xs) rest long few = cc
+cells-packed_row (suc n) [] rest long few = cc
+cells-packed_row (suc n) (x ∷ xs) rest long few =
     let cons = sum_by-cons (λ (y : ℕ). y) x xs in
     let rest_few : sum xs ≤ 31 = omega arith in
     let rest_long : length xs ≡ n = omega arith in
     let power = times_power n rest in
-    let low : (x + 32 * row_number xs + 32 ^ suc n * rest) % 32 ≡ x = omega arith in
-    let high : (x + 32 * row_number xs + 32 ^ suc n * rest) / 32 ≡ row_number xs + 32 ^ n * rest = omega arith in
-    rw (low, high) (ap (λ ys. x ∷ ys) (cells-row_number _ _ _ rest_long rest_few))
+    let low : (x + 32 * packed_row xs + 32 ^ suc n * rest) % 32 ≡ x = omega arith in
+    let high : (x + 32 * packed_row xs + 32 ^ suc n * rest) / 32 ≡ packed_row xs + 32 ^ n * rest = omega arith in
+    rw (low, high) (ap (λ ys. x ∷ ys) (cells-packed_row _ _ _ rest_long rest_few))
 
 -- a padded row has six cells
 length-padded : (xs : List ℕ) → length xs ≤ 6 → length (padded xs) ≡ 6
@@ -283,13 +277,13 @@ pub record KeyHolds (a : HousesState) (k : ℕ) : Type 0 where
   pub rule : k / 2 ^ 63 ≡ rule_bit a.rule
 
 -- a row with few seeds has a small number
-pub row_number-small : (n : ℕ) (xs : List ℕ) → length xs ≤ n → sum xs ≤ 31 → row_number xs < 32 ^ n
-row_number-small zero [] long few = omega arith
-row_number-small zero (x ∷ xs) long few = omega arith
-row_number-small (suc n) [] long few = omega (arith, row_number-small n [] (omega arith) few)
-row_number-small (suc n) (x ∷ xs) long few =
+pub packed_row-small : (n : ℕ) (xs : List ℕ) → length xs ≤ n → sum xs ≤ 31 → packed_row xs < 32 ^ n
+packed_row-small zero [] long few = omega arith
+packed_row-small zero (x ∷ xs) long few = omega arith
+packed_row-small (suc n) [] long few = omega (arith, packed_row-small n [] (omega arith) few)
+packed_row-small (suc n) (x ∷ xs) long few =
     let cons = sum_by-cons (λ (y : ℕ). y) x xs in
-    let here = row_number-small n xs (omega arith) (omega arith) in
+    let here = packed_row-small n xs (omega arith) (omega arith) in
     omega arith
 
 -- a rule has one bit
@@ -303,17 +297,17 @@ key_holds {a} {k} limits key_is =
     let other_long : length a.other ≤ 6 = omega arith in
     let own_few : sum a.own ≤ 31 = omega arith in
     let other_few : sum a.other ≤ 31 = omega arith in
-    let own_small = row_number-small _ _ limits.at_most_six own_few in
-    let other_small = row_number-small _ _ other_long other_few in
-    let own_same = row_number-append_zeros a.own (6 - length a.own) in
-    let other_same = row_number-append_zeros a.other (6 - length a.other) in
-    let own_number : k ≡ row_number (padded a.own) + 32 ^ 6 * (row_number a.other + 2 ^ 30 * length a.own + 2 ^ 33 * rule_bit a.rule) =
+    let own_small = packed_row-small _ _ limits.at_most_six own_few in
+    let other_small = packed_row-small _ _ other_long other_few in
+    let own_same = packed_row-append_zeros a.own (6 - length a.own) in
+    let other_same = packed_row-append_zeros a.other (6 - length a.other) in
+    let own_number : k ≡ packed_row (padded a.own) + 32 ^ 6 * (packed_row a.other + 2 ^ 30 * length a.own + 2 ^ 33 * rule_bit a.rule) =
     omega arith in
-    let other_number : k / 2 ^ 30 ≡ row_number (padded a.other) + 32 ^ 6 * (length a.own + 8 * rule_bit a.rule) = omega arith in
+    let other_number : k / 2 ^ 30 ≡ packed_row (padded a.other) + 32 ^ 6 * (length a.own + 8 * rule_bit a.rule) = omega arith in
     record {
-      own_cells = rw own_number (cells-row_number _ _ _ (length-padded _ limits.at_most_six) (omega (arith, sum-padded)));
+      own_cells = rw own_number (cells-packed_row _ _ _ (length-padded _ limits.at_most_six) (omega (arith, sum-padded)));
       other_cells =
-          rw other_number (cells-row_number _ _ _ (length-padded _ other_long) (omega (arith, sum-padded)));
+          rw other_number (cells-packed_row _ _ _ (length-padded _ other_long) (omega (arith, sum-padded)));
       side = omega arith;
       rule = omega arith;
     }
@@ -342,25 +336,25 @@ same_houses_in : {a b : HousesState} → a.own ≡ b.own → a.other ≡ b.other
 same_houses_in x y z = grind arith
 
 -- the houses that have a key, by its parts
-houses_of_key : (a : HousesState) (k : ℕ) (rule : Rule) → AreWithinLimits a → key_of a ≡ k → rule_bit rule ≡ k / 2 ^ 63
+houses_of_key : {a : HousesState} {k : ℕ} {rule : Rule} → AreWithinLimits a → key_of a ≡ k → rule_bit rule ≡ k / 2 ^ 63
     → houses_from (side_in_key k) (cells 6 k) (cells 6 (k / 2 ^ 30)) rule ≡ a
-houses_of_key a k rule limits key_is bit =
+houses_of_key {a} {k} {rule} limits key_is bit =
     let held = key_holds limits key_is in
     let other_shown : take (side_in_key k) (cells 6 (k / 2 ^ 30)) ≡ a.other =
     rw (held.side, held.other_cells, sym limits.same_side) (take-padded _) in
     same_houses_in (rw (held.side, held.own_cells) (take-padded _)) other_shown (rule_bit-injective _ _ (omega arith))
 
 -- the parts of a key make the key
-key_from_parts : {k side : ℕ} {own other : List ℕ} (rule : Rule) → row_number own + 2 ^ 30 * (k / 2 ^ 30) ≡ k
-    → row_number other + 2 ^ 30 * (k / 2 ^ 30 / 2 ^ 30) ≡ k / 2 ^ 30 → padded (take side own) ≡ own
+key_from_parts : {k side : ℕ} {own other : List ℕ} (rule : Rule) → packed_row own + 2 ^ 30 * (k / 2 ^ 30) ≡ k
+    → packed_row other + 2 ^ 30 * (k / 2 ^ 30 / 2 ^ 30) ≡ k / 2 ^ 30 → padded (take side own) ≡ own
     → padded (take side other) ≡ other → length (take side own) ≡ side → side ≡ k / 2 ^ 60 % 8 → rule_bit rule ≡ k / 2 ^ 63
     → key_of (houses_from side own other rule) ≡ k
-key_from_parts rule own_is other_is own_padded other_padded long side_is bit = omega (arith, row_number-shown)
+key_from_parts rule own_is other_is own_padded other_padded long side_is bit = omega (arith, packed_row-shown)
 
 -- the key of the houses that a key holds
 key_of_houses : {k : ℕ} (rule : Rule) → IsKey k → rule_bit rule ≡ k / 2 ^ 63
     → key_of (houses_from (side_in_key k) (cells 6 k) (cells 6 (k / 2 ^ 30)) rule) ≡ k
-key_of_houses {k} rule is_key bit = search (rules, key_from_parts, row_number-cells, padded_from_zeros)
+key_of_houses {k} rule is_key bit = search (rules, key_from_parts, packed_row-cells, padded_from_zeros)
 
 -- the rule that a key names has the key's bit
 rule_in_key-bit : (bit : ℕ) → bit ≤ 1 → rule_bit (if bit == 0 then Classic else EmptyCapture) ≡ bit
@@ -373,17 +367,17 @@ houses_in_key_of : {a : HousesState} → AreWithinLimits a → houses_in_key (ke
 houses_in_key_of {a} limits =
     let held = key_holds limits refl in
     let bit : key_of a / 2 ^ 63 ≤ 1 = omega (arith, rule_bit-small) in
-    houses_of_key a _ _ limits refl (rule_in_key-bit _ bit)
+    houses_of_key limits refl (rule_in_key-bit _ bit)
 
 -- a key fits sixty-four bits
 pub key_fits : (b : HousesState) → AreWithinLimits b → key_of b < 2 ^ 64
-key_fits b limits = grind (arith, row_number-small)
+key_fits b limits = grind (arith, packed_row-small)
 
 -- the parts of the key of houses, with their number of seeds, are their fields
-pub are_fields : (b : HousesState) (rows seeds variant : ℕ) → AreWithinLimits b → rows ≡ rows_number b
+pub are_fields : {b : HousesState} {rows seeds variant : ℕ} → AreWithinLimits b → rows ≡ packed_rows b
     → seeds ≡ seeds_in_houses (storeless b) → variant ≡ variant_of b
     → AreFields rows seeds variant × (houses_of_fields rows variant ≡ b)
-are_fields b rows seeds variant limits rows_are seeds_are variant_is =
+are_fields {b} {rows} {variant = variant} limits rows_are seeds_are variant_is =
     let key_is : rows + 2 ^ 60 * variant ≡ key_of b = omega arith in
     let same : houses_of_fields rows variant ≡ b = ap houses_in_key key_is ∙ houses_in_key_of limits in
     grind arith
@@ -396,29 +390,29 @@ fields_of fields view_is = rw view_is at fields
 -- both rows fit sixty bits, the own row thirty
 pub record AreRows (a : HousesState) (rows : ℕ) : Type 0 where
   pub fit : rows < 2 ^ 60
-  pub own : row_number a.own ≡ rows % 2 ^ 30
-  pub other : row_number a.other ≡ rows / 2 ^ 30
+  pub own : packed_row a.own ≡ rows % 2 ^ 30
+  pub other : packed_row a.other ≡ rows / 2 ^ 30
 
 -- both rows are read off the field
 pub rows_of_fields : {a : HousesState} {rows seeds variant : ℕ} → AreFieldsOf a rows seeds variant → AreRows a rows
 rows_of_fields {a} fields =
-    let own_small = row_number-small 6 a.own fields.limits.at_most_six (omega (arith, fields.limits.few_seeds)) in
-    let other_small = row_number-small 6 a.other (omega (arith, fields.limits.same_side)) (omega (arith, fields.limits.few_seeds)) in
+    let own_small = packed_row-small 6 a.own fields.limits.at_most_six (omega (arith, fields.limits.few_seeds)) in
+    let other_small = packed_row-small 6 a.other (omega (arith, fields.limits.same_side)) (omega (arith, fields.limits.few_seeds)) in
     omega (arith, fields.rows_are)
 
 -- a row with the number 0 has no seeds
-pub sum-zero : (xs : List ℕ) → row_number xs ≡ 0 → sum xs ≡ 0
+pub sum-zero : (xs : List ℕ) → packed_row xs ≡ 0 → sum xs ≡ 0
 sum-zero [] none = refl
 sum-zero (x ∷ xs) none = let rest = sum-zero xs (omega arith) in let cons = sum_by-cons (λ (y : ℕ). y) x xs in omega arith
 
 -- a row without seeds has the number 0
-pub row_number-zero : (xs : List ℕ) → sum xs ≡ 0 → row_number xs ≡ 0
-row_number-zero [] none = refl
-row_number-zero (x ∷ xs) none = let cons = sum_by-cons (λ (y : ℕ). y) x xs in let rest = row_number-zero xs (omega arith) in omega arith
+pub packed_row-zero : (xs : List ℕ) → sum xs ≡ 0 → packed_row xs ≡ 0
+packed_row-zero [] none = refl
+packed_row-zero (x ∷ xs) none = let cons = sum_by-cons (λ (y : ℕ). y) x xs in let rest = packed_row-zero xs (omega arith) in omega arith
 
 -- a row's number is 0 exactly when it has no seeds
-pub row_number-is_zero : (xs : List ℕ) → nat_eq (row_number xs) 0 ≡ nat_eq (sum xs) 0
-row_number-is_zero xs = grind (arith, row_number-zero, sum-zero)
+pub packed_row-is_zero : (xs : List ℕ) → nat_eq (packed_row xs) 0 ≡ nat_eq (sum xs) 0
+packed_row-is_zero xs = grind (arith, packed_row-zero, sum-zero)
 
 -- what `Houses::new` answers at the parts of a key
 module _ (k : ℕ) (rule : Rule) (bit : rule_bit rule ≡ k / 2 ^ 63) where
@@ -435,13 +429,13 @@ module _ (k : ℕ) (rule : Rule) (bit : rule_bit rule ≡ k / 2 ^ 63) where
   pub of_key_found : (o : Option HousesState) → (IsSome o ↔ IsKey k) → IfSome o (λ a. a ≡ parts) → (a : HousesState)
       → AreWithinLimits a → key_of a ≡ k → o ≡ Some a
   of_key_found None valid value a limits key_is = grind (arith, key_is_key)
-  of_key_found (Some b) valid value a limits key_is = ap Some (value ∙ houses_of_key _ _ _ limits key_is bit)
+  of_key_found (Some b) valid value a limits key_is = ap Some (value ∙ houses_of_key limits key_is bit)
 
 -- two values of houses with one key are one
 pub key-injective : (a b : HousesState) → AreWithinLimits a → AreWithinLimits b → key_of a ≡ key_of b → a ≡ b
 key-injective a b limits_a limits_b same =
     let bit = sym (key_holds limits_a same).rule in
-    sym (houses_of_key _ _ _ limits_a same bit) ∙ houses_of_key _ _ _ limits_b refl bit
+    sym (houses_of_key limits_a same bit) ∙ houses_of_key limits_b refl bit
 
 -- without seeds only the variant is left
 pub fields_without_seeds : {a : HousesState} {rows seeds variant : ℕ} → AreFieldsOf a rows seeds variant
@@ -449,9 +443,8 @@ pub fields_without_seeds : {a : HousesState} {rows seeds variant : ℕ} → AreF
 fields_without_seeds {a} fields =
     let side = length-replicate {A = ℕ} (length a.own) 0 in
     let none = sum-zeros (length a.own) in
-    are_fields _ 0 0 _
-    (omega arith)
-    (omega (arith, row_number-zeros))
+    are_fields (omega arith)
+    (omega (arith, packed_row-zeros))
     (omega arith)
     (omega (arith, fields.variant_is))
 
@@ -459,7 +452,7 @@ fields_without_seeds {a} fields =
 
 -- a row's number has thirty bits
 pub row_is_small : {count number seeds : ℕ} → AreRowFields count number seeds → number < 32 ^ 6
-row_is_small {count} {number} {seeds} row = grind (arith, length-cells, row_number-small)
+row_is_small {count} {number} {seeds} row = grind (arith, length-cells, packed_row-small)
 
 -- ---- one house more
 
@@ -473,15 +466,15 @@ module _ {count number seeds : ℕ} (x : ℕ) (row : AreRowFields count number s
   sum_more = omega (arith, sum_by-append)
 
   -- it stands above the others
-  number_more : row_number (houses ++ x ∷ []) ≡ number + 32 ^ count * x
-  number_more = rw (row_number-append, length-cells) (omega arith)
+  number_more : packed_row (houses ++ x ∷ []) ≡ number + 32 ^ count * x
+  number_more = rw (packed_row-append, length-cells) (omega arith)
 
   -- one house more stands after the others
   pub houses_pushed : cells (count + 1) (number + 32 ^ count * x) ≡ houses ++ x ∷ []
   houses_pushed =
       let long : length (houses ++ x ∷ []) ≡ count + 1 = omega (arith, length-append houses (x ∷ []), length-cells) in
-      let same : row_number (houses ++ x ∷ []) + 32 ^ (count + 1) * 0 ≡ number + 32 ^ count * x = omega (arith, number_more) in
-      ap (cells _) (sym same) ∙ cells-row_number _ _ _ long (omega (arith, sum_more))
+      let same : packed_row (houses ++ x ∷ []) + 32 ^ (count + 1) * 0 ≡ number + 32 ^ count * x = omega (arith, number_more) in
+      ap (cells _) (sym same) ∙ cells-packed_row _ _ _ long (omega (arith, sum_more))
 
   -- the fields of a row with one house more
   pub row_pushed : count < 6 → AreRowFields (count + 1) (number + 32 ^ count * x) (seeds + x)
@@ -492,11 +485,11 @@ module _ {count number seeds : ℕ} (x : ℕ) (row : AreRowFields count number s
 -- the fields of two rows and a rule
 pub fields_of_rows : {own other : List ℕ} {rule : Rule} {own_number other_number m variant seeds : ℕ} →
     AreWithinLimits (record { own = own; other = other; rule = rule }) →
-    own_number ≡ row_number own → other_number ≡ row_number other → m ≡ length own → variant ≡ m + 8 * rule_bit rule
+    own_number ≡ packed_row own → other_number ≡ packed_row other → m ≡ length own → variant ≡ m + 8 * rule_bit rule
     → seeds ≡ sum own + sum other →
     AreFields (own_number + 2 ^ 30 * other_number) seeds variant
     × (houses_of_fields (own_number + 2 ^ 30 * other_number) variant ≡ record { own = own; other = other; rule = rule })
-fields_of_rows limits own_is other_is m_is variant_is seeds_are = are_fields _ _ _ _ limits (omega arith) seeds_are (omega arith)
+fields_of_rows limits own_is other_is m_is variant_is seeds_are = are_fields limits (omega arith) seeds_are (omega arith)
 
 -- ==== Houses from six cells a row
 

@@ -1,17 +1,9 @@
 -- Moves on the numbers of two rows, the step of a board by that of its houses, and the cells of the table of sowings.
 use Rattle.kalah_rules.specs.declared.step.Step.TheVariants as step
 use Rattle.kalah_rules.specs.Position as position
-use Rattle.std.proofs.Common.{◌≡◌, ◌≢◌, ℕ, zero, suc, ◌+◌, ◌-◌, ◌*◌, ◌/◌, ◌%◌, ◌^◌, ◌<◌, ◌≤◌, inl, inr, length, arith, ap, sym, ◌∙◌, refl, subst, eq-eqb, List, Bool, true, false, sum, ◌==◌, ◌&&◌, Option, Some, None, MatchBool, Contains, slice_set, bit_and, length-set}
-use Rattle.std.proofs.lemmas.{Nat.mod_below, Nat.div-add-mod', Nat.and_block, Nat.and_mask, Nat.and_le_r, Nat.pow_pos, Bool.cases_Bool, Bool.cases_eq, Bool.cases_lt, Bool.and_parts, Bool.cond_both, Bool.eqb-true, Bool.Decides.nat_tests, List.length-replicate, List.get_or-set_same, List.get_or-set_other}
-use Rattle.std.proofs.Math.Nat.{div-eq_of_lt, mod-eq_of_lt, div-div-eq-div-mul}
-use Rattle.std.proofs.Math.Bool.{or_comm}
-use Rattle.kalah_rules.specs.{Position.Position, HousesState, AreWithinLimits, side_length, seeds, opposite, seeds_in_houses, storeless, IsWithinLimits, is_over, swapped, houses_in, with_stores, without_seeds, HoldsSeeds, lifted, lap_length, own_distance, other_distance, store_distance, sow, sown, last_distance, is_again, captures, can_capture, after_capture, after, row_number, rule_bit, ShowsPosition, ones, houses_of_fields, AreFieldsOf, AreFields, own_gains, other_gains, store_gains, last_place, IsLastHouse, IsNoHouse, IsSowing, IsSowingCell, AreSowings, legal_houses, step_to, step_of, position_after, IsNearerEnd, houses_step_to, houses_step, HousesStep.HousesStep, Over, Again, Turn}
-use Rattle.kalah_rules.proofs.PlayLemmas.{IsLegal, sum-set_zero, sow_side, sow_keeps, own_distance_past, own_distance_back, last_house_own, last_house_store, last_house_other, after_at, legal_holds, after_nearer, sum-zeros, with_store_seeds, after_of_houses, legal_going}
-use Rattle.kalah_rules.specs.declared.houses.play.RowNumbers.{RowNumbers}
-use Rattle.kalah_rules.specs.declared.rule.Rule.{Rule}
-use Rattle.kalah_rules.specs.declared.houses.sowing_table.Sowing.{Sowing}
-use Rattle.kalah_rules.proofs.KeyLemmas.{row_number-small, pow_five, pow_other, own_house_of_rows, moved_across_fits, placed_small, row_number-set, row_number-all, row_number-up_to, read_seeds, own_sown, other_sown, own_gain, other_gain, ones_le, fields_of, rows_of_fields, are_fields, sum-zero, row_number-zero}
-use Rattle.kalah_rules.specs.declared.step.Step.{Step}
+use Rattle.std.proofs.{Common.{◌≡◌, ◌≢◌, ℕ, zero, suc, ◌+◌, ◌-◌, ◌*◌, ◌/◌, ◌%◌, ◌^◌, ◌<◌, ◌≤◌, inl, inr, length, arith, ap, sym, ◌∙◌, refl, subst, eq-eqb, List, Bool, true, false, sum, ◌==◌, ◌&&◌, Option, Some, None, MatchBool, Contains, slice_set, bit_and, length-set}, lemmas.{Nat.mod_below, Nat.div-add-mod', Nat.and_block, Nat.and_mask, Nat.and_le_r, Nat.pow_pos, Bool.cases_Bool, Bool.cases_eq, Bool.cases_lt, Bool.and_parts, Bool.cond_both, Bool.eqb-true, Bool.Decides.nat_tests, List.length-replicate, List.get_or-set_same, List.get_or-set_other}, Math.{Nat.{div-eq_of_lt, mod-eq_of_lt, div-div-eq-div-mul}, Bool.{or_comm}}}
+use Rattle.kalah_rules.specs.{Position.Position, HousesState, AreWithinLimits, side_length, seeds, opposite, seeds_in_houses, storeless, IsWithinLimits, is_over, swapped, houses_in, with_stores, without_seeds, HoldsSeeds, lifted, lap_length, own_distance, other_distance, store_distance, sow, sown, last_distance, moves_again, captures, can_capture, after_capture, after, packed_row, rule_bit, ShowsPosition, ones, houses_of_fields, AreFieldsOf, AreFields, own_gains, other_gains, store_gains, last_house, last_place, IsLastHouse, IsNoHouse, IsSowing, IsSowingCell, AreSowings, legal_houses, step_to, step_of, position_after, IsNearerEnd, houses_step_to, houses_step, HousesStep.HousesStep, Over, Again, Turn, declared.{houses.{play.RowNumbers.{RowNumbers}, sowing_table.Sowing.{Sowing}}, rule.Rule.{Rule}, step.Step.{Step}}}
+use Rattle.kalah_rules.proofs.{PlayLemmas.{IsLegal, sum-set_zero, sow_side, sow_keeps, own_distance_past, own_distance_back, last_house_own, last_house_store, last_house_other, after_at, legal_holds, after_nearer, sum-zeros, with_store_seeds, after_of_houses, legal_going}, KeyLemmas.{packed_row-small, pow_five, pow_other, own_house_of_rows, moved_across_fits, placed_small, packed_row-set, packed_row-all, packed_row-up_to, read_seeds, own_sown, other_sown, own_gain, other_gain, ones_le, fields_of, rows_of_fields, are_fields, sum-zero, packed_row-zero}}
 
 -- ==== A move on the numbers of two rows
 
@@ -80,9 +72,9 @@ record GainsIntoStore (m h c : ℕ) : Type 0 where
   other : other_gains m h c ≡ 0
   store : store_gains m h c ≡ 1
 
--- such a sowing gives each later own house and the store one seed, and the other player none
+-- such a sowing gives each later own house and the store one seed, and the opponent none
 gains_into_store : (m h c : ℕ) → 1 ≤ h → h ≤ m → c + h ≡ m + 1 → GainsIntoStore m h c
-gains_into_store m h c low high ends = grind (arith, div-eq_of_lt, mod-eq_of_lt, row_number-all, row_number-up_to, own_gain, other_gain)
+gains_into_store m h c low high ends = grind (arith, div-eq_of_lt, mod-eq_of_lt, packed_row-all, packed_row-up_to, own_gain, other_gain)
 
 -- a house of houses within their limits that holds seeds
 pub record CanSow (a : HousesState) (h : ℕ) : Type 0 where
@@ -109,14 +101,14 @@ module _ {a : HousesState} {h : ℕ} (can : CanSow a h) where
       }
 
   -- the own row after the sowing
-  row_number-sown_own : row_number after_sowing.own + 32 ^ (h - 1) * seeds a.own h ≡ row_number a.own + own_gains (length a.own) h (seeds a.own h)
+  packed_row-sown_own : packed_row after_sowing.own + 32 ^ (h - 1) * seeds a.own h ≡ packed_row a.own + own_gains (length a.own) h (seeds a.own h)
   unfolding sow
-  row_number-sown_own = own_sown _ _ _ can.holds.first can.holds.last
+  packed_row-sown_own = own_sown _ _ _ can.holds.first can.holds.last
 
   -- the other row
-  row_number-sown_other : row_number after_sowing.other ≡ row_number a.other + other_gains (length a.own) h (seeds a.own h)
+  packed_row-sown_other : packed_row after_sowing.other ≡ packed_row a.other + other_gains (length a.own) h (seeds a.own h)
   unfolding sow
-  row_number-sown_other = rw can.limits.same_side at (other_sown a.other h (seeds a.own h))
+  packed_row-sown_other = rw can.limits.same_side at (other_sown a.other h (seeds a.own h))
 
   -- what comes to the store
   sown_own_store : after_sowing.own_store ≡ store_gains (length a.own) h (seeds a.own h)
@@ -124,41 +116,41 @@ module _ {a : HousesState} {h : ℕ} (can : CanSow a h) where
   sown_own_store = omega arith
 
   -- the row without the house's seeds
-  row_number-lifted : row_number (lifted (storeless a) h).own + 32 ^ (h - 1) * seeds a.own h ≡ row_number a.own
-  row_number-lifted = omega (arith, row_number-set)
+  packed_row-lifted : packed_row (lifted (storeless a) h).own + 32 ^ (h - 1) * seeds a.own h ≡ packed_row a.own
+  packed_row-lifted = omega (arith, packed_row-set)
 
   -- the sowing leaves few seeds
   few : sum after_sowing.own + sum after_sowing.other ≤ 31
   few = omega (arith, sown_keeps.play)
 
   -- the own row has a small number
-  own_small : row_number after_sowing.own < 2 ^ 30
-  own_small = row_number-small 6 after_sowing.own (omega (arith, sown_keeps.side)) (omega (arith, few))
+  own_small : packed_row after_sowing.own < 2 ^ 30
+  own_small = packed_row-small 6 after_sowing.own (omega (arith, sown_keeps.side)) (omega (arith, few))
 
   -- the other row has a small number
-  other_small : row_number after_sowing.other < 2 ^ 30
-  other_small = row_number-small 6 after_sowing.other (omega (arith, sown_keeps.other_side, can.limits.same_side)) (omega (arith, few))
+  other_small : packed_row after_sowing.other < 2 ^ 30
+  other_small = packed_row-small 6 after_sowing.other (omega (arith, sown_keeps.other_side, can.limits.same_side)) (omega (arith, few))
 
   -- both rows without the house's seeds, and with what they gain
-  sown_rows : (rows house gains : ℕ) → rows ≡ row_number a.own + 2 ^ 30 * row_number a.other → house ≡ 32 ^ (h - 1) * seeds a.own h
+  sown_rows : (rows house gains : ℕ) → rows ≡ packed_row a.own + 2 ^ 30 * packed_row a.other → house ≡ 32 ^ (h - 1) * seeds a.own h
       → gains ≡ own_gains (length a.own) h (seeds a.own h) + 2 ^ 30 * other_gains (length a.own) h (seeds a.own h)
-      → rows - house + gains ≡ row_number after_sowing.own + 2 ^ 30 * row_number after_sowing.other
-  sown_rows rows house gains rows_are house_is gains_are = omega (arith, row_number-sown_own, row_number-sown_other, row_number-lifted)
+      → rows - house + gains ≡ packed_row after_sowing.own + 2 ^ 30 * packed_row after_sowing.other
+  sown_rows rows house gains rows_are house_is gains_are = omega (arith, packed_row-sown_own, packed_row-sown_other, packed_row-lifted)
 
   -- after a sowing the rows are both rows, less what they lose
-  sown_less : (rows loses : ℕ) → rows ≡ row_number a.own + 2 ^ 30 * row_number a.other → loses < 2 ^ 64
+  sown_less : (rows loses : ℕ) → rows ≡ packed_row a.own + 2 ^ 30 * packed_row a.other → loses < 2 ^ 64
       → (loses + (own_gains (length a.own) h (seeds a.own h) + 2 ^ 30 * other_gains (length a.own) h (seeds a.own h))) % 2 ^ 64
-      ≡ 32 ^ (h - 1) * seeds a.own h → (rows + (2 ^ 64 - loses)) % 2 ^ 64 ≡ row_number after_sowing.own + 2 ^ 30 * row_number after_sowing.other
-  sown_less rows loses rows_are loses_small loses_is = omega (arith, row_number-sown_own, row_number-sown_other, own_small, other_small)
+      ≡ 32 ^ (h - 1) * seeds a.own h → (rows + (2 ^ 64 - loses)) % 2 ^ 64 ≡ packed_row after_sowing.own + 2 ^ 30 * packed_row after_sowing.other
+  sown_less rows loses rows_are loses_small loses_is = omega (arith, packed_row-sown_own, packed_row-sown_other, own_small, other_small)
 
   -- rows and a store with what a sowing adds show the position after it
-  rows_show : (rows store : ℕ) → rows ≡ row_number after_sowing.own + 2 ^ 30 * row_number after_sowing.other →
+  rows_show : (rows store : ℕ) → rows ≡ packed_row after_sowing.own + 2 ^ 30 * packed_row after_sowing.other →
       store ≡ store_gains (length a.own) h (seeds a.own h) → ShowsPosition (record { rows = rows; store = store }) after_sowing
   rows_show rows store rows_are store_is' = omega (arith, own_small, sown_own_store)
 
   -- a house whose last seed falls into the store without a lap
   pub into_store : (rows house own_more : ℕ) → seeds a.own h + h ≡ length a.own + 1
-      → rows ≡ row_number a.own + 2 ^ 30 * row_number a.other →
+      → rows ≡ packed_row a.own + 2 ^ 30 * packed_row a.other →
       house ≡ 32 ^ (h - 1) * seeds a.own h → own_more + ones h ≡ ones (length a.own)
       → ShowsPosition (record { rows = rows - house + own_more; store = 1 }) after_sowing
   into_store rows house own_more ends rows_are house_is own_more_is =
@@ -216,8 +208,8 @@ module _ {a : HousesState} {h : ℕ} (can : CanSow a h) where
         let both = rw alone at taken_by_rule in
         let one : seeds after_sowing.own i ≡ 1 = eqb-true (seeds after_sowing.own i) 1 (and_parts _ _ alone).0 in
         let one_at : 32 ^ (i - 1) * seeds after_sowing.own i ≡ 32 ^ (i - 1) * 1 = ap (λ n. 32 ^ (i - 1) * n) one in
-        let own_set = row_number-set after_sowing.own (i - 1) 0 (omega (arith, sown_keeps.side)) in
-        let other_set = row_number-set after_sowing.other (across - 1) 0
+        let own_set = packed_row-set after_sowing.own (i - 1) 0 (omega (arith, sown_keeps.side)) in
+        let other_set = packed_row-set after_sowing.other (across - 1) 0
         (omega (arith, sown_keeps.side, sown_keeps.other_side, can.limits.same_side)) in
         let far : across - 1 ≤ 5 = omega (arith, sown_keeps.side, can.limits.at_most_six) in
         let stands : seeds after_sowing.other across * 2 ^ s.across_bit % 2 ^ 64
@@ -227,7 +219,7 @@ module _ {a : HousesState} {h : ℕ} (can : CanSow a h) where
         let taken_are : taken ≡ 32 ^ (i - 1) + 2 ^ 30 * (32 ^ (across - 1) * seeds after_sowing.other across) =
         both.0 ∙ omega (arith, stands, house.seed) in
         let left : AreLeft r.rows (32 ^ (i - 1) + 2 ^ 30 * (32 ^ (across - 1) * seeds after_sowing.other across))
-        (row_number (slice_set after_sowing.own (i - 1) 0)) (row_number (slice_set after_sowing.other (across - 1) 0)) =
+        (packed_row (slice_set after_sowing.own (i - 1) 0)) (packed_row (slice_set after_sowing.other (across - 1) 0)) =
         left_of_rows r.rows _ _ shows.own shows.other (omega arith) (omega arith) in
         record {
           within = rw taken_are left.within;
@@ -244,7 +236,7 @@ captured_keeps : {p q : Position} (o : Option ℕ) → KeepsSeeds p q → KeepsS
 captured_keeps None k = k
 captured_keeps {p} {q} (Some i) k = grind (arith, cases_Bool, sum-set_zero, length-set)
 
--- a move keeps all that
+-- a move keeps what `KeepsSeeds` lists
 pub after_keeps : (a : HousesState) (h : ℕ) → AreWithinLimits a → HoldsSeeds (storeless a) h
     → KeepsSeeds (storeless a) (after (storeless a) h)
 unfolding after
@@ -260,7 +252,7 @@ module _ (p : Position) (h : ℕ) (holds : HoldsSeeds p h) where
   last_high : last_distance p h ≤ lap_length (side_length p)
   last_high = omega arith
 
-  -- the seeds of less than a lap go as far as there are of them
+  -- of fewer seeds than a lap has cells the last goes as far as their number
   short_distance : seeds p.own h ≤ lap_length (side_length p) → last_distance p h ≡ seeds p.own h
   short_distance few = omega (arith, mod-eq_of_lt)
 
@@ -279,11 +271,15 @@ module _ (p : Position) (h : ℕ) (holds : HoldsSeeds p h) where
       → own_distance (side_length p) h (last_place (side_length p) h (seeds p.own h)) ≡ last_distance p h
   own_at own = grind (arith, cases_lt, place_round, own_distance_back, last_high, place_near, own_distance_past, last_low)
 
+  -- what shows the position after the capture shows that after the move
+  shows_after : {r : RowNumbers} {o : Option ℕ} → last_house p h ≡ o → ShowsPosition r (after_capture (sown p h) o)
+      → ShowsPosition r (after p h)
+  shows_after last_is shows = subst (ShowsPosition _) (after_at p h last_is) shows
+
   -- it falls into an own house, and may capture
   after_own : (r : RowNumbers) → last_place (side_length p) h (seeds p.own h) ≤ side_length p
       → ShowsPosition r (after_capture (sown p h) (Some (last_place (side_length p) h (seeds p.own h)))) → ShowsPosition r (after p h)
-  after_own r own shows = subst (λ z. ShowsPosition r z)
-      (after_at _ _ _ (last_house_own holds (omega arith) own (own_at own))) shows
+  after_own r own shows = shows_after (last_house_own holds (omega arith) own (own_at own)) shows
 
   -- the place of any other cell is its distance past the house
   place_past : side_length p < last_place (side_length p) h (seeds p.own h)
@@ -298,21 +294,22 @@ module _ (p : Position) (h : ℕ) (holds : HoldsSeeds p h) where
       elim (cases_eq (h + last_distance p h) (side_length p + 1)) [
         | inl store ↦
             let far : store_distance _ h ≡ last_distance p h = omega arith in
-            subst (λ z. ShowsPosition r z) (after_at _ _ _ (last_house_store holds far)) shows
+            shows_after (last_house_store holds far) shows
         | inr other ↦
             let j = h + last_distance p h - (side_length p + 1) in
             let low : 1 ≤ j = omega arith in
             let high : j ≤ side_length p = omega arith in
             let far : other_distance _ h j ≡ last_distance p h = omega arith in
-            subst (λ z. ShowsPosition r z) (after_at _ _ _ (last_house_other _ holds low high far)) shows
+            shows_after (last_house_other _ holds low high far) shows
       ]
 
   -- the mover moves again if it falls into the store
-  pub again_at : is_again p h ≡ (last_place (side_length p) h (seeds p.own h) == side_length p + 1)
+  pub again_at : moves_again p h ≡ (last_place (side_length p) h (seeds p.own h) == side_length p + 1)
   again_at = grind (arith, cases_eq, place_past, eq-eqb, place_near)
 
 -- a last seed that falls into no own house captures nothing
-none_captured : (rule : Rule) (r : RowNumbers) (s : Sowing) {taken count : ℕ} {p : Position} → IsNoHouse s.last_mask s.last_seed s.across_bit →
+none_captured : (rule : Rule) (r : RowNumbers) (s : Sowing) {taken count : ℕ} {p : Position}
+    → IsNoHouse s.last_mask s.last_seed s.across_bit →
     HasCaptured rule r s taken count → ShowsPosition r p → LeavesRows r taken count p
 none_captured rule r s elsewhere has_captured shows =
     let nothing = rw (elsewhere.house, elsewhere.seed) at has_captured in
@@ -371,7 +368,7 @@ step_again : (q : Position) (again : Bool) → is_over q ≡ false → again ≡
     → houses_step_to q again ≡ Again q.own_store (houses_in q)
 step_again q again going more = cc
 
--- a game that goes on with the other player
+-- a game that goes on with the opponent
 step_turn : (q : Position) (again : Bool) → is_over q ≡ false → again ≡ false
     → houses_step_to q again ≡ Turn q.own_store (houses_in (swapped q))
 step_turn q again going more = cc
@@ -389,7 +386,7 @@ pub after_within : (a : HousesState) (h : ℕ) → AreWithinLimits a → HoldsSe
     → AreWithinLimits (houses_in (after (storeless a) h))
 after_within a h limits holds = grind (arith, after_keeps)
 
--- also as the other player sees them
+-- also as the opponent sees them
 pub swapped_within : (q : Position) → AreWithinLimits (houses_in q) → AreWithinLimits (houses_in (swapped q))
 swapped_within q limits = omega arith
 
@@ -435,38 +432,37 @@ module _ {a : HousesState} {h rows seeds variant : ℕ} {r : RowNumbers} (fields
       let mine : r.store ≡ moved.own_store + sum moved.own = omega (arith, shows.store) in
       let theirs : seeds - r.store ≡ moved.other_store + sum moved.other =
       omega (arith, shows.store, move_keeps.play, move_keeps.other_store, fields_are.seeds_are) in
-      cc (mine, theirs, step_over moved (is_again (storeless a) h) (rw empty refl))
+      cc (mine, theirs, step_over moved (moves_again (storeless a) h) (rw empty refl))
 
-  -- without seeds of the other player it is over
+  -- without seeds of the opponent it is over
   pub over_other : r.rows / 2 ^ 30 ≡ 0 → Over seeds 0 ≡ houses_step a h
   over_other none =
       let empty = sum-zero moved.other (sym shows.other ∙ none) in
       let mine : seeds ≡ moved.own_store + sum moved.own = omega (arith, move_keeps.play, fields_are.seeds_are) in
       let theirs : 0 ≡ moved.other_store + sum moved.other = omega (arith, move_keeps.other_store) in
-      cc (mine, theirs, step_over moved (is_again (storeless a) h) (grind (arith, nat_tests)))
+      cc (mine, theirs, step_over moved (moves_again (storeless a) h) (grind (arith, nat_tests)))
 
   module _ (own_some : r.rows % 2 ^ 30 ≢ 0) (other_some : r.rows / 2 ^ 30 ≢ 0) where
     -- with seeds on both sides it goes on
     moved_going : is_over moved ≡ false
-    moved_going = grind (arith, row_number-zero)
+    moved_going = grind (arith, packed_row-zero)
 
     -- if the mover moves again, the rows stay in place
-    pub again_fields : is_again (storeless a) h ≡ true → IsStepOfFields a h r.rows (seeds - r.store) variant (Again r.store)
+    pub again_fields : moves_again (storeless a) h ≡ true → IsStepOfFields a h r.rows (seeds - r.store) variant (Again r.store)
     again_fields more =
         let rule = ap rule_bit move_keeps.rule in
-        let there = are_fields _ _ _ variant moved_within
+        let there = are_fields {variant = variant} moved_within
         (omega (arith, shows.own, shows.other))
         (omega (arith, move_keeps.play, fields_are.seeds_are))
         (omega (arith, fields_are.variant_is, move_keeps.side)) in
         record { fields = there.0; step_is = rw (shows.store, there.1) (sym (step_again _ _ moved_going more)) }
 
     -- if the turn passes, they change places
-    pub turn_fields : is_again (storeless a) h ≡ false
+    pub turn_fields : moves_again (storeless a) h ≡ false
         → IsStepOfFields a h (r.rows / 2 ^ 30 + 2 ^ 30 * (r.rows % 2 ^ 30)) (seeds - r.store) variant (Turn r.store)
     turn_fields passed =
         let rule = ap rule_bit move_keeps.rule in
-        let there = are_fields (houses_in (swapped moved)) _ (seeds - _) variant
-        (swapped_within moved moved_within)
+        let there = are_fields {seeds = seeds - r.store} {variant = variant} (swapped_within moved moved_within)
         (omega (arith, shows.own, shows.other))
         (omega (arith, move_keeps.play, fields_are.seeds_are))
         (omega (arith, fields_are.variant_is, move_keeps.other_side, fields_are.limits.same_side)) in
@@ -498,7 +494,7 @@ step_of_houses p h limits holds =
     let q = after _ h in
     let keeps = after_keeps _ _ limits holds in
     with_board_stores-step_to p q (is_over q) _ keeps.side keeps.rule keeps.other_store refl
-    ∙ ap (λ x. step_to x (is_again p h)) (sym (after_of_houses p h))
+    ∙ ap (λ x. step_to x (moves_again p h)) (sym (after_of_houses p h))
 
 -- the step of a board is within the limits
 step_within : {p : Position} (h : ℕ) → IsWithinLimits p → HoldsSeeds (storeless (houses_in p)) h
@@ -518,10 +514,10 @@ step_within {p} h limits holds =
       at_most_six = omega arith;
       same_side = refl;
       few_seeds = omega arith;
-      own_store_low = omega arith;
-      other_store_low = omega (arith, keeps.play);
+      own_store_few = omega arith;
+      other_store_few = omega (arith, keeps.play);
     })
-    (λ going. cond_both (is_again (storeless a) h) _ _ (IsStepWithin p)
+    (λ going. cond_both (moves_again (storeless a) h) _ _ (IsStepWithin p)
     (omega arith)
     (omega arith))
 
@@ -558,24 +554,24 @@ module _ {a : HousesState} {h rows seeds variant : ℕ} {r : RowNumbers} (fields
   distance_is_seeds = short_distance _ h can_sow.holds (omega arith)
 
   -- the mover moves again
-  moves_again : is_again (storeless a) h ≡ true
-  moves_again = omega (arith, eq-eqb, distance_is_seeds)
+  again_after : moves_again (storeless a) h ≡ true
+  again_after = omega (arith, eq-eqb, distance_is_seeds)
 
   -- its place is that of the store
   ends_at_store : last_place (length a.own) h (position.seeds a.own h) ≡ length a.own + 1
-  ends_at_store = eqb-true _ _ (sym (again_at _ h can_sow.holds) ∙ moves_again)
+  ends_at_store = eqb-true _ _ (sym (again_at _ h can_sow.holds) ∙ again_after)
 
   -- nothing is captured
   store_shows : ShowsPosition r (after (storeless a) h)
   store_shows = after_past _ h can_sow.holds r (omega (arith, ends_at_store)) shows
 
-  -- the other player has seeds as before
+  -- the opponent has seeds as before
   other_some : r.rows / 2 ^ 30 ≢ 0
-  other_some none = grind (arith, legal_going, sum-zero, row_number-sown_other can_sow)
+  other_some none = grind (arith, legal_going, sum-zero, packed_row-sown_other can_sow)
 
   -- the game goes on with the mover, if the mover has seeds left
   store_fields : 0 < r.rows % 2 ^ 30 → IsStepOfFields a h r.rows (seeds - r.store) variant (Again r.store)
-  store_fields some = again_fields fields view_is legal store_shows (omega arith) other_some moves_again
+  store_fields some = again_fields fields view_is legal store_shows (omega arith) other_some again_after
 
 -- what comes of a move, by the rows after it, if its last seed falls into the store without a lap
 pub record MovesIntoStore (a : HousesState) (h seeds variant now : ℕ) : Type 0 where
@@ -600,7 +596,7 @@ moves_into_store {a} {h} {rows} {seeds} {variant} more fields view_is legal ends
       small,
       are.rows_are,
       (rows_of_fields are).fit,
-      row_number-lifted can,
+      packed_row-lifted can,
     ) in
     let shows = into_store can _ house later ends (sym are.rows_are) refl (omega (arith, ones_le h (length a.own) can.holds.last)) in
     rw same (record {

@@ -1,8 +1,7 @@
 -- Moves, house by house: how seeds are sown and captured, which moves there are, and how each nears the end.
-use Rattle.std.proofs.Common.{zero, suc, ◌≡◌, ◌≢◌, ℕ, ◌+◌, ◌-◌, ◌*◌, ◌<◌, ◌≤◌, inl, inr, List, [], ◌∷◌, zero-le, length, replicate, arith, ap, ◌∙◌, refl, ◌/◌, ◌%◌, ◌⊎◌, sym, add-one, ◌++◌, eq-eqb, lt-ltb, slice_set, slice_index, sum, sum_by, Bool, true, false, cond, Option, Some, None, find, filter, Contains, All, nat_lt, length-set, mod-eq_of_lt}
+use Rattle.std.proofs.{Common.{zero, suc, ◌≡◌, ◌≢◌, ℕ, ◌+◌, ◌-◌, ◌*◌, ◌<◌, ◌≤◌, inl, inr, List, [], ◌∷◌, zero-le, length, replicate, arith, ap, ◌∙◌, refl, ◌/◌, ◌%◌, ◌⊎◌, sym, add-one, ◌++◌, eq-eqb, lt-ltb, slice_set, slice_index, sum, sum_by, Bool, true, false, cond, Option, Some, None, find, filter, Contains, All, nat_lt, length-set, mod-eq_of_lt}, lemmas.{Nat.mul-le, Bool.cases_eq, Bool.cases_lt, Bool.cond_both, Bool.ltb-true, Bool.ne_eqb, List.get_or_past, List.set_past, List.get_or-set_same, List.get_or-set_other, List.Folds.sum_by-replicate, List.Sums.sum_by-set, List.Sums.sum_by-cons, List.Sums.length-filter, List.Sums.count_by-le-length, Grind.same_number_lists, List.FromFn.length-map-range_with_len, List.FromFn.get_or-map-range_with_len, List.FromFn.length-range_with_len, List.FromFn.get_or-range_with_len, List.Elements.filter-append, List.Elements.filter_passes, List.Elements.All-filter, List.Elements.All-contains, List.Elements.Contains-append_left, List.Elements.Contains-append_right, List.Elements.Contains-push}}
 use Rattle.std.specs.List.{range_with_len}
-use Rattle.std.proofs.lemmas.{Nat.mul-le, Bool.cases_eq, Bool.cases_lt, Bool.cond_both, Bool.ltb-true, Bool.ne_eqb, List.get_or_past, List.set_past, List.get_or-set_same, List.get_or-set_other, List.Folds.sum_by-replicate, List.Sums.sum_by-set, List.Sums.sum_by-cons, List.Sums.length-filter, List.Sums.count_by-le-length, Grind.same_number_lists, List.FromFn.length-map-range_with_len, List.FromFn.get_or-map-range_with_len, List.FromFn.length-range_with_len, List.FromFn.get_or-range_with_len, List.Elements.filter-append, List.Elements.filter_passes, List.Elements.All-filter, List.Elements.All-contains, List.Elements.Contains-append_left, List.Elements.Contains-append_right, List.Elements.Contains-push}
-use Rattle.kalah_rules.specs.{own_distance, gain, row_of, lap_length, store_distance, other_distance, sow, last_distance, last_house, sown, after, after_capture, with_capture, Position.Position, HousesState, seeds, side_length, seeds_in_houses, is_over, houses_in, storeless, HasEqualSides, swapped, Cell, Own, Store, Other, distance, IsCellOf, with_seed, lifted, HoldsSeeds, legal_houses, row_distance, distance_to_stores, IsNearerEnd, moves_left}
+use Rattle.kalah_rules.specs.{own_distance, gain, row_of, lap_length, store_distance, other_distance, sow, last_distance, last_house, sown, after, after_capture, with_capture, Position.Position, HousesState, seeds, side_length, seeds_in_houses, is_over, houses_in, storeless, HasEqualSides, swapped, Cell, Own, Store, Other, distance, IsCellOf, with_seed, lifted, HoldsSeeds, legal_houses, row_distance, distance_to_stores, IsNearerEnd, moves_left, position_after, declared.step.Step.{Step, TheVariants.{Again, Turn, Over}}}
 
 -- ==== Numbers, sums and lists of them, as the sections below need them
 
@@ -30,10 +29,6 @@ sum_range_change f g a (suc n) i low high same =
           omega arith
     ]
 
--- a sum bounded by k times d, with one more term of at most d
-fall_step : (w a b k d e : ℕ) {w' : ℕ} → w + a ≤ b + k * d → w' ≡ w + e → e ≤ d → w' + a ≤ b + (k + 1) * d
-fall_step w a b k d e before more near = omega arith
-
 -- a list with one number set to 0 has that much less
 pub sum-set_zero : (xs : List ℕ) (k : ℕ) → sum (slice_set xs k 0) + slice_index xs k ≡ sum xs
 sum-set_zero xs k = grind (arith, sum_by-set, set_past, get_or_past)
@@ -53,13 +48,13 @@ distance_range_le [] a n w near = zero-le
 distance_range_le (x ∷ xs) a n w near =
     let f : ℕ → ℕ = λ i. slice_index (x ∷ xs) (i - a) * w i in
     let start : a - a ≡ 0 = omega arith in
-    let rest = sum_range_same f _ _ (length xs) (λ j j_low. ap (λ k. k * w j) (slice_index-cons _ _ _ _ j_low)) in
+    let rest = sum_range_same f _ _ (length xs) (λ j j_low. ap (λ k. k * w j) (slice_index-cons x xs a j j_low)) in
     distance_step _ _ n x _ (sum_by-cons f a (range_with_len _ (length xs))) (rw start (mul-le x _ x n (omega arith) (omega arith)))
     (rw rest (distance_range_le xs _ n w (omega arith))) (sum_by-cons _ x xs)
 
 -- the measure falls if s does, for w' up to m * s'
-lower_by_seeds : (m s s' w w' : ℕ) → s' < s → w' ≤ m * s' → s' * (m * s' + 1) + w' < s * (m * s + 1) + w
-lower_by_seeds m s s' w w' fewer short =
+lower_by_seeds : (m w : ℕ) {s s' w' : ℕ} → s' < s → w' ≤ m * s' → s' * (m * s' + 1) + w' < s * (m * s + 1) + w
+lower_by_seeds m w {s} {s'} fewer short =
     let grow : m * (s' + 1) + 1 ≤ m * s + 1 = omega (arith, mul-le m (s' + 1) m s (omega arith) (omega arith)) in
     let whole = mul-le (s' + 1) _ s _ (omega arith) grow in
     omega arith
@@ -152,7 +147,7 @@ row_of_more n f g i low high here others =
     (λ j j_low j_high. elim (cases_eq j i) [
       | inl e ↦ rw e (seeds-set_same _ _ _ low long ∙ ap (λ x. x + 1) (seeds-row_of n f i low high)
           ∙ sym here)
-      | inr ne ↦ seeds-set_other _ _ _ _ low j_low ne ∙ seeds-row_of n f j j_low j_high
+      | inr ne ↦ seeds-set_other _ i j _ low j_low ne ∙ seeds-row_of n f j j_low j_high
           ∙ sym (others j j_low j_high ne)
     ]))
 
@@ -168,7 +163,7 @@ module _ (m h : ℕ) (h_low : 1 ≤ h) (h_high : h ≤ m) where
   own_from_store : (i : ℕ) → 1 ≤ i → i ≤ m → own_distance m h i ≢ store_distance m h
   own_from_store i low high = grind arith
 
-  -- none has that of a house of the other player
+  -- none has that of a house of the opponent
   own_from_other : (i j : ℕ) → 1 ≤ i → i ≤ m → 1 ≤ j → j ≤ m → own_distance m h i ≢ other_distance m h j
   own_from_other i j i_low i_high j_low j_high = grind arith
 
@@ -336,15 +331,15 @@ pub last_house_store : {p : Position} {h : ℕ} → HoldsSeeds p h → store_dis
     → last_house p h ≡ None
 last_house_store {p} {h} holds distance_is = grind (arith, find_none)
 
--- there is none if it falls into a house of the other player
+-- there is none if it falls into a house of the opponent
 pub last_house_other : {p : Position} {h : ℕ} (i : ℕ) → HoldsSeeds p h → 1 ≤ i → i ≤ side_length p
     → other_distance (side_length p) h i ≡ last_distance p h → last_house p h ≡ None
 last_house_other {p} {h} i holds low high distance_is = grind (arith, find_none)
 
 -- the position after the move, by the place of the last seed
-pub after_at : (p : Position) (h : ℕ) (o : Option ℕ) → last_house p h ≡ o → after_capture (sown p h) o ≡ after p h
+pub after_at : (p : Position) (h : ℕ) {o : Option ℕ} → last_house p h ≡ o → after_capture (sown p h) o ≡ after p h
 unfolding after
-after_at p h o last_is = cc
+after_at p h last_is = cc
 
 -- a number of a range that passes is among those that pass
 contains_range : (f : ℕ → Bool) (a n i : ℕ) → a ≤ i → i < a + n → f i ≡ true → Contains (filter f (range_with_len a n)) i
@@ -430,7 +425,7 @@ unfolding row_distance
 row_distance-set row i v low high =
     let change = sum_range_change _ _ 1 (length row) i low
     (omega arith)
-    (λ j j_low ne. ap (λ x. x * (length row + 1 - j)) (seeds-set_other _ _ _ _ low j_low ne)) in
+    (λ j j_low ne. ap (λ x. x * (length row + 1 - j)) (seeds-set_other row i j v low j_low ne)) in
     rw (length-set _ _ v) (change ∙ ap (λ x. row_distance row + x) (ap (λ x. x * _) (seeds-set_same _ _ _ low high)))
 
 -- the own store after a sowing
@@ -471,8 +466,7 @@ module _ (p : Position) (h : ℕ) (holds : HoldsSeeds p h) (same : length p.othe
   distance_falls : (k : ℕ) → k + h ≤ side_length p
       → distance_to_stores (sow p h k) + seeds p.own h * (side_length p + 1 - h) ≤ distance_to_stores p + k * (side_length p - h)
   distance_falls zero near = grind (arith, sow_none, row_distance-set)
-  distance_falls (suc k) near = rw (← add-one k) (fall_step _ _ _ _ _ _ (distance_falls k (omega arith))
-      (distance_grows k (omega arith)) omega arith)
+  distance_falls (suc k) near = rw (← add-one k) (omega (arith, distance_falls k (omega arith), distance_grows k (omega arith)))
 
   -- if all seeds are sown before the store, the sum of the distances falls
   distance_falls_all : seeds p.own h + h ≤ side_length p → distance_to_stores (sown p h) < distance_to_stores p
@@ -487,7 +481,8 @@ capture_leaves_fewer : (q : Position) (i : ℕ) → seeds q.own i ≡ 1 → seed
 capture_leaves_fewer q i one = omega (arith, sum-set_zero)
 
 -- where the last seed falls there are fewer seeds in houses, or nothing changes
-captured_leaves_no_more : (q : Position) (o : Option ℕ) → (seeds_in_houses (after_capture q o) < seeds_in_houses q) ⊎ (after_capture q o ≡ q)
+captured_leaves_no_more : (q : Position) (o : Option ℕ)
+    → (seeds_in_houses (after_capture q o) < seeds_in_houses q) ⊎ (after_capture q o ≡ q)
 captured_leaves_no_more q None = inr refl
 captured_leaves_no_more q (Some i) = grind (arith, capture_leaves_fewer)
 
@@ -528,14 +523,21 @@ distance_below p equal = grind (arith, row_distance_le)
 -- what is nearer to the end has fewer moves left
 moves_left_falls : (p q : Position) → HasEqualSides q → side_length q ≡ side_length p → IsNearerEnd q p
     → moves_left q < moves_left p
-moves_left_falls p q equal side (inl fewer) = rw side (lower_by_seeds _ _ _ _ _ fewer
-    rw side at (distance_below _ equal))
+moves_left_falls p q equal side (inl fewer) = rw side (lower_by_seeds _ (distance_to_stores p) fewer rw side at (distance_below q equal))
 moves_left_falls p q equal side (inr near) = grind arith
 
 -- the position after a move has fewer moves left
 pub after_fewer : (p : Position) (h : ℕ) → HoldsSeeds p h → HasEqualSides p → moves_left (after p h) < moves_left p
 after_fewer p h holds equal = moves_left_falls p _ (after_equal_sides p h) (after_side p h) (after_nearer p h holds equal)
 
--- as many moves are left to the other player
+-- as many moves are left to the opponent
 pub moves_left-swapped : (p : Position) → HasEqualSides p → moves_left (swapped p) ≡ moves_left p
 moves_left-swapped p equal = grind arith
+
+-- ==== Where a step leads
+
+-- the position after a step, in each case
+pub after_step : (s : Step) (p : Position) → (s ≡ Again p) ⊎ ((s ≡ Turn p) ⊎ (s ≡ Over p)) → p ≡ position_after s
+after_step s p (inl again) = sym (ap position_after again)
+after_step s p (inr (inl turn)) = sym (ap position_after turn)
+after_step s p (inr (inr over)) = sym (ap position_after over)

@@ -1,11 +1,8 @@
 -- The ways to play on: stores do not influence them, and how they are summed up.
-use Rattle.std.proofs.Common.{zero, suc, ◌≡◌, ℕ, ◌+◌, ◌-◌, ◌*◌, ◌<◌, ◌≤◌, List, [], ◌∷◌, length, arith, ap, ◌∙◌, refl, sym, add-one, ◌++◌, lt-ltb, ◌^◌, append-nil, sum_by, Bool, true, false, filter, nat_lt, ◌==◌, if◌then◌else◌, le-ltb}
+use Rattle.std.proofs.{Common.{zero, suc, ◌≡◌, ℕ, ◌+◌, ◌-◌, ◌*◌, ◌<◌, ◌≤◌, List, [], ◌∷◌, length, arith, ap, ◌∙◌, refl, sym, add-one, ◌++◌, lt-ltb, ◌^◌, append-nil, sum_by, Bool, true, false, filter, nat_lt, ◌==◌, if◌then◌else◌, le-ltb}, lemmas.List.Sums.{sum_by_push}, Math.Nat.{mul-le-mul_right, pow-succ', pow-le-pow_right}}
 use Rattle.std.specs.List.{range_with_len}
-use Rattle.std.proofs.lemmas.List.Sums.{sum_by_push}
-use Rattle.kalah_rules.specs.{after, is_again, Position.Position, seeds, side_length, is_over, houses_in, storeless, HousesState, swept, legal_houses, position_after, step_to, most_depth, most_houses, houses_step, houses_step_to, ways, ways_by}
-use Rattle.std.proofs.Math.Nat.{mul-le-mul_right, pow-succ', pow-le-pow_right}
+use Rattle.kalah_rules.specs.{after, moves_again, Position.Position, seeds, side_length, is_over, houses_in, storeless, HousesState, swept, legal_houses, position_after, step_to, most_depth, most_houses, houses_step, houses_step_to, ways, ways_by, HousesStep.HousesStep, Over, Again, Turn}
 use mir.Val.{bool_byte}
-use Rattle.kalah_rules.specs.{HousesStep.HousesStep, Over, Again, Turn}
 use Rattle.kalah_rules.proofs.PlayLemmas.{sum-zeros, same_position, filter_range-suc, length-filter_range, with_store_seeds, after-store_seeds, storeless-store_seeds}
 
 -- there is one way to play no move
@@ -27,11 +24,15 @@ sum_same : (f g : ℕ → ℕ) (xs : List ℕ) → ((x : ℕ) → f x ≡ g x) �
 sum_same f g xs same = grind arith
 
 -- ---- stores
+-- a sweep keeps what was added
+swept-store_seeds : (a b : ℕ) (q : Position) → swept (with_store_seeds a b q) ≡ with_store_seeds a b (swept q)
+swept-store_seeds a b q = same_position refl (omega arith) refl (omega arith) refl
+
 -- what was added stays after a step
 step-store_seeds : (n a b : ℕ) (q : Position) (over again : Bool) → is_over q ≡ over
     → ((c d : ℕ) (p : Position) → ways n (with_store_seeds c d p) ≡ ways n p)
     → ways n (position_after (step_to (with_store_seeds a b q) again)) ≡ ways n (position_after (step_to q again))
-step-store_seeds n a b q true again over_is same = rw over_is (ap (ways n) (same_position refl (omega arith) refl (omega arith) refl) ∙ same a b _)
+step-store_seeds n a b q true again over_is same = rw over_is (ap (ways n) (swept-store_seeds a b q) ∙ same a b _)
 step-store_seeds n a b q false true over_is same = rw over_is (same a b q)
 step-store_seeds n a b q false false over_is same = rw over_is (same b a _)
 
@@ -40,7 +41,7 @@ ways-store_seeds : (n a b : ℕ) (p : Position) → ways n (with_store_seeds a b
 ways-store_seeds zero a b p = simp (ways_none)
 ways-store_seeds (suc n) a b p = ways-suc n _
     ∙ sum_same _ _ (legal_houses p)
-    (λ h. ap (λ (q : Position). ways n (position_after (step_to q (is_again p h)))) (after-store_seeds a b p h)
+    (λ h. ap (λ (q : Position). ways n (position_after (step_to q (moves_again p h)))) (after-store_seeds a b p h)
     ∙ step-store_seeds n a b (after p h) _ _ refl (ways-store_seeds n))
     ∙ sym (ways-suc n p)
 
@@ -73,9 +74,9 @@ ways_step_to n q false true over_is = rw over_is (ways_of_houses n q)
 ways_step_to n q false false over_is = rw over_is (ways_of_houses n _)
 
 -- the ways after a move are those after the step of the houses
-pub ways_by_step : (n : ℕ) (a : HousesState) (h : ℕ) (s t : HousesStep) → t ≡ houses_step a h → t ≡ s
+pub ways_by_step : (n : ℕ) (a : HousesState) (h : ℕ) {s t : HousesStep} → t ≡ houses_step a h → t ≡ s
     → ways_from n s ≡ ways_by n (storeless a) h
-ways_by_step n a h s t step_is same = grind (arith, ways_step_to)
+ways_by_step n a h step_is same = grind (arith, ways_step_to)
 
 -- the ways after a move of a position are those of its houses
 pub ways_by_of_houses : (n : ℕ) (p : Position) (h : ℕ) → ways_by n (storeless (houses_in p)) h ≡ ways_by n p h
@@ -84,7 +85,7 @@ ways_by_of_houses n p h =
     let b = p.other_store in
     let q = storeless _ in
     sym (ap (λ (o : Position). ways_by n o h) (storeless-store_seeds p)
-    ∙ ap (λ (o : Position). ways n (position_after (step_to o (is_again q h)))) (after-store_seeds a b q h)
+    ∙ ap (λ (o : Position). ways n (position_after (step_to o (moves_again q h)))) (after-store_seeds a b q h)
     ∙ step-store_seeds n a b (after q h) _ _ refl (ways-store_seeds n))
 
 -- a position has at most one legal move for each house

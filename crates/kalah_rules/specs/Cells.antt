@@ -1,9 +1,7 @@
 -- Rows of at most six houses in six cells, as a caller gives them, and what may be given.
 use Rattle.std.specs.Prelude.{◌≡◌, ℕ, ◌+◌, ◌-◌, ◌≤◌, List, ◌++◌, length, take, drop, replicate, All, sum}
 use Rattle.std.proofs.Common.{arith, length-take-le}
-use Rattle.kalah_rules.specs.Limits.{most_houses, most_seeds, most_in_store}
-use Rattle.kalah_rules.specs.Position.{Position, HousesState, with_stores, AreWithinLimits}
-use Rattle.kalah_rules.specs.declared.rule.Rule.{Rule}
+use Rattle.kalah_rules.specs.{Limits.{most_houses, most_seeds, most_in_store}, Position.{Position, HousesState, with_stores, AreWithinLimits}, declared.rule.Rule.{Rule}}
 
 -- the rows of m houses, which are the first of six cells
 abbrev pub houses_from : ℕ → List ℕ → List ℕ → Rule → HousesState

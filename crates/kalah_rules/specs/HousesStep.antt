@@ -1,7 +1,6 @@
 -- A move on houses without stores.
 use Rattle.std.specs.Prelude.{ℕ, Bool, if◌then◌else◌, ◌+◌, sum}
-use Rattle.kalah_rules.specs.Position.{Position, HousesState, houses_in, storeless, is_over, swapped}
-use Rattle.kalah_rules.specs.Sowing.{after, is_again}
+use Rattle.kalah_rules.specs.{Position.{Position, HousesState, houses_in, storeless, is_over, swapped}, Sowing.{after, moves_again}}
 pub use Rattle.kalah_rules.specs.declared.step.HousesStep.{HousesStep}
 pub use Rattle.kalah_rules.specs.declared.step.HousesStep.TheVariants.{Over, Again, Turn}
 
@@ -14,4 +13,4 @@ houses_step_to q again =
 
 -- what the move of house h leads to
 abbrev pub houses_step : HousesState → ℕ → HousesStep
-houses_step a h = houses_step_to (after (storeless a) h) (is_again (storeless a) h)
+houses_step a h = houses_step_to (after (storeless a) h) (moves_again (storeless a) h)

@@ -1,14 +1,11 @@
 -- A distinct number for each value of houses.
 use Rattle.std.specs.Prelude.{ℕ, zero, suc, ◌+◌, ◌*◌, ◌/◌, ◌%◌, ◌^◌, ◌==◌, List, [], ◌∷◌, length, if◌then◌else◌}
-use Rattle.kalah_rules.specs.declared.rule.Rule.{Rule}
-use Rattle.kalah_rules.specs.declared.rule.Rule.TheVariants.{Classic, EmptyCapture}
-use Rattle.kalah_rules.specs.Position.{HousesState}
-use Rattle.kalah_rules.specs.Cells.{CanBeHouses, houses_from}
+use Rattle.kalah_rules.specs.{declared.rule.Rule.{Rule, TheVariants.{Classic, EmptyCapture}}, Position.{HousesState}, Cells.{CanBeHouses, houses_from}}
 
 -- a row as a number, with five bits for each house, house 1 lowest
-abbrev pub row_number : List ℕ → ℕ
-row_number [] = 0
-row_number (x ∷ xs) = x + 32 * row_number xs
+abbrev pub packed_row : List ℕ → ℕ
+packed_row [] = 0
+packed_row (x ∷ xs) = x + 32 * packed_row xs
 
 -- the lowest n cells of a number, of five bits each
 abbrev pub cells : ℕ → ℕ → List ℕ
@@ -21,12 +18,12 @@ rule_bit Classic = 0
 rule_bit EmptyCapture = 1
 
 -- both rows as a number, the own row lowest
-abbrev pub rows_number : HousesState → ℕ
-rows_number a = row_number a.own + 2 ^ 30 * row_number a.other
+abbrev pub packed_rows : HousesState → ℕ
+packed_rows a = packed_row a.own + 2 ^ 30 * packed_row a.other
 
 -- own houses from bit 0, other houses from bit 30, the houses per side from bit 60, the rule at bit 63
 abbrev pub key_of : HousesState → ℕ
-key_of a = rows_number a + 2 ^ 60 * length a.own + 2 ^ 63 * rule_bit a.rule
+key_of a = packed_rows a + 2 ^ 60 * length a.own + 2 ^ 63 * rule_bit a.rule
 
 -- the variant of houses: how many there are per side, and 8 more for the empty-capture rule
 abbrev pub variant_of : HousesState → ℕ

@@ -1,7 +1,6 @@
 -- The cells of a lap as the sowing walks them.
 use Rattle.std.specs.Prelude.{ℕ, ◌+◌, ◌-◌, ◌<◌, ◌≤◌, slice_set}
-use Rattle.kalah_rules.specs.Position.{Position, side_length, seeds}
-use Rattle.kalah_rules.specs.Sowing.{own_distance, store_distance, other_distance}
+use Rattle.kalah_rules.specs.{Position.{Position, side_length, seeds}, Sowing.{own_distance, store_distance, other_distance}}
 
 -- a cell that a move can sow: the houses of both players and the mover's store
 pub data Cell : Type 0 where

@@ -1,10 +1,6 @@
 -- Laws over all positions.
 use Rattle.std.specs.Prelude.{◌≡◌, ℕ, ◌+◌, ◌%◌, ◌≤◌, Contains}
-use Rattle.kalah_rules.specs.Position.{Position, HasEqualSides, side_length}
-use Rattle.kalah_rules.specs.Sowing.{lap_length, sow, after}
-use Rattle.kalah_rules.specs.Lap.{Cell, IsCellOf, distance, lifted, with_seed}
-use Rattle.kalah_rules.specs.Play.{legal_houses}
-use Rattle.kalah_rules.specs.Measure.{IsNearerEnd}
+use Rattle.kalah_rules.specs.{Position.{Position, HasEqualSides, side_length}, Sowing.{lap_length, sow, after}, Lap.{Cell, IsCellOf, distance, lifted, with_seed}, Play.{legal_houses}, Measure.{IsNearerEnd}}
 
 -- every move of every position brings the game nearer to its end
 abbrev pub EveryMoveNearsEnd : Type 0

@@ -1,6 +1,5 @@
 -- Why every game ends.
-use Rattle.std.specs.Prelude.{◌≡◌, ℕ, ◌+◌, ◌-◌, ◌*◌, ◌<◌, ◌⊎◌, List, length, sum_by}
-use Rattle.std.specs.List.{range_with_len}
+use Rattle.std.specs.{Prelude.{◌≡◌, ℕ, ◌+◌, ◌-◌, ◌*◌, ◌<◌, ◌⊎◌, List, length, sum_by}, List.{range_with_len}}
 use Rattle.kalah_rules.specs.Position.{Position, side_length, seeds, seeds_in_houses}
 
 -- the sum over the houses of a row of their seeds times their distance to the store: house i of m houses is m + 1 - i away

@@ -1,10 +1,6 @@
 -- The moves of a position and what each leads to.
-use Rattle.std.specs.Prelude.{ℕ, Bool, if◌then◌else◌, nat_lt, List, [], filter}
-use Rattle.std.specs.List.{range_with_len}
-use Rattle.kalah_rules.specs.Position.{Position, side_length, seeds, is_over, swept, swapped}
-use Rattle.kalah_rules.specs.Sowing.{after, is_again}
-use Rattle.kalah_rules.specs.declared.step.Step.{Step}
-use Rattle.kalah_rules.specs.declared.step.Step.TheVariants.{Again, Turn, Over}
+use Rattle.std.specs.{Prelude.{ℕ, Bool, if◌then◌else◌, nat_lt, List, [], filter}, List.{range_with_len}}
+use Rattle.kalah_rules.specs.{Position.{Position, side_length, seeds, is_over, swept, swapped}, Sowing.{after, moves_again}, declared.step.Step.{Step, TheVariants.{Again, Turn, Over}}}
 
 -- the houses that hold seeds, in ascending order, and none if the game is over
 abbrev pub legal_houses : Position → List ℕ
@@ -16,7 +12,7 @@ step_to q again = if is_over q then Over (swept q) else (if again then Again q e
 
 -- the step of the move of house h
 abbrev pub step_of : Position → ℕ → Step
-step_of p h = step_to (after p h) (is_again p h)
+step_of p h = step_to (after p h) (moves_again p h)
 
 -- the position that a step leads to
 abbrev pub position_after : Step → Position

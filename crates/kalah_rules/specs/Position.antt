@@ -1,7 +1,6 @@
 -- A position of Kalah, from the side of the player to move, and what is derived from it.
 use Rattle.std.specs.Prelude.{◌≡◌, ℕ, ◌+◌, ◌-◌, ◌≤◌, Bool, ◌||◌, ◌==◌, List, length, replicate, sum, slice_index, ℤ, pos, neg_ℤ, ◌-ℤ◌, ◌≤ℤ◌}
-use Rattle.kalah_rules.specs.Limits.{most_houses, most_seeds, most_in_play}
-use Rattle.kalah_rules.specs.declared.rule.Rule.{Rule}
+use Rattle.kalah_rules.specs.{Limits.{most_houses, most_seeds, most_in_play}, declared.rule.Rule.{Rule}}
 
 -- each row lists a player's houses, house 1 first, the one farthest from the store
 pub record Position : Type 0 where
@@ -49,11 +48,11 @@ abbrev pub final_margin : Position → ℤ
 final_margin p = pos (sum p.own + p.own_store) -ℤ pos (sum p.other + p.other_store)
 
 -- no larger than what a player can have
-pub record IsSmallMargin (z : ℤ) : Type 0 where
+pub record IsMarginInRange (z : ℤ) : Type 0 where
   pub low : neg_ℤ (pos most_in_play) ≤ℤ z
   pub high : z ≤ℤ pos most_in_play
 
--- the same position, seen by the other player
+-- the same position, seen by the opponent
 abbrev pub swapped : Position → Position
 swapped p = record p {
   own = p.other;
@@ -68,8 +67,8 @@ pub record IsWithinLimits (p : Position) : Type 0 where
   pub at_most_six : length p.own ≤ most_houses
   pub same_side : length p.other ≡ length p.own
   pub few_seeds : seeds_in_houses p ≤ most_seeds
-  pub own_store_low : p.own_store + seeds_in_houses p ≤ most_in_play
-  pub other_store_low : p.other_store + seeds_in_houses p ≤ most_in_play
+  pub own_store_few : p.own_store + seeds_in_houses p ≤ most_in_play
+  pub other_store_few : p.other_store + seeds_in_houses p ≤ most_in_play
 
 -- the houses of a position and its rule, without stores
 pub record HousesState : Type 0 where

@@ -1,9 +1,6 @@
 -- What a move does to the cells, by the distance of each from the house that is lifted.
-use Rattle.std.specs.Prelude.{◌≡◌, length, ℕ, ◌+◌, ◌-◌, ◌*◌, ◌/◌, ◌%◌, Bool, true, ◌&&◌, ◌==◌, nat_le, nat_lt, if◌then◌else◌, List, map, Option, Some, None, slice_set, find}
-use Rattle.std.specs.List.{range_with_len}
-use Rattle.kalah_rules.specs.Position.{Position, HousesState, side_length, seeds, opposite}
-use Rattle.kalah_rules.specs.declared.rule.Rule.{Rule}
-use Rattle.kalah_rules.specs.declared.rule.Rule.TheVariants.{Classic, EmptyCapture}
+use Rattle.std.specs.{Prelude.{◌≡◌, length, ℕ, ◌+◌, ◌-◌, ◌*◌, ◌/◌, ◌%◌, Bool, true, ◌&&◌, ◌==◌, nat_le, nat_lt, if◌then◌else◌, List, map, Option, Some, None, slice_set, find}, List.{range_with_len}}
+use Rattle.kalah_rules.specs.{Position.{Position, HousesState, side_length, seeds, opposite}, declared.rule.Rule.{Rule, TheVariants.{Classic, EmptyCapture}}}
 
 -- the number of cells of a lap, if a side has m houses: own houses, own store, other houses
 abbrev pub lap_length : ℕ → ℕ
@@ -45,8 +42,8 @@ abbrev pub last_distance : Position → ℕ → ℕ
 last_distance p h = (seeds p.own h - 1) % lap_length (side_length p) + 1
 
 -- the last seed falls into the own store
-abbrev pub is_again : Position → ℕ → Bool
-is_again p h = last_distance p h == store_distance (side_length p) h
+abbrev pub moves_again : Position → ℕ → Bool
+moves_again p h = last_distance p h == store_distance (side_length p) h
 
 -- the last seed of house h of these houses falls into the store without a lap
 abbrev pub EndsInStore : HousesState → ℕ → Type 0

@@ -1,22 +1,20 @@
 -- A sowing as one subtraction from both rows.
 use Rattle.std.specs.Prelude.{◌≡◌, ℕ, ◌+◌, ◌-◌, ◌*◌, ◌%◌, ◌^◌, ◌==◌, ◌<◌, ◌≤◌, List, slice_index_or}
-use Rattle.kalah_rules.specs.Key.{row_number}
-use Rattle.kalah_rules.specs.Sowing.{lap_length, row_of, gain, own_distance, store_distance, other_distance}
-use Rattle.kalah_rules.specs.declared.houses.sowing_table.Sowing.{Sowing}
+use Rattle.kalah_rules.specs.{Key.{packed_row}, Sowing.{lap_length, row_of, gain, own_distance, store_distance, other_distance}, declared.houses.sowing_table.Sowing.{Sowing}}
 
 -- what the own row gains if c seeds are sown from house h, on sides of m houses
 abbrev pub own_gains : ℕ → ℕ → ℕ → ℕ
-own_gains m h c = row_number (row_of m (λ i. gain (lap_length m) c (own_distance m h i)))
+own_gains m h c = packed_row (row_of m (λ i. gain (lap_length m) c (own_distance m h i)))
 
 -- what the other row gains
 abbrev pub other_gains : ℕ → ℕ → ℕ → ℕ
-other_gains m h c = row_number (row_of m (λ j. gain (lap_length m) c (other_distance m h j)))
+other_gains m h c = packed_row (row_of m (λ j. gain (lap_length m) c (other_distance m h j)))
 
 -- what the own store gains
 abbrev pub store_gains : ℕ → ℕ → ℕ → ℕ
 store_gains m h c = gain (lap_length m) c (store_distance m h)
 
--- the place of the last seed: own house i has place i, the own store place m + 1, and the other player's houses follow
+-- the place of the last seed: own house i has place i, the own store place m + 1, and the opponent's houses follow
 abbrev pub last_place : ℕ → ℕ → ℕ → ℕ
 last_place m h c = (h - 1 + c) % lap_length m + 1
 

@@ -1,7 +1,6 @@
--- The ways to play on from a position.
+-- The ways to play on from a position (perft).
 use Rattle.std.specs.Prelude.{ℕ, zero, suc, sum_by}
-use Rattle.kalah_rules.specs.Position.{Position}
-use Rattle.kalah_rules.specs.Play.{legal_houses, step_of, position_after}
+use Rattle.kalah_rules.specs.{Position.{Position}, Play.{legal_houses, step_of, position_after}}
 
 -- the number of ways to play on: sequences of exactly n moves by the rules. A game that is over has one way of no moves, and none of more
 unfoldable pub ways : ℕ → Position → ℕ

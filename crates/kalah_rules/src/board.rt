@@ -1,7 +1,6 @@
 //! Boards: positions within the limits.
 ghost use Rattle.std.specs.Prelude.{◌≡◌, ◌≤◌, ◌↔◌, IsTrue, IsSome, IfSome};
-ghost use Rattle.kalah_rules.specs.Position.{side_length, seeds, is_over, final_margin, IsWithinLimits, houses_in, with_stores, IsSmallMargin};
-ghost use Rattle.kalah_rules.specs.Cells.{CanBeStores, CanStart, CanStartFrom, position_of};
+ghost use Rattle.kalah_rules.specs.{Position.{side_length, seeds, is_over, final_margin, IsWithinLimits, houses_in, with_stores, IsMarginInRange}, Cells.{CanBeStores, CanStart, CanStartFrom, position_of}};
 
 mod play;
 #[cfg(test)]
@@ -16,7 +15,7 @@ use std::marker::Model;
 /// A position within the limits, seen by the player to move, the mover.
 ///
 /// Houses are numbered 1 to `m`. House 1 is the farthest from its owner's store, and the mover's house `i` lies across
-/// from the other player's house `m + 1 - i`. A board has 1 to 6 houses a side and at most 31 seeds in houses. Each
+/// from the opponent's house `m + 1 - i`. A board has 1 to 6 houses a side and at most 31 seeds in houses. Each
 /// store, together with all seeds in houses, holds at most 130.
 #[derive(Clone, Copy, Debug, PartialEq, Eq)]
 pub struct Board {
@@ -111,7 +110,7 @@ impl Board {
         self.houses.own(i)
     }
 
-    /// Returns the number of seeds in the other player's house `i`, which is 1 to `m`.
+    /// Returns the number of seeds in the opponent's house `i`, which is 1 to `m`.
     pub fn other(&self, i: u8) -> u8
         requires low { 1 ≤ i }
         requires high { i ≤ side_length self.now }
@@ -127,7 +126,7 @@ impl Board {
         self.own_store as u8
     }
 
-    /// Returns the number of seeds in the other player's store, at most 130.
+    /// Returns the number of seeds in the opponent's store, at most 130.
     pub fn other_store(&self) -> u8
         ensures { result ≡ self.now.other_store }
     {
@@ -157,12 +156,12 @@ impl Board {
         self.houses.is_over()
     }
 
-    /// Returns the final margin, -130 to 130: what the mover has in houses and store, less what the other player has. The game must be
+    /// Returns the final margin, -130 to 130: what the mover has in houses and store, less what the opponent has. The game must be
     /// over.
     pub fn returns(&self) -> i32
         requires { IsTrue (is_over self.now) }
         ensures margin { result ≡ final_margin self.now }
-        ensures small { IsSmallMargin result }
+        ensures small { IsMarginInRange result }
     {
         let (own, other) = self.houses.final_seeds();
         (own as u32 + self.own_store) as i32 - (other as u32 + self.other_store) as i32

@@ -1,9 +1,6 @@
 //! The houses of a board without the stores, as numbers.
 ghost use Rattle.std.specs.Prelude.{◌≡◌, ◌<◌, ◌≤◌, ◌^◌, ◌↔◌, length, sum, IsSome, IfSome, IsTrue, Some};
-ghost use Rattle.kalah_rules.specs.Position.{HousesState, seeds, seeds_in_houses, is_over, storeless, without_seeds, AreWithinLimits};
-ghost use Rattle.kalah_rules.specs.Play.{legal_houses};
-ghost use Rattle.kalah_rules.specs.Cells.{CanBeHouses, houses_from};
-ghost use Rattle.kalah_rules.specs.Key.{row_number, key_of, variant_of, IsKey};
+ghost use Rattle.kalah_rules.specs.{Position.{HousesState, seeds, seeds_in_houses, is_over, storeless, without_seeds, AreWithinLimits}, Play.{legal_houses}, Cells.{CanBeHouses, houses_from}, Key.{packed_row, key_of, variant_of, IsKey}};
 
 pub(crate) mod house;
 pub(crate) mod house_row;
@@ -43,14 +40,14 @@ impl Model for Houses {
     ghost Value = { HousesState };
 
     ghost use Rattle.kalah_rules.specs.Position.{storeless, seeds_in_houses};
-    ghost use Rattle.kalah_rules.specs.Key.{rows_number, variant_of};
+    ghost use Rattle.kalah_rules.specs.Key.{packed_rows, variant_of};
     ghost use Rattle.kalah_rules.specs.Fields.{AreFields, houses_of_fields};
 
     ghost view = { λ a. houses_of_fields a.rows a.variant };
 
     ghost invariant = { λ a. AreFields a.rows a.seeds a.variant };
 
-    ghost inverse = { λ a. record { rows = rows_number a; seeds = seeds_in_houses (storeless a); variant = variant_of a } };
+    ghost inverse = { λ a. record { rows = packed_rows a; seeds = seeds_in_houses (storeless a); variant = variant_of a } };
 
     ghost inverse_ok = { λ a h i. record { rows = h.rows_are i; seeds = h.seeds_are i; variant = h.variant_is i } };
 }
@@ -71,7 +68,7 @@ impl Houses {
         Houses::of_rows(&own, &other, rule)
     }
 
-    // Returns the houses of these two rows, or `None` if they differ in length, have no house, or hold more than 31 seeds together.
+    /// Returns the houses of these two rows, or `None` if they differ in length, have no house, or hold more than 31 seeds together.
     pub(crate) fn of_rows(own: &HouseRow, other: &HouseRow, rule: Rule) -> Option<Houses>
         ensures valid { IsSome result ↔ AreWithinLimits (record { own = own.now; other = other.now; rule = rule }) }
         ensures value { IfSome result (λ a. a ≡ record { own = own.now; other = other.now; rule = rule }) }
@@ -107,7 +104,7 @@ impl Houses {
 
     /// Returns the key of these houses. Different houses have different keys.
     ///
-    /// Own house i is in the five bits from 5(i - 1) on, and the other player's house i in those from 30 + 5(i - 1) on. Bits 60 to 62
+    /// Own house i is in the five bits from 5(i - 1) on, and the opponent's house i in those from 30 + 5(i - 1) on. Bits 60 to 62
     /// have the number of houses a side, and bit 63 is set for the empty-capture rule.
     #[tactic(auto, using(crate::proofs::KeyLemmas::fields_of, crate::proofs::KeyLemmas::key_fits))]
     pub fn key(&self) -> u64
@@ -166,16 +163,16 @@ impl Houses {
     /// Returns the mover's houses as a number with five bits for each, house 1 lowest: the lowest 30 bits of the key.
     #[tactic(auto, using(crate::proofs::KeyLemmas::fields_of, crate::proofs::KeyLemmas::rows_of_fields))]
     pub fn own_row(&self) -> u64
-        ensures value { result ≡ row_number self.now.own }
+        ensures value { result ≡ packed_row self.now.own }
         ensures small { result < 2 ^ 30 }
         ensures limits { AreWithinLimits self.now }
     {
         self.rows % OTHER_ROW_UNIT
     }
 
-    /// Returns the other player's houses as such a number: bits 30 to 59 of the key.
+    /// Returns the opponent's houses as such a number: bits 30 to 59 of the key.
     pub fn other_row(&self) -> u64
-        ensures value { result ≡ row_number self.now.other }
+        ensures value { result ≡ packed_row self.now.other }
         ensures small { result < 2 ^ 30 }
         ensures limits { AreWithinLimits self.now }
     {
@@ -204,7 +201,7 @@ impl Houses {
         seeds_at(self.own_row(), house) as u8
     }
 
-    /// Returns the number of seeds in the other player's house `i`, which is 1 to `m`.
+    /// Returns the number of seeds in the opponent's house `i`, which is 1 to `m`.
     #[tactic(auto, using(crate::proofs::KeyLemmas::read_seeds))]
     pub fn other(&self, i: u8) -> u8
         requires low { 1 ≤ i }
@@ -240,7 +237,7 @@ impl Houses {
         moves
     }
 
-    // Returns the number of seeds that each player has in houses at the end of a game: the mover's, and the other player's.
+    /// Returns the number of seeds that each player has in houses at the end of a game: the mover's, and the opponent's.
     pub(crate) fn final_seeds(&self) -> (u8, u8)
         requires { IsTrue (is_over (storeless self.now)) }
         ensures own { result.0 ≡ sum self.now.own }

@@ -1,6 +1,5 @@
 //! The houses that may be moved.
-ghost use Rattle.std.specs.Prelude.{◌≡◌, ℕ, ◌<◌, [], ◌∷◌, ◌++◌, length, slice_index};
-ghost use Rattle.std.specs.Slice.Iter.{iter_rest};
+ghost use Rattle.std.specs.{Prelude.{◌≡◌, ℕ, ◌<◌, [], ◌∷◌, ◌++◌, length, slice_index}, Slice.Iter.{iter_rest}};
 
 use std::marker::Model;
 use std::slice;
@@ -28,7 +27,7 @@ impl Model for Moves {
 }
 
 impl Moves {
-    // Returns an empty list.
+    /// Returns an empty list.
     pub(crate) fn none() -> Moves
         ensures { result ≡ [] }
     {
@@ -38,7 +37,7 @@ impl Moves {
         }
     }
 
-    // Appends house `h`.
+    /// Appends house `h`.
     pub(crate) fn push(&mut self, h: u8)
         requires { length self.old < 6 }
         ensures { self.new ≡ self.old ++ h ∷ [] }

@@ -1,9 +1,6 @@
 //! The numbers of ways to play on.
 ghost use Rattle.std.specs.Prelude.{◌≡◌, ◌≤◌, ◌<◌, ◌^◌, Contains};
-ghost use Rattle.kalah_rules.specs.Position.{storeless};
-ghost use Rattle.kalah_rules.specs.Play.{legal_houses};
-ghost use Rattle.kalah_rules.specs.Limits.{most_depth, most_houses};
-ghost use Rattle.kalah_rules.specs.Ways.{ways, ways_by};
+ghost use Rattle.kalah_rules.specs.{Position.{storeless}, Play.{legal_houses}, Limits.{most_depth, most_houses}, Ways.{ways, ways_by}};
 
 #[cfg(test)]
 mod tests;
@@ -51,7 +48,7 @@ impl Houses {
         ensures small { result ≤ most_houses ^ depth }
     {
         let _side = self.m(); // For a clause: the houses are within the limits.
-        match self.play_by(sowings, House::new(h)) {
+        match self.play_with(sowings, House::new(h)) {
             HousesStep::Over { .. } => u64::from(depth == 0),
             HousesStep::Again { next, .. } | HousesStep::Turn { next, .. } => next.ways(
                 sowings, depth,

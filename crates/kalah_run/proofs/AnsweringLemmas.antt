@@ -1,22 +1,9 @@
 -- What a batch answers: the output of its files, each result, and a batch whose files have no line.
-use Rattle.std.proofs.Common.{[], IfErr, ◌≡◌, ℕ, List, ◌++◌, arith, sym, ap, ◌∙◌, true, false, refl, length, take, inl, inr, Some, Option, None, Result, Ok, Err, OnOk, count_by, IfOk, flat_map}
-use Rattle.std.proofs.lemmas.List.{nil_from_length, append-nil}
-use Rattle.kalah_run.specs.Types.{Entry, Job, Tally, Question}
-use Rattle.kalah_jobs.specs.Files.JobList.{job_list}
+use Rattle.std.proofs.{Common.{[], IfErr, ◌≡◌, ℕ, List, ◌++◌, arith, sym, ap, ◌∙◌, true, false, refl, length, take, inl, inr, Some, Option, None, Result, Ok, Err, OnOk, count_by, IfOk, flat_map}, lemmas.List.{nil_from_length, append-nil}, Math.Seq.{take-nil}, KnownBytes.{Keeps-refl}}
+use Rattle.kalah_run.specs.{Entry, Job, Tally, Question, text_of_job, whole_output, AnswersBatch, counts_of, AnswersNothing, declared.batch.{ordered_output.OrderedOutput.{OrderedOutput}, run_fault.RunFault.{RunFault, TheVariants.{TooManyFiles, TooManyLines, OutOfMemory, NoWorker, Write}}}}
+use Rattle.kalah_jobs.specs.{Files.{JobList.{job_list, is_faulty_job}, NamedBytes.{NamedBytes}, Jobs.{MakesJobs, job_count, jobs_to, lines_in_all}}, Writing.{Sink.{AppendsPrefix, SinkState, WasGiven}, Output.{taken_output, output_to, output_of_jobs, names_of, tally_of}}}
 use Rattle.std.specs.Io.KnownBytes.{Appends, Keeps}
-use Rattle.std.proofs.Math.Seq.{take-nil}
-use Rattle.std.proofs.KnownBytes.{Keeps-refl}
-use Rattle.kalah_jobs.specs.Writing.Sink.{AppendsPrefix, SinkState, WasGiven}
-use Rattle.kalah_jobs.proofs.WritingLemmas.{files_are_their_jobs}
-use Rattle.kalah_run.specs.Batch.OrderedOutput.{text_of_job, whole_output}
-use Rattle.kalah_jobs.specs.Writing.Output.{taken_output, output_to, output_of_jobs, names_of, tally_of, is_faulty_job}
-use Rattle.kalah_jobs.specs.Files.NamedBytes.{NamedBytes}
-use Rattle.kalah_run.specs.declared.batch.ordered_output.OrderedOutput.{OrderedOutput}
-use Rattle.kalah_jobs.specs.Files.Jobs.{MakesJobs, job_count, jobs_to, lines_in_all}
-use Rattle.kalah_jobs.proofs.FilesLemmas.{length-job_list, job_count-jobs_to}
-use Rattle.kalah_run.specs.Batch.Answering.{AnswersBatch, counts_of, AnswersNothing}
-use Rattle.kalah_run.specs.declared.batch.run_fault.RunFault.{RunFault}
-use Rattle.kalah_run.specs.declared.batch.run_fault.RunFault.TheVariants.{TooManyFiles, TooManyLines, OutOfMemory, NoWorker, Write}
+use Rattle.kalah_jobs.proofs.{WritingLemmas.{files_are_their_jobs}, FilesLemmas.{length-job_list, job_count-jobs_to}}
 use Rattle.kalah_run.proofs.OutputLemmas.{texts_from}
 
 -- the output of the jobs of the files is that of the files

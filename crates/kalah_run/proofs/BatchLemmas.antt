@@ -1,33 +1,14 @@
 -- A batch under way: the pass of the calling thread, what it collects, and what stands written when it has ended.
-use Rattle.std.proofs.Common.{[], ◌≡◌, ◌<◌, ◌+◌, ℕ, List, ◌∷◌, ◌++◌, arith, sym, ap, ◌∙◌, Bool, true, false, refl, ⊎_elim, length, subst, ◌⊎◌, inl, inr, All, Some, Option, None}
-use Rattle.std.proofs.lemmas.List.{map-append, length-append, length-map}
-use Rattle.kalah_run.specs.Types.{Job}
-use Rattle.kalah_jobs.specs.Collecting.AnyOrder.{AreJobsInSomeOrder}
-use Rattle.kalah_run.specs.Batch.AtWork.{passes_of, puts_of, HaveRun}
-use Rattle.kalah_jobs.specs.Writing.Sink.{SinkState, WasGiven}
-use Rattle.kalah_run.specs.Batch.OrderedOutput.{IsOffered, HasWritten, whole_output, Waits, WritesOn}
-use Rattle.kalah_run.specs.Batch.Leaving.{HasDrawnNothing, IsAbandoned, DrawsOnlyTheRest}
-use Rattle.std.proofs.lemmas.Bool.{both_ways}
-use Rattle.kalah_jobs.specs.Writing.Output.{output_of_jobs, names_of}
-use Rattle.kalah_run.specs.declared.batch.ordered_output.OrderedOutput.{OrderedOutput}
-use Rattle.std.proofs.lemmas.List.Elements.{All-push}
-use Rattle.kalah_run.specs.Queue.States.{GetPassState, HasGot, PutPassState, ArePassesFrom, outcomes_in}
-use Rattle.kalah_run.specs.Desk.States.{PassState, IsPassAt}
-use Rattle.kalah_run.specs.declared.batch.worker.Worker.{Worker}
-use Rattle.kalah_run.specs.Batch.Running.{HasCollected, IsAtStart, MayHaveGot}
-use Rattle.kalah_run.specs.declared.batch.receiver.CallerPasses.{CallerPasses}
-use Rattle.kalah_run.specs.declared.batch.receiver.RestPass.{RestPass}
-use Rattle.kalah_jobs.specs.Files.Jobs.{job_count}
-use Rattle.kalah_run.specs.declared.batch.shared_work.SharedWork.{SharedWork}
-use Rattle.kalah_run.specs.declared.batch.request.Rest.{Rest}
-use Rattle.kalah_run.specs.declared.batch.request.Rest.TheVariants.{Solve, Leave}
-use Rattle.kalah_run.proofs.OutputLemmas.{new_written, progress_end, progress_failed, progress_offered, written_kept}
-use Rattle.kalah_run.proofs.WorkerLemmas.{puts_after, run_passes}
+use Rattle.std.proofs.{Common.{[], ◌≡◌, ◌<◌, ◌+◌, ℕ, List, ◌∷◌, ◌++◌, arith, sym, ap, ◌∙◌, Bool, true, false, refl, ⊎_elim, length, subst, ◌⊎◌, inl, inr, All, Some, Option, None}, lemmas.{List.{map-append, length-append, length-map, Elements.{All-push}}, Bool.{both_ways}}}
+use Rattle.kalah_run.specs.{Job, passes_of, puts_of, HaveRun, HasBeenOffered, HasWritten, whole_output, AwaitsLine, WritesOn, HasDrawnNothing, IsAbandoned, DrawsOnlyTheRest, GetPassState, HasGot, PutPassState, ArePassesFrom, outcomes_in, PassState, IsPassAt, HasCollected, IsAtStart, GetsOrEnds, declared.batch.{ordered_output.OrderedOutput.{OrderedOutput}, worker.Worker.{Worker}, receiver.{CallerPasses.{CallerPasses}, RestPass.{RestPass}}, shared_work.SharedWork.{SharedWork}, request.OnFailedWrite.{OnFailedWrite, TheVariants.{Solve, Leave}}}}
+use Rattle.kalah_jobs.specs.{Collecting.AnyOrder.{IsPermutationOfJobs}, Writing.{Sink.{SinkState, WasGiven}, Output.{output_of_jobs, names_of}}, Files.Jobs.{job_count}}
+use Rattle.kalah_run.proofs.{OutputLemmas.{new_has_written_nothing, sink_was_given_all, failed_sink_was_given_all, written_after_offer, under_way_after_no_text}, WorkerLemmas.{puts_after, run_passes}}
 
 -- ==== The calling thread's pass, by which it draws what is left after a failed write
 
--- what holds unless the rest is left holds if it is to be solved, and if the output has not failed
-pub unless_left : {rest : Rest} {failed : Bool} {A : Type 0} → A ⊎ IsAbandoned rest failed → (rest ≡ Solve) ⊎ (failed ≡ false) → A
+-- what holds unless the rest is left does hold if the rest is to be solved, or if the output has not failed
+pub unless_left : {choice : OnFailedWrite} {failed : Bool} {A : Type 0} → A ⊎ IsAbandoned choice failed
+    → (choice ≡ Solve) ⊎ (failed ≡ false) → A
 unless_left (inl a) sound = a
 unless_left (inr left) (inl solve) = absurd (let both : Leave ≡ Solve = sym left.0 ∙ solve in cc both)
 unless_left (inr left) (inr still) = absurd (both_ways _ still left.1)
@@ -44,7 +25,7 @@ draws_weaken : {W : Type 0} {state : W → SinkState} {old new : W} {text : List
 draws_weaken given draws = record {
   desk = draws.desk;
   total = draws.total;
-  rest = draws.rest;
+  choice = draws.choice;
   same = ⊎_elim inl (λ left. inr (left.0, failed_still given left.1)) draws.same;
 }
 
@@ -54,22 +35,22 @@ draws_trans : {failed : Bool} {first second third : RestPass} → DrawsOnlyTheRe
 draws_trans {first = first} {second} one two = record {
   desk = two.desk ∙ one.desk;
   total = two.total ∙ one.total;
-  rest = two.rest ∙ one.rest;
+  choice = two.choice ∙ one.choice;
   same = elim (two.same) [
     | inl same ↦ ⊎_elim (λ (first_same : second ≡ first). inl (same ∙ first_same)) inr one.same
-    | inr left ↦ inr (sym one.rest ∙ left.0, left.1)
+    | inr left ↦ inr (sym one.choice ∙ left.0, left.1)
   ];
 }
 
 -- what was got after more of the rest was drawn
-pub got_after : {W : Type 0} {state : W → SinkState} {old new : W} {Ended : Type 0} {before between after : CallerPasses}
+pub got_after : {W : Type 0} {state : W → SinkState} {old new : W} {AtEnd : Type 0} {before between after : CallerPasses}
     {rest_pass : RestPass} {result : Option Job} → between.get_pass ≡ before.get_pass
     → DrawsOnlyTheRest (state old).has_failed before.rest_pass rest_pass → between.rest_pass ≡ rest_pass
-    → MayHaveGot state Ended between after old new result → MayHaveGot state Ended before after old new result
+    → GetsOrEnds state AtEnd between after old new result → GetsOrEnds state AtEnd before after old new result
 got_after same draws same_rest got = record {
   got = rw (← same) got.got;
   draws = draws_trans (draws_weaken got.unwritten draws) (rw same_rest at got.draws);
-  left = rw (← draws.rest, ← same_rest) got.left;
+  left = rw (← draws.choice, ← same_rest) got.left;
   ended = got.ended;
   unwritten = got.unwritten;
 }
@@ -102,7 +83,7 @@ module _ {G : Type 0} {knows : G → ℕ → Bool} {shared : SharedWork G} {befo
 
 -- the calling thread has drawn nothing if it had not, unless the rest is left
 pub nothing_drawn : {failed : Bool} {before after : RestPass} → HasDrawnNothing before → DrawsOnlyTheRest failed before after
-    → HasDrawnNothing after ⊎ IsAbandoned before.rest failed
+    → HasDrawnNothing after ⊎ IsAbandoned before.on_failed_write failed
 nothing_drawn nothing draws = ⊎_elim (λ same. inl (subst HasDrawnNothing (sym same) nothing)) inr draws.same
 
 -- ==== What stands written when a batch has ended
@@ -114,8 +95,9 @@ module _ {W : Type 0} (state : W → SinkState) where
     pub queue : now.get_pass.queue ≡ before.get_pass.queue
     pub workers : now.get_pass.workers ≡ before.get_pass.workers
     pub draws : DrawsOnlyTheRest (state out).has_failed before.rest_pass now.rest_pass
-    pub written : HasWritten state output.files.now output.jobs.now (outcomes_in now.get_pass.got) begun out r
-    pub waits : Waits r
+    pub same : (r.files.now ≡ output.files.now) × (r.jobs.now ≡ output.jobs.now)
+    pub written : HasWritten state (outcomes_in now.get_pass.got) begun out r
+    pub waits : AwaitsLine r
 
 -- one outcome more was got
 pub one_longer : (before : GetPassState) {after : GetPassState} (outcome : Job) → HasGot before outcome after
@@ -125,69 +107,66 @@ one_longer before outcome has_got =
 
 module _ {W : Type 0} {state : W → SinkState} {output r : OrderedOutput} {begun out : W} where
   -- at first nothing was got
-  pub collected_at_start : {before : CallerPasses} → IsAtStart before output → WritesOn state output begun r out → Waits r
+  pub collected_at_start : {before : CallerPasses} → IsAtStart before output → WritesOn state output begun r out → AwaitsLine r
       → AreCollected state output begun out before before r
   collected_at_start start writes waits = record {
     queue = refl;
     workers = refl;
-    draws = record { desk = refl; total = refl; rest = refl; same = inl refl };
-    written = rw start.0 (writes output.files.now output.jobs.now [] begun (new_written begun output start.1));
+    draws = record { desk = refl; total = refl; choice = refl; same = inl refl };
+    same = (writes.same_files, writes.same_jobs);
+    written = rw start.0 (writes.writes (new_has_written_nothing begun output start.1));
     waits = waits;
   }
 
   -- what was collected so far, and then an outcome or none is got
-  module _ {Ended : Type 0} {later : W} {before now next : CallerPasses} (so_far : AreCollected state output begun out before now r) where
+  module _ {AtEnd : Type 0} {later : W} {before now next : CallerPasses} (so_far : AreCollected state output begun out before now r) where
     -- one outcome more was got and offered, and what is ready was written
     pub one_collected : {outcome : Job} {more : W} {text : List ℕ} {offered written : OrderedOutput}
-        → MayHaveGot state Ended now next out later (Some outcome) → IsOffered r outcome offered → WasGiven state later more text
-        → WritesOn state offered later written more → Waits written → AreCollected state output begun more before next written
+        → GetsOrEnds state AtEnd now next out later (Some outcome) → HasBeenOffered r outcome offered → WasGiven state later more text
+        → WritesOn state offered later written more → AwaitsLine written → AreCollected state output begun more before next written
     one_collected {outcome} {more} {text} {offered} {written} got offer given writes waits =
         let pass_is = got.got.2 in
-        let was = written_kept got.unwritten so_far.written in
         let more_got : outcomes_in next.get_pass.got ≡ outcomes_in now.get_pass.got ++ outcome ∷ [] =
         ap (λ (p : GetPassState). outcomes_in p.got) pass_is ∙ map-append (λ (p : ℕ × Job). p.1) now.get_pass.got ((got.got.0, outcome) ∷ []) in
         record {
           queue = ap (λ (p : GetPassState). p.queue) pass_is ∙ so_far.queue;
           workers = ap (λ (p : GetPassState). p.workers) pass_is ∙ so_far.workers;
           draws = draws_weaken given (draws_trans (draws_weaken got.unwritten so_far.draws) got.draws);
-          written = rw more_got (writes _ _ _ _ (record {
-            of_files = offer.files ∙ was.of_files;
-            of_jobs = offer.jobs ∙ was.of_jobs;
-            progress = rw (offer.jobs, offer.current) (progress_offered was.progress outcome offered.collector _ offer.offers.1);
-          }));
+          same = (writes.same_files ∙ offer.files ∙ so_far.same.0, writes.same_jobs ∙ offer.jobs ∙ so_far.same.1);
+          written = rw more_got (writes.writes (written_after_offer outcome offer (under_way_after_no_text so_far.written got.unwritten)));
           waits = waits;
         }
 
     -- none was got, as the rest is left
-    pub rest_left : MayHaveGot state Ended now next out later None
-        → AreCollected state output begun later before next r × IsAbandoned before.rest_pass.rest (state later).has_failed
+    pub rest_left : GetsOrEnds state AtEnd now next out later None
+        → AreCollected state output begun later before next r × IsAbandoned before.rest_pass.on_failed_write (state later).has_failed
     rest_left got = (
       record {
         queue = ap (λ (p : GetPassState). p.queue) got.got ∙ so_far.queue;
         workers = ap (λ (p : GetPassState). p.workers) got.got ∙ so_far.workers;
         draws = draws_trans (draws_weaken got.unwritten so_far.draws) got.draws;
-        written = rw got.got (written_kept got.unwritten so_far.written);
+        same = so_far.same;
+        written = rw got.got (under_way_after_no_text so_far.written got.unwritten);
         waits = so_far.waits;
       },
-      (sym so_far.draws.rest ∙ got.left.0.0, got.left.0.1),
+      (sym so_far.draws.choice ∙ got.left.0.0, got.left.0.1),
     )
 
   -- the collection has ended, and what was written is kept
   pub has_collected : {later : W} {before now after : CallerPasses} → AreCollected state output begun out before now r → after ≡ now
-      → (length now.get_pass.got ≡ job_count output.jobs.now) ⊎ IsAbandoned before.rest_pass.rest (state later).has_failed
+      → (length now.get_pass.got ≡ job_count output.jobs.now) ⊎ IsAbandoned before.rest_pass.on_failed_write (state later).has_failed
       → WasGiven state out later [] → HasCollected state output begun later before after
   has_collected {later} {before} {now} so_far same all_got unwritten =
-      let written = written_kept unwritten so_far.written in
-      let whole : output_of_jobs (names_of output.files.now) r.jobs.now ≡ whole_output output =
-      ap (output_of_jobs (names_of output.files.now)) written.of_jobs in
+      let written = under_way_after_no_text so_far.written unwritten in
+      let whole : whole_output r ≡ whole_output output = λ i. output_of_jobs (names_of (so_far.same.0 i)) (so_far.same.1 i) in
       rw same (record {
         queue = so_far.queue;
         workers = so_far.workers;
         all_got = all_got;
         given = λ each_or_left. subst (WasGiven state begun later) whole (⊎_elim
-            (λ (each : AreJobsInSomeOrder output.jobs.now (outcomes_in now.get_pass.got)). progress_end written.progress
-            (rw written.of_jobs each) so_far.waits)
-            (λ (left : IsAbandoned before.rest_pass.rest (state later).has_failed). progress_failed written.progress left.1)
+            (λ (each : IsPermutationOfJobs output.jobs.now (outcomes_in now.get_pass.got)).
+            sink_was_given_all written (rw so_far.same.1 each) so_far.waits)
+            (λ (left : IsAbandoned before.rest_pass.on_failed_write (state later).has_failed). failed_sink_was_given_all written left.1)
             each_or_left);
         draws = draws_weaken unwritten so_far.draws;
       })

@@ -1,24 +1,12 @@
 -- The desk: each step keeps its protocol, and what the rows are at the end.
-use Rattle.std.proofs.Common.{◌≡◌, ⊎_elim, inl, inr, ℕ, zero, suc, ◌+◌, ◌≤◌, List, [], ◌∷◌, ◌++◌, length, set, refl, sym, ap, ◌∙◌, subst, arith, length-append, append-nil, append_assoc, ◌%◌, ◌^◌, ◌<◌, get_or, true, false, cond, ◌-◌, ◌==◌, sum_by, count_by, All, nat_lt, AllPairs, if◌then◌else◌, slice_index, max, min, IsTrue, ◌↔◌, mod-eq_of_lt}
-use Rattle.std.proofs.lemmas.List.Sums.{sum_by-cons, sum_by_push, count_by-le-length, get_or-le-sum_by}
-use Rattle.std.proofs.lemmas.List.Elements.{All-append, All-nil, All-cons, All-head}
+use Rattle.std.proofs.{Common.{◌≡◌, ⊎_elim, inl, inr, ℕ, zero, suc, ◌+◌, ◌≤◌, List, [], ◌∷◌, ◌++◌, length, set, refl, sym, ap, ◌∙◌, subst, arith, length-append, append-nil, append_assoc, ◌%◌, ◌^◌, ◌<◌, get_or, true, false, cond, ◌-◌, ◌==◌, sum_by, count_by, All, nat_lt, AllPairs, if◌then◌else◌, slice_index, max, min, IsTrue, ◌↔◌, mod-eq_of_lt}, lemmas.{List.{set-set, Sums.{sum_by-cons, sum_by_push, count_by-le-length, get_or-le-sum_by}, Elements.{All-append, All-nil, All-cons, All-head}, Quantifiers.{all_pairs_push}}, Bool.{lt-ltb, le-ltb, cases_lt, Decides.{nat_tests}}}}
 use mathlib.Core.Option.{some, some-injective, some-ne-none, none}
 use lib.ListN.{get_elem?}
 use Rattle.atomic_table.proofs.Lists.{set_again, set_here}
-use Rattle.kalah_run.proofs.ViewLemmas.{Each, each_more, each_set, in_views, was_there}
-use Rattle.kalah_run.proofs.RowLemmas.{times_in_row, times_rows, sum_set, rows_set, rows_push, rows_at, all_at, all_from, rows_within_passes, has_all, Ascends, deals_alike, none_or_all}
-use Rattle.kalah_run.specs.Types.{DrawnRow, DeskPlan, DeskView}
-use Rattle.kalah_run.specs.declared.desk.protocol.DeskView.TheVariants.{Opening, Drawing, Closing, Ended}
-use Rattle.kalah_run.specs.Desk.Rows.{drawn_row, drawn_in, spent_in, DealsEachOnce}
-use Rattle.kalah_run.specs.Desk.Protocol.{rows_in, all_rows, passes_in, HasTotal, IsLawful, opening_view, CountsWhatItDeals, DrawsFrom, Draws, DrawsRest, StartsClosing, after_handing_out, pass_handed_out, after_reclaiming}
-use Rattle.std.proofs.lemmas.List.Quantifiers.{all_pairs_push}
-use Rattle.std.proofs.lemmas.Bool.{lt-ltb, le-ltb, cases_lt}
-use Rattle.std.proofs.lemmas.Bool.Decides.{nat_tests}
+use Rattle.kalah_run.proofs.{ViewLemmas.{Each, each_more, each_set, in_views, was_there}, RowLemmas.{times_in_row, times_rows, sum_set, rows_set, rows_push, rows_at, all_at, all_from, rows_within_passes, has_all, Ascends, deals_alike, none_or_all}}
+use Rattle.kalah_run.specs.{DrawnRow, DeskPlan, DeskView, drawn_row, drawn_in, spent_in, DealsEachOnce, most_passes, as_pass_view, row_in, total_in, number_in, declared.desk.protocol.DeskView.TheVariants.{Opening, Drawing, Closing, Reclaimed}, Desk.Protocol.{rows_in, all_rows, passes_in, HasTotal, IsLawful, opening_view, CountsWhatItDeals, DrawsFrom, Draws, DrawsRest, StartsClosing, after_handing_out, pass_handed_out, after_reclaiming}}
 use Rattle.atomic_table.specs.Table.{State, Me, step, keeps, Allows, opening, Splits, Joins, Enters, Seen, Final}
 use Rattle.kalah_jobs.specs.Limits.{most_lines}
-use Rattle.kalah_run.specs.Limits.{most_passes}
-use Rattle.kalah_run.specs.Desk.States.{as_pass_view, row_in, total_in, number_in}
-use Rattle.std.proofs.lemmas.List.{set-set}
 use Rattle.std.specs.List.{range_with_len}
 
 -- what is kept of each view: it has the plan's total, if it has one, and its rows ascend
@@ -154,7 +142,7 @@ module _ {S : Type 0} {plan : DeskPlan} {s : State S DeskView} (seat : ℕ) {tot
       (stays_ascending after (All-cons Ascends (drawn_row numbers true) [] ascends (All-nil Ascends))) (λ _. full))
       (omega (arith, spent))
 
-  -- it draws no number: nothing changes
+  -- a step that draws no number changes nothing
   draws_nothing : {word : ℕ} → word ≡ word_of kept
       → IsLawful plan (after_step s (word ∷ []) seat (unspent_view total number (numbers ++ [])))
   draws_nothing word_is =
@@ -291,9 +279,9 @@ opening_is_lawful plan total passes = record {
     only (suc seat) view has_view = absurd (some-ne-none view (sym has_view))
 
 -- the next pass is handed out
-pub hand_out_is_lawful : {S : Type 0} (plan : DeskPlan) (seat : ℕ) (v : DeskView) (total handed_out left : ℕ)
+pub hand_out_is_lawful : {S : Type 0} {plan : DeskPlan} (seat : ℕ) {v : DeskView} {total handed_out left : ℕ}
     → v ≡ Opening total handed_out left → 0 < left → Splits {S = S} (IsLawful plan) seat v (after_handing_out v) (pass_handed_out v)
-hand_out_is_lawful {S} plan seat v total handed_out left opening some_left = rw opening (λ s kept has_view.
+hand_out_is_lawful {S} {plan} seat {v} {total} {handed_out} {left} opening some_left = rw opening (λ s kept has_view.
     let opener : DeskView = Opening total (handed_out + 1) (left - 1) in
     let pass : DeskView = Drawing total handed_out (drawn_row [] false) in
     let views : List DeskView = set s.views seat opener in
@@ -326,7 +314,7 @@ start_closing_is_lawful {S} plan slots s kept homes fits = (
 -- a pass is reclaimed
 reclaims_at : {S : Type 0} (plan : DeskPlan) (seat : ℕ) (rows : List DrawnRow) (other total number : ℕ) (r : DrawnRow)
     → Joins {S = S} (IsLawful plan) seat (Closing rows) other (Drawing total number r)
-    (after_reclaiming (Closing rows) (Drawing total number r)) Ended
+    (after_reclaiming (Closing rows) (Drawing total number r)) Reclaimed
 reclaims_at {S} plan seat rows other total number r s kept has_view apart has_pass =
     let closing : DeskView = Closing (r ∷ rows) in
     let pass : DeskView = Drawing total number r in
@@ -338,17 +326,17 @@ reclaims_at {S} plan seat rows other total number r s kept has_view apart has_pa
     (λ f nothing. omega (
       arith,
       rows_set f s.views seat (Closing rows) closing has_view,
-      rows_set f between other pass Ended has_pass,
+      rows_set f between other pass Reclaimed has_pass,
       sum_by-cons f r rows,
     ))
-    (omega (arith, sum_set passes_in s.views seat (Closing rows) closing has_view, sum_set passes_in between other pass Ended has_pass))
-    (each_set (FollowsPlan plan) between other Ended (tt, All-nil Ascends) (λ i view away has_view.
+    (omega (arith, sum_set passes_in s.views seat (Closing rows) closing has_view, sum_set passes_in between other pass Reclaimed has_pass))
+    (each_set (FollowsPlan plan) between other Reclaimed (tt, All-nil Ascends) (λ i view away has_view.
     each_set (FollowsPlan plan) s.views seat closing (tt, All-append Ascends (r ∷ []) rows theirs own)
     (λ j u apart has_view. following kept j u has_view) i view has_view))
 
 -- so it is with seats that are known to be these
 pub reclaim_is_lawful : {S : Type 0} (plan : DeskPlan) (seat : ℕ) (v : DeskView) (other : ℕ) (w : DeskView)
-    → v ≡ Closing (rows_in v) → w ≡ as_pass_view w → Joins {S = S} (IsLawful plan) seat v other w (after_reclaiming v w) Ended
+    → v ≡ Closing (rows_in v) → w ≡ as_pass_view w → Joins {S = S} (IsLawful plan) seat v other w (after_reclaiming v w) Reclaimed
 reclaim_is_lawful plan seat v other w closing is_pass =
     rw closing (rw is_pass (reclaims_at plan seat (rows_in v) other (total_in w) (number_in w) (row_in w)))
 

@@ -1,27 +1,9 @@
 -- The output of a batch: the loop that writes each line once it is ready.
-use Rattle.std.proofs.Common.{[], add-one, ◌≡◌, ◌≤◌, ◌<◌, ◌+◌, ◌-◌, ℕ, suc, List, ◌∷◌, ◌++◌, arith, sym, ap, ◌∙◌, true, refl, ⊎_elim, length, get_or, take, drop, subst, inl, inr, Some, slice_get, None, Result, sum_by}
-use Rattle.std.proofs.lemmas.List.{take-append-drop, take_all, take_more, flat_map_more, get_or-map}
-use Rattle.kalah_run.specs.Types.{Entry, Job, Taken, Refusal}
-use Rattle.std.proofs.lemmas.Option.{get_or_from_slice_get, slice_get_within}
-use Rattle.kalah_jobs.specs.Files.JobList.{job_list, jobs_from, file_jobs, line_job, entries_of, entry_at}
-use Rattle.kalah_jobs.specs.Collecting.AnyOrder.{AreJobsInSomeOrder}
-use Rattle.kalah_jobs.specs.Writing.Sink.{SinkState, WasGiven}
-use Rattle.kalah_jobs.proofs.SinkLemmas.{given_none, given_then, given_then_flush, given_more_after_failure}
-use Rattle.kalah_run.specs.Batch.OrderedOutput.{text_of_job, written_upto, IsUnderWay, IsNew, HasWritten}
+use Rattle.std.proofs.{Common.{[], add-one, ◌≡◌, ◌≤◌, ◌<◌, ◌+◌, ◌-◌, ℕ, suc, List, ◌∷◌, ◌++◌, arith, sym, ap, ◌∙◌, true, refl, ⊎_elim, length, get_or, take, drop, subst, Some, slice_get, None, Result, sum_by}, lemmas.{List.{take-append-drop, take_all, take_more, flat_map_more, get_or-map}, Option.{get_or_from_slice_get, slice_get_within}, Bool.{cases_eq, cases_lt}, Grind.{flat_map-append}}}
+use Rattle.kalah_run.specs.{Entry, Job, Taken, Refusal, text_of_job, written_up_to, CollectingState, taken_of, written_so_far, IsUnderWay, IsNew, HasBeenOffered, HasWritten, WritesOn, declared.batch.ordered_output.OrderedOutput.{OrderedOutput}}
+use Rattle.kalah_jobs.specs.{Files.{JobList.{job_list, jobs_from, file_jobs, line_job, entries_of, entry_at}, Lines.{line_feed}, NamedBytes.{NamedBytes}, Jobs.{job_count}}, Collecting.{AnyOrder.{IsPermutationOfJobs}, CollectorState.{ArrivalsState, state_of, front, HasEnded, HasNoNext, with_one_taken, new_files, after_take}, CollectorEvents.{Offers, Takes, answered_line}, Held.{AgreeWithOffers}}, Writing.{Sink.{SinkState, WasGiven}, Answer.{answer_line}, Output.{text_of_line, text_of_file, text_of_jobs, taken_output, names_of}}}
+use Rattle.kalah_jobs.proofs.{SinkLemmas.{given_none, given_then, given_then_flush, given_more_after_failure}, CollectingLemmas.{state_same, state_other, files_many, lines_are, new_files_agree, taken_is, new_taken, fronts_full, kept_by_offer, kept_by_take}, FilesLemmas.{length-job_list, lines_between, slice_get-job_list}}
 use Rattle.std.specs.List.{flat_map, enumerate_from}
-use Rattle.std.proofs.lemmas.Bool.{cases_eq, cases_lt}
-use Rattle.std.proofs.lemmas.Grind.{flat_map-append}
-use Rattle.kalah_jobs.specs.Writing.Answer.{answer_line}
-use Rattle.kalah_jobs.specs.Collecting.CollectorState.{ArrivalsState, state_of, front, HasEnded, with_one_taken, new_files, after_take}
-use Rattle.kalah_jobs.specs.Collecting.CollectorEvents.{Offers, Takes, answered_line}
-use Rattle.kalah_jobs.specs.Writing.Output.{text_of_line, text_of_file, text_of_jobs, taken_output, names_of}
-use Rattle.kalah_jobs.proofs.CollectingLemmas.{state_same, state_other, files_many, lines_are, new_files_are_in_step, taken_is, new_taken, fronts_full, kept_by_offer, kept_by_take}
-use Rattle.kalah_jobs.specs.Collecting.Held.{AreInStep}
-use Rattle.kalah_jobs.specs.Files.Lines.{line_feed}
-use Rattle.kalah_jobs.specs.Files.NamedBytes.{NamedBytes}
-use Rattle.kalah_run.specs.declared.batch.ordered_output.OrderedOutput.{OrderedOutput}
-use Rattle.kalah_jobs.specs.Files.Jobs.{job_count}
-use Rattle.kalah_jobs.proofs.FilesLemmas.{length-job_list, lines_between, slice_get-job_list}
 
 -- ==== The loop that writes each line once it is ready and all before it were written
 
@@ -42,10 +24,10 @@ module _ (text : ℕ → Taken → List ℕ) (jobs : List (List Entry)) where
       ∙ λ i. texts_of_lines f 0 own i ++ texts_from (suc f) files i)
 
   -- one line more of the file is written
-  written_line : (f n : ℕ) (e : Entry) → entry_at jobs f n ≡ Some e
-      → written_upto text jobs f n ++ text f (answered_line (n, e)) ≡ written_upto text jobs f (n + 1)
-  unfolding written_upto
-  written_line f n e entry_is =
+  written_with_next_line : (f n : ℕ) (e : Entry) → entry_at jobs f n ≡ Some e
+      → written_up_to text jobs f n ++ text f (answered_line (n, e)) ≡ written_up_to text jobs f (n + 1)
+  unfolding written_up_to
+  written_with_next_line f n e entry_is =
       let m : ℕ = job_count (take f jobs) + n in
       let o : Job = line_job f n e in
       let job_is : slice_get (job_list jobs) m ≡ Some o = slice_get-job_list jobs f n m e refl entry_is in
@@ -56,25 +38,26 @@ module _ (text : ℕ → Taken → List ℕ) (jobs : List (List Entry)) where
       ∙ ap (λ k. flat_map (text_of_job text) (take k (job_list jobs))) next
 
   -- all lines of the file are written
-  written_file : (f : ℕ) → f < length jobs → written_upto text jobs f (length (entries_of jobs f)) ≡ written_upto text jobs (f + 1) 0
-  unfolding written_upto
-  written_file f low =
+  written_with_whole_file : (f : ℕ) → f < length jobs
+      → written_up_to text jobs f (length (entries_of jobs f)) ≡ written_up_to text jobs (f + 1) 0
+  unfolding written_up_to
+  written_with_whole_file f low =
       let next : job_count (take f jobs) + length (entries_of jobs f) ≡ job_count (take (f + 1) jobs) + 0 =
       omega (arith, lines_between jobs f low) in
       ap (λ k. flat_map (text_of_job text) (take k (job_list jobs))) next
 
-  -- all lines of all files are written
-  written_all : (f n : ℕ) → length jobs ≤ f → written_upto text jobs f n ≡ text_of_jobs text jobs
-  unfolding written_upto
-  written_all f n high =
+  -- past the last file all lines are written
+  written_past_last_file : (f n : ℕ) → length jobs ≤ f → written_up_to text jobs f n ≡ text_of_jobs text jobs
+  unfolding written_up_to
+  written_past_last_file f n high =
       ap (flat_map (text_of_job text)) (take_all (job_count (take f jobs) + n) (job_list jobs)
       (omega (arith, length-job_list jobs, ap job_count (take_all f jobs high))))
       ∙ texts_from 0 jobs
 
   -- what is written is the first part of all
-  written_first : (f n : ℕ) → (rest : List ℕ) × (written_upto text jobs f n ++ rest ≡ text_of_jobs text jobs)
-  unfolding written_upto
-  written_first f n =
+  written_is_first_part : (f n : ℕ) → (rest : List ℕ) × (written_up_to text jobs f n ++ rest ≡ text_of_jobs text jobs)
+  unfolding written_up_to
+  written_is_first_part f n =
       let m : ℕ = job_count (take f jobs) + n in
       let T = text_of_job text in (
         flat_map T (drop m (job_list jobs)),
@@ -83,105 +66,116 @@ module _ (text : ℕ → Taken → List ℕ) (jobs : List (List Entry)) where
       )
 
   -- nothing was offered and nothing taken
-  progress_start : {W : Type 0} (state : W → SinkState) (begun : W) → IsUnderWay state text jobs [] (new_files jobs) 0 begun begun
-  unfolding written_upto
-  progress_start state begun =
+  under_way_at_start : {W : Type 0} (state : W → SinkState) (begun : W)
+      → IsUnderWay state text (record { jobs = jobs; past = []; files = new_files jobs; current = 0 }) begun begun
+  unfolding written_up_to
+  under_way_at_start state begun =
       record {
-        kept = new_files_are_in_step jobs;
+        kept = new_files_agree jobs;
         before = λ g low. absurd (omega arith);
         later = λ g high. new_taken jobs g;
-        written = subst (WasGiven state begun begun) (sym (ap (written_upto text jobs 0) (new_taken jobs 0))) (given_none state begun);
+        written = subst (WasGiven state begun begun) (sym (ap (written_up_to text jobs 0) (new_taken jobs 0))) (given_none state begun);
       }
 
 -- a step of a batch that is under way
-module _ {W : Type 0} {state : W → SinkState} {text : ℕ → Taken → List ℕ} {jobs : List (List Entry)} {past : List Job}
-    {files : List ArrivalsState} {f : ℕ} {begun out : W} (progress : IsUnderWay state text jobs past files f begun out) where
+module _ {W : Type 0} {state : W → SinkState} {text : ℕ → Taken → List ℕ} {p : CollectingState} {begun out : W}
+    (under_way : IsUnderWay state text p begun out) where
+  open p use {jobs, past, files, current}
+
   -- A line is taken, and its text given to the sink.
-  pub wrote_line : (after : List ArrivalsState) (t : Taken) (more : W) → Takes files f (Some t) after → WasGiven state out more (text f t)
-      → IsUnderWay state text jobs past after f begun more
-  wrote_line after t more step given =
-      let n : ℕ = (state_of files f).taken in
-      let now : List ArrivalsState = after_take files f in
-      let other : (g : ℕ) → (g ≡ f → ⊥) → state_of now g ≡ state_of files g =
-      λ g np. state_other files f g (with_one_taken (state_of files f)) np in
-      let offer = progress.kept.offered.only f t.line t.answer step.next_line.came in
+  pub under_way_after_line : {after : List ArrivalsState} {t : Taken} {more : W} → Takes files current (Some t) after
+      → WasGiven state out more (text current t) → IsUnderWay state text (record p { files = after }) begun more
+  under_way_after_line {after} {t} {more} step given =
+      let n : ℕ = taken_of p current in
+      let now : CollectingState = record p { files = after_take files current } in
+      let same_taken : (g : ℕ) → (g ≡ current → ⊥) → taken_of now g ≡ taken_of p g =
+      λ g other. ap (λ (s : ArrivalsState). s.taken) (state_other files current g (with_one_taken (state_of files current)) other) in
+      let offer = under_way.kept.offered.only current t.line t.answer step.next_line.came in
       let line : t.line ≡ n = step.next_line.first in
-      let entry_is : entry_at jobs f n ≡ Some offer.entry = ap (entry_at jobs f) (sym line) ∙ offer.entry_is in
-      let taken : (state_of now f).taken ≡ n + 1 =
-      ap (λ (s : ArrivalsState). s.taken) (state_same files f (with_one_taken (state_of files f)) step.file_there) in
-      let text_is : written_upto text jobs f n ++ text f t ≡ written_upto text jobs f (state_of now f).taken =
-      ap (λ x. written_upto text jobs f n ++ text f x) (taken_is t n offer.entry line offer.answer_is)
-      ∙ written_line text jobs f n offer.entry entry_is
-      ∙ ap (written_upto text jobs f) (sym taken) in
-      let new : IsUnderWay state text jobs past now f begun more = record {
-        kept = subst (AreInStep jobs past) step.kept (kept_by_take progress.kept f t step);
-        before = λ g g_low. ap (λ (s : ArrivalsState). s.taken) (other g (λ q. omega arith)) ∙ progress.before g g_low;
-        later = λ g g_high. ap (λ (s : ArrivalsState). s.taken) (other g (λ q. omega arith)) ∙ progress.later g g_high;
-        written = subst (WasGiven state begun more) text_is (given_then state _ _ _ _ _ progress.written given);
+      let entry_is : entry_at jobs current n ≡ Some offer.entry = ap (entry_at jobs current) (sym line) ∙ offer.entry_is in
+      let taken : taken_of now current ≡ n + 1 =
+      ap (λ (s : ArrivalsState). s.taken) (state_same files current (with_one_taken (state_of files current)) step.file_there) in
+      let text_is : written_so_far text p ++ text current t ≡ written_so_far text now =
+      ap (λ x. written_so_far text p ++ text current x) (taken_is t n offer.entry line offer.answer_is)
+      ∙ written_with_next_line text jobs current n offer.entry entry_is
+      ∙ ap (written_up_to text jobs current) (sym taken) in
+      let new : IsUnderWay state text now begun more = record {
+        kept = subst (AgreeWithOffers jobs past) step.kept (kept_by_take under_way.kept current t step);
+        before = λ g low. same_taken g (λ q. omega arith) ∙ under_way.before g low;
+        later = λ g high. same_taken g (λ q. omega arith) ∙ under_way.later g high;
+        written = subst (WasGiven state begun more) text_is (given_then state under_way.written given);
       } in
       rw step.kept new
 
   -- no line is taken
-  pub wrote_nothing : (after : List ArrivalsState) → Takes files f None after → IsUnderWay state text jobs past after f begun out
-  wrote_nothing after step = rw step.unchanged progress
+  pub under_way_after_no_line : {after : List ArrivalsState} → Takes files current None after
+      → IsUnderWay state text (record p { files = after }) begun out
+  under_way_after_no_line step = rw step.unchanged under_way
 
   -- a file is completely written, and the next becomes the current one
-  pub wrote_file : f < length files → HasEnded (state_of files f) → front (state_of files f) ≤ (state_of files f).taken
-      → IsUnderWay state text jobs past files (f + 1) begun out
-  wrote_file low ended all =
-      let up : (state_of files f).taken ≤ front (state_of files f) = progress.kept.within f in
-      let counts = progress.kept.offered.counts in
-      let whole : (state_of files f).taken ≡ length (entries_of jobs f) = omega (arith, up, all, ended, lines_are jobs files counts f) in
-      let jobs_low : f < length jobs = omega (arith, low, files_many jobs files counts) in
-      let none : (state_of files (f + 1)).taken ≡ 0 = progress.later (f + 1) (omega arith) in
-      let text_is : written_upto text jobs f (state_of files f).taken ≡ written_upto text jobs (f + 1) (state_of files (f + 1)).taken =
-      ap (written_upto text jobs f) whole
-      ∙ written_file text jobs f jobs_low
-      ∙ ap (written_upto text jobs (f + 1)) (sym none) in
+  pub under_way_in_next_file : current < length files → HasEnded (state_of files current) → HasNoNext (state_of files current)
+      → IsUnderWay state text (record p { current = current + 1 }) begun out
+  under_way_in_next_file low ended all =
+      let next : CollectingState = record p { current = current + 1 } in
+      let up : taken_of p current ≤ front (state_of files current) = under_way.kept.within current in
+      let counts = under_way.kept.offered.counts in
+      let whole : taken_of p current ≡ length (entries_of jobs current) =
+      omega (arith, up, all, ended, lines_are jobs files counts current) in
+      let jobs_low : current < length jobs = omega (arith, low, files_many jobs files counts) in
+      let none : taken_of next (current + 1) ≡ 0 = under_way.later (current + 1) (omega arith) in
+      let text_is : written_so_far text p ≡ written_so_far text next =
+      ap (written_up_to text jobs current) whole
+      ∙ written_with_whole_file text jobs current jobs_low
+      ∙ ap (written_up_to text jobs (current + 1)) (sym none) in
       record {
-        kept = progress.kept;
+        kept = under_way.kept;
         before = λ g g_low.
             ⊎_elim
-            (λ (p : g ≡ f). rw p whole)
-            (λ (np : g ≡ f → ⊥). progress.before g (omega arith))
-            (cases_eq g f);
-        later = λ g g_high. progress.later g (omega arith);
-        written = subst (WasGiven state begun out) text_is progress.written;
+            (λ (same : g ≡ current). rw same whole)
+            (λ (other : g ≡ current → ⊥). under_way.before g (omega arith))
+            (cases_eq g current);
+        later = λ g g_high. under_way.later g (omega arith);
+        written = subst (WasGiven state begun out) text_is under_way.written;
       }
 
   -- an outcome is offered, and accepted or refused: what was written stays
-  pub progress_offered : (o : Job) (after : List ArrivalsState) (gave : Result ℕ Refusal) → Offers jobs files o gave after
-      → IsUnderWay state text jobs (past ++ o ∷ []) after f begun out
-  progress_offered o after gave step =
-      let now = kept_by_offer progress.kept o gave step in
+  pub under_way_after_offer : (o : Job) (after : List ArrivalsState) (result : Result ℕ Refusal) → Offers jobs files o result after
+      → IsUnderWay state text (record p { past = past ++ o ∷ []; files = after }) begun out
+  under_way_after_offer o after result step =
+      let now = kept_by_offer under_way.kept o result step in
       record {
         kept = now.0;
-        before = λ g g_low. now.1 g ∙ progress.before g g_low;
-        later = λ g g_high. now.1 g ∙ progress.later g g_high;
-        written = rw (now.1 f) progress.written;
+        before = λ g low. now.1 g ∙ under_way.before g low;
+        later = λ g high. now.1 g ∙ under_way.later g high;
+        written = rw (now.1 current) under_way.written;
       }
 
+  -- nothing more is given to the sink: what was written stays
+  pub under_way_after_no_text : {later : W} → WasGiven state out later [] → IsUnderWay state text p begun later
+  under_way_after_no_text none = record {
+    kept = under_way.kept;
+    before = under_way.before;
+    later = under_way.later;
+    written = given_then_flush state under_way.written none;
+  }
+
   -- a sink that has failed was given all, as far as it took it
-  pub progress_failed : (state out).has_failed ≡ true → WasGiven state begun out (text_of_jobs text jobs)
-  progress_failed failed =
-      let all = written_first text jobs f (state_of files f).taken in
-      subst (WasGiven state begun out) all.1 (given_more_after_failure state _ _ _ all.0 progress.written failed)
+  pub failed_sink_was_given_all : (state out).has_failed ≡ true → WasGiven state begun out (text_of_jobs text jobs)
+  failed_sink_was_given_all failed =
+      let all = written_is_first_part text jobs current (taken_of p current) in
+      subst (WasGiven state begun out) all.1 (given_more_after_failure state all.0 under_way.written failed)
 
-  -- Each job was offered once, and the current file, if there is one, has not ended.
-  module _ (each : AreJobsInSomeOrder jobs past) (waits : f < length files → HasEnded (state_of files f) → ⊥) where
-    -- the current file is past the last
-    past_all : length files ≤ f
-    past_all = elim (cases_lt f (length files)) [
-      | inl low ↦ absurd (waits low (fronts_full jobs past files each progress.kept.offered f))
-      | inr high ↦ high
-    ]
-
-    -- the sink was given all
-    pub progress_end : WasGiven state begun out (text_of_jobs text jobs)
-    progress_end =
-        let many : length files ≡ length jobs = files_many jobs files progress.kept.offered.counts in
-        subst (WasGiven state begun out) (written_all text jobs f (state_of files f).taken (omega (arith, many, past_all)))
-        progress.written
+  -- Each job was offered once, and the current file, if there is one, has not ended: then the sink was given all.
+  pub sink_was_given_all : IsPermutationOfJobs jobs past → (current < length files → HasEnded (state_of files current) → ⊥)
+      → WasGiven state begun out (text_of_jobs text jobs)
+  sink_was_given_all each waits =
+      let past_last : length files ≤ current = ⊎_elim
+      (λ low. absurd (waits low (fronts_full jobs past files each under_way.kept.offered current)))
+      (λ high. high)
+      (cases_lt current (length files)) in
+      let many : length files ≡ length jobs = files_many jobs files under_way.kept.offered.counts in
+      subst (WasGiven state begun out) (written_past_last_file text jobs current (taken_of p current) (omega (arith, many, past_last)))
+      under_way.written
 
 -- ==== What an output writes, line by line
 
@@ -194,39 +188,27 @@ text_of_taken files f file name taken low file_is name_is =
 
 -- with what is known of a sink
 module _ {W : Type 0} {state : W → SinkState} where
-  -- an output advances with the state of what is under way
-  pub written_on : {files : List NamedBytes} {jobs : List (List Entry)} {past : List Job} {begun out more : W} {r after : OrderedOutput}
-      → HasWritten state files jobs past begun out r → after.files.now ≡ r.files.now → after.jobs.now ≡ r.jobs.now
-      → (IsUnderWay state (taken_output (names_of r.files.now)) r.jobs.now past r.collector r.current begun out
-      → IsUnderWay state (taken_output (names_of r.files.now)) r.jobs.now past after.collector after.current begun more)
-      → HasWritten state files jobs past begun more after
-  written_on was same_files same_jobs step = record {
-    of_files = same_files ∙ was.of_files;
-    of_jobs = same_jobs ∙ was.of_jobs;
-    progress = rw same_jobs (rw (← was.of_files) (step (rw was.of_files was.progress)));
+  -- what became ready is written, and then more of it
+  pub writes_then : {first between last : OrderedOutput} {begun out more : W} → WritesOn state first begun between out
+      → last.files.now ≡ between.files.now → last.jobs.now ≡ between.jobs.now
+      → ((past : List Job) (b : W) → HasWritten state past b out between → HasWritten state past b more last)
+      → WritesOn state first begun last more
+  writes_then so_far files jobs step = record {
+    same_files = files ∙ so_far.same_files;
+    same_jobs = jobs ∙ so_far.same_jobs;
+    writes = λ was. step _ _ (so_far.writes was);
   }
 
-  -- what an output has written stays if nothing more is written
-  pub written_kept : {files : List NamedBytes} {jobs : List (List Entry)} {past : List Job} {begun out later : W} {r : OrderedOutput}
-      → WasGiven state out later [] → HasWritten state files jobs past begun out r → HasWritten state files jobs past begun later r
-  written_kept none was = record {
-    of_files = was.of_files;
-    of_jobs = was.of_jobs;
-    progress = record {
-      kept = was.progress.kept;
-      before = was.progress.before;
-      later = was.progress.later;
-      written = given_then_flush state _ _ _ _ was.progress.written none;
-    };
-  }
+  -- an outcome is offered: what was written stays
+  pub written_after_offer : {past : List Job} {begun out : W} {old new : OrderedOutput} (outcome : Job) → HasBeenOffered old outcome new
+      → HasWritten state past begun out old → HasWritten state (past ++ outcome ∷ []) begun out new
+  written_after_offer {new = new} outcome offered was =
+      rw (offered.files, offered.jobs, offered.current)
+      (under_way_after_offer was outcome new.collector offered.offers.0 offered.offers.1)
 
   -- a new output has written nothing
-  pub new_written : (begun : W) (r : OrderedOutput) → IsNew r → HasWritten state r.files.now r.jobs.now [] begun begun r
-  new_written begun r new = record {
-    of_files = refl;
-    of_jobs = refl;
-    progress = rw new.0 (rw new.1 (progress_start (taken_output (names_of r.files.now)) r.jobs.now state begun));
-  }
+  pub new_has_written_nothing : (begun : W) (r : OrderedOutput) → IsNew r → HasWritten state [] begun begun r
+  new_has_written_nothing begun r new = rw (new.0, new.1) (under_way_at_start (taken_output (names_of r.files.now)) r.jobs.now state begun)
 
 -- how many lines are ready and were not taken, of all files
 abbrev pub ready_lines : List ArrivalsState → ℕ

@@ -1,12 +1,7 @@
 -- Lists of passes: those that a desk and a queue hand out, one by one.
-use Rattle.std.proofs.Common.{◌≡◌, ⊎_elim, ℕ, zero, suc, ◌+◌, ◌≤◌, List, [], ◌∷◌, ◌++◌, length, sym, ap, ◌∙◌, arith, length-append, ◌<◌, All}
-use Rattle.kalah_run.specs.Types.{DrawnRow}
-use Rattle.kalah_run.specs.Desk.Rows.{drawn_numbers}
-use Rattle.std.proofs.lemmas.Bool.{cases_lt}
-use Rattle.kalah_run.specs.Desk.States.{PassState, DeskState, new_pass, AreNewPasses, drawn_rows}
-use Rattle.std.proofs.lemmas.List.{get_or_push, get_or_append_left, length-map}
+use Rattle.std.proofs.{Common.{◌≡◌, ⊎_elim, ℕ, zero, suc, ◌+◌, ◌≤◌, List, [], ◌∷◌, ◌++◌, length, sym, ap, ◌∙◌, arith, length-append, ◌<◌, All}, lemmas.{Bool.{cases_lt}, List.{get_or_push, get_or_append_left, length-map}}}
+use Rattle.kalah_run.specs.{DrawnRow, drawn_numbers, PassState, DeskState, new_pass, AreNewPasses, drawn_rows, PutPassState, ArePassesFrom}
 use Rattle.atomic_table.specs.Seated.{TableId}
-use Rattle.kalah_run.specs.Queue.States.{PutPassState, ArePassesFrom}
 
 -- ==== Of a desk
 

@@ -1,18 +1,12 @@
 -- The results queue: its pairs, and each step keeps its protocol.
-use Rattle.std.proofs.Common.{◌≡◌, ◌≢◌, ℕ, suc, ◌+◌, ◌<◌, ◌≤◌, ◌==◌, if◌then◌else◌, Bool, true, false, List, [], ◌∷◌, ◌++◌, length, All, slice_index_or, refl, sym, ap, ◌∙◌, eq-eqb, ne_eqb, arith, set, append_assoc, inl, inr, length-append}
-use Rattle.std.proofs.lemmas.List.{append-nil, length-map, length-set, length_push, map-append, get_or_at, get_or_append_left, get_or_push}
-use Rattle.std.proofs.lemmas.List.Elements.{All-push}
-use Rattle.kalah_run.specs.Types.{Job, QueueView}
+use Rattle.std.proofs.{Common.{◌≡◌, ◌≢◌, ℕ, suc, ◌+◌, ◌<◌, ◌≤◌, ◌==◌, if◌then◌else◌, Bool, true, false, List, [], ◌∷◌, ◌++◌, length, All, slice_index_or, refl, sym, ap, ◌∙◌, eq-eqb, ne_eqb, arith, set, append_assoc, inl, inr, length-append}, lemmas.{List.{append-nil, length-map, length-set, length_push, map-append, get_or_at, get_or_append_left, get_or_push, Elements.{All-push}}, Bool.{cases_lt}}}
+use Rattle.kalah_run.specs.{Job, QueueView, Accounts, outcomes_in, declared.queue.protocol.QueueView.TheVariants.{Getting, Putting, Reclaimed}, Queue.Protocol.{FitsPairs, FitsPut, IsLawful, IsWholeAndInOrder, opening_view, after_handing_out, pass_handed_out, after_put, after_reclaiming, IsGot, KnowsSent}}
 use Rattle.kalah_jobs.specs.Collecting.Shares.{sent_by_worker}
 use mathlib.Core.Option.{some, some-injective, some-ne-none}
 use lib.ListN.{get_elem?}
 use Rattle.atomic_table.proofs.Lists.{at_longer, set_else, set_here}
 use Rattle.kalah_run.proofs.ViewLemmas.{each_more, each_set, in_views, was_there}
-use Rattle.kalah_run.specs.declared.queue.protocol.QueueView.TheVariants.{Getting, Putting, Ended}
-use Rattle.kalah_run.specs.Queue.States.{Accounts, outcomes_in}
 use Rattle.crossbeam_queue.specs.Fifo.{Pushes, Pops, Forks, Held, Merges, Learns}
-use Rattle.kalah_run.specs.Queue.Protocol.{Fits, FitsPut, IsLawful, IsWholeAndInOrder, opening_view, after_handing_out, pass_handed_out, after_put, after_reclaiming, IsGot, KnowsSent}
-use Rattle.std.proofs.lemmas.Bool.{cases_lt}
 
 -- ==== What the pairs determine of one worker, and of all
 
@@ -120,7 +114,7 @@ opening_is_lawful = record {
   count = refl;
   held = refl;
   accounts = accounts_none;
-  fits = each_more (Fits [] []) [] opening_view (λ j u e. absurd (some-ne-none u (sym e))) refl;
+  fits = each_more (FitsPairs [] []) [] opening_view (λ j u e. absurd (some-ne-none u (sym e))) refl;
 }
 
 -- the oldest outcome is that of the first pair inside
@@ -150,23 +144,23 @@ module _ {items : List Job} {views : List QueueView} (kept : IsLawful items view
 
   -- the view of another pass fits if one pair more was sent, by a worker that has not ended
   fits_more : {place : ℕ} (x : ℕ × Job) → place ≡ suc x.0 → (j : ℕ) (u : QueueView) → j ≢ place
-      → get_elem? views j ≡ some u → Fits (pairs ++ x ∷ []) kept.ended j u
+      → get_elem? views j ≡ some u → FitsPairs (pairs ++ x ∷ []) kept.ended j u
   fits_more x place_is j (Putting number sent) apart has_view =
       let fit : FitsPut pairs kept.ended j number sent = kept.fits j _ has_view in
       let another : x.0 ≢ number = (λ q. apart (fit.place_is ∙ (ap suc (sym q) ∙ sym place_is))) in
       record { place_is = fit.place_is; running = fit.running; all_sent = fit.all_sent ∙ sym (other_pair_changes_nothing number pairs x another) }
   fits_more x place_is j (Getting workers got ended) apart has_view = kept.fits j _ has_view
-  fits_more x place_is j Ended apart has_view = tt
+  fits_more x place_is j Reclaimed apart has_view = tt
 
   -- the view of another pass fits if one worker more has ended
   fits_ended : {other : ℕ} (list : List Job) → other ≡ suc (length kept.ended) → (j : ℕ) (u : QueueView) → j ≢ other
-      → get_elem? views j ≡ some u → Fits pairs (kept.ended ++ list ∷ []) j u
+      → get_elem? views j ≡ some u → FitsPairs pairs (kept.ended ++ list ∷ []) j u
   fits_ended list other_is j (Putting number sent) apart has_view =
       let fit : FitsPut pairs kept.ended j number sent = kept.fits j _ has_view in
       let another : number ≢ length kept.ended = (λ q. apart (fit.place_is ∙ (ap suc q ∙ sym other_is))) in
       record { place_is = fit.place_is; running = omega (arith, fit.running, another, length_push kept.ended list); all_sent = fit.all_sent }
   fits_ended list other_is j (Getting workers got ended) apart has_view = kept.fits j _ has_view
-  fits_ended list other_is j Ended apart has_view = tt
+  fits_ended list other_is j Reclaimed apart has_view = tt
 
   -- the pass of a worker that has not ended puts an outcome
   lawful_with_put : (place : ℕ) (x : Job) {number : ℕ} {sent : List Job} → get_elem? views place ≡ some (Putting number sent)
@@ -191,7 +185,7 @@ module _ {items : List Job} {views : List QueueView} (kept : IsLawful items view
         accounts = rw (← append_assoc kept.got kept.inside (pair ∷ [])) (accounts_pair kept.workers kept.ended pairs pair
             (omega (arith, fit.place_is, kept.count, in_views views place has_view)) fit.running kept.accounts);
         fits = rw (← append_assoc kept.got kept.inside (pair ∷ []))
-            (each_set (Fits (pairs ++ pair ∷ []) kept.ended) views place after fits (fits_more pair fit.place_is));
+            (each_set (FitsPairs (pairs ++ pair ∷ []) kept.ended) views place after fits (fits_more pair fit.place_is));
       }
 
   -- a pass is made for the next worker, before any has ended
@@ -215,18 +209,18 @@ module _ {items : List Job} {views : List QueueView} (kept : IsLawful items view
         count = omega (arith, length_push after (Putting kept.workers []), same, kept.count);
         held = kept.held;
         accounts = accounts_worker kept.workers kept.ended pairs kept.accounts;
-        fits = each_more (Fits pairs kept.ended) after (Putting kept.workers [])
-            (each_set (Fits pairs kept.ended) views 0 getter refl (λ j u apart has_view. kept.fits j u has_view)) fresh;
+        fits = each_more (FitsPairs pairs kept.ended) after (Putting kept.workers [])
+            (each_set (FitsPairs pairs kept.ended) views 0 getter refl (λ j u apart has_view. kept.fits j u has_view)) fresh;
       }
 
   -- the pass of the next worker to end is reclaimed
   lawful_with_end : (other : ℕ) {sent : List Job} → other ≢ 0 → get_elem? views other ≡ some (Putting (length kept.ended) sent)
-      → IsLawful items (set (set views 0 (Getting kept.workers kept.got (kept.ended ++ sent ∷ []))) other Ended)
+      → IsLawful items (set (set views 0 (Getting kept.workers kept.got (kept.ended ++ sent ∷ []))) other Reclaimed)
   lawful_with_end other {sent} apart has_view =
       let getter : QueueView = Getting kept.workers kept.got (kept.ended ++ sent ∷ []) in
       let between : List QueueView = set views 0 getter in
       let fit : FitsPut pairs kept.ended other (length kept.ended) sent = kept.fits other _ has_view in
-      let F : ℕ → QueueView → Type 0 = Fits pairs (kept.ended ++ sent ∷ []) in
+      let F : ℕ → QueueView → Type 0 = FitsPairs pairs (kept.ended ++ sent ∷ []) in
       let others = each_set (λ j u. j ≢ other → F j u) views 0 getter (λ _. refl)
       (λ j u elsewhere has_view apart. fits_ended sent fit.place_is j u apart has_view) in
       record {
@@ -234,11 +228,11 @@ module _ {items : List Job} {views : List QueueView} (kept : IsLawful items view
         got = kept.got;
         ended = kept.ended ++ sent ∷ [];
         inside = kept.inside;
-        getter = set_else between other 0 Ended (λ q. apart (sym q)) ∙ set_here views 0 getter (in_views views 0 kept.getter);
-        count = length-set between other Ended ∙ length-set views 0 getter ∙ kept.count;
+        getter = set_else between other 0 Reclaimed (λ q. apart (sym q)) ∙ set_here views 0 getter (in_views views 0 kept.getter);
+        count = length-set between other Reclaimed ∙ length-set views 0 getter ∙ kept.count;
         held = kept.held;
         accounts = accounts_ended kept.workers kept.ended pairs sent fit.all_sent kept.accounts;
-        fits = each_set F between other Ended tt (λ j u elsewhere has_view. others j u has_view elsewhere);
+        fits = each_set F between other Reclaimed tt (λ j u elsewhere has_view. others j u has_view elsewhere);
       }
 
 -- the oldest outcome is got, which is of one of the workers
@@ -261,7 +255,7 @@ lawful_with_get {x} {items} {views} kept =
         count = length-set views 0 getter ∙ kept.count;
         held = first.held;
         accounts = rw same kept.accounts;
-        fits = rw same (each_set (Fits (pairs kept) kept.ended) views 0 getter refl (λ j u apart has_view. kept.fits j u has_view));
+        fits = rw same (each_set (FitsPairs (pairs kept) kept.ended) views 0 getter refl (λ j u apart has_view. kept.fits j u has_view));
       },
     )
 
@@ -290,7 +284,7 @@ hand_out_is_lawful place getting = λ items views kept has_view.
 -- the pass to get reclaims a pass to put
 pub reclaim_is_lawful : (place other : ℕ) {v u : QueueView} {workers : ℕ} {got : List (ℕ × Job)} {ended : List (List Job)}
     {number : ℕ} {sent : List Job} → v ≡ Getting workers got ended → u ≡ Putting number sent → number ≡ length ended
-    → Merges IsLawful place v other u (after_reclaiming v u) Ended
+    → Merges IsLawful place v other u (after_reclaiming v u) Reclaimed
 reclaim_is_lawful place other {sent = sent} getting putting next = λ items views kept has_view apart has_other.
     let getter = getter_is_first kept place getting has_view in
     let number = next ∙ ap (λ v. length (ended_in v)) (sym getting ∙ getter.1) in

@@ -1,18 +1,10 @@
 -- The rows that the seats of a desk know: sums over them and facts of each, after a change of one seat, and what they deal.
-use Rattle.std.proofs.Common.{◌≡◌, ◌⊎◌, inl, inr, ℕ, zero, suc, ◌+◌, ◌≤◌, List, [], ◌∷◌, ◌++◌, length, set, refl, sym, ap, ◌∙◌, subst, arith, length-append, append-nil, ◌<◌, ◌==◌, sum_by, count_by, All, AllPairs, if◌then◌else◌}
-use Rattle.std.proofs.lemmas.List.Sums.{sum_by-cons, sum_by-append, sum_by_push, sum_by-set, get_or-le-sum_by}
-use Rattle.std.proofs.lemmas.List.Elements.{All-append, All-nil, All-take, All-drop}
+use Rattle.std.proofs.{Common.{◌≡◌, ◌⊎◌, inl, inr, ℕ, zero, suc, ◌+◌, ◌≤◌, List, [], ◌∷◌, ◌++◌, length, set, refl, sym, ap, ◌∙◌, subst, arith, length-append, append-nil, ◌<◌, ◌==◌, sum_by, count_by, All, AllPairs, if◌then◌else◌}, lemmas.{List.{get_or_append_left, map-append, nil_from_length, take_at, drop_at, Sums.{sum_by-cons, sum_by-append, sum_by_push, sum_by-set, get_or-le-sum_by}, Elements.{All-append, All-nil, All-take, All-drop}}, Bool.{cases_lt}}}
 use mathlib.Core.Option.{some, some-injective, some-ne-none}
 use lib.ListN.{get_elem?}
 use Rattle.kalah_run.proofs.ViewLemmas.{Each, in_views, view_at}
-use Rattle.kalah_run.specs.Types.{DrawnRow, DeskView}
-use Rattle.kalah_run.specs.declared.desk.protocol.DeskView.TheVariants.{Opening, Drawing, Closing, Ended}
+use Rattle.kalah_run.specs.{DrawnRow, DeskView, drawn_numbers, drawn_in, spent_in, DealsEachOnce, PassState, drawn_rows, declared.desk.protocol.DeskView.TheVariants.{Opening, Drawing, Closing, Reclaimed}, Desk.Protocol.{rows_in, all_rows, passes_in}}
 use Rattle.kalah_jobs.specs.Collecting.Shares.{times_in}
-use Rattle.kalah_run.specs.Desk.Rows.{drawn_numbers, drawn_in, spent_in, DealsEachOnce}
-use Rattle.kalah_run.specs.Desk.Protocol.{rows_in, all_rows, passes_in}
-use Rattle.std.proofs.lemmas.Bool.{cases_lt}
-use Rattle.kalah_run.specs.Desk.States.{PassState, drawn_rows}
-use Rattle.std.proofs.lemmas.List.{get_or_append_left, map-append, nil_from_length, take_at, drop_at}
 
 -- ==== Sums over the rows of all seats, and facts of each row: after a change of one seat's view, and after a new seat
 
@@ -79,7 +71,7 @@ rows_within_one : (view : DeskView) → length (rows_in view) ≤ passes_in view
 rows_within_one (Opening total handed_out left) = omega arith
 rows_within_one (Drawing total number r) = omega arith
 rows_within_one (Closing rows) = omega arith
-rows_within_one Ended = omega arith
+rows_within_one Reclaimed = omega arith
 
 -- and all seats have at most one for each of their passes
 pub rows_within_passes : (views : List DeskView) → length (all_rows views) ≤ sum_by passes_in views

@@ -1,24 +1,8 @@
 -- The workers of a batch: what each sends, and what is known once all have run.
-use Rattle.std.proofs.Common.{[], ◌≡◌, ◌≤◌, ◌<◌, ◌+◌, ◌-◌, ℕ, suc, List, ◌∷◌, ◌++◌, arith, sym, ap, ◌∙◌, Bool, true, length, get_or, append_assoc, subst, zero, map, reverse, ◌==◌, if◌then◌else◌, ne_eqb, inl, inr, All, Some, fold, slice_get, count_by, max, min}
-use Rattle.std.proofs.lemmas.List.{map-append, reverse-append, get_or-map, length-append, length-map}
-use Rattle.kalah_run.specs.Types.{Entry, Job, DrawnRow}
-use Rattle.std.proofs.lemmas.List.Sums.{fold-append, sum_by-cons}
-use Rattle.std.proofs.lemmas.Option.{get_or_from_slice_get}
-use Rattle.kalah_jobs.specs.Files.JobList.{job_list, no_job}
-use Rattle.kalah_jobs.specs.Collecting.AnyOrder.{job, AreJobsInSomeOrder}
-use Rattle.kalah_run.specs.Batch.AtWork.{drawn_jobs, passes_of, puts_of, AreAtWork, HasRun, HaveRun}
-use Rattle.std.proofs.lemmas.Bool.{cases_eq, cases_lt, lt-ltb}
-use Rattle.kalah_jobs.proofs.CountingLemmas.{gets_each_job_once, as_many_as_numbers}
-use Rattle.std.proofs.lemmas.List.Elements.{All-cons, All-map, All-tail}
-use Rattle.kalah_run.specs.Queue.States.{PutPassState, ArePassesFrom, sent_by, Accounts, outcomes_in}
-use Rattle.kalah_run.specs.Desk.States.{PassState, IsPassAt, AreNewPasses, new_pass, drawn_rows}
-use Rattle.kalah_run.specs.declared.batch.worker.Worker.{Worker}
-use Rattle.kalah_run.specs.Batch.Running.{HasOwnTable, HaveOwnTables}
-use Rattle.kalah_jobs.specs.Files.Jobs.{job_count}
-use Rattle.kalah_jobs.proofs.FilesLemmas.{length-job_list}
-use Rattle.kalah_jobs.specs.Collecting.Shares.{AreShared, times_in}
-use Rattle.kalah_run.specs.Desk.Rows.{drawn_numbers, DealsEachOnce, spent_in}
-use Rattle.kalah_run.specs.declared.batch.shared_work.SharedWork.{SharedWork}
+use Rattle.std.proofs.{Common.{[], ◌≡◌, ◌≤◌, ◌<◌, ◌+◌, ◌-◌, ℕ, suc, List, ◌∷◌, ◌++◌, arith, sym, ap, ◌∙◌, Bool, true, length, get_or, append_assoc, subst, zero, map, reverse, ◌==◌, if◌then◌else◌, ne_eqb, inl, inr, All, Some, fold, slice_get, count_by, max, min}, lemmas.{List.{map-append, reverse-append, get_or-map, length-append, length-map, Sums.{fold-append, sum_by-cons}, Elements.{All-cons, All-map, All-tail}}, Option.{get_or_from_slice_get}, Bool.{cases_eq, cases_lt, lt-ltb}}}
+use Rattle.kalah_run.specs.{Entry, Job, DrawnRow, drawn_jobs, passes_of, puts_of, AreAtWork, HasRun, HaveRun, PutPassState, ArePassesFrom, sent_by, Accounts, outcomes_in, PassState, IsPassAt, AreNewPasses, new_pass, drawn_rows, HasOwnTable, HaveOwnTables, drawn_numbers, DealsEachOnce, spent_in, declared.batch.{worker.Worker.{Worker}, shared_work.SharedWork.{SharedWork}}}
+use Rattle.kalah_jobs.specs.{Files.{JobList.{job_list, no_job}, Jobs.{job_count}}, Collecting.{AnyOrder.{job, IsPermutationOfJobs}, Shares.{AreShared, times_in}}}
+use Rattle.kalah_jobs.proofs.{CountingLemmas.{gets_each_job_once, as_many_as_numbers}, FilesLemmas.{length-job_list}}
 use Rattle.kalah_run.proofs.PassLemmas.{length-drawn_numbers, all_are_of}
 
 -- ==== A worker with one job more: what it sends, and that less is left to draw
@@ -42,9 +26,9 @@ none_above (x ∷ xs) first limit low below = none_above xs (x + 1) limit (omega
     (λ k d within. below (suc k) d (omega arith))
 
 -- with one number more there is less left to draw
-pub less_left : (numbers more : List ℕ) (number total : ℕ) → more ≡ numbers ++ number ∷ [] → All (λ x. x < number) numbers
+pub less_left : (numbers : List ℕ) {more : List ℕ} {number total : ℕ} → more ≡ numbers ++ number ∷ [] → All (λ x. x < number) numbers
     → number < total → total - least_above more < total - least_above numbers
-less_left numbers more number total more_is above below =
+less_left numbers {more} {number} more_is above below =
     let last : least_above more ≡ number + 1 = ap least_above more_is ∙ fold-append (λ above x. x + 1) 0 numbers (number ∷ []) in
     let before = none_above numbers 0 number (omega arith) above in
     omega (arith, last, before, below)
@@ -67,9 +51,9 @@ one_given {X} f workers {workers'} {w} rest {x} workers_are x_is took so_far =
     ∙ so_far
 
 -- one worker more has its table
-pub tables_more : (workers workers' : List Worker) (w : Worker) (entries : ℕ) → workers' ≡ workers ++ w ∷ []
+pub tables_more : (workers : List Worker) {workers' : List Worker} (w : Worker) (entries : ℕ) → workers' ≡ workers ++ w ∷ []
     → HasOwnTable entries w → HaveOwnTables entries (reverse workers) → HaveOwnTables entries (reverse workers')
-tables_more workers workers' w entries workers_are own so_far =
+tables_more workers {workers'} w entries workers_are own so_far =
     subst (HaveOwnTables entries) (sym (last_first workers workers' w workers_are))
     (All-cons (HasOwnTable entries) w (reverse workers) own so_far)
 
@@ -182,7 +166,7 @@ pub each_job_got : {G : Type 0} {knows : G → ℕ → Bool} {shared : SharedWor
     {puts : List PutPassState} {jobs : List (List Entry)} (run : HaveRun knows shared before after) (got : List (ℕ × Job))
     → count ≡ length before → DealsEachOnce (job_count shared.jobs.now) drawn (drawn_rows (passes_of after))
     → puts ≡ puts_of after → (rest : List (ℕ × Job)) × (length rest ≡ left) × Accounts count (sent_by puts) (got ++ rest)
-    → jobs ≡ shared.jobs.now → length got ≡ job_count jobs → AreJobsInSomeOrder jobs (outcomes_in got)
+    → jobs ≡ shared.jobs.now → length got ≡ job_count jobs → IsPermutationOfJobs jobs (outcomes_in got)
 each_job_got {shared = shared} {after = after} {drawn = drawn} run got count_is deals puts_are inside jobs_are all =
     let own : List (List Entry) = shared.jobs.now in
     let rows = drawn_numbers (drawn_rows (passes_of after)) in

@@ -7,8 +7,8 @@ abbrev pub most_workers : ℕ
 most_workers = MOST_WORKERS
 
 -- a number of workers that a batch may have
-abbrev pub AreWorkers : ℕ → Type 0
-AreWorkers workers = (0 < workers) × (workers ≤ most_workers)
+abbrev pub IsWorkerCount : ℕ → Type 0
+IsWorkerCount workers = (0 < workers) × (workers ≤ most_workers)
 
 -- the most passes of a desk: one for each worker, and one for the calling thread
 abbrev pub most_passes : ℕ

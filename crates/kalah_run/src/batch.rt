@@ -1,10 +1,7 @@
 //! A batch: the lines of position files, solved by many workers and answered in order.
 ghost use Rattle.std.specs.Prelude.{◌≡◌, ◌<◌, ◌⊎◌, [], false, true, IfErr, IfOk, OnOk};
-ghost use Rattle.kalah_run.specs.Limits.{AreWorkers, IsTableSize};
-ghost use Rattle.kalah_jobs.specs.Writing.Sink.{WasGiven};
-ghost use Rattle.kalah_jobs.specs.Writing.Output.{output_of, output_to};
-ghost use Rattle.kalah_run.specs.Batch.Answering.{AnswersBatch, HearsAll, counts_of};
-ghost use Rattle.kalah_run.specs.declared.batch.request.Rest.TheVariants.{Solve};
+ghost use Rattle.kalah_run.specs.{Limits.{IsWorkerCount, IsTableSize}, Batch.Answering.{AnswersBatch, HearsAll, counts_of}, declared.batch.request.OnFailedWrite.TheVariants.{Solve}};
+ghost use Rattle.kalah_jobs.specs.Writing.{Sink.{WasGiven}, Output.{output_of, output_to}};
 
 mod crew;
 pub(crate) mod gate;
@@ -23,7 +20,7 @@ mod worker;
 
 use crate::batch::gate::Gate;
 use crate::batch::open_batch::OpenBatch;
-use crate::batch::request::{BatchRequest, Rest};
+use crate::batch::request::{BatchRequest, OnFailedWrite};
 use crate::batch::run_fault::RunFault;
 use crate::batch::watch::{NoWatch, Watch};
 use kalah_jobs::{FileText, Jobs, Question, Sink, Tally, flush_unless_failed};
@@ -34,9 +31,9 @@ use std::thread::Threads;
 
 // The rule of the word that is 1 once the workers of a batch have ended. `OpenBatch::run` is proved for every rule, so this one states
 // nothing.
-struct Ended;
+struct NoFact;
 
-impl Rule for Ended {
+impl Rule for NoFact {
     ghost invariant = { λ _. Unit {0} };
 }
 
@@ -51,7 +48,7 @@ impl Rule for Ended {
 /// - `TooManyLines` if they have more than 1,000,000 lines together;
 /// - `OutOfMemory` if memory was refused before the first worker began;
 /// - `NoWorker` if there is a line and no thread could be started;
-/// - `Write` if a write or the flush failed. From then on nothing more is written, and `request.rest` says what happens to the
+/// - `Write` if a write or the flush failed. From then on nothing more is written, and `request.on_failed_write` says what happens to the
 ///   lines that are left.
 ///
 /// The first four write nothing. After `Write`, what was written is a prefix of the answers.
@@ -70,12 +67,12 @@ pub fn answer_batch<R: Threads + Wait + Sync, G: Gate, V: Watch, W: Sink>(
         request.now.files.now out.old out.new result }
 
     // The gate hears of each job, unless the rest is left.
-    ensures gate_hears_all { (request.now.rest ≡ Solve) ⊎ ((W.state out.new).has_failed ≡ false)
+    ensures gate_hears_all { (request.now.on_failed_write ≡ Solve) ⊎ ((W.state out.new).has_failed ≡ false)
         → HearsAll (G.knows gate.now) request.now.files.now result }
 {
-    let jobs = Jobs::asking(alloc, request.question, request.files)?;
+    let jobs = Jobs::with_question(alloc, request.question, request.files)?;
     if jobs.total() > 0 {
-        let Some(()) = OpenBatch::open(alloc, request, &jobs, gate)?.run::<R, V, W, Ended>(
+        let Some(()) = OpenBatch::open(alloc, request, &jobs, gate)?.run::<R, V, W, NoFact>(
             rt, watch, out,
         ) else {
             return Err(RunFault::NoWorker);
@@ -101,8 +98,8 @@ fn flush_and_count<W: Sink>(jobs: &Jobs, out: &mut W) -> Result<Tally, RunFault>
     })
 }
 
-/// Solves every line of the files: `answer_batch` with the best move asked and `Rest::Solve`, by `workers` workers, 1 to 64. Each has a
-/// table of `table` entries, 1 to 1,048,576. The gate hears of each job, also after a failed write. Returns and fails as
+/// Solves every line of the files: `answer_batch` with the best move asked and `OnFailedWrite::Solve`, by `workers` workers, 1 to 64.
+/// Each has a table of `table` entries, 1 to 1,048,576. The gate hears of each job, also after a failed write. Returns and fails as
 /// `answer_batch`.
 pub fn solve_batch<R: Threads + Wait + Sync, G: Gate, W: Sink>(
     rt: &R,
@@ -113,7 +110,7 @@ pub fn solve_batch<R: Threads + Wait + Sync, G: Gate, W: Sink>(
     gate: &G,
     out: &mut W,
 ) -> Result<Tally, RunFault>
-    requires workers { AreWorkers workers }
+    requires workers { IsWorkerCount workers }
     requires table { IsTableSize table }
     requires not_failed { (W.state out.old).has_failed ≡ false }
 
@@ -126,7 +123,7 @@ pub fn solve_batch<R: Threads + Wait + Sync, G: Gate, W: Sink>(
         files,
         workers,
         table,
-        rest: Rest::Solve,
+        on_failed_write: OnFailedWrite::Solve,
     };
     answer_batch(rt, alloc, &request, gate, &mut NoWatch, out)
 }

@@ -1,9 +1,7 @@
 //! The desk: its passes draw the numbers below a total from one word, each number once.
 ghost use Rattle.std.specs.Prelude.{◌≡◌, ◌<◌, ◌≤◌, ◌↔◌, [], ◌∷◌, ◌++◌, length, true, false, All, IfOk, IfSome, IfNone, IsTrue};
 ghost use Rattle.kalah_jobs.specs.Limits.{most_lines};
-ghost use Rattle.kalah_run.specs.Limits.{most_passes};
-ghost use Rattle.kalah_run.specs.Desk.Rows.{drawn_row, spent_in, DealsEachOnce};
-ghost use Rattle.kalah_run.specs.Desk.States.{IsPassAt, AreNewPasses, drawn_rows};
+ghost use Rattle.kalah_run.specs.{Limits.{most_passes}, Desk.{Rows.{drawn_row, spent_in, DealsEachOnce}, States.{IsPassAt, AreNewPasses, drawn_rows}}};
 
 pub(crate) mod laws;
 pub(crate) mod pass;

@@ -10,7 +10,7 @@ mod tests;
 
 pub use batch::gate::{Gate, OpenGate};
 pub use batch::laws::no_line_is_answered;
-pub use batch::request::{BatchRequest, Rest};
+pub use batch::request::{BatchRequest, OnFailedWrite};
 pub use batch::run_fault::RunFault;
 pub use batch::watch::{NoWatch, Watch};
 pub use batch::{answer_batch, solve_batch};

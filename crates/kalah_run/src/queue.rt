@@ -1,8 +1,7 @@
 //! The results queue: outcomes on their way from many workers to one thread.
 ghost use Rattle.std.specs.Prelude.{◌≡◌, ◌≤◌, ◌<◌, ℕ, false, List, [], ◌∷◌, ◌++◌, length, All, IfNone, IfOk, MatchOption, vec_len};
 ghost use Rattle.kalah_jobs.specs.declared.files.job.Job.{Job};
-ghost use Rattle.kalah_run.specs.Limits.{IsQueueCapacity, AreWorkers};
-ghost use Rattle.kalah_run.specs.Queue.States.{ArePassesFrom, HasGot, MayGet, sent_by, Accounts};
+ghost use Rattle.kalah_run.specs.{Limits.{IsQueueCapacity, IsWorkerCount}, Queue.States.{ArePassesFrom, HasGot, MayGet, sent_by, Accounts}};
 
 pub(crate) mod laws;
 pub(crate) mod passes;
@@ -64,7 +63,7 @@ impl ResultsQueue {
         workers: u32,
     ) -> Result<(ResultsQueue, Vec<PutPass>, GetPass), AllocError>
         requires capacity { IsQueueCapacity capacity }
-        requires workers { AreWorkers workers }
+        requires workers { IsWorkerCount workers }
         ensures queue { IfOk result (λ r. r.0.capacity ≡ capacity) }
         ensures puts { IfOk result (λ r. (vec_len r.1 ≡ workers) × ArePassesFrom r.0.id 0 r.1.items × All (λ p. p.sent ≡ []) r.1.items) }
         ensures get { IfOk result (λ r. r.2 ≡ record { queue = r.0.id; workers = workers; got = [] }) }
@@ -83,7 +82,7 @@ impl ResultsQueue {
         Ok((queue, puts, GetPass { ruled }))
     }
 
-    /// PutOutcome the outcome after all that this worker has sent. Blocks while the queue is full: first by spinning briefly, then by sleeping.
+    /// Puts the outcome after all that this worker has sent. Blocks while the queue is full: first by spinning briefly, then by sleeping.
     #[inline(always)]
     pub fn put<R: Wait>(&self, rt: &R, pass: &mut PutPass, outcome: Outcome)
         requires { pass.old.queue ≡ self.now.id }
@@ -101,7 +100,7 @@ impl ResultsQueue {
         }
     }
 
-    // PutOutcome the outcome, for which there was no room.
+    // Puts the outcome, for which there was no room.
     #[cold]
     #[inline(never)]
     fn put_later<R: Wait>(&self, rt: &R, pass: &mut PutPass, outcome: &Outcome)
@@ -120,7 +119,7 @@ impl ResultsQueue {
         unreachable!()
     }
 
-    // PutOutcome the outcome if there is room, and returns the wake-up that is owed for it.
+    // Puts the outcome if there is room, and returns the wake-up that is owed for it.
     #[inline(always)]
     fn try_put(&self, pass: &mut PutPass, outcome: &Outcome) -> Option<WakeUp<'_>>
         requires { pass.old.queue ≡ self.now.id }
@@ -148,7 +147,7 @@ impl ResultsQueue {
         outcome
     }
 
-    // GetOutcome an outcome, if there is one, and returns it with the wake-up that is owed for its place.
+    // Gets an outcome, if there is one, and returns it with the wake-up that is owed for its place.
     #[inline(always)]
     fn try_get(&self, pass: &mut GetPass) -> Option<(Outcome, WakeUp<'_>)>
         requires { pass.old.queue ≡ self.now.id }
@@ -158,7 +157,8 @@ impl ResultsQueue {
         Some((outcome, WakeUp::owed_to(&self.putters)))
     }
 
-    // Signals to the thread that gets that the workers have ended. The word is 1 from then on, and its rule has what is known of them then.
+    /// Signals to the thread that gets that the workers have ended. The word is 1 from then on, and its rule has what is known of them
+    /// then.
     pub(crate) fn signal_end<E: Rule>(&self, ended: &AtomicIn<E>) -> EndSignal
         requires { E.invariant 1 }
     {
@@ -166,7 +166,7 @@ impl ResultsQueue {
         EndSignal(WakeUp::owed_to(&self.getters).send())
     }
 
-    // Like `get`, but returns `None`, with nothing got, once the workers have ended and no outcome is left. The word is then 1.
+    /// Like `get`, but returns `None`, with nothing got, once the workers have ended and no outcome is left. The word is then 1.
     pub(crate) fn get_until_end<R: Wait, E: Rule>(
         &self,
         rt: &R,
@@ -193,8 +193,8 @@ impl ResultsQueue {
         unreachable!()
     }
 
-    // Like `get`, but never sleeps: returns `None`, with nothing got, if `tries` tries find no outcome. Each such try is spent. Only
-    // the first few of them yield the processor, so that they soon end also on a busy machine.
+    /// Like `get`, but never sleeps: returns `None`, with nothing got, if `tries` tries find no outcome. Each such try is spent. Only
+    /// the first few of them yield the processor, so that they soon end also on a busy machine.
     #[inline(always)]
     pub(crate) fn get_soon(&self, pass: &mut GetPass, tries: &mut u32) -> Option<Outcome>
         requires { pass.old.queue ≡ self.now.id }

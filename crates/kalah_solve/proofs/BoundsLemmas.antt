@@ -1,19 +1,10 @@
 -- How many seeds are won, and the margins and windows that they make.
-use Rattle.std.proofs.Common.{◌≡◌, ℕ, ◌+◌, ◌≤◌, arith, zero, suc, ◌-◌, ◌/◌, ◌<◌, inl, inr, ◌∙◌, ap, max, min, ℤ, pos, ◌+ℤ◌, ◌≤ℤ◌, false, sum, ◌<ℤ◌}
+use Rattle.std.proofs.{Common.{◌≡◌, ℕ, ◌+◌, ◌≤◌, arith, zero, suc, ◌-◌, ◌/◌, ◌<◌, inl, inr, ◌∙◌, ap, max, min, ℤ, pos, ◌+ℤ◌, ◌≤ℤ◌, false, sum, ◌<ℤ◌}, lemmas.{Int.ints, Int.clamps, Bool.cases_Bool}}
 use Rattle.std.specs.Int.{int_max, int_min}
-use Rattle.std.proofs.lemmas.{Int.ints, Int.clamps, Bool.cases_Bool}
-use Rattle.kalah_rules.specs.Limits.{most_seeds}
-use Rattle.kalah_rules.specs.Position.{HousesState, AreWithinLimits, seeds_in_houses, is_over, storeless}
-use Rattle.kalah_rules.specs.Measure.{moves_left}
-use Rattle.kalah_rules.specs.HousesStep.{houses_step}
-use Rattle.kalah_rules.specs.declared.step.HousesStep.{HousesStep}
-use Rattle.kalah_rules.specs.declared.step.HousesStep.TheVariants.{Over, Again, Turn}
-use Rattle.kalah_solve.specs.declared.bounds.window.Window.{Window}
-use Rattle.kalah_solve.specs.{IsHalf, clamped, margin_of, least_margin, most_margin, Encloses, houses_worth, value_of_move, nat_or_zero, won, won_by_step}
+use Rattle.kalah_rules.specs.{Limits.{most_seeds}, Position.{HousesState, AreWithinLimits, seeds_in_houses, is_over, storeless}, Measure.{moves_left}, HousesStep.{houses_step}, declared.step.HousesStep.{HousesStep, TheVariants.{Over, Again, Turn}}}
+use Rattle.kalah_solve.specs.{IsHalf, clamped, margin_of, least_margin, most_margin, Encloses, houses_worth, value_of_move, nat_or_zero, won, won_by_step, declared.bounds.{window.Window.{Window}, interval.Interval.{Interval}, seed_bounds.SeedBounds.{SeedBounds}}}
 use Rattle.kalah_rules.proofs.PlayLemmas.{IsLegal, legal_going}
 use Rattle.kalah_solve.proofs.WorthLemmas.{worth_of_step, LeadsTo, LeadsOn, worth_of_over, value_is, leads_on, worth_is_most}
-use Rattle.kalah_solve.specs.declared.bounds.interval.Interval.{Interval}
-use Rattle.kalah_solve.specs.declared.bounds.seed_bounds.SeedBounds.{SeedBounds}
 
 -- ==== Bounds of seeds and the margins that they make
 

@@ -13,8 +13,7 @@ use denote.Param.Send.{IsSend, IsSync, Frees, part_keyless, sendable}
 use denote.Struct.Struct.{Struct}
 use Rattle.std.specs.declared.alloc.Allocator.{Ghosts}
 use Rattle.std.proofs.Crossing.{crosses, frees}
-use Rattle.atomic_table.proofs.Rights.{right_send}
-use Rattle.atomic_table.proofs.Sent.{owns_keyless, shares_keyless}
+use Rattle.atomic_table.proofs.{Rights.{right_send}, Sent.{owns_keyless, shares_keyless}}
 use Rattle.lru.proofs.Crosses.{KeyRef-send, List-send, Deed-send}
 
 -- how an allocator's blocks are owned, if they may be freed anywhere

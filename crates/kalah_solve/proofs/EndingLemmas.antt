@@ -1,18 +1,10 @@
 -- What the words of endings state is what the mover wins, and stays so: each ending has digits of its own in its word.
-use Rattle.std.proofs.Common.{ℕ, ◌≡◌, ◌≢◌, zero, suc, ◌+◌, ◌*◌, ◌/◌, ◌%◌, ◌^◌, ◌-◌, ◌<◌, ◌≤◌, arith, refl, ap, List, [], ◌∷◌, ◌++◌, length, get_or, length-append, ◌∙◌, lit<, lit≤, pow_mono, sum, slice_set, slice_index, false, max, ◌↔◌}
-use Rattle.std.proofs.Math.Nat.{add-mul-div_right, div-div-eq-div-mul}
-use Rattle.std.proofs.lemmas.{Nat.pow_pos, Nat.pow-add, Nat.mul-le, Bool.cases_lt, Bool.cases_eq, List.get_or-set_same, List.get_or-set_other, List.get_or-replicate, List.get_or_past, List.Sums.sum_by-append}
-use Rattle.std.proofs.Math.ListN.{replicate, length-replicate, length-set}
-use Rattle.kalah_rules.specs.Position.{HousesState, AreWithinLimits, storeless, is_over, seeds_in_houses}
-use Rattle.kalah_rules.specs.HousesStep.{houses_step}
-use Rattle.kalah_rules.proofs.KeyLemmas.{rule_bit-small}
-use Rattle.kalah_solve.specs.{choose, rank_of_houses, most_ending_seeds, IsEnding, HoldsWon, AreTrueWords, word_index, stored_at, won, won_by_step, cell, IsLastIn, without_house}
+use Rattle.std.proofs.{Common.{ℕ, ◌≡◌, ◌≢◌, zero, suc, ◌+◌, ◌*◌, ◌/◌, ◌%◌, ◌^◌, ◌-◌, ◌<◌, ◌≤◌, arith, refl, ap, List, [], ◌∷◌, ◌++◌, length, get_or, length-append, ◌∙◌, lit<, lit≤, pow_mono, sum, slice_set, slice_index, false, max, ◌↔◌}, Math.{Nat.{add-mul-div_right, div-div-eq-div-mul}, ListN.{replicate, length-replicate, length-set}}, lemmas.{Nat.pow_pos, Nat.pow-add, Nat.mul-le, Bool.cases_lt, Bool.cases_eq, List.get_or-set_same, List.get_or-set_other, List.get_or-replicate, List.get_or_past, List.Sums.sum_by-append}}
+use Rattle.kalah_rules.specs.{Position.{HousesState, AreWithinLimits, storeless, is_over, seeds_in_houses}, HousesStep.{houses_step}}
+use Rattle.kalah_rules.proofs.{KeyLemmas.{rule_bit-small}, PlayLemmas.{IsLegal, legal_holds}}
+use Rattle.kalah_solve.specs.{choose, rank_of_houses, most_ending_seeds, IsEnding, HoldsWon, AreTrueWords, word_index, stored_at, won, won_by_step, cell, IsLastIn, without_house, declared.table.ending_table.words.TheConstants.{FIRST_WORDS, WORDS}}
 use Rattle.atomic_table.specs.Table.{State, Arrives, keeps}
-use Rattle.kalah_solve.specs.declared.table.ending_table.words.TheConstants.{FIRST_WORDS, WORDS}
-use Rattle.kalah_rules.proofs.PlayLemmas.{IsLegal, legal_holds}
-use Rattle.kalah_solve.proofs.HouseSetLemmas.{EachOutside, cell_of_zero, each_outside_without_last}
-use Rattle.kalah_solve.proofs.BoundsLemmas.{won_at_most, won_reached, won_of_houses}
-use Rattle.kalah_solve.proofs.RankLemmas.{choose_rises, rank_below, houses_by_rank}
+use Rattle.kalah_solve.proofs.{HouseSetLemmas.{EachOutside, cell_of_zero, each_outside_without_last}, BoundsLemmas.{won_at_most, won_reached, won_of_houses}, RankLemmas.{choose_rises, rank_below, houses_by_rank}}
 
 -- ==== The digits of a number, of four bits each
 
@@ -59,7 +51,7 @@ digit_fits k d place small = omega (arith, mul-le d (2 ^ (4 * k)) 15 (2 ^ 60) (o
 
 -- with a digit put at an empty place a word stays a word
 pub word_with_digit_fits : (k n d : ℕ) → k < 16 → stored_at n k ≡ 0 → d < 16 → n < 2 ^ 64 → n + d * 2 ^ (4 * k) < 2 ^ 64
-word_with_digit_fits k n d place none small fits = omega (arith, same_digits_past _ _ _ _ place none small)
+word_with_digit_fits k n d place none small fits = omega (arith, same_digits_past k 16 n d place none small)
 
 -- ==== What words of endings state stays true
 
@@ -220,21 +212,21 @@ most_at_start {a} members = record {
 }
 
 -- the last house of the set was tried
-pub most_with_last : {a : HousesState} {mask most h : ℕ} (v new : ℕ) → AreWithinLimits a → IsMostOutside a mask most
+pub most_with_last : {a : HousesState} {mask most h v new : ℕ} → AreWithinLimits a → IsMostOutside a mask most
     → IsLastIn mask h → IsLegal a h → v ≡ won_by_step (houses_step a h) → new ≡ max most v
     → IsMostOutside a (without_house mask h) new
-most_with_last {a} {mask} {most} {h} v new limits most_is last legal v_is new_is = record {
+most_with_last {a} {most = most} {h} {new = new} limits most_is last legal v_is new_is = record {
   reached = omega (arith, won_at_most a limits h legal);
   all = each_outside_without_last a (λ i. won_by_step (houses_step a i) ≤ new) last (omega arith)
       (λ i legal_i place outside. omega (arith, most_is.all i legal_i outside));
 }
 
 -- if all seeds are won, best play wins as many
-pub most_is_all : (a : HousesState) (mask most : ℕ) → AreWithinLimits a → IsMostOutside a mask most
+pub most_is_all : {a : HousesState} {mask most : ℕ} → AreWithinLimits a → IsMostOutside a mask most
     → seeds_in_houses (storeless a) ≤ most → most ≡ won a
-most_is_all a mask most limits most_is full = omega (arith, (won_of_houses limits).few)
+most_is_all limits most_is full = omega (arith, (won_of_houses limits).few)
 
 -- once the set is empty, best play wins the most of those tried
-pub won_is_most : (a : HousesState) (mask most : ℕ) → AreWithinLimits a → is_over (storeless a) ≡ false
+pub won_is_most : {a : HousesState} {mask most : ℕ} → AreWithinLimits a → is_over (storeless a) ≡ false
     → IsMostOutside a mask most → mask ≡ 0 → most ≡ won a
-won_is_most a mask most limits going most_is none = grind (arith, won_reached, cell_of_zero)
+won_is_most limits going most_is none = grind (arith, won_reached, cell_of_zero)

@@ -1,14 +1,11 @@
 -- What the entries of a table state of the worth of houses stays true.
-use Rattle.std.proofs.Common.{ℕ, ◌≡◌, inl, inr, arith, sym, ap, List, ◌∙◌, eqb-true, Option, Some, None, Result, Ok, Err, nat_eq, IfSome, IsSome, IsOk, OnOk, OnErr, ◌⊎◌, subst}
-use Rattle.kalah_rules.specs.Position.{HousesState, AreWithinLimits}
-use Rattle.kalah_rules.specs.Key.{key_of}
+use Rattle.std.proofs.Common.{ℕ, ◌≡◌, inl, inr, arith, sym, ap, List, ◌∙◌, eqb-true, Option, Some, None, Result, Ok, Err, nat_eq, IfSome, IsSome, IsOk, OnOk, OnErr, ◌⊎◌}
+use Rattle.kalah_rules.specs.{Position.{HousesState, AreWithinLimits}, Key.{key_of}}
 use Rattle.kalah_rules.proofs.KeyLemmas.{key-injective}
-use Rattle.std.specs.Map.{lookup}
+use Rattle.std.specs.{Map.{lookup}, Cmp.{nat_eq_equiv}}
 use Rattle.lru.specs.LruCache.{LruCache, lru_cache, put_entries}
-use Rattle.std.specs.Cmp.{nat_eq_equiv}
 use Rattle.lru.proofs.CallerLemmas.{lookup-put_entries, Contains-lookup, Contains-put_entries}
-use Rattle.kalah_solve.specs.declared.bounds.interval.Interval.{Interval}
-use Rattle.kalah_solve.specs.{houses_worth, Encloses, TableState, IsTrueEntry, AreTrueEntries}
+use Rattle.kalah_solve.specs.{houses_worth, Encloses, TableState, IsTrueEntry, AreTrueEntries, declared.bounds.interval.Interval.{Interval}}
 
 -- what a look-up finds encloses the worth of the houses
 pub found_encloses_worth : (es : List (ℕ × Interval)) (a : HousesState) (k : ℕ) → AreTrueEntries es → AreWithinLimits a
@@ -18,7 +15,7 @@ found_encloses_worth es a k entries limits key (Some i) found =
     let at = Contains-lookup _ es i found in
     let entry = entries _ at.1 in
     let same = key-injective _ a entry.1 limits (entry.2 ∙ sym (eqb-true _ _ at.2) ∙ key) in
-    subst (λ b. Encloses i (houses_worth b)) same entry.3
+    rw same at entry.3
 
 module _ (c : LruCache ℕ Interval) (a : HousesState) (k : ℕ) (i : Interval) (entries : AreTrueEntries c.entries) (limits : AreWithinLimits a)
     (key : k ≡ key_of a) (holds : Encloses i (houses_worth a)) where

@@ -1,15 +1,9 @@
 -- Sets of houses, read off the cells of their masks, and the moves of their houses.
-use Rattle.std.proofs.Common.{◌≡◌, ◌≢◌, ℕ, zero, suc, ◌+◌, ◌*◌, ◌/◌, ◌%◌, ◌^◌, ◌-◌, ◌<◌, ◌≤◌, inl, inr, List, [], ◌∷◌, get_or, arith, sym, refl, ap, ◌∙◌, length, subst, min, sum, ◌↔◌, slice_index, false, Contains, pow_mono}
-use Rattle.std.specs.Int.Bits.{bit_and, bit_or, bit_xor, xor_add_and, xor_self}
-use Rattle.std.proofs.lemmas.{Nat.leading_top, Nat.xor_lt, Nat.and_block, Nat.or_block, Nat.and_mask, Nat.and_le_l, Nat.and_le_r, Nat.or_lt, Nat.le_or_l, Nat.le_or_r, Nat.xor_mod, Nat.xor_shr, List.Sums.sum_by-cons, Bool.cases_lt, Bool.cases_eq, List.FromFn.get_or-map-range_with_len, List.get_or_past}
-use Rattle.std.specs.Int.Count.{count_leading_zeros}
-use Rattle.kalah_rules.specs.Position.{HousesState, AreWithinLimits, is_over, storeless}
-use Rattle.kalah_rules.specs.Sowing.{row_of, EndsInStore}
-use Rattle.kalah_rules.specs.Key.{row_number}
-use Rattle.kalah_rules.specs.Fields.{BeginsHouse, ones}
-use Rattle.kalah_rules.proofs.KeyLemmas.{pow_five, ones_le}
+use Rattle.std.proofs.{Common.{◌≡◌, ◌≢◌, ℕ, zero, suc, ◌+◌, ◌*◌, ◌/◌, ◌%◌, ◌^◌, ◌-◌, ◌<◌, ◌≤◌, inl, inr, List, [], ◌∷◌, get_or, arith, sym, refl, ap, ◌∙◌, length, subst, min, sum, ◌↔◌, slice_index, false, Contains, pow_mono}, lemmas.{Nat.leading_top, Nat.xor_lt, Nat.and_block, Nat.or_block, Nat.and_mask, Nat.and_le_l, Nat.and_le_r, Nat.or_lt, Nat.le_or_l, Nat.le_or_r, Nat.xor_mod, Nat.xor_shr, List.Sums.sum_by-cons, Bool.cases_lt, Bool.cases_eq, List.FromFn.get_or-map-range_with_len, List.get_or_past}}
+use Rattle.std.specs.Int.{Bits.{bit_and, bit_or, bit_xor, xor_add_and, xor_self}, Count.{count_leading_zeros}}
+use Rattle.kalah_rules.specs.{Position.{HousesState, AreWithinLimits, is_over, storeless}, Sowing.{row_of, EndsInStore}, Key.{packed_row}, Fields.{BeginsHouse, ones}}
+use Rattle.kalah_rules.proofs.{KeyLemmas.{pow_five, ones_le}, PlayLemmas.{IsLegal, holds_legal, legal_holds, length-row_of}}
 use Rattle.kalah_solve.specs.{cell, IsMask, IsLastIn, IsMaskOfFilled, IsMaskOfEnding, all_end_in_store, without_house}
-use Rattle.kalah_rules.proofs.PlayLemmas.{IsLegal, holds_legal, legal_holds, length-row_of}
 
 -- ==== Cells of a number
 
@@ -25,11 +19,11 @@ cell_past (suc k) zero number small past = omega arith
 cell_past (suc k) (suc i) number small past = cell_past k i _ (omega arith) (omega arith)
 
 -- the cells of a row's number are the row
-cell_of_row : (xs : List ℕ) (i : ℕ) → ((k : ℕ) → get_or xs k 0 < 32) → cell (row_number xs) i ≡ get_or xs i 0
+cell_of_row : (xs : List ℕ) (i : ℕ) → ((k : ℕ) → get_or xs k 0 < 32) → cell (packed_row xs) i ≡ get_or xs i 0
 cell_of_row [] i few = cell_of_zero i
 cell_of_row (x ∷ xs) zero few = omega (arith, few 0)
 cell_of_row (x ∷ xs) (suc i) few =
-    let rest : row_number (x ∷ xs) / 32 ≡ row_number xs = omega (arith, few 0) in
+    let rest : packed_row (x ∷ xs) / 32 ≡ packed_row xs = omega (arith, few 0) in
     ap (λ n. cell n i) rest ∙ cell_of_row xs i (λ k. few (suc k))
 
 -- no house of a row holds more than all
@@ -45,11 +39,11 @@ module _ (m : ℕ) (f : ℕ → ℕ) (few : (h : ℕ) → f h < 32) where
   row_of-few k = grind (arith, cases_lt, get_or-map-range_with_len, get_or_past, length-row_of)
 
   -- each cell is that of the house
-  cell_inside : (i : ℕ) → i < m → cell (row_number (row_of m f)) i ≡ f (i + 1)
+  cell_inside : (i : ℕ) → i < m → cell (packed_row (row_of m f)) i ≡ f (i + 1)
   cell_inside i inside = grind (arith, cell_of_row, row_of-few, get_or-map-range_with_len)
 
   -- past the houses the cells are empty
-  cell_outside : (i : ℕ) → m ≤ i → cell (row_number (row_of m f)) i ≡ 0
+  cell_outside : (i : ℕ) → m ≤ i → cell (packed_row (row_of m f)) i ≡ 0
   cell_outside i past = grind (arith, cell_of_row, row_of-few, get_or_past, length-row_of)
 
 -- each cell of an exclusive or is that of the two cells
@@ -281,7 +275,7 @@ unless_both a x n implied = (
   λ p. a.1 (x.1 p.0, λ m. p.1 (n.0 m).1),
 )
 
-module _ {a : HousesState} {row : ℕ} (limits : AreWithinLimits a) (row_is : row ≡ row_number a.own) where
+module _ {a : HousesState} {row : ℕ} (limits : AreWithinLimits a) (row_is : row ≡ packed_row a.own) where
   -- the cells of the mover's row
   own_cell : (i : ℕ) → cell row i ≡ slice_index a.own i
   own_cell i = rw row_is (cell_of_row a.own i (λ k. omega (arith, house_le_sum a.own k)))

@@ -1,11 +1,7 @@
 -- Values of moves in one number, a digit each.
-use Rattle.std.proofs.Common.{zero, suc, negsuc, ◌≡◌, ℕ, ◌<◌, ◌≤◌, inl, inr, ◌∷◌, length, arith, ap, refl, ◌+◌, ℤ, ◌≤ℤ◌, pos, ◌+ℤ◌, ◌-ℤ◌, ◌*◌, ◌/◌, ◌%◌, ◌^◌, ◌-◌}
-use Rattle.std.proofs.lemmas.{Bool.cases_eq, Int.ints}
-use Rattle.std.proofs.Math.Nat.{pow-succ'}
+use Rattle.std.proofs.{Common.{zero, suc, negsuc, ◌≡◌, ℕ, ◌<◌, ◌≤◌, inl, inr, ◌∷◌, length, arith, ap, refl, ◌+◌, ℤ, ◌≤ℤ◌, pos, ◌+ℤ◌, ◌-ℤ◌, ◌*◌, ◌/◌, ◌%◌, ◌^◌, ◌-◌}, lemmas.{Bool.cases_eq, Int.ints}, Math.Nat.{pow-succ'}}
 use Rattle.kalah_rules.specs.Limits.{most_in_play}
-use Rattle.kalah_solve.specs.{nat_or_zero, IsMoveValue, digit_of, value_at, values_number, values_in, IsValuesNumber}
-use Rattle.kalah_solve.specs.declared.solver.move_values.MoveValue.{MoveValue}
-use Rattle.kalah_solve.specs.declared.solver.move_values.TheConstants.{VALUE_COUNT, DIGIT_BASE}
+use Rattle.kalah_solve.specs.{nat_or_zero, IsMoveValue, digit_of, value_at, packed_values, values_in, ArePackedValues, declared.solver.move_values.{MoveValue.{MoveValue}, TheConstants.{VALUE_COUNT, DIGIT_BASE}}}
 
 -- ==== A value and its digit
 
@@ -50,9 +46,9 @@ pub values_in-positive : (n k : ℕ) → 0 < k → values_in (suc n) k ≡ value
 values_in-positive n k some = grind arith
 
 -- the lowest digit of a packed number is that of a value, and the other digits are packed
-pub rest_packed : (n k : ℕ) → 0 < k → IsValuesNumber (suc n) k → (1 ≤ k % DIGIT_BASE) × IsValuesNumber n (k / DIGIT_BASE)
+pub rest_packed : (n k : ℕ) → 0 < k → ArePackedValues (suc n) k → (1 ≤ k % DIGIT_BASE) × ArePackedValues n (k / DIGIT_BASE)
 rest_packed n k some packed =
-    let number_is : digit_of (value_at (k % DIGIT_BASE)) + DIGIT_BASE * values_number (values_in n (k / DIGIT_BASE)) ≡ k =
+    let number_is : digit_of (value_at (k % DIGIT_BASE)) + DIGIT_BASE * packed_values (values_in n (k / DIGIT_BASE)) ≡ k =
     rw (values_in-positive n k some) at packed in
     elim (cases_eq (k % DIGIT_BASE) 0) [
       | inl none ↦
@@ -64,7 +60,7 @@ rest_packed n k some packed =
     ]
 
 -- the digits past the last value are 0
-pub values_in-one_digit_more : (n k : ℕ) → IsValuesNumber n k → values_in (suc n) k ≡ values_in n k
+pub values_in-one_digit_more : (n k : ℕ) → ArePackedValues n k → values_in (suc n) k ≡ values_in n k
 values_in-one_digit_more zero k packed = rw (← packed) refl
 values_in-one_digit_more (suc n) k packed = elim (cases_eq k 0) [
   | inl none ↦ rw none refl
@@ -90,12 +86,12 @@ values_in-fewer_digits (suc n) k few = elim (cases_eq k 0) [
 ]
 
 -- a packed number with no value is 0
-no_values_no_number : (n k : ℕ) → IsValuesNumber n k → 0 < k → length (values_in n k) ≤ 0 → ⊥
+no_values_no_number : (n k : ℕ) → ArePackedValues n k → 0 < k → length (values_in n k) ≤ 0 → ⊥
 no_values_no_number zero k packed some few = omega (arith, packed)
 no_values_no_number (suc n) k packed some few = omega (arith, ap length (values_in-positive n k some))
 
 -- few values make a small number
-packed_le_power : (m n k : ℕ) → IsValuesNumber n k → length (values_in n k) ≤ m → k < DIGIT_BASE ^ m
+packed_le_power : (m n k : ℕ) → ArePackedValues n k → length (values_in n k) ≤ m → k < DIGIT_BASE ^ m
 packed_le_power zero n k packed few = elim (cases_eq k 0) [
   | inl none ↦ omega arith
   | inr other ↦ absurd (no_values_no_number n k packed (omega arith) (omega arith))
@@ -112,7 +108,7 @@ packed_le_power (suc m) (suc n) k packed few = elim (cases_eq k 0) [
 -- ==== A value in front of the others
 
 -- one value more, in front of fewer than six
-module _ (v : MoveValue) (k : ℕ) (small : IsMoveValue v) (packed : IsValuesNumber 6 k) (room : length (values_in 6 k) < 6) where
+module _ (v : MoveValue) (k : ℕ) (small : IsMoveValue v) (packed : ArePackedValues 6 k) (room : length (values_in 6 k) < 6) where
   pub values_prepended : values_in 6 (digit_of v + DIGIT_BASE * k) ≡ v ∷ values_in 6 k
   values_prepended =
       let again = value_of_its_digit v small in
@@ -120,7 +116,7 @@ module _ (v : MoveValue) (k : ℕ) (small : IsMoveValue v) (packed : IsValuesNum
       let high : (digit_of v + DIGIT_BASE * k) / DIGIT_BASE ≡ k = omega arith in
       rw (values_in-positive 5 (digit_of v + DIGIT_BASE * k) (omega arith), low, high, again.value, values_in-fewer_digits 5 k (omega arith)) refl
 
-  pub packed_prepended : IsValuesNumber 6 (digit_of v + DIGIT_BASE * k)
+  pub packed_prepended : ArePackedValues 6 (digit_of v + DIGIT_BASE * k)
   packed_prepended = rw values_prepended (omega arith)
 
   pub fits_prepended : digit_of v + DIGIT_BASE * k < 2 ^ 64

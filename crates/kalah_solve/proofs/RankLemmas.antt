@@ -1,12 +1,8 @@
 -- The rank of a row of cells determines the row, and is added up from the choices and pairs of cells.
-use Rattle.std.proofs.Common.{ℕ, ◌≡◌, ◌≢◌, zero, suc, ◌+◌, ◌*◌, ◌/◌, ◌%◌, ◌^◌, ◌-◌, ◌<◌, ◌≤◌, arith, refl, ap, List, [], ◌∷◌, ◌++◌, length, get_or, drop, length-append, pow_mono, sum, slice_set, mul_comm, take}
-use Rattle.std.proofs.lemmas.{Nat.pow_pos, Nat.mul-le, Bool.cases_eq, List.append_cancel_left, List.drop_more, List.length-drop, List.get_or-set_same, List.get_or-set_other, List.Sums.sum_by-cons, List.Sums.sum_by-take-drop}
-use Rattle.std.proofs.Math.Seq.{take-append_seam}
-use Rattle.kalah_rules.specs.Position.{HousesState, AreWithinLimits}
-use Rattle.kalah_rules.specs.Key.{row_number, variant_of}
-use Rattle.kalah_rules.proofs.KeyLemmas.{key-injective, row_number-append, pow_five}
-use Rattle.kalah_solve.specs.{choose, row_rank, sums_number, rank_of_houses, most_ending_seeds, choice_at, AreChoices, pair_at, ArePairs}
-use Rattle.kalah_solve.specs.declared.table.ending_table.TheConstants.{COUNTS, CHOICES, INVERSE_OF_31}
+use Rattle.std.proofs.{Common.{ℕ, ◌≡◌, ◌≢◌, zero, suc, ◌+◌, ◌*◌, ◌/◌, ◌%◌, ◌^◌, ◌-◌, ◌<◌, ◌≤◌, arith, refl, ap, List, [], ◌∷◌, ◌++◌, length, get_or, drop, length-append, pow_mono, sum, slice_set, mul_comm, take}, lemmas.{Nat.pow_pos, Nat.mul-le, Bool.cases_eq, List.append_cancel_left, List.drop_more, List.length-drop, List.get_or-set_same, List.get_or-set_other, List.Sums.sum_by-cons, List.Sums.sum_by-take-drop}, Math.Seq.{take-append_seam}}
+use Rattle.kalah_rules.specs.{Position.{HousesState, AreWithinLimits}, Key.{packed_row, variant_of}}
+use Rattle.kalah_rules.proofs.KeyLemmas.{key-injective, packed_row-append, pow_five}
+use Rattle.kalah_solve.specs.{choose, row_rank, packed_sums, rank_of_houses, most_ending_seeds, choice_at, AreChoices, pair_at, ArePairs, declared.table.ending_table.TheConstants.{COUNTS, CHOICES, INVERSE_OF_31}}
 
 -- ==== The numbers of choices
 
@@ -110,10 +106,10 @@ houses_by_rank a b limits_a limits_b variant rank =
     let own = rw (take-append_seam a.own a.other, side, take-append_seam b.own b.other) at
     (ap (take (length a.own)) row) in
     let other = append_cancel_left a.own a.other b.other (rw (← own) at row) in
-    key-injective a b limits_a limits_b (omega (arith, ap row_number own, ap row_number other))
+    key-injective a b limits_a limits_b (omega (arith, ap packed_row own, ap packed_row other))
 
 -- a row's number determines its sums
-sums_by_number : (xs : List ℕ) → 31 * sums_number xs + sum xs ≡ 32 * row_number xs
+sums_by_number : (xs : List ℕ) → 31 * packed_sums xs + sum xs ≡ 32 * packed_row xs
 sums_by_number [] = refl
 sums_by_number (x ∷ xs) = omega (arith, sums_by_number xs, sum_by-cons)
 
@@ -121,14 +117,14 @@ sums_by_number (x ∷ xs) = omega (arith, sums_by_number xs, sum_by-cons)
 pub record AreSums (row : List ℕ) (number seeds : ℕ) : Type 0 where
   pub few : seeds ≤ number
   pub small : (number - seeds) * INVERSE_OF_31 % 2 ^ 64 < 2 ^ 58
-  pub sums : seeds + (number - seeds) * INVERSE_OF_31 % 2 ^ 64 * 32 ≡ sums_number row
+  pub sums : seeds + (number - seeds) * INVERSE_OF_31 % 2 ^ 64 * 32 ≡ packed_sums row
 
 -- a division by 31 gives the sums of a row
-pub sums_are : (row : List ℕ) (number seeds : ℕ) → 1 ≤ length row → number ≡ row_number row → seeds ≡ sum row
+pub sums_are : (row : List ℕ) (number seeds : ℕ) → 1 ≤ length row → number ≡ packed_row row → seeds ≡ sum row
     → number < 2 ^ 60 → AreSums row number seeds
 sums_are [] number seeds some number_is all below = omega arith
 sums_are (x ∷ xs) number seeds some number_is all below =
-    let whole : number ≡ seeds + 31 * sums_number xs = omega (arith, sums_by_number, sum_by-cons) in
+    let whole : number ≡ seeds + 31 * packed_sums xs = omega (arith, sums_by_number, sum_by-cons) in
     record {
       few = omega arith;
       small = omega arith;
@@ -136,26 +132,26 @@ sums_are (x ∷ xs) number seeds some number_is all below =
     }
 
 -- both rows of houses in one number, the other one moved up by 5 * m bits: it ends below bit 60, so nothing wraps
-pub both_rows : {a : HousesState} (own other m : ℕ) → AreWithinLimits a → own ≡ row_number a.own → other ≡ row_number a.other
+pub both_rows : {a : HousesState} {own other m : ℕ} → AreWithinLimits a → own ≡ packed_row a.own → other ≡ packed_row a.other
     → own < 2 ^ 30 → other < 2 ^ 30 → m ≡ length a.own
-    → (own + other * 2 ^ (5 * m) % 2 ^ 64 ≡ row_number (a.own ++ a.other)) × (own + other * 2 ^ (5 * m) % 2 ^ 64 < 2 ^ 60)
-both_rows {a} own other m limits own_is other_is own_small other_small side =
-    grind (arith, pow_mono, mul-le, length, row_number, pow_five, mul_comm, row_number-append)
+    → (own + other * 2 ^ (5 * m) % 2 ^ 64 ≡ packed_row (a.own ++ a.other)) × (own + other * 2 ^ (5 * m) % 2 ^ 64 < 2 ^ 60)
+both_rows {a} {m = m} limits own_is other_is own_small other_small side =
+    grind (arith, pow_mono, mul-le, length, packed_row, pow_five, mul_comm, packed_row-append)
 
 -- ---- the cells of a row, two at a time
 -- the sums of a row from its cell 2 * passed on, and what the cells before it add to its rank
 pub record IsRanked (row : List ℕ) (passed sums added : ℕ) : Type 0 where
-  pub left : sums ≡ sums_number (drop (2 * passed) row)
+  pub left : sums ≡ packed_sums (drop (2 * passed) row)
   pub rank : added + row_rank (drop (2 * passed) row) ≡ row_rank row
 
 -- the sums of two cells
 record AreTwo (sums : ℕ) (x y : ℕ) (ys : List ℕ) : Type 0 where
   first : sums % 1024 % 32 ≡ x + (y + sum ys)
   second : sums % 1024 / 32 ≡ y + sum ys
-  past : sums / 1024 ≡ sums_number ys
+  past : sums / 1024 ≡ packed_sums ys
 
 -- they are in the lowest ten bits
-two_sums : (x y : ℕ) (ys : List ℕ) → sum (x ∷ y ∷ ys) ≤ most_ending_seeds → AreTwo (sums_number (x ∷ y ∷ ys)) x y ys
+two_sums : (x y : ℕ) (ys : List ℕ) → sum (x ∷ y ∷ ys) ≤ most_ending_seeds → AreTwo (packed_sums (x ∷ y ∷ ys)) x y ys
 two_sums x y ys few = omega (arith, sum_by-cons)
 
 -- two cells more of a row
@@ -214,9 +210,9 @@ module _ (row : List ℕ) (few : sum row ≤ most_ending_seeds) (m passed sums a
       (omega (arith, two_are.first, two_less), omega (arith, two_are.second, two_less))
 
 -- what is added so far is small
-pub ranked_small : (row : List ℕ) (passed sums added : ℕ) → sum row ≤ most_ending_seeds → length row ≤ 12
+pub ranked_small : (row : List ℕ) {passed sums added : ℕ} → sum row ≤ most_ending_seeds → length row ≤ 12
     → IsRanked row passed sums added → added < 2 ^ 21
-ranked_small row passed sums added few long ranked =
+ranked_small row few long ranked =
     omega (arith, rank_below row, choose_small (sum row + length row) 21 (length row) (omega arith))
 
 -- a row without cells has the rank 0
@@ -225,9 +221,9 @@ rank_none [] none = refl
 rank_none (x ∷ xs) none = omega arith
 
 -- what is added is the rank once all cells are passed
-pub ranked_all : (row : List ℕ) (passed sums added : ℕ) → length row ≤ 2 * passed → IsRanked row passed sums added
+pub ranked_all : (row : List ℕ) {passed sums added : ℕ} → length row ≤ 2 * passed → IsRanked row passed sums added
     → added ≡ row_rank row
-ranked_all row passed sums added all ranked = grind (arith, rank_none, drop, length-drop)
+ranked_all row {passed} all ranked = grind (arith, rank_none, drop, length-drop)
 
 -- ==== The lists of choices and pairs, cell by cell
 

@@ -4,17 +4,11 @@
 -- in the set, it does not, and `try_remaining` is still to play it: each of those outside waits or was tried (`ArePlayed`);
 -- waiting: its turn must be searched (`AreTurns`; `AreWaiting` once all were played);
 -- tried: it wins at most `most`. `bound_by_moves` tries those that wait, and all others were tried (`AreUntried`).
-use Rattle.std.proofs.Common.{◌≡◌, ℕ, ◌+◌, ◌*◌, ◌-◌, ◌<◌, ◌≤◌, inl, inr, List, get_or, arith, refl, sym, ap, ◌∙◌, length, subst, ◌↔◌, Bool, false, IsTrue, max, slice_set, sum}
-use Rattle.std.proofs.lemmas.{Bool.cases_lt, Bool.cases_eq, List.get_or-set_same, List.get_or-set_other, List.get_or_past, List.set_past}
+use Rattle.std.proofs.{Common.{◌≡◌, ℕ, ◌+◌, ◌*◌, ◌-◌, ◌<◌, ◌≤◌, inl, inr, List, get_or, arith, refl, sym, ap, ◌∙◌, length, subst, ◌↔◌, Bool, false, IsTrue, max, slice_set, sum}, lemmas.{Bool.cases_lt, Bool.cases_eq, List.get_or-set_same, List.get_or-set_other, List.get_or_past, List.set_past}}
 use Rattle.kalah_solve.specs.{cell, IsLastIn, without_house, IsSoftBound, WinsAtMost, IsTurnOf, AreTurns, AreWaiting, ArePlaced, IsEmpty, IsTaken, won, won_by_step}
-use Rattle.kalah_solve.proofs.HouseSetLemmas.{AreMovable, EachOutside, cell_of_zero, into_store_legal, seeded_is_legal, movable_before_last, each_before_last, each_outside_without_last}
-use Rattle.kalah_rules.specs.Position.{HousesState, AreWithinLimits, seeds, seeds_in_houses, is_over, storeless}
-use Rattle.kalah_rules.specs.Sowing.{EndsInStore}
-use Rattle.kalah_rules.specs.HousesStep.{houses_step}
-use Rattle.kalah_rules.specs.declared.step.HousesStep.TheVariants.{Turn}
+use Rattle.kalah_solve.proofs.{HouseSetLemmas.{AreMovable, EachOutside, cell_of_zero, into_store_legal, seeded_is_legal, movable_before_last, each_before_last, each_outside_without_last}, WorthLemmas.{LeadsTo, leads_by}, BoundsLemmas.{won_at_most, won_of_houses, won_reached}}
+use Rattle.kalah_rules.specs.{Position.{HousesState, AreWithinLimits, seeds, seeds_in_houses, is_over, storeless}, Sowing.{EndsInStore}, HousesStep.{houses_step}, declared.step.HousesStep.TheVariants.{Turn}}
 use Rattle.kalah_rules.proofs.PlayLemmas.{IsLegal, legal_holds, sum-set_zero}
-use Rattle.kalah_solve.proofs.WorthLemmas.{LeadsTo, leads_by}
-use Rattle.kalah_solve.proofs.BoundsLemmas.{won_at_most, won_of_houses, won_reached}
 
 -- ==== The measure of a call (`Invariants.antt` of the search)
 
@@ -25,8 +19,8 @@ lower_measure i j measure fewer few = omega arith
 -- ==== Bounds that are enough, and bounds that fall short
 
 -- the meaning of a failed test
-pub below_if_test_fails : (r : Bool) (beta x : ℕ) → (IsTrue r ↔ beta ≤ x) → r ≡ false → x < beta
-below_if_test_fails r beta x says fails = grind arith
+pub below_if_test_fails : {r : Bool} {beta x : ℕ} → (IsTrue r ↔ beta ≤ x) → r ≡ false → x < beta
+below_if_test_fails says fails = grind arith
 
 -- a bound is at most the greater of `beta` and the number
 pub bound_le_max : {beta number bound : ℕ} → IsSoftBound beta number bound → bound ≤ max beta number
@@ -44,18 +38,18 @@ soft_if_short short high = record { lower = λ enough. absurd (omega arith); upp
 short_stays : {beta most bound new : ℕ} → (beta ≤ most → most ≡ 0) → bound < beta → new ≡ max most bound → beta ≤ new → new ≡ 0
 short_stays low short new_is enough = omega arith
 
--- what is left of all is bounded by what the bound of the other player leaves
-pub bound_of_rest : {beta number bound : ℕ} (all seeds gained : ℕ) → all ≡ gained + seeds → number ≤ seeds
+-- what is left of all is bounded by what the bound of the opponent leaves
+pub bound_of_rest : {beta number bound all seeds : ℕ} (gained : ℕ) → all ≡ gained + seeds → number ≤ seeds
     → IsSoftBound (all - beta + 1) number bound → IsSoftBound beta (gained + (seeds - number)) (all - bound)
-bound_of_rest {beta} {number} {bound} all seeds gained all_is few b = elim (cases_lt bound (all - beta + 1)) [
+bound_of_rest {beta} {bound = bound} {all} gained all_is few b = elim (cases_lt bound (all - beta + 1)) [
   | inl short ↦ omega (arith, b.upper short)
   | inr enough ↦ omega (arith, b.lower enough)
 ]
 
 -- a bound of a move that is enough is no more than best play wins
-pub enough_is_won : (a : HousesState) (beta h bound : ℕ) → AreWithinLimits a → IsLegal a h
+pub enough_is_won : {a : HousesState} {beta h bound : ℕ} → AreWithinLimits a → IsLegal a h
     → IsSoftBound beta (won_by_step (houses_step a h)) bound → beta ≤ bound → bound ≤ won a
-enough_is_won a beta h bound limits legal bounded enough = omega (arith, won_at_most a limits h legal)
+enough_is_won {a} {h = h} limits legal bounded enough = omega (arith, won_at_most a limits h legal)
 
 -- if no legal move wins more than `most`, best play wins no more
 won_at_most_of_all : (a : HousesState) (most : ℕ) → AreWithinLimits a → is_over (storeless a) ≡ false
@@ -67,18 +61,19 @@ won_at_most_of_all a most limits going each = grind (arith, won_reached)
 -- a turn leads on to the houses that it leaves
 turn_leads : {a b : HousesState} {h : ℕ} → AreWithinLimits a → IsTurnOf a h b
     → LeadsTo a (seeds_in_houses (storeless a) - seeds_in_houses (storeless b)) b
-turn_leads limits turn = leads_by _ _ limits turn.legal (sym turn.step)
+turn_leads limits turn = leads_by limits turn.legal (sym turn.step)
 
--- a turn that waited, of all `seeds`, by a bound of what the other player wins after it; `left` and one more were asked of that player
+-- a turn that waited, of all `seeds`, by a bound of what the opponent wins after it; `left` and one more were asked of that player
 module _ {a b : HousesState} {h bound seeds left : ℕ} (beta : ℕ) (limits : AreWithinLimits a) (turn : IsTurnOf a h b)
     (seeds_are : seeds ≡ seeds_in_houses (storeless a)) (left_is : left ≡ seeds - beta) (bounded : IsSoftBound (left + 1) (won b) bound) where
-  -- the other player wins at most what is in houses
+  -- the opponent wins at most what is in houses
   reply_few : won b ≤ seeds_in_houses (storeless b)
   reply_few = (won_of_houses (turn_leads limits turn).limits).few
 
   -- what the reply leaves is a bound of the turn
   pub reply_left : IsSoftBound beta (won_by_step (houses_step a h)) (seeds - bound)
-  reply_left = rw (turn.step, seeds_are) (bound_of_rest _ _ _ (omega (arith, (turn_leads limits turn).kept)) reply_few (rw (left_is, seeds_are) at bounded))
+  reply_left = rw (turn.step, seeds_are)
+      (bound_of_rest _ (omega (arith, (turn_leads limits turn).kept)) reply_few (rw (left_is, seeds_are) at bounded))
 
   -- the bound is at most all seeds
   pub reply_fits : bound ≤ seeds
@@ -89,12 +84,12 @@ module _ {a b : HousesState} {h bound seeds left : ℕ} (beta : ℕ) (limits : A
 
   -- what is left of them is no more than best play wins, if it is enough
   pub turn_enough : beta ≤ seeds - bound → seeds - bound ≤ won a
-  turn_enough = enough_is_won _ _ _ _ limits turn.legal reply_left
+  turn_enough = enough_is_won limits turn.legal reply_left
 
 -- a legal house whose step is a turn
 pub step_is_turn : {a b : HousesState} {h gained : ℕ} → AreWithinLimits a → IsLegal a h → Turn gained b ≡ houses_step a h → IsTurnOf a h b
 step_is_turn {a} {b} {h} {gained} limits legal step_is =
-    let on = leads_by _ _ limits legal step_is in
+    let on = leads_by limits legal step_is in
     let brought : gained ≡ seeds_in_houses (storeless a) - seeds_in_houses (storeless b) = omega arith in
     record { legal = legal; step = sym step_is ∙ ap (λ g. Turn g b) brought }
 

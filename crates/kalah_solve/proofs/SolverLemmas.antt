@@ -1,22 +1,10 @@
 -- Games, best play, and what a solver says of it.
-use Rattle.std.proofs.Common.{zero, suc, ◌≡◌, ℕ, ◌<◌, ◌≤◌, inl, inr, List, [], ◌∷◌, length, get_or, arith, ap, sym, subst, ◌∙◌, refl, ◌+◌, w32, to_z, of_z, FitsSigned, false, Contains, ℤ, ◌≤ℤ◌, Bool, nat_lt, neg_ℤ, true, map, pos, ◌<ℤ◌, find, option_map, Some, ◌+ℤ◌, ◌-ℤ◌, int_eq}
-use Rattle.std.proofs.lemmas.{Bool.both_ways, Bool.cases_Bool, Bool.cases_eq, Bool.cond_both, Int.ints, Int.clamps, List.get_or_default, List.map-id, Simd.map-map, List.Elements.All-map, List.Elements.All-from_get_or, List.Elements.Contains-get_or}
-use Rattle.kalah_rules.specs.Limits.{most_houses}
-use Rattle.kalah_rules.specs.Position.{Position, HasEqualSides, is_over, swapped, final_margin, side_length, seeds, IsWithinLimits, IsSmallMargin, HousesState, AreWithinLimits, houses_in, storeless}
-use Rattle.kalah_rules.specs.Sowing.{after}
-use Rattle.kalah_rules.specs.Play.{legal_houses}
-use Rattle.kalah_rules.specs.Measure.{moves_left}
-use Rattle.kalah_rules.specs.HousesStep.{houses_step}
-use Rattle.kalah_rules.proofs.PlayLemmas.{IsLegal, legal_holds, after_equal_sides, after_fewer, moves_left-swapped}
-use Rattle.kalah_solve.specs.{Strategy, IsStrategy, Policy, follow, Game, Secures, HoldsTo, IsBestPlay, IsBestMove, IsWorthOfMove, EndsInTime, StrategiesPlayAGame, StrategiesPlayOneGame, GamesEnd, WorthIsBestPlay, BestPlayIsOne, BestHouseIsBestPlay, EndsWithAtLeast, EndsWithAtMost, BestPlayAgainstStrategies, BestHouseIsLowest, BestMovesAttain, BestVerdictIsOne, worth, value_of_move, best_house, houses_worth, verdict_of, IsSmallBest, StatesBestPlay, AreValuesByBestPlay, ValueIsWorthOfMove, WorthOfMoveIsOne, ValuesTellVerdict, move_value, values_of, IsMoveValue, least_margin, most_margin, clamped, won, won_by_step}
-use Rattle.kalah_solve.specs.Solver.BestPlay.Game.{is_at_end, moves_on, passes_turn}
-use Rattle.kalah_solve.proofs.WorthLemmas.{swapped_equal_sides, over_at_end, worth_of_over, final_swapped, value_moving_again, value_passing, best_found, best_attains, value_most, int_eq-same, find_lowest, worth_of_going, int_eq-lower, greatest_reached, worth_of_houses, value_of_houses}
+use Rattle.std.proofs.{Common.{zero, suc, ◌≡◌, ℕ, ◌<◌, ◌≤◌, inl, inr, List, [], ◌∷◌, length, get_or, arith, ap, sym, subst, ◌∙◌, refl, ◌+◌, w32, to_z, of_z, FitsSigned, false, Contains, ℤ, ◌≤ℤ◌, Bool, nat_lt, neg_ℤ, true, map, pos, ◌<ℤ◌, find, option_map, Some, ◌+ℤ◌, ◌-ℤ◌, int_eq}, lemmas.{Bool.both_ways, Bool.cases_Bool, Bool.cases_eq, Bool.cond_both, Int.ints, Int.clamps, List.get_or_default, List.map-id, Simd.map-map, List.Elements.All-map, List.Elements.All-from_get_or, List.Elements.Contains-get_or}}
+use Rattle.kalah_rules.specs.{Limits.{most_houses}, Position.{Position, HasEqualSides, is_over, swapped, final_margin, side_length, seeds, IsWithinLimits, IsMarginInRange, HousesState, AreWithinLimits, houses_in, storeless}, Play.{legal_houses}, Measure.{moves_left}, HousesStep.{houses_step}}
+use Rattle.kalah_rules.proofs.{PlayLemmas.{IsLegal, legal_holds, after_equal_sides, after_fewer, moves_left-swapped}, PackedLemmas.{houses_within, is_over-swapped}}
+use Rattle.kalah_solve.specs.{Strategy, IsStrategy, Policy, follow, Game, Secures, HoldsTo, IsBestPlay, IsBestMove, IsWorthOfMove, EndsInTime, StrategiesPlayAGame, StrategiesPlayOneGame, GamesEnd, WorthIsBestPlay, BestPlayIsOne, BestHouseIsBestPlay, EndsWithAtLeast, EndsWithAtMost, BestPlayAgainstStrategies, BestHouseIsLowest, BestMovesAttain, BestVerdictIsOne, worth, value_of_move, best_house, houses_worth, verdict_of, IsBestInRange, StatesBestPlay, AreValuesByBestPlay, ValueIsWorthOfMove, WorthOfMoveIsOne, ValuesTellVerdict, move_value, values_of, IsMoveValue, least_margin, most_margin, clamped, won, won_by_step, Solver.BestPlay.Game.{is_at_end, moves_on, passes_turn}, declared.solver.{Verdict.{Verdict, TheVariants.{Best, Over}}, move_values.MoveValue.{MoveValue}}}
+use Rattle.kalah_solve.proofs.{WorthLemmas.{swapped_equal_sides, over_at_end, worth_of_over, final_swapped, value_moving_again, value_passing, best_found, best_attains, value_most, int_eq-same, find_lowest, worth_of_going, int_eq-lower, greatest_reached, worth_of_houses, value_of_houses}, BoundsLemmas.{worth_low, worth_high, won_of_houses, won_of_move, won_at_most}}
 use Rattle.lru.proofs.Splits.{Contains-head}
-use Rattle.kalah_solve.specs.declared.solver.Verdict.TheVariants.{Best, Over}
-use Rattle.kalah_solve.specs.declared.solver.Verdict.{Verdict}
-use Rattle.kalah_solve.specs.declared.solver.move_values.MoveValue.{MoveValue}
-use Rattle.kalah_rules.proofs.PackedLemmas.{houses_within, is_over-swapped}
-use Rattle.kalah_solve.proofs.BoundsLemmas.{worth_low, worth_high, won_of_houses, won_of_move, won_at_most}
 
 -- ==== The games that players play
 
@@ -94,7 +82,7 @@ game_is_one mine_forced theirs_forced (moves_on going chosen again rest) (is_at_
 game_is_one {mine} {theirs} {p} mine_forced theirs_forced (moves_on {h = h} going chosen again rest)
     (moves_on {h = k} {houses = houses} {final = final} going' chosen' again' rest') =
     let e = mine_forced.one p k h chosen' chosen in
-    let same = game_is_one mine_forced theirs_forced rest (subst (λ x. Game mine theirs (after p x) houses final) e rest') in
+    let same = game_is_one mine_forced theirs_forced rest (rw e at rest') in
     (cc same.0, same.1)
 game_is_one {mine} {theirs} {p} mine_forced theirs_forced (moves_on {h = h} going chosen again rest) (passes_turn {h = k} going' chosen' turn rest') =
     let e = mine_forced.one p k h chosen' chosen in
@@ -106,7 +94,7 @@ game_is_one {mine} {theirs} {p} mine_forced theirs_forced (passes_turn {h = h} g
 game_is_one {mine} {theirs} {p} mine_forced theirs_forced (passes_turn {h = h} going chosen turn rest)
     (passes_turn {h = k} {houses = houses} {final = final} going' chosen' turn' rest') =
     let e = mine_forced.one p k h chosen' chosen in
-    let same = game_is_one theirs_forced mine_forced rest (subst (λ x. Game theirs mine (swapped (after p x)) houses final) e rest') in
+    let same = game_is_one theirs_forced mine_forced rest (rw e at rest') in
     (cc same.0, ap swapped same.1)
 
 -- so two strategies play only one game
@@ -167,7 +155,7 @@ best_plays = grind (arith, best_attains)
 best_secures : (p : Position) → HasEqualSides p → Secures best_house p (worth p)
 best_secures p equal = λ houses final game. (game_is_bounded (strategy_within best_is_strategy) (same_policy _) equal game).low best_plays
 
--- the best house holds the mover to the worth when the other player moves it
+-- the best house holds the mover to the worth when the opponent moves it
 best_holds : (p : Position) → HasEqualSides p → HoldsTo best_house p (worth p)
 best_holds p equal = λ houses final game. (game_is_bounded (same_policy _) (strategy_within best_is_strategy) equal game).high best_plays
 
@@ -294,7 +282,7 @@ verdict_of_over p margin over margin_is = cc
 
 -- a legal house with a margin that a player can have
 pub small_best : (p : Position) (margin : ℤ) (house : ℕ) → IsWithinLimits p → Contains (legal_houses p) house
-    → IsSmallMargin margin → IsSmallBest margin house
+    → IsMarginInRange margin → IsBestInRange margin house
 small_best p margin house limits legal is_small =
     let holds = legal_holds p _ legal in
     record { small = is_small; first = holds.first; last = omega arith }
@@ -305,7 +293,7 @@ verdict_states p v equal v_is =
     let states = cond_both (is_over p) _ _ (StatesBestPlay p)
     (λ over. record { over = over; final = refl; best_play = rw (worth_of_over p over) at (worth_is_best_play p equal) })
     (λ going. record { going = going; best = best_move p equal going; lowest = λ h best. best_house_lowest p h going best }) in
-    subst (λ u. StatesBestPlay p u) (sym v_is) states
+    subst (StatesBestPlay p) (sym v_is) states
 
 -- each verdict that states how best play ends is the verdict
 stated_is_verdict : (p : Position) (v : Verdict) → HasEqualSides p → StatesBestPlay p v → v ≡ verdict_of p
@@ -370,9 +358,9 @@ find_first p (x ∷ xs) (suc i) within fails here =
     rw (fails 0 (omega arith)) (find_first p xs i (omega arith) (λ k low. fails (suc k) (omega arith)) here)
 
 -- in the whole window the answer is the worth
-pub whole_window : {a : HousesState} (found lo hi : ℤ) → AreWithinLimits a → lo ≡ least_margin → hi ≡ most_margin
+pub whole_window : {a : HousesState} {found lo hi : ℤ} → AreWithinLimits a → lo ≡ least_margin → hi ≡ most_margin
     → found ≡ clamped lo hi (houses_worth a) → found ≡ houses_worth a
-whole_window {a} found lo hi limits lo_is hi_is found_is = omega (arith, ints, clamps, worth_low a limits, worth_high a limits)
+whole_window {a} limits lo_is hi_is found_is = omega (arith, ints, clamps, worth_low a limits, worth_high a limits)
 
 -- the first i houses are worth less than the margin of best play
 abbrev pub FallShort : HousesState → ℕ → Type 0
@@ -444,7 +432,7 @@ module _ (p : Position) {best : ℤ} {own other : ℕ} (limits : IsWithinLimits 
   margin_is_worth = margin_is ∙ rw best_is (sym (worth_of_houses p))
 
   -- it is one that a player can have
-  pub margin_is_small : IsSmallMargin (margin_in_bits best own other)
+  pub margin_is_small : IsMarginInRange (margin_in_bits best own other)
   margin_is_small =
       let of_houses = won_of_houses (houses_within p limits) in
       record { low = omega (arith, ints, margin_is); high = omega (arith, ints, margin_is) }
@@ -452,7 +440,7 @@ module _ (p : Position) {best : ℤ} {own other : ℕ} (limits : IsWithinLimits 
 -- ==== The value of a move, and its house, are numbers that a game can have
 
 -- the value of a move
-value_small : (p : Position) (h : ℕ) → IsWithinLimits p → Contains (legal_houses p) h → IsSmallMargin (value_of_move p h)
+value_small : (p : Position) (h : ℕ) → IsWithinLimits p → Contains (legal_houses p) h → IsMarginInRange (value_of_move p h)
 value_small p h limits legal =
     let bounds = won_of_move (houses_in p) (houses_within p limits) h legal in
     record {

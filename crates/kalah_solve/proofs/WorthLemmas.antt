@@ -1,22 +1,11 @@
 -- What positions, moves and steps are worth.
 use Rattle.kalah_rules.specs.declared.step.Step.TheVariants as board
-use Rattle.std.proofs.Common.{zero, suc, ◌≡◌, ℕ, ◌+◌, ◌<◌, ◌≤◌, inl, inr, List, [], ◌∷◌, length, get_or, arith, sym, ◌∙◌, refl, ap, IsTrue, ◌-◌, Bool, true, false, Contains, map, filter, find, unwrap_or, ℤ, if◌then◌else◌, pos, ◌≤ℤ◌, ◌<ℤ◌, sum, neg_ℤ, ◌+ℤ◌, ◌-ℤ◌, fold, int_eq}
-use Rattle.std.specs.List.{range_with_len}
-use Rattle.std.proofs.lemmas.{Bool.cases_Bool, Bool.cases_lt, Bool.cond_both, Int.fold-int_max_reached, Int.ints, Int.fold-int_max_bounds, List.length-map, List.get_or-map, List.get_or_default, List.Elements.All-contains, List.Elements.All-filter, List.Elements.Contains-get_or, List.Elements.Contains-append_right, List.Elements.Contains-append_left, List.Elements.Contains-push, List.Elements.All-from_get_or, Bool.Decides.Decides-int_eq, List.Sums.sum_by-le}
+use Rattle.std.proofs.{Common.{zero, suc, ◌≡◌, ℕ, ◌+◌, ◌<◌, ◌≤◌, inl, inr, List, [], ◌∷◌, length, get_or, arith, sym, ◌∙◌, refl, ap, IsTrue, ◌-◌, Bool, true, false, Contains, map, filter, find, unwrap_or, ℤ, if◌then◌else◌, pos, ◌≤ℤ◌, ◌<ℤ◌, sum, neg_ℤ, ◌+ℤ◌, ◌-ℤ◌, fold, int_eq}, lemmas.{Bool.cases_Bool, Bool.cases_lt, Bool.cond_both, Int.fold-int_max_reached, Int.ints, Int.fold-int_max_bounds, List.length-map, List.get_or-map, List.get_or_default, List.Elements.All-contains, List.Elements.All-filter, List.Elements.Contains-get_or, List.Elements.Contains-append_right, List.Elements.Contains-append_left, List.Elements.Contains-push, List.Elements.All-from_get_or, Bool.Decides.Decides-int_eq, List.Sums.sum_by-le}}
+use Rattle.std.specs.{List.{range_with_len}, Int.{int_max}}
 use Rattle.lru.proofs.Splits.{Contains-head, Contains-tail, Contains-cons}
 use Rattle.kalah_solve.specs.{greatest, worth, best_house, value_by, worth_within, value_of_move, houses_worth, CountPlaysNoPart, WorthIsMostOfMoves, GoesOn, GoesOnAt}
-use Rattle.kalah_rules.specs.Position.{Position, IsWithinLimits, is_over, final_margin, HasEqualSides, seeds_in_houses, swapped, swept, houses_in, storeless, HousesState, AreWithinLimits}
-use Rattle.kalah_rules.specs.Sowing.{after, is_again}
-use Rattle.kalah_rules.specs.Play.{legal_houses, step_of}
-use Rattle.kalah_rules.specs.Measure.{moves_left}
-use Rattle.kalah_rules.specs.HousesStep.{houses_step_to, houses_step}
-use Rattle.kalah_rules.specs.declared.step.HousesStep.{HousesStep}
-use Rattle.kalah_rules.specs.declared.step.HousesStep.TheVariants.{Over, Again, Turn}
-use Rattle.kalah_rules.specs.Key.{variant_of, rule_bit}
-use Rattle.kalah_rules.proofs.PlayLemmas.{IsLegal, all_range, legal_holds, holds_legal, sum-zeros, after_equal_sides, after_fewer, moves_left-swapped, with_store_seeds, after-store_seeds, storeless-store_seeds}
-use Rattle.kalah_rules.specs.declared.step.Step.{Step}
-use Rattle.std.specs.Int.{int_max}
-use Rattle.kalah_rules.proofs.PackedLemmas.{after_keeps, is_over-swapped, after_within, swapped_within}
+use Rattle.kalah_rules.specs.{Position.{Position, IsWithinLimits, is_over, final_margin, HasEqualSides, seeds_in_houses, swapped, swept, houses_in, storeless, HousesState, AreWithinLimits}, Sowing.{after, moves_again}, Play.{legal_houses, step_of}, Measure.{moves_left}, HousesStep.{houses_step_to, houses_step}, declared.step.{HousesStep.{HousesStep, TheVariants.{Over, Again, Turn}}, Step.{Step}}, Key.{variant_of, rule_bit}}
+use Rattle.kalah_rules.proofs.{PlayLemmas.{IsLegal, all_range, legal_holds, holds_legal, sum-zeros, after_equal_sides, after_fewer, moves_left-swapped, with_store_seeds, after-store_seeds, storeless-store_seeds}, PackedLemmas.{after_keeps, is_over-swapped, after_within, swapped_within}}
 
 -- ==== What a search in a list finds
 
@@ -208,14 +197,14 @@ value_of_turn p h e step_is = grind arith
 pub again_fewer : (p : Position) (h : ℕ) (e : Position) → HasEqualSides p → Contains (legal_houses p) h
     → board.Again e ≡ step_of p h → moves_left e < moves_left p
 again_fewer p h e equal legal step_is =
-    let to = step_states (is_over (after p h)) (is_again p h) (after p h) (board.Again e) step_is in
+    let to = step_states (is_over (after p h)) (moves_again p h) (after p h) (board.Again e) step_is in
     rw to.2 (after_fewer p h (legal_holds p h legal) equal)
 
 -- if the turn passes
 pub turn_fewer : (p : Position) (h : ℕ) (e : Position) → HasEqualSides p → Contains (legal_houses p) h
     → board.Turn e ≡ step_of p h → moves_left e < moves_left p
 turn_fewer p h e equal legal step_is =
-    let to = step_states (is_over (after p h)) (is_again p h) (after p h) (board.Turn e) step_is in
+    let to = step_states (is_over (after p h)) (moves_again p h) (after p h) (board.Turn e) step_is in
     let fewer = after_fewer p h (legal_holds p h legal) equal in
     rw to.2 (omega (arith, moves_left-swapped (after p h) (after_equal_sides p h)))
 
@@ -237,16 +226,16 @@ legal_some p going = grind (arith, row_empty)
 
 -- ==== The value of a move and the worth of what follows
 
--- the final margin is the opposite for the other player
+-- the final margin is the opposite for the opponent
 pub final_swapped : (q : Position) → neg_ℤ (final_margin (swapped q)) ≡ final_margin q
 final_swapped q = omega (arith, ints)
 
 -- if the mover moves again, the value of a move is the worth of what follows, over or not
-pub value_moving_again : (p : Position) (h : ℕ) → is_again p h ≡ true → value_of_move p h ≡ worth (after p h)
+pub value_moving_again : (p : Position) (h : ℕ) → moves_again p h ≡ true → value_of_move p h ≡ worth (after p h)
 value_moving_again p h again = grind (arith, worth_of_over)
 
 -- with the turn passed, the value of a move is the negative of what follows
-pub value_passing : (p : Position) (h : ℕ) → is_again p h ≡ false → value_of_move p h ≡ neg_ℤ (worth (swapped (after p h)))
+pub value_passing : (p : Position) (h : ℕ) → moves_again p h ≡ false → value_of_move p h ≡ neg_ℤ (worth (swapped (after p h)))
 value_passing p h turn = grind (arith, cases_Bool, worth_of_over, is_over-swapped, final_swapped)
 
 -- the best house is legal, and attains the worth
@@ -309,7 +298,7 @@ shift_either : (first : Bool) (d : ℤ) {x y : ℤ} (x' y' : ℤ) → x ≡ x' +
 shift_either true d x' y' one two = one
 shift_either false d x' y' one two = two
 
--- the other player's value is shifted the other way
+-- the opponent's value is shifted the other way
 shift_turned : (a b : ℕ) (u' : ℤ) {u : ℤ} → u ≡ u' +ℤ (pos b -ℤ pos a) → neg_ℤ u ≡ neg_ℤ u' +ℤ (pos a -ℤ pos b)
 shift_turned a b u' u_is = omega (arith, ints)
 
@@ -443,7 +432,7 @@ leads_on a h limits legal =
     let play = keeps.play in
     let within = after_within a h limits holds in
     let rule = ap rule_bit keeps.rule in
-    cond_both (is_over q) _ _ (LeadsOn a) (omega arith) (λ going. cond_both (is_again (storeless a) h) _ _ (LeadsOn a)
+    cond_both (is_over q) _ _ (LeadsOn a) (omega arith) (λ going. cond_both (moves_again (storeless a) h) _ _ (LeadsOn a)
     (λ again. record {
       kept = omega arith;
       fewer = fewer;
@@ -460,8 +449,8 @@ leads_on a h limits legal =
     }))
 
 -- a step that was played leads there
-pub leads_by : {a : HousesState} (h : ℕ) (s : HousesStep) → AreWithinLimits a → IsLegal a h → s ≡ houses_step a h → LeadsOn a s
-leads_by {a} h s limits legal step_is = grind (arith, leads_on)
+pub leads_by : {a : HousesState} {h : ℕ} {s : HousesStep} → AreWithinLimits a → IsLegal a h → s ≡ houses_step a h → LeadsOn a s
+leads_by {a} {h} limits legal step_is = grind (arith, leads_on)
 
 -- ---- what the search needs of a step
 -- houses that go on from a are of its variant, within the limits
@@ -474,26 +463,27 @@ goes_on_to limits variant_is leads = record {
 }
 
 -- the same for a step
-goes_on_of : (a : HousesState) (variant : ℕ) (s : HousesStep) → AreWithinLimits a → variant_of a ≡ variant → LeadsOn a s
+goes_on_of : {a : HousesState} {variant : ℕ} (s : HousesStep) → AreWithinLimits a → variant_of a ≡ variant → LeadsOn a s
     → GoesOn variant s
-goes_on_of a variant (Over own other) limits variant_is leads = omega arith
-goes_on_of a variant (Again gained b) limits variant_is leads = goes_on_to limits variant_is leads
-goes_on_of a variant (Turn gained b) limits variant_is leads = goes_on_to limits variant_is leads
+goes_on_of (Over own other) limits variant_is leads = omega arith
+goes_on_of (Again gained b) limits variant_is leads = goes_on_to limits variant_is leads
+goes_on_of (Turn gained b) limits variant_is leads = goes_on_to limits variant_is leads
 
 -- the step of a legal move goes on in the variant
-pub goes_on : (a : HousesState) (variant h : ℕ) (s : HousesStep) → variant_of a ≡ variant → AreWithinLimits a → IsLegal a h
+pub goes_on : {a : HousesState} {variant h : ℕ} {s : HousesStep} → variant_of a ≡ variant → AreWithinLimits a → IsLegal a h
     → s ≡ houses_step a h → GoesOn variant s
-goes_on a variant h s variant_is limits legal step_is = goes_on_of _ _ _ limits variant_is (leads_by _ _ limits legal step_is)
+goes_on {s = s} variant_is limits legal step_is = goes_on_of s limits variant_is (leads_by limits legal step_is)
 
 -- a step that leads on leaves fewer moves
-falls_if_leads_on : (a : HousesState) (s : HousesStep) → 0 < moves_left (storeless a) → LeadsOn a s → moves_after s < moves_left (storeless a)
+falls_if_leads_on : (a : HousesState) (s : HousesStep) → 0 < moves_left (storeless a) → LeadsOn a s
+    → moves_after s < moves_left (storeless a)
 falls_if_leads_on a (Over own other) some leads = some
 falls_if_leads_on a (Again gained b) some leads = leads.fewer
 falls_if_leads_on a (Turn gained b) some leads = leads.fewer
 
 -- the step of a legal move leaves fewer moves
-pub step_falls : (a : HousesState) (h : ℕ) (s : HousesStep) → AreWithinLimits a → IsLegal a h → s ≡ houses_step a h
+pub step_falls : {a : HousesState} {h : ℕ} {s : HousesStep} → AreWithinLimits a → IsLegal a h → s ≡ houses_step a h
     → moves_after s < moves_left (storeless a)
-step_falls a h s limits legal step_is =
+step_falls {a} {h} {s} limits legal step_is =
     let fewer = after_fewer (storeless a) h (legal_holds (storeless a) h legal) (record { same = limits.same_side }) in
-    falls_if_leads_on a s (omega (arith, fewer)) (leads_by _ _ limits legal step_is)
+    falls_if_leads_on a s (omega (arith, fewer)) (leads_by limits legal step_is)

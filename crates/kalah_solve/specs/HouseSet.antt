@@ -1,7 +1,6 @@
 -- Sets of houses as masks.
 use Rattle.std.specs.Prelude.{◌≡◌, ◌↔◌, ℕ, zero, suc, ◌+◌, ◌-◌, ◌/◌, ◌%◌, ◌^◌, ◌≤◌, ◌<◌, min}
-use Rattle.kalah_rules.specs.Sowing.{row_of, store_distance}
-use Rattle.kalah_rules.specs.Key.{row_number}
+use Rattle.kalah_rules.specs.{Sowing.{row_of, store_distance}, Key.{packed_row}}
 
 -- cell i of a number, of five bits each: in a row the seeds of house i + 1, in a mask whether the set has that house
 abbrev pub cell : ℕ → ℕ → ℕ
@@ -31,7 +30,7 @@ pub record IsMaskOfFilled (row mask : ℕ) : Type 0 where
 
 -- the row of m houses that all end in the store
 abbrev pub all_end_in_store : ℕ → ℕ
-all_end_in_store m = row_number (row_of m (store_distance m))
+all_end_in_store m = packed_row (row_of m (store_distance m))
 
 -- the set has the houses of a row of m that end in the store, and none past them that is empty
 pub record IsMaskOfEnding (row m mask : ℕ) : Type 0 where

@@ -1,13 +1,6 @@
 -- What a search is asked, where its steps lead, and what is known of some moves while the others are still to be tried.
 use Rattle.std.specs.Prelude.{◌≡◌, ℕ, ◌+◌, ◌-◌, ◌<◌, ◌≤◌, false, List, Contains, slice_index, slice_index_or}
-use Rattle.kalah_rules.specs.Limits.{most_seeds}
-use Rattle.kalah_rules.specs.Position.{HousesState, AreWithinLimits, storeless, seeds_in_houses, is_over}
-use Rattle.kalah_rules.specs.Sowing.{EndsInStore}
-use Rattle.kalah_rules.specs.Play.{legal_houses}
-use Rattle.kalah_rules.specs.HousesStep.{houses_step}
-use Rattle.kalah_rules.specs.Key.{variant_of}
-use Rattle.kalah_rules.specs.declared.step.HousesStep.{HousesStep}
-use Rattle.kalah_rules.specs.declared.step.HousesStep.TheVariants.{Over, Again, Turn}
+use Rattle.kalah_rules.specs.{Limits.{most_seeds}, Position.{HousesState, AreWithinLimits, storeless, seeds_in_houses, is_over}, Sowing.{EndsInStore}, Play.{legal_houses}, HousesStep.{houses_step}, Key.{variant_of}, declared.step.HousesStep.{HousesStep, TheVariants.{Over, Again, Turn}}}
 use Rattle.kalah_solve.specs.Bounds.Won.{won, won_by_step}
 
 -- a fail-soft bound of a number: from `beta` on the number is no less than the bound, and below `beta` no more
@@ -19,7 +12,7 @@ pub record IsSoftBound (beta number bound : ℕ) : Type 0 where
 abbrev pub WinsAtMost : HousesState → ℕ → ℕ → Type 0
 WinsAtMost a most h = won_by_step (houses_step a h) ≤ most
 
--- house h may be moved, and its move is a turn after which the other player has b
+-- house h may be moved, and its move is a turn after which the opponent has b
 pub record IsTurnOf (a : HousesState) (h : ℕ) (b : HousesState) : Type 0 where
   pub legal : Contains (legal_houses (storeless a)) h
   pub step : houses_step a h ≡ Turn (seeds_in_houses (storeless a) - seeds_in_houses (storeless b)) b
@@ -28,7 +21,8 @@ pub record IsTurnOf (a : HousesState) (h : ℕ) (b : HousesState) : Type 0 where
 abbrev pub AreTurns : HousesState → List ℕ → List HousesState → Type 0
 AreTurns a priorities turns = (k : ℕ) → 0 < slice_index priorities k → (d : HousesState) → IsTurnOf a (k + 1) (slice_index_or turns k d)
 
--- turns wait, and of the other moves, but those that end in the store, none wins more than `most`, unless that is enough
+-- If `most` is enough, best play wins as many. What waits are turns. If `most` isn't enough, no move wins more but those that wait or that
+-- end in the store.
 pub record AreWaiting (a : HousesState) (beta most : ℕ) (priorities : List ℕ) (turns : List HousesState) : Type 0 where
   pub lower : beta ≤ most → most ≤ won a
   pub waiting : AreTurns a priorities turns

@@ -1,7 +1,6 @@
 //! Sets of houses as masks: five bits for each house, house 1 lowest, with the value 1 if the house is in the set and 0 if not.
 ghost use Rattle.std.specs.Prelude.{◌≡◌, ◌↔◌, ◌+◌, ◌≤◌, ◌<◌, ℕ, length, slice_index, MatchOption};
-ghost use Rattle.kalah_rules.specs.Position.{AreWithinLimits};
-ghost use Rattle.kalah_rules.specs.Sowing.{EndsInStore};
+ghost use Rattle.kalah_rules.specs.{Position.{AreWithinLimits}, Sowing.{EndsInStore}};
 ghost use Rattle.kalah_solve.specs.HouseSet.{cell, IsLastIn, without_house, IsMaskOfFilled, IsMaskOfEnding, all_end_in_store};
 
 use kalah_rules::{House, Houses, ONE_EACH, one_each};
@@ -21,7 +20,8 @@ fn all_end_in_store(m: u8) -> u64
     ALL_END_IN_STORE[m as usize]
 }
 
-// Returns the mask of the houses of a row that have seeds.
+// Returns the mask of the houses of a row that have seeds. 15 more in the lower four bits of a cell carries into its fifth bit, unless they
+// are 0.
 #[tactic(auto, using(crate::proofs::HouseSetLemmas::mask_of_filled))]
 fn filled(row: u64) -> u64
     ensures { IsMaskOfFilled row result }

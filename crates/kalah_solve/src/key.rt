@@ -1,7 +1,6 @@
 //! The key of houses, a distinct number for each value of them, under the names that callers know.
 ghost use Rattle.std.specs.Prelude.{◌≡◌, ◌↔◌, IsSome, IfSome, Some};
-ghost use Rattle.kalah_rules.specs.Position.{HousesState, AreWithinLimits};
-ghost use Rattle.kalah_rules.specs.Key.{key_of, IsKey};
+ghost use Rattle.kalah_rules.specs.{Position.{HousesState, AreWithinLimits}, Key.{key_of, IsKey}};
 
 use kalah_rules::Houses;
 

@@ -1,4 +1,4 @@
-//! The margin of best play of a position of Kalah, and its lowest-numbered best house.
+//! The margin of best play of a position of Kalah, its lowest-numbered best house, the value of each move, and laws of best play.
 #![tactic(auto)]
 
 mod bounds;

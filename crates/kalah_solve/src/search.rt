@@ -1,16 +1,8 @@
 //! The search: fail-soft alpha-beta with null windows. Each test asks whether the mover wins at least `beta` seeds, and `won_within` closes
 //! in on the number by such tests, as an MTD driver does. Margins are used at the root and among the entries.
 ghost use Rattle.std.specs.Prelude.{◌≡◌, ◌↔◌, ℕ, ◌+◌, ◌-◌, ◌≤◌, ◌<◌, false, IsTrue, max, min, Contains};
-ghost use Rattle.kalah_rules.specs.Position.{is_over, storeless, seeds_in_houses};
-ghost use Rattle.kalah_rules.specs.Sowing.{EndsInStore};
-ghost use Rattle.kalah_rules.specs.Play.{legal_houses};
-ghost use Rattle.kalah_rules.specs.HousesStep.{houses_step};
-ghost use Rattle.kalah_rules.specs.Key.{variant_of};
-ghost use Rattle.kalah_solve.specs.Solver.Worth.{houses_worth};
-ghost use Rattle.kalah_solve.specs.Bounds.Intervals.{clamped};
-ghost use Rattle.kalah_solve.specs.Bounds.Won.{won, won_by_step};
-ghost use Rattle.kalah_solve.specs.WaitingTurns.{IsEmpty};
-ghost use Rattle.kalah_solve.specs.Search.{IsSoftBound, WinsAtMost, AreWaiting, IsOngoing, GoesOn, GoesOnAt};
+ghost use Rattle.kalah_rules.specs.{Position.{is_over, storeless, seeds_in_houses}, Sowing.{EndsInStore}, Play.{legal_houses}, HousesStep.{houses_step}, Key.{variant_of}};
+ghost use Rattle.kalah_solve.specs.{Solver.Worth.{houses_worth}, Bounds.{Intervals.{clamped}, Won.{won, won_by_step}}, WaitingTurns.{IsEmpty}, Search.{IsSoftBound, WinsAtMost, AreWaiting, IsOngoing, GoesOn, GoesOnAt}};
 
 mod growth;
 mod known;
@@ -202,7 +194,7 @@ impl<A: Allocator + Clone> Search<A> {
         requires variant { variant_of houses.now ≡ VARIANT }
         ensures { IsTrue result ↔ beta ≤ won_by_step (houses_step houses.now house) }
     {
-        let step = houses.play_by(&self.table.endings.sowings, house);
+        let step = houses.play_with(&self.table.endings.sowings, house);
         beta <= self.bound_step::<VARIANT>(step, beta)
     }
 
@@ -271,7 +263,7 @@ impl<A: Allocator + Clone> Search<A> {
             return remaining;
         }
         let mut most = into_store.max(remaining);
-        let reply_beta = seeds.saturating_sub(beta) + 1; // If the other player wins less of the seeds, the turn is enough.
+        let reply_beta = seeds.saturating_sub(beta) + 1; // If the opponent wins less of the seeds, the turn is enough.
         while let Some(next) = waiting.take_highest() {
             let bound = seeds - self.bound_by_search::<VARIANT>(&next, reply_beta);
             if beta <= bound {
@@ -321,7 +313,7 @@ impl<A: Allocator + Clone> Search<A> {
         let mut most = 0u8;
         let mut untried = HouseSet::remaining(houses);
         while let Some(house) = untried.pop_last() {
-            let step = houses.play_by(&self.table.endings.sowings, house);
+            let step = houses.play_with(&self.table.endings.sowings, house);
             let bound = match step {
                 HousesStep::Turn { gained, next } => {
                     if gained < beta && next.seeds() > self.ending_limit.seeds {
@@ -361,7 +353,7 @@ impl<A: Allocator + Clone> Search<A> {
         }
     }
 
-    // Returns a fail-soft bound of what a turn wins: the `gained` seeds that it brought to the store, and what the other player leaves.
+    // Returns a fail-soft bound of what a turn wins: the `gained` seeds that it brought to the store, and what the opponent leaves.
     #[inline(always)]
     #[cycle(bound)]
     fn bound_turn<const VARIANT: u8>(&mut self, gained: u8, next: Houses, beta: u8) -> u8

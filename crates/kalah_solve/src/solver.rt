@@ -1,10 +1,7 @@
 //! The solver: the worth of positions, by a search with a table.
 ghost use Rattle.std.specs.Prelude.{◌≡◌, ◌≤◌, IfOk, false};
-ghost use Rattle.kalah_rules.specs.Position.{is_over, storeless, houses_in, AreWithinLimits, IsWithinLimits, IsSmallMargin};
-ghost use Rattle.kalah_solve.specs.Solver.Worth.{best_house, houses_worth, worth};
-ghost use Rattle.kalah_solve.specs.Table.Entries.{most_entries, empty_table};
-ghost use Rattle.kalah_solve.specs.Bounds.Won.{won};
-ghost use Rattle.kalah_solve.specs.Solver.Verdict.{verdict_of, StatesBestPlay, IsSmallVerdict};
+ghost use Rattle.kalah_rules.specs.Position.{is_over, storeless, houses_in, AreWithinLimits, IsWithinLimits, IsMarginInRange};
+ghost use Rattle.kalah_solve.specs.{Solver.{Worth.{best_house, houses_worth, worth}, Verdict.{verdict_of, StatesBestPlay, IsVerdictInRange}}, Table.Entries.{most_entries, empty_table}, Bounds.Won.{won}};
 
 pub(crate) mod laws;
 pub(crate) mod move_values;
@@ -34,7 +31,7 @@ fn worth_of_board(best: i32, board: &Board) -> i32
     requires best { best ≡ houses_worth (houses_in board.now) }
     requires limits { IsWithinLimits board.now }
     ensures worth { result ≡ worth board.now }
-    ensures small { IsSmallMargin result }
+    ensures small { IsMarginInRange result }
 {
     best + (board.own_store() as i32 - board.other_store() as i32)
 }
@@ -76,7 +73,7 @@ impl<A: Allocator + Clone> Solver<A> {
     pub fn solve(&mut self, board: &Board) -> Verdict
         ensures verdict { result ≡ verdict_of board.now }
         ensures best_play { StatesBestPlay board.now result }
-        ensures small { IsSmallVerdict result }
+        ensures small { IsVerdictInRange result }
     {
         if board.is_over() {
             return Verdict::Over {

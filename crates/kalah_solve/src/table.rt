@@ -1,11 +1,7 @@
 //! The transposition table: what is known of houses.
-ghost use Rattle.std.specs.Prelude.{◌≡◌, ◌≤◌, ◌⊎◌, nat_eq, IfOk, IfSome, IsSome, Some};
-ghost use Rattle.std.specs.Map.{lookup};
+ghost use Rattle.std.specs.{Prelude.{◌≡◌, ◌≤◌, ◌⊎◌, nat_eq, IfOk, IfSome, IsSome, Some}, Map.{lookup}};
 ghost use Rattle.kalah_rules.specs.Key.{key_of};
-ghost use Rattle.kalah_solve.specs.Table.Entries.{most_entries, empty_table};
-ghost use Rattle.kalah_solve.specs.Table.EndingTable.{IsEnding};
-ghost use Rattle.kalah_solve.specs.Search.{IsOngoing};
-ghost use Rattle.kalah_solve.specs.Solver.Worth.{houses_worth};
+ghost use Rattle.kalah_solve.specs.{Table.{Entries.{most_entries, empty_table}, EndingTable.{IsEnding}}, Search.{IsOngoing}, Solver.Worth.{houses_worth}};
 
 pub(crate) mod ending_table;
 pub(crate) mod slot_table;
@@ -30,7 +26,7 @@ pub fn limit_of_tables()
     ensures { most_entries ≡ 1048576 }
 {}
 
-/// The most slots that a table has until all are laid out: they are made at once, and stay near the processor.
+/// The most slots that a table begins with: so few are made quickly, and fit into a processor's cache.
 const FIRST_SLOTS: u32 = 8_192;
 
 /// A transposition table, of entries, slots and endings. Contracts see the entries: intervals that hold the worth of houses, by their
@@ -68,12 +64,11 @@ impl<A: Allocator + Clone> Table<A> {
         requires high { capacity ≤ most_entries }
         ensures { IfOk result (λ t. t ≡ empty_table capacity) }
     {
-        let shared = alloc.clone()?;
-        let endings = Arc::new(shared, EndingTable::new(alloc.clone()?)?)?;
+        let endings = Arc::new(alloc.clone()?, EndingTable::new(alloc.clone()?)?)?;
         Table::with_endings(alloc, capacity, endings)
     }
 
-    // Makes an empty table that shares with this one what is known of endings. It fails only if memory was refused.
+    /// Makes an empty table that shares with this one what is known of endings. It fails only if memory was refused.
     pub(crate) fn sharing_endings(&self, alloc: A, capacity: u32) -> Result<Table<A>, AllocError>
         requires low { 1 ≤ capacity }
         requires high { capacity ≤ most_entries }
@@ -92,9 +87,9 @@ impl<A: Allocator + Clone> Table<A> {
         requires high { capacity ≤ most_entries }
         ensures { IfOk result (λ t. t ≡ empty_table capacity) }
     {
-        let slots = SlotTable::new(alloc.clone()?, capacity.min(FIRST_SLOTS))?;
-        let capacity = NonZeroUsize::new(capacity as usize).unwrap();
-        let entries = LruCache::sparse(alloc, capacity)?;
+        let room = NonZeroUsize::new(capacity as usize).unwrap();
+        let entries = LruCache::sparse(alloc.clone()?, room)?;
+        let slots = SlotTable::new(alloc, capacity.min(FIRST_SLOTS))?;
         Ok(Table {
             entries,
             slots,
@@ -102,7 +97,7 @@ impl<A: Allocator + Clone> Table<A> {
         })
     }
 
-    // Lays out all slots, unless they are, or there is no memory for them. The contents of the first ones are dropped.
+    /// Lays out all slots, unless that is done or there is no memory for them. What the first slots held is forgotten.
     #[cold]
     #[inline(never)]
     pub(crate) fn grow(&mut self)
@@ -122,8 +117,7 @@ impl<A: Allocator + Clone> Table<A> {
         }
     }
 
-    // Returns how many seeds the mover wins of an ending. It stands apart from the search, whose own functions are
-    // small enough to be inlined then.
+    /// Returns how many seeds the mover wins of an ending. Out of line, so that the functions of the search stay small enough to be inlined.
     #[inline(never)]
     pub(crate) fn won<const VARIANT: u8>(&self, houses: Houses) -> u8
         requires ongoing { IsOngoing VARIANT houses }
@@ -133,7 +127,7 @@ impl<A: Allocator + Clone> Table<A> {
         self.endings.won::<VARIANT>(houses)
     }
 
-    // Returns the interval known for the houses, which become the most recently used.
+    /// Returns the interval known for the houses, which become the most recently used.
     pub(crate) fn look_up(&mut self, houses: &Houses) -> Option<Interval>
         ensures found { result ≡ lookup (nat_eq (key_of houses.now)) self.old.entries }
         ensures holds { IfSome result (λ i. Encloses i (houses_worth houses.now)) }
@@ -143,8 +137,8 @@ impl<A: Allocator + Clone> Table<A> {
         self.entries.get(&key).copied()
     }
 
-    // Stores that the worth of the houses is in the interval, unless there is no memory for it. Replacing an entry needs none. What a table
-    // forgets costs time only.
+    /// Stores that the worth of the houses is in the interval, unless there is no memory for it. Replacing an entry needs none. What a
+    /// table forgets costs time only.
     pub(crate) fn keep(&mut self, houses: &Houses, interval: Interval)
         requires { Encloses interval (houses_worth houses.now) }
         ensures kept { (lookup (nat_eq (key_of houses.now)) self.new.entries ≡ Some interval) ⊎ (self.new ≡ self.old) }

@@ -1,14 +1,7 @@
 -- The command line of the program, as data that a parse reads.
 use Rattle.std.specs.Prelude.{◌≡◌, ℕ, false, true, List, [], ◌∷◌, Some, codes, fold}
-use Rattle.clap.specs.Words.{App, Rule, Text, new_app, new_rule, rule_of, with_rule, with_subcommand}
-use Rattle.clap.specs.Simple.{on_top}
-use Rattle.clap.specs.declared.builder.action.ArgAction.TheVariants.{Append, Set, SetTrue}
-use Rattle.clap.specs.declared.builder.arg.Arg.{Arg}
-use Rattle.clap.specs.declared.builder.value_parser.ValueParser.TheVariants.{Unsigned}
-use Rattle.kalah_cli.specs.declared.arguments.subcommands.Argument.{Argument}
-use Rattle.kalah_cli.specs.declared.arguments.subcommands.ArgumentKind.{ArgumentKind}
-use Rattle.kalah_cli.specs.declared.arguments.subcommands.ArgumentKind.TheVariants.{Flag, NumberOption, PositionalNumber, PositionalText}
-use Rattle.kalah_cli.specs.declared.arguments.subcommands.Subcommand.{Subcommand}
+use Rattle.clap.specs.{Words.{App, Rule, Text, new_app, new_rule, rule_of, with_rule, with_subcommand}, Simple.{on_top}, declared.builder.{action.ArgAction.TheVariants.{Append, Set, SetTrue}, arg.Arg.{Arg}, value_parser.ValueParser.TheVariants.{Unsigned}}}
+use Rattle.kalah_cli.specs.declared.arguments.subcommands.{Argument.{Argument}, ArgumentKind.{ArgumentKind, TheVariants.{Flag, NumberOption, PositionalNumber, PositionalText}}, Subcommand.{Subcommand}}
 use Rattle.kalah_rules.specs.Limits.{most_depth, most_houses}
 use Rattle.kalah_solve.specs.Table.Entries.{most_entries}
 use Rattle.kalah_run.specs.Limits.{most_workers}

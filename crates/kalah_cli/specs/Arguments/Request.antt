@@ -1,20 +1,13 @@
 -- What the arguments of a command line ask the program to do.
-use Rattle.std.specs.Prelude.{IfSome, ℕ, Bool, false, List, [], Option, None, Some, codes, ◌<◌, ◌≤◌, ◌≡◌, ◌≢◌, length, map, option_map, string_bytes, option_and_then, if◌then◌else◌, true, unwrap_or, ⊤, String, bytes_eq}
-use Rattle.std.specs.Option.{option_map_or}
-use Rattle.std.specs.Str.Parse.{digits_value, without_leading_plus}
-use Rattle.clap.specs.Words.{IsAmong, IsUnsignedIn, Row, Text, all_of, fault_of, first_of, found_of, one_of, rows_of, subcommand_of}
-use Rattle.clap.specs.declared.parser.matches.ArgMatches.{ArgMatches}
-use Rattle.clap.specs.declared.error.kind.ErrorKind.{ErrorKind}
+use Rattle.std.specs.{Prelude.{IfSome, ℕ, Bool, false, List, [], Option, None, Some, codes, ◌<◌, ◌≤◌, ◌≡◌, ◌≢◌, length, map, option_map, string_bytes, option_and_then, if◌then◌else◌, true, unwrap_or, ⊤, String, bytes_eq}, Option.{option_map_or}, Str.Parse.{digits_value, without_leading_plus}}
+use Rattle.clap.specs.{Words.{IsAmong, IsUnsignedIn, Row, Text, all_of, fault_of, first_of, found_of, one_of, rows_of, subcommand_of}, declared.{parser.matches.ArgMatches.{ArgMatches}, error.kind.ErrorKind.{ErrorKind}}}
 pub use Rattle.kalah_jobs.specs.declared.files.question.Question.{Question}
 pub use Rattle.kalah_jobs.specs.declared.files.question.Question.TheVariants.{BestMove, Values, Steps}
 use Rattle.kalah_rules.specs.Limits.{most_depth}
-use Rattle.kalah_run.specs.Limits.{AreWorkers, IsTableSize}
-use Rattle.kalah_cli.specs.Arguments.Command.{kalah_app}
-use Rattle.kalah_cli.specs.declared.arguments.request.Request.{Request}
-use Rattle.kalah_cli.specs.declared.arguments.request.Request.TheVariants.{Line, Files, Ask, Conflict}
+use Rattle.kalah_run.specs.Limits.{IsWorkerCount, IsTableSize}
+use Rattle.kalah_cli.specs.{Arguments.Command.{kalah_app}, declared.arguments.request.{Request.{Request, TheVariants.{Line, Files, Ask, Conflict}}, FilesRequest.{FilesRequest}}}
 pub use Rattle.kalah_cli.specs.declared.arguments.request.LineCommand.{LineCommand}
 pub use Rattle.kalah_cli.specs.declared.arguments.request.LineCommand.TheVariants.{Moves, Play, Show, Count}
-use Rattle.kalah_cli.specs.declared.arguments.request.FilesRequest.{FilesRequest}
 
 module _ {A : Type 0} where
   -- the text of each argument
@@ -142,7 +135,7 @@ task_of Conflict = conflict
 
 -- workers and table are in their ranges, and there is a file
 abbrev pub AreFilesInRange : FilesRequest → Type 0
-AreFilesInRange b = AreWorkers b.workers × IsTableSize b.table_entries × (0 < length b.files.items)
+AreFilesInRange b = IsWorkerCount b.workers × IsTableSize b.table_entries × (0 < length b.files.items)
 
 -- numbers are in their ranges
 abbrev pub IsCommandInRange : LineCommand → Type 0

@@ -1,8 +1,6 @@
 -- What `kalah ask` writes for the bytes that a reader had left, if these are known. Of the standard input they aren't.
 use Rattle.std.specs.Prelude.{◌≡◌, ◌≢◌, ◌↔◌, ℕ, List, Bool, Option, false, true}
-use Rattle.kalah_jobs.specs.Asking.{IsAnswered, IsBegun, IsCutOff}
-use Rattle.kalah_jobs.specs.declared.files.question.Question.{Question}
-use Rattle.kalah_jobs.specs.Writing.Sink.{SinkState}
+use Rattle.kalah_jobs.specs.{Asking.{IsAnswered, IsBegun, IsCutOff}, declared.files.question.Question.{Question}, Writing.Sink.{SinkState}}
 use Rattle.kalah_cli.specs.Exit.Status.{ExitStatus, Clean, Failed}
 
 -- the answers to lines that were read completely were written, and nothing else

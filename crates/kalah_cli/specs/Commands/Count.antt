@@ -1,8 +1,6 @@
 -- What `kalah count` prints.
 use Rattle.std.specs.Prelude.{ℕ, zero, suc, List, [], ◌++◌, flat_map}
-use Rattle.kalah_rules.specs.Position.{Position}
-use Rattle.kalah_rules.specs.Play.{legal_houses}
-use Rattle.kalah_rules.specs.Ways.{ways, ways_by}
+use Rattle.kalah_rules.specs.{Position.{Position}, Play.{legal_houses}, Ways.{ways, ways_by}}
 use Rattle.kalah_jobs.specs.Writing.Counts.{total_line, ways_line}
 
 -- the line of a house: how many ways begin with its move, with n moves after it

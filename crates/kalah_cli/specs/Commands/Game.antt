@@ -1,11 +1,7 @@
 -- The games that are played from a position, and how they are written.
 use Rattle.std.specs.Prelude.{◌≡◌, ℕ, ℤ, zero, suc, List, [], ◌∷◌, ◌++◌, Option, Some, None, Contains, if◌then◌else◌, true, unwrap_or}
-use Rattle.kalah_rules.specs.Measure.{moves_left}
-use Rattle.kalah_rules.specs.Position.{Position, HasEqualSides, final_margin, is_over}
-use Rattle.kalah_rules.specs.Play.{legal_houses, position_after, step_of}
-use Rattle.kalah_rules.specs.declared.step.Step.{Step}
-use Rattle.kalah_solve.specs.Solver.BestPlay.{Game, follow}
-use Rattle.kalah_solve.specs.Solver.Worth.{best_house, value_of_move, worth}
+use Rattle.kalah_rules.specs.{Measure.{moves_left}, Position.{Position, HasEqualSides, final_margin, is_over}, Play.{legal_houses, position_after, step_of}, declared.step.Step.{Step}}
+use Rattle.kalah_solve.specs.Solver.{BestPlay.{Game, follow}, Worth.{best_house, value_of_move, worth}}
 use Rattle.kalah_jobs.specs.Writing.Variation.{next_house}
 use Rattle.kalah_cli.specs.Commands.Moves.{move_lines}
 pub use Rattle.kalah_cli.specs.declared.commands.game.MoveForm.{MoveForm}
@@ -57,7 +53,7 @@ pub record IsBestGame (p : Position) (houses : List ℕ) (final : Position) : Ty
   pub game : Game (follow best_house) (follow best_house) p houses final
   pub margin : final_margin final ≡ worth p
 
--- it is the game that is played from each position
+-- from each position `best_game` is a game of best play
 abbrev pub PlaysBestGames : Type 0
 PlaysBestGames = (p : Position) → HasEqualSides p → (final : Position) × IsBestGame p (best_game p) final
 
@@ -67,7 +63,7 @@ pub record IsVariation (p : Position) (h : ℕ) (houses : List ℕ) (final : Pos
   pub game : Game legal_houses legal_houses p houses final
   pub margin : final_margin final ≡ value_of_move p h
 
--- it is the game that is played after each move, if best play follows it
+-- the game after any move, with best play after it, has the value of that move
 abbrev pub VariationsEndWithTheirValue : Type 0
 VariationsEndWithTheirValue = (p : Position) (h : ℕ) → HasEqualSides p → Contains (legal_houses p) h
     → (final : Position) × IsVariation p h (game_played (Some h) p) final

@@ -1,18 +1,9 @@
 -- The solver of a line: its table, and what stands in the output before a position of a game is solved.
-use Rattle.std.specs.Prelude.{◌≡◌, ◌++◌, ℕ, List}
-use Rattle.std.specs.declared.alloc.Global.{Global}
-use Rattle.kalah_rules.specs.Position.{Position}
-use Rattle.kalah_rules.specs.Play.{position_after, step_of}
-use Rattle.kalah_solve.specs.Solver.Worth.{worth}
-use Rattle.kalah_solve.specs.Table.Entries.{empty_table}
-use Rattle.kalah_solve.specs.declared.solver.Solver.{Solver}
-use Rattle.kalah_solve.specs.declared.solver.move_values.MoveValue.{MoveValue}
-use Rattle.kalah_jobs.specs.Writing.Sink.{SinkState, WasGiven}
-use Rattle.kalah_jobs.specs.Writing.Shown.{shown_of}
-use Rattle.kalah_jobs.specs.Writing.Variation.{variation_start}
-use Rattle.kalah_cli.specs.Commands.Game.{move_text, printed_value, MoveForm, Lines, Houses}
-use Rattle.kalah_cli.specs.Commands.Moves.{board_lines}
-use Rattle.kalah_cli.specs.declared.commands.game_solver.GameSolver.{GameSolver}
+use Rattle.std.specs.{Prelude.{◌≡◌, ◌++◌, ℕ, List}, declared.alloc.Global.{Global}}
+use Rattle.kalah_rules.specs.{Position.{Position}, Play.{position_after, step_of}}
+use Rattle.kalah_solve.specs.{Solver.Worth.{worth}, Table.Entries.{empty_table}, declared.solver.{Solver.{Solver}, move_values.MoveValue.{MoveValue}}}
+use Rattle.kalah_jobs.specs.Writing.{Sink.{SinkState, WasGiven}, ValuesLine.{shown_of}, Variation.{variation_start}}
+use Rattle.kalah_cli.specs.{Commands.{Game.{move_text, printed_value, MoveForm, Lines, Houses}, Moves.{board_lines}}, declared.commands.game_solver.GameSolver.{GameSolver}}
 
 -- the solver has an empty table of this capacity
 abbrev pub HasTable : ℕ → Solver Global → Type 0
@@ -45,13 +36,13 @@ module _ {O : Type 0} (state : O → SinkState) (game : GameStart O) where
     pub after : p ≡ position_after (step_of game.first move.house)
 
   -- The game begins at this position. Of one in lines it is the first position, and the sink was given that, if boards are drawn.
-  abbrev pub Begins : MoveForm → O → Position → Type 0
-  Begins (Lines boards values) new p = (p ≡ game.first) × WasGiven state game.sink new (board_lines boards game.first)
-  Begins Houses new p = BeginsVariation new p
+  abbrev pub BeginsGame : MoveForm → O → Position → Type 0
+  BeginsGame (Lines boards values) new p = (p ≡ game.first) × WasGiven state game.sink new (board_lines boards game.first)
+  BeginsGame Houses new p = BeginsVariation new p
 
   -- a position of the game is reached: the game began, and then the sink was given each move that leads to this position, and nothing else
   pub data IsReached : O → Position → Type 0 where
-    reached_at_start : {new : O} {p : Position} → Begins game.form new p → IsReached new p
+    reached_at_start : {new : O} {p : Position} → BeginsGame game.form new p → IsReached new p
     reached_by_move : {new : O} (between : O) (p : Position) (h : ℕ) → IsReached between p
         → WasGiven state between new (move_text game.form (printed_value game.form (worth p)) h (step_of p h))
         → IsReached new (position_after (step_of p h))

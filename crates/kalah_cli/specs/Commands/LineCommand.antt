@@ -1,12 +1,7 @@
 -- What a command about a line prints of the line's position.
 use Rattle.std.specs.Prelude.{◌≡◌, ℕ, List, true, ⊤}
 use Rattle.kalah_rules.specs.Position.{Position}
-use Rattle.kalah_cli.specs.Commands.Count.{count_output}
-use Rattle.kalah_cli.specs.Commands.Moves.{moves_output}
-use Rattle.kalah_cli.specs.Commands.Play.{MayBegin, play_output}
-use Rattle.kalah_cli.specs.Commands.Show.{show_output}
-use Rattle.kalah_cli.specs.declared.arguments.request.LineCommand.{LineCommand}
-use Rattle.kalah_cli.specs.declared.arguments.request.LineCommand.TheVariants.{Moves, Play, Show, Count}
+use Rattle.kalah_cli.specs.{Commands.{Count.{count_output}, Moves.{moves_output}, Play.{MayBegin, play_output}, Show.{show_output}}, declared.arguments.request.LineCommand.{LineCommand, TheVariants.{Moves, Play, Show, Count}}}
 
 abbrev pub command_output : LineCommand → Position → List ℕ
 command_output (Moves boards) = moves_output boards

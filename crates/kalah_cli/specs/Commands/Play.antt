@@ -1,10 +1,7 @@
 -- What `kalah play` prints.
 use Rattle.std.specs.Prelude.{ℕ, List, ◌++◌, Option, Some, None, Contains, ⊤}
-use Rattle.kalah_rules.specs.Position.{Position}
-use Rattle.kalah_rules.specs.Play.{legal_houses}
-use Rattle.kalah_cli.specs.declared.arguments.request.PlayCommand.{PlayCommand}
-use Rattle.kalah_cli.specs.Commands.Moves.{board_lines}
-use Rattle.kalah_cli.specs.Commands.Game.{game_played, game_text, Lines}
+use Rattle.kalah_rules.specs.{Position.{Position}, Play.{legal_houses}}
+use Rattle.kalah_cli.specs.{declared.arguments.request.PlayCommand.{PlayCommand}, Commands.{Moves.{board_lines}, Game.{game_played, game_text, Lines}}}
 
 -- the position, if boards are drawn, and the moves of the game, with the value of the position of each, if values are asked for
 abbrev pub play_output : PlayCommand → Position → List ℕ

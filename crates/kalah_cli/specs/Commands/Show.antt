@@ -1,16 +1,8 @@
 -- What `kalah show` prints.
-use Rattle.std.specs.Prelude.{ℕ, List, [], ◌∷◌, ◌++◌, Bool, ◌==◌, ◌&&◌, ◌||◌, Option, count_by, find, flat_map, if◌then◌else◌, int_lt, length, nat_lt}
-use Rattle.std.specs.Option.{option_map_or}
-use Rattle.std.specs.List.{range_with_len}
-use Rattle.std.specs.Ordering.{int_eq}
-use Rattle.kalah_rules.specs.Position.{Position}
-use Rattle.kalah_rules.specs.Play.{position_after, step_of}
-use Rattle.kalah_solve.specs.Solver.MoveValues.{values_of}
-use Rattle.kalah_solve.specs.declared.solver.move_values.MoveValue.{MoveValue}
-use Rattle.kalah_jobs.specs.Files.Lines.{line_feed}
-use Rattle.kalah_jobs.specs.Writing.Picture.{picture_of}
-use Rattle.kalah_jobs.specs.Writing.Shown.{shown_of}
-use Rattle.kalah_jobs.specs.Writing.Variation.{variation_start}
+use Rattle.std.specs.{Prelude.{ℕ, List, [], ◌∷◌, ◌++◌, Bool, ◌==◌, ◌&&◌, ◌||◌, Option, count_by, find, flat_map, if◌then◌else◌, int_lt, length, nat_lt}, Option.{option_map_or}, List.{range_with_len}, Ordering.{int_eq}}
+use Rattle.kalah_rules.specs.{Position.{Position}, Play.{position_after, step_of}}
+use Rattle.kalah_solve.specs.{Solver.MoveValues.{values_of}, declared.solver.move_values.MoveValue.{MoveValue}}
+use Rattle.kalah_jobs.specs.{Files.Lines.{line_feed}, Writing.{Picture.{picture_of}, ValuesLine.{shown_of}, Variation.{variation_start}}}
 use Rattle.kalah_cli.specs.Commands.Game.{best_game, game_text, Houses}
 
 -- the move of v and best play after it, to the end of the game: its house, its value, and the houses that are moved, from this one on

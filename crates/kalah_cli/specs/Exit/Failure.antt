@@ -1,9 +1,7 @@
 -- What makes the program fail.
-use Rattle.std.specs.Prelude.{◌≡◌, ℕ, List, Contains, ⊤}
-use Rattle.std.specs.Borrow.{Bor}
+use Rattle.std.specs.{Prelude.{◌≡◌, ℕ, List, Contains, ⊤}, Borrow.{Bor}}
 use Rattle.kalah_run.specs.declared.batch.run_fault.RunFault.TheVariants.{OutOfMemory}
-use Rattle.kalah_cli.specs.declared.exit.failure.Failure.{Failure}
-use Rattle.kalah_cli.specs.declared.exit.failure.Failure.TheVariants.{Run, Unreadable}
+use Rattle.kalah_cli.specs.declared.exit.failure.Failure.{Failure, TheVariants.{Run, Unreadable}}
 
 -- the file of this name can't be read, or there is no memory for it
 abbrev pub FailsToRead : Bor (List ℕ) → Failure → Type 0

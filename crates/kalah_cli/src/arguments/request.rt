@@ -1,11 +1,9 @@
 //! The requests that a command line can make.
 ghost use Rattle.std.specs.Prelude.{◌≡◌, IfErr, IfOk, IfSome, Some, codes, is_some, map, true};
-ghost use Rattle.clap.specs.Words.{FailsBy, fault_of, first_of, kind_of};
-ghost use Rattle.clap.specs.declared.error.kind.ErrorKind.TheVariants.{OutOfMemory};
+ghost use Rattle.clap.specs.{Words.{FailsBy, fault_of, first_of, kind_of}, declared.error.kind.ErrorKind.TheVariants.{OutOfMemory}};
 ghost use Rattle.kalah_solve.specs.Table.Entries.{most_entries};
-ghost use Rattle.kalah_run.specs.Limits.{AreWorkers, IsTableSize, most_workers};
-ghost use Rattle.kalah_cli.specs.Arguments.Command.{kalah_app};
-ghost use Rattle.kalah_cli.specs.Arguments.Request.{AreMatches, IsAcceptedAs, IsCommandInRange, IsInRange, MayHaveNumber, name_of_question, is_set, number_given, rows_in, table_entries, task_of, task_of_ask, task_of_files, task_of_matches, worker_count};
+ghost use Rattle.kalah_run.specs.Limits.{IsWorkerCount, IsTableSize, most_workers};
+ghost use Rattle.kalah_cli.specs.Arguments.{Command.{kalah_app}, Request.{AreMatches, IsAcceptedAs, IsCommandInRange, IsInRange, MayHaveNumber, name_of_question, is_set, number_given, rows_in, table_entries, task_of, task_of_ask, task_of_files, task_of_matches, worker_count}};
 
 use crate::arguments::command::command;
 use crate::arguments::subcommands::{DEFAULT_ENTRIES, DEFAULT_WORKERS};
@@ -86,7 +84,7 @@ pub struct FilesRequest<'a> {
 fn worker_count(matches: &ArgMatches<'_>) -> u32
     requires { MayHaveNumber (codes "workers") 1 most_workers (rows_in matches.now) }
     ensures number { result ≡ worker_count (rows_in matches.now) }
-    ensures range { AreWorkers result }
+    ensures range { IsWorkerCount result }
 {
     matches.get_one::<u32>("workers").unwrap_or(DEFAULT_WORKERS)
 }
@@ -212,8 +210,8 @@ fn requested<'a>(alloc: Global, name: &str, matches: &ArgMatches<'a>) -> Result<
     })
 }
 
-/// Parses the arguments, whose first is the program's name. Fails with the command line's own
-/// error and its text: help or the version was asked for, an argument is wrong, or memory was refused.
+/// Parses the arguments, whose first is the program's name. Fails with clap's error, whose text says why: help or the version was asked
+/// for, an argument is wrong, or memory was refused.
 pub(crate) fn parse<'a, S: AsStr>(alloc: Global, arguments: &'a [S]) -> Result<Request<'a>, Error>
     ensures accepted { IfOk result
         (λ r. IsAcceptedAs (map S.text arguments.entry.now) (task_of r)) }

@@ -1,9 +1,7 @@
 //! `kalah ask`.
-ghost use Rattle.std.specs.Prelude.{◌≡◌, ◌↔◌, IfOk, IsErr, false, true};
-ghost use Rattle.std.specs.Io.Buffered.{reader_remaining};
+ghost use Rattle.std.specs.{Prelude.{◌≡◌, ◌↔◌, IfOk, IsErr, false, true}, Io.Buffered.{reader_remaining}};
 ghost use Rattle.kalah_run.specs.Limits.{IsTableSize};
-ghost use Rattle.kalah_cli.specs.Commands.Ask.{AnswersInput};
-ghost use Rattle.kalah_cli.specs.Exit.Ends.{exit_status_of};
+ghost use Rattle.kalah_cli.specs.{Commands.Ask.{AnswersInput}, Exit.Ends.{exit_status_of}};
 
 use crate::commands::game_solver::new_solver;
 use crate::exit::failure::Failure;

@@ -1,17 +1,15 @@
 //! `kalah count DEPTH LINE`.
 ghost use Rattle.std.specs.Prelude.{◌≡◌, ◌≤◌, false};
-ghost use Rattle.kalah_rules.specs.Limits.{most_depth};
-ghost use Rattle.kalah_rules.specs.Ways.{ways};
+ghost use Rattle.kalah_rules.specs.{Limits.{most_depth}, Ways.{ways}};
 ghost use Rattle.kalah_jobs.specs.Writing.Sink.{WasGiven};
-ghost use Rattle.kalah_cli.specs.Exit.Ends.{IsPrinted};
-ghost use Rattle.kalah_cli.specs.Commands.Count.{count_output, ways_lines};
+ghost use Rattle.kalah_cli.specs.Commands.{Count.{count_output, ways_lines}, Printing.{IsPrinted}};
 
 use kalah_jobs::{Sink, flush_unless_failed, write_total, write_ways};
 use kalah_rules::Board;
 
 // Returns the number of ways of `depth` moves. Before, it writes for each legal move, houses in ascending order, how many of them begin
 // with it. Each line is flushed before the next one is counted. If the output has failed, nothing more is counted, and it returns 0.
-fn write_houses<O: Sink>(board: &Board, depth: u8, out: &mut O) -> u64
+fn write_ways_by_house<O: Sink>(board: &Board, depth: u8, out: &mut O) -> u64
     requires { depth ≤ most_depth }
     ensures total { (O.state out.new).has_failed ≡ false → result ≡ ways depth board.now }
     ensures given { WasGiven O.state out.old out.new (ways_lines depth board.now) }
@@ -40,7 +38,7 @@ pub(crate) fn write_count<O: Sink>(board: &Board, depth: u8, out: &mut O)
     requires { depth ≤ most_depth }
     ensures { IsPrinted O.state out.old out.new (count_output depth board.now) }
 {
-    let total = write_houses(board, depth, out);
+    let total = write_ways_by_house(board, depth, out);
     write_total(out, total);
     flush_unless_failed(out);
 }

@@ -1,13 +1,10 @@
 //! A game, move by move.
 ghost use Rattle.std.specs.Prelude.{◌≡◌, [], IfNone, IfSome, None, Some};
 ghost use Rattle.kalah_jobs.specs.Writing.Sink.{WasGiven};
-ghost use Rattle.kalah_cli.specs.Exit.Ends.{IsPrinted};
-ghost use Rattle.kalah_cli.specs.Commands.Game.{IsNextMove, game_played, game_text, move_text, printed_value};
-ghost use Rattle.kalah_cli.specs.Commands.Play.{MayBegin};
-ghost use Rattle.kalah_cli.specs.Commands.GameSolver.{IsReached, begun};
+ghost use Rattle.kalah_cli.specs.Commands.{Game.{IsNextMove, game_played, game_text, move_text, printed_value}, Play.{MayBegin}, Printing.{IsPrinted}, GameSolver.{IsReached, begun}};
 
 use crate::commands::game_solver::GameSolver;
-use crate::commands::moves::{board_after, write_move};
+use crate::commands::moves::write_move;
 use kalah_jobs::{Sink, flush_unless_failed, write_next_house};
 use kalah_rules::{Board, Step};
 use kalah_solve::Verdict;
@@ -99,5 +96,5 @@ pub(crate) fn write_game<O: Sink>(
     };
     let step = board.apply(house);
     write_in_form(solver.form, value, house, &step, out);
-    write_game(solver, board_after(&step), None, out);
+    write_game(solver, step.board(), None, out);
 }

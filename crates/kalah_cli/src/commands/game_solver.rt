@@ -1,9 +1,7 @@
 //! The solvers of `ask`, `play` and `show`.
 ghost use Rattle.std.specs.Prelude.{◌≡◌, IfOk, true};
-ghost use Rattle.kalah_solve.specs.Solver.MoveValues.{values_of};
-ghost use Rattle.kalah_solve.specs.Solver.Verdict.{IsSmallVerdict, StatesBestPlay, verdict_of};
-ghost use Rattle.kalah_jobs.specs.Writing.Sink.{WasGiven};
-ghost use Rattle.kalah_jobs.specs.Writing.Picture.{picture_of};
+ghost use Rattle.kalah_solve.specs.Solver.{MoveValues.{values_of}, Verdict.{IsVerdictInRange, StatesBestPlay, verdict_of}};
+ghost use Rattle.kalah_jobs.specs.Writing.{Sink.{WasGiven}, Picture.{picture_of}};
 ghost use Rattle.kalah_run.specs.Limits.{IsTableSize};
 ghost use Rattle.kalah_cli.specs.Commands.GameSolver.{HasTable, IsReached, begun};
 
@@ -64,7 +62,7 @@ impl<O: Sink> GameSolver<O> {
         ensures begun { begun self.new ≡ begun self.old }
         ensures verdict { result ≡ verdict_of board.now }
         ensures best_play { StatesBestPlay board.now result }
-        ensures small { IsSmallVerdict result }
+        ensures small { IsVerdictInRange result }
     {
         self.solver.solve(board)
     }

@@ -1,10 +1,6 @@
 //! `kalah moves LINE`, `kalah play LINE`, `kalah show LINE` and `kalah count DEPTH LINE`.
 ghost use Rattle.std.specs.Prelude.{◌≡◌, IsErr, MatchResult, OnOk, false};
-ghost use Rattle.kalah_cli.specs.Exit.Ends.{IsPrinted, exit_status_of};
-ghost use Rattle.kalah_cli.specs.Commands.LineCommand.{MayPrint, SearchesNothing, command_output};
-ghost use Rattle.kalah_cli.specs.Arguments.Request.{IsCommandInRange, about_line};
-ghost use Rattle.kalah_cli.specs.Runs.{Does};
-ghost use Rattle.kalah_cli.specs.System.Sources.{any_bytes};
+ghost use Rattle.kalah_cli.specs.{Exit.Ends.{exit_status_of}, Commands.{LineCommand.{MayPrint, SearchesNothing, command_output}, Printing.{IsPrinted}}, Arguments.Request.{IsCommandInRange, about_line}, Runs.{Does}, System.Sources.{any_bytes}};
 
 use crate::arguments::request::LineCommand;
 use crate::commands::count::write_count;

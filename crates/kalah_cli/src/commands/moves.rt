@@ -1,24 +1,11 @@
 //! `kalah moves LINE`.
-ghost use Rattle.std.specs.Prelude.{◌≡◌};
-ghost use Rattle.kalah_rules.specs.Play.{position_after};
 ghost use Rattle.kalah_jobs.specs.Writing.Sink.{WasGiven};
-ghost use Rattle.kalah_cli.specs.Exit.Ends.{IsPrinted};
-ghost use Rattle.kalah_cli.specs.Commands.Moves.{board_lines, move_lines, moves_output};
+ghost use Rattle.kalah_cli.specs.Commands.{Moves.{board_lines, move_lines, moves_output}, Printing.{IsPrinted}};
 
 use kalah_jobs::{Sink, flush_unless_failed, write_picture, write_step};
 use kalah_rules::{Board, Step};
 
-// Returns the board that a step leads to.
-#[tactic(auto, using(crate::proofs::GameLemmas::after_step))]
-pub(crate) fn board_after(step: &Step) -> &Board
-    ensures { result.now ≡ position_after step.now }
-{
-    match step {
-        Step::Again(board) | Step::Turn(board) | Step::Over(board) => board,
-    }
-}
-
-// Draws the board, if boards are drawn.
+/// Draws the board, if boards are drawn.
 #[tactic(auto, using(kalah_jobs::proofs::SinkLemmas::given_none))]
 pub(crate) fn write_board<O: Sink>(board: &Board, boards: bool, out: &mut O)
     ensures { WasGiven O.state out.old out.new (board_lines boards board.now) }
@@ -28,7 +15,7 @@ pub(crate) fn write_board<O: Sink>(board: &Board, boards: bool, out: &mut O)
     }
 }
 
-// Writes the line of a move, and below it the board after it, if boards are drawn.
+/// Writes the line of a move, and below it the board after it, if boards are drawn.
 pub(crate) fn write_move<O: Sink>(
     house: u8,
     step: &Step,
@@ -39,7 +26,7 @@ pub(crate) fn write_move<O: Sink>(
     ensures { WasGiven O.state out.old out.new (move_lines boards value house step.now) }
 {
     write_step(out, house, step, value);
-    write_board(board_after(step), boards, out);
+    write_board(step.board(), boards, out);
 }
 
 /// Prints each legal move of a board, houses in ascending order, and draws the board after each if boards are drawn. It allocates nothing.

@@ -1,8 +1,7 @@
 //! `kalah play LINE`.
 ghost use Rattle.std.specs.Prelude.{◌≡◌, IfNone, IfSome, MatchResult, OnOk};
 ghost use Rattle.kalah_run.specs.Limits.{IsTableSize};
-ghost use Rattle.kalah_cli.specs.Exit.Ends.{IsPrinted};
-ghost use Rattle.kalah_cli.specs.Commands.Play.{MayBegin, play_output};
+ghost use Rattle.kalah_cli.specs.Commands.{Play.{MayBegin, play_output}, Printing.{IsPrinted}};
 
 use crate::arguments::request::PlayCommand;
 use crate::commands::game::{MoveForm, write_game};

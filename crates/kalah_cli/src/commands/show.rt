@@ -1,17 +1,13 @@
 //! `kalah show LINE`.
 ghost use Rattle.std.specs.Prelude.{◌≡◌, IsErr, MatchResult, false, true};
 ghost use Rattle.kalah_solve.specs.Solver.MoveValues.{values_of};
-ghost use Rattle.kalah_jobs.specs.Writing.Sink.{WasGiven};
-ghost use Rattle.kalah_jobs.specs.Writing.Picture.{picture_of};
+ghost use Rattle.kalah_jobs.specs.Writing.{Sink.{WasGiven}, Picture.{picture_of}};
 ghost use Rattle.kalah_run.specs.Limits.{IsTableSize};
-ghost use Rattle.kalah_cli.specs.Exit.Ends.{IsPrinted};
-ghost use Rattle.kalah_cli.specs.Commands.Show.{is_better, move_of_rank, rank_in, ranked_line, show_output, variation_lines};
-ghost use Rattle.kalah_cli.specs.Commands.GameSolver.{ShowsValues, begun};
+ghost use Rattle.kalah_cli.specs.Commands.{Show.{is_better, move_of_rank, rank_in, ranked_line, show_output, variation_lines}, Printing.{IsPrinted}, GameSolver.{ShowsValues, begun}};
 
 use crate::arguments::request::ShowCommand;
 use crate::commands::game::{MoveForm, write_game};
 use crate::commands::game_solver::GameSolver;
-use crate::commands::moves::board_after;
 use crate::exit::failure::Failure;
 use kalah_jobs::{
     Sink, flush_unless_failed, write_picture, write_unless_failed, write_values,
@@ -83,7 +79,7 @@ fn write_variation<O: Sink>(
     };
     write_variation_start(out, value);
     let step = board.apply(value.house);
-    write_game(solver, board_after(&step), None, out);
+    write_game(solver, step.board(), None, out);
     write_unless_failed(out, b"\n");
 }
 

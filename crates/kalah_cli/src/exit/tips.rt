@@ -1,7 +1,7 @@
 //! The tips that follow a refusal if standard error is a terminal. In a tip `{}` stands for an argument.
 use crate::exit::failure::Failure;
 use crate::system::read_files::ReadFault;
-use crate::system::terminal::write_escaped;
+use crate::system::terminal::{write_escaped, write_text};
 use kalah_jobs::{FileText, read_line};
 use kalah_run::RunFault;
 use std::io::Write;
@@ -47,15 +47,18 @@ fn is_side(text: &str) -> bool {
     slashes == 1
 }
 
-// Writes a tip about an argument.
+// Writes a tip, which may be about an argument.
 fn write_tip<E: Write>(tip: &str, argument: &str, err: &mut E) {
-    let (before, argument, after) = match tip.split_once("{}") {
-        Some((before, after)) => (before, argument, after),
-        None => (tip, "", ""),
-    };
-    let _ = write!(err, "  tip: {before}");
-    write_escaped(argument, true, err);
-    let _ = writeln!(err, "{after}");
+    write_text("  tip: ", err);
+    match tip.split_once("{}") {
+        Some((before, after)) => {
+            write_text(before, err);
+            write_escaped(argument, true, err);
+            write_text(after, err);
+        }
+        None => write_text(tip, err),
+    }
+    write_text("\n", err);
 }
 
 // Returns the tip for a file of this name that can't be read.
@@ -101,7 +104,7 @@ pub(crate) fn advise_on_files<E: Write>(files: &[FileText], err: &mut E) {
         let bytes = file.bytes.as_slice();
         for (mark, tip) in MARKS {
             if bytes.starts_with(*mark) {
-                let _ = writeln!(err, "  tip: {tip}");
+                write_tip(tip, "", err);
                 return;
             }
         }

@@ -1,3 +1,4 @@
+//! Runs of the program on arguments: the exit status, and what both outputs get.
 ghost use Rattle.std.specs.Prelude.{◌<◌, vec_len};
 
 mod known;

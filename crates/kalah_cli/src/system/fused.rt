@@ -1,8 +1,5 @@
 //! A writer that is not called again after its first error.
-ghost use Rattle.std.specs.Prelude.{◌≡◌, ◌≢◌, ◌↔◌, [], true, false, IfErr, IfOk, IsErr, OnOk};
-ghost use Rattle.std.specs.IoError.{error_kind};
-ghost use Rattle.std.specs.Io.{WritesAtMost};
-ghost use Rattle.std.specs.Io.KnownBytes.{Keeps, WriteAppends};
+ghost use Rattle.std.specs.{Prelude.{◌≡◌, ◌≢◌, ◌↔◌, [], true, false, IfErr, IfOk, IsErr, OnOk}, IoError.{error_kind}, Io.{WritesAtMost, KnownBytes.{Keeps, WriteAppends}}};
 
 use std::io;
 use std::io::{ErrorKind, Write};

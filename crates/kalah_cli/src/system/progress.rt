@@ -116,7 +116,7 @@ impl<'a, R: Clock + Terminal, E: Write> Progress<'a, R, E> {
 }
 
 impl<R: Clock + Terminal, E: Write> Watch for Progress<'_, R, E> {
-    fn accepts(&mut self) {
+    fn on_accepted(&mut self) {
         self.answered = self.answered.saturating_add(1);
         let parts = if self.in_place { 1000 } else { 100 };
         if share(self.answered, self.lines, parts) > share(self.shown, self.lines, parts) {
@@ -124,7 +124,7 @@ impl<R: Clock + Terminal, E: Write> Watch for Progress<'_, R, E> {
         }
     }
 
-    fn waits(&mut self) {
+    fn before_wait(&mut self) {
         if self.in_place && self.answered > self.shown {
             self.show();
         }

@@ -1,6 +1,5 @@
 //! The standard output of the program.
-ghost use Rattle.std.specs.Prelude.{◌≡◌, ◌==◌, false, length};
-ghost use Rattle.std.specs.Io.Buffered.{writer_buffer, writer_contents};
+ghost use Rattle.std.specs.{Prelude.{◌≡◌, ◌==◌, false, length}, Io.Buffered.{writer_buffer, writer_contents}};
 
 use kalah_jobs::{Sink, write_pieces};
 use std::io;

@@ -1,10 +1,7 @@
 //! Reads whole files.
-ghost use Rattle.std.specs.Prelude.{◌≡◌, ◌≢◌, ◌<◌, ◌≤◌, All, IfErr, IfOk, IfSome, IsErrOf, OnOk, length, map, vec_len};
-ghost use Rattle.std.specs.Io.KnownBytes.{Consumes, IsAtEnd};
+ghost use Rattle.std.specs.{Prelude.{◌≡◌, ◌≢◌, ◌<◌, ◌≤◌, All, IfErr, IfOk, IfSome, IsErrOf, OnOk, length, map, vec_len}, Io.KnownBytes.{Consumes, IsAtEnd}};
 ghost use Rattle.kalah_jobs.specs.Limits.{most_file_bytes};
-ghost use Rattle.kalah_cli.specs.Exit.Failure.{FailsToRead, FailsToReadOneOf};
-ghost use Rattle.kalah_cli.specs.declared.exit.failure.Failure.TheVariants.{Unreadable};
-ghost use Rattle.kalah_cli.specs.System.Sources.{AreFilesOf, file_named};
+ghost use Rattle.kalah_cli.specs.{Exit.Failure.{FailsToRead, FailsToReadOneOf}, declared.exit.failure.Failure.TheVariants.{Unreadable}, System.Sources.{AreFilesOf, file_named}};
 
 use crate::exit::failure::Failure;
 use crate::system::sources::Sources;

@@ -42,12 +42,12 @@ pub(crate) fn write_escaped<E: Write>(text: &str, on_terminal: bool, err: &mut E
     for shown in text.chars() {
         let mut bytes = [0u8; 4];
         let text = shown.encode_utf8(&mut bytes);
-        if !is_hidden(shown) {
+        if is_hidden(shown) {
+            for byte in text.as_bytes() {
+                let _ = write!(err, "\\{byte:03o}");
+            }
+        } else {
             write_text(text, err);
-            continue;
-        }
-        for byte in text.as_bytes() {
-            let _ = write!(err, "\\{byte:03o}");
         }
     }
 }

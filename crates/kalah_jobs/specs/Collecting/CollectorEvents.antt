@@ -1,11 +1,6 @@
 -- What offers and takes do, and what a list of them determines without the collector.
-use Rattle.std.specs.List.{enumerate_from}
-use Rattle.std.specs.Prelude.{◌≡◌, ℕ, ◌+◌, ◌<◌, ◌≤◌, ◌==◌, if◌then◌else◌, List, [], ◌∷◌, length, map, Option, Some, None, Result, MatchOption, MatchResult, IsSomeAnd, Contains}
-use Rattle.kalah_jobs.specs.Collecting.CollectorState.{ArrivalsState, state_of, front, IsNext, HasNoNext, after_offer, after_take}
-use Rattle.kalah_jobs.specs.Collecting.Refusals.{IsWanted, IsRefusedFor}
-use Rattle.kalah_jobs.specs.Files.JobList.{entries_of, entry_at, line_job}
-use Rattle.kalah_jobs.specs.Types.{Entry, Taken, Refusal, Job}
-use Rattle.kalah_jobs.specs.Writing.Answer.{answer_of}
+use Rattle.std.specs.{List.{enumerate_from}, Prelude.{◌≡◌, ℕ, ◌+◌, ◌<◌, ◌≤◌, ◌==◌, if◌then◌else◌, List, [], ◌∷◌, length, map, Option, Some, None, Result, MatchOption, MatchResult, IsSomeAnd, Contains}}
+use Rattle.kalah_jobs.specs.{Collecting.{CollectorState.{ArrivalsState, state_of, front, IsNext, HasNoNext, after_offer, after_take}, Refusals.{IsWanted, IsRefusedFor}}, Files.JobList.{entries_of, entry_at, line_job}, Types.{Entry, Taken, Refusal, Job}, Writing.Answer.{answer_of}}
 
 -- an offer is accepted: the answer of its entry is kept, and `ready` lines of its file became ready
 pub record Accepts (jobs : List (List Entry)) (files : List ArrivalsState) (o : Job) (ready : ℕ) (after : List ArrivalsState) : Type 0 where
@@ -20,13 +15,13 @@ pub record Refuses (jobs : List (List Entry)) (files : List ArrivalsState) (o : 
 
 -- the result of an offer, and the files after it
 abbrev pub Offers : List (List Entry) → List ArrivalsState → Job → Result ℕ Refusal → List ArrivalsState → Type 0
-Offers jobs files o gave after = MatchResult gave (λ ready. Accepts jobs files o ready after)
+Offers jobs files o result after = MatchResult result (λ ready. Accepts jobs files o ready after)
     (λ refusal. Refuses jobs files o refusal after)
 
 -- a take returns the next line of the file
-pub record Gives (files : List ArrivalsState) (f : ℕ) (gave : Taken) (after : List ArrivalsState) : Type 0 where
+pub record Gives (files : List ArrivalsState) (f : ℕ) (result : Taken) (after : List ArrivalsState) : Type 0 where
   pub file_there : f < length files
-  pub next_line : IsNext (state_of files f) gave
+  pub next_line : IsNext (state_of files f) result
   pub kept : after ≡ after_take files f
 
 -- a take returns nothing, and nothing is changed
@@ -36,7 +31,7 @@ pub record GivesNothing (files : List ArrivalsState) (f : ℕ) (after : List Arr
 
 -- the result of a take of file f, and the files after it
 abbrev pub Takes : List ArrivalsState → ℕ → Option Taken → List ArrivalsState → Type 0
-Takes files f gave after = MatchOption gave (GivesNothing files f after) (λ taken. Gives files f taken after)
+Takes files f result after = MatchOption result (GivesNothing files f after) (λ taken. Gives files f taken after)
 
 -- an offer with the answer to it, or a take of a file with its result
 pub data Event : Type 0 where
@@ -46,8 +41,8 @@ pub data Event : Type 0 where
 -- what was offered, in order, accepted or refused
 abbrev pub offered_in : List Event → List Job
 offered_in [] = []
-offered_in (Offered o gave ∷ events) = o ∷ offered_in events
-offered_in (Took f gave ∷ events) = offered_in events
+offered_in (Offered o result ∷ events) = o ∷ offered_in events
+offered_in (Took f result ∷ events) = offered_in events
 
 -- the result of a take of file g, put before `rest` if the file is f
 abbrev pub with_taken : ℕ → ℕ → Option Taken → List Taken → List Taken
@@ -57,8 +52,8 @@ with_taken f g (Some t) rest = if g == f then t ∷ rest else rest
 -- the results of the takes of file f, in order
 abbrev pub taken_in : ℕ → List Event → List Taken
 taken_in f [] = []
-taken_in f (Offered o gave ∷ events) = taken_in f events
-taken_in f (Took g gave ∷ events) = with_taken f g gave (taken_in f events)
+taken_in f (Offered o result ∷ events) = taken_in f events
+taken_in f (Took g result ∷ events) = with_taken f g result (taken_in f events)
 
 -- line k of file f was offered with its entry
 abbrev pub HasArrived : List (List Entry) → List Event → ℕ → ℕ → Type 0

@@ -59,10 +59,10 @@ abbrev pub with_one_taken : ArrivalsState → ArrivalsState
 with_one_taken s = record { arrived = s.arrived; taken = s.taken + 1 }
 
 -- the line is the first of the file that was not taken, it is ready, and it has the answer that has arrived for it
-pub record IsNext (s : ArrivalsState) (gave : Taken) : Type 0 where
+pub record IsNext (s : ArrivalsState) (result : Taken) : Type 0 where
   pub ready : s.taken < front s
-  pub first : gave.line ≡ s.taken
-  pub came : arrived_for s gave.line ≡ Some gave.answer
+  pub first : result.line ≡ s.taken
+  pub came : arrived_for s result.line ≡ Some result.answer
 
 -- no line of the file is ready that was not taken
 abbrev pub HasNoNext : ArrivalsState → Type 0

@@ -1,9 +1,6 @@
 -- What a solver finds for an entry.
 use Rattle.kalah_solve.specs.declared.solver.Verdict.TheVariants.{Best, Over}
-use Rattle.kalah_jobs.specs.Types.{Entry, Answer}
-use Rattle.kalah_jobs.specs.Writing.Answer.{answer_of}
-use Rattle.kalah_jobs.specs.declared.collecting.found.Found.{Found}
-use Rattle.kalah_jobs.specs.declared.collecting.found.Found.TheVariants.{Verdict, Values, Nothing}
+use Rattle.kalah_jobs.specs.{Types.{Entry, Answer}, Writing.Answer.{answer_of}, declared.collecting.found.Found.{Found, TheVariants.{Verdict, Values, Nothing}}}
 use Rattle.kalah_jobs.specs.declared.writing.answer.Answer.TheVariants as answer
 
 -- what a solver finds for an answer

@@ -1,9 +1,6 @@
--- What a collector holds after these offers.
+-- What a collector holds after a list of offers.
 use Rattle.std.specs.Prelude.{◌≡◌, ℕ, ◌≤◌, List, Some, Contains}
-use Rattle.kalah_jobs.specs.Collecting.CollectorState.{ArrivalsState, state_of, arrived_for, front, HasLinesOf}
-use Rattle.kalah_jobs.specs.Files.JobList.{entry_at, line_job}
-use Rattle.kalah_jobs.specs.Types.{Entry, Answer, Job}
-use Rattle.kalah_jobs.specs.Writing.Answer.{answer_of}
+use Rattle.kalah_jobs.specs.{Collecting.CollectorState.{ArrivalsState, state_of, arrived_for, front, HasLinesOf}, Files.JobList.{entry_at, line_job}, Types.{Entry, Answer, Job}, Writing.Answer.{answer_of}}
 
 -- line k of file f is one of the jobs, the answer is that of its entry, and it was offered with that entry
 pub record IsOffered (jobs : List (List Entry)) (past : List Job) (f k : ℕ) (answer : Answer) : Type 0 where
@@ -20,6 +17,6 @@ pub record HoldsOffered (jobs : List (List Entry)) (past : List Job) (files : Li
   pub only : (f k : ℕ) (a : Answer) → arrived_for (state_of files f) k ≡ Some a → IsOffered jobs past f k a
 
 -- It holds what was offered, and no more was taken than is ready.
-pub record AreInStep (jobs : List (List Entry)) (past : List Job) (files : List ArrivalsState) : Type 0 where
+pub record AgreeWithOffers (jobs : List (List Entry)) (past : List Job) (files : List ArrivalsState) : Type 0 where
   pub offered : HoldsOffered jobs past files
   pub within : (f : ℕ) → (state_of files f).taken ≤ front (state_of files f)

@@ -1,9 +1,6 @@
 -- The parts of an outcome, from its job.
 use Rattle.std.proofs.Common.{ap, sym, ◌≡◌}
-use Rattle.kalah_jobs.specs.Collecting.Found.{found_of}
-use Rattle.kalah_jobs.specs.Types.{Job}
-use Rattle.kalah_jobs.specs.declared.collecting.found.Found.{Found}
-use Rattle.kalah_jobs.specs.declared.collecting.outcome.Outcome.TheInside.{Inside}
+use Rattle.kalah_jobs.specs.{Collecting.Found.{found_of}, Types.{Job}, declared.collecting.{found.Found.{Found}, outcome.Outcome.TheInside.{Inside}}}
 
 -- the one outcome of a job
 abbrev pub outcome_of : Job → Inside

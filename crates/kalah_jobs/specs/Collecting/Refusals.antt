@@ -1,9 +1,6 @@
 -- Which offers are accepted, and which refusal each other one meets: the first that holds.
 use Rattle.std.specs.Prelude.{◌≡◌, ◌≢◌, ◌<◌, ◌≤◌, List, length, Some, None, IsSome}
-use Rattle.kalah_jobs.specs.Collecting.CollectorState.{ArrivalsState, state_of, line_count, arrived_for, HasEnded}
-use Rattle.kalah_jobs.specs.Files.JobList.{entry_at}
-use Rattle.kalah_jobs.specs.Types.{Entry, Refusal, Job}
-use Rattle.kalah_jobs.specs.declared.collecting.refusal.Refusal.TheVariants.{NoSuchFile, FileEnded, NoSuchLine, WrongPosition, Double}
+use Rattle.kalah_jobs.specs.{Collecting.CollectorState.{ArrivalsState, state_of, line_count, arrived_for, HasEnded}, Files.JobList.{entry_at}, Types.{Entry, Refusal, Job}, declared.collecting.refusal.Refusal.TheVariants.{NoSuchFile, FileEnded, NoSuchLine, WrongPosition, Double}}
 
 -- the offer is of a file that is there
 abbrev pub HasFile : List ArrivalsState → Job → Type 0

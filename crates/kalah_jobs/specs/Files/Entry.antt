@@ -1,18 +1,14 @@
 -- The entry of a line of a file.
 use Rattle.std.specs.Prelude.{◌≡◌, ℕ, List, Bool, true, false, Result, Ok, Err}
 use Rattle.kalah_rules.specs.Position as position
-use Rattle.kalah_jobs.specs.Line.Line.{Reads, HasFault}
-use Rattle.kalah_jobs.specs.Line.Reading.{reading_of}
-use Rattle.kalah_jobs.specs.Types.{LineFault, Entry, Question}
-use Rattle.kalah_jobs.specs.declared.files.entry.Entry.TheVariants.{Position, ValuesOf, StepsOf, Bad}
-use Rattle.kalah_jobs.specs.declared.files.question.Question.TheVariants.{BestMove, Values, Steps}
+use Rattle.kalah_jobs.specs.{Line.{Line.{Reads, HasFault}, Reading.{reading_of}}, Types.{LineFault, Entry, Question}, declared.files.{entry.Entry.TheVariants.{Position, ValuesOf, StepsOf, Bad}, question.Question.TheVariants.{BestMove, Values, Steps}}}
 
--- the line says the entry: it is read as the position, or the fault is the first that holds of it. A question is no part of a line
-abbrev pub Says : List ℕ → Entry → Type 0
-Says line (Position p) = Reads line p
-Says line (ValuesOf p) = ⊥
-Says line (StepsOf p) = ⊥
-Says line (Bad fault) = HasFault line fault
+-- the line reads as the entry: as its position, or with its fault as the first that holds. A question is no part of a line
+abbrev pub ReadsAs : List ℕ → Entry → Type 0
+ReadsAs line (Position p) = Reads line p
+ReadsAs line (ValuesOf p) = ⊥
+ReadsAs line (StepsOf p) = ⊥
+ReadsAs line (Bad fault) = HasFault line fault
 
 -- the entry of a position, with this question
 abbrev pub entry_asked : Question → position.Position → Entry
@@ -44,5 +40,5 @@ is_faulty line = is_faulty_entry (entry_of line)
 
 -- each line says exactly one entry
 pub record EntriesAreOne : Type 0 where
-  pub some : (line : List ℕ) → Says line (entry_of line)
-  pub one : (line : List ℕ) (entry : Entry) → Says line entry → entry ≡ entry_of line
+  pub some : (line : List ℕ) → ReadsAs line (entry_of line)
+  pub one : (line : List ℕ) (entry : Entry) → ReadsAs line entry → entry ≡ entry_of line

@@ -1,13 +1,6 @@
 -- The jobs of a batch, from its files.
 use Rattle.std.specs.Prelude.{◌≡◌, ◌<◌, ◌≤◌, ℕ, List, length, map, take, sum_by, count_by, slice_index, Result, Ok, Err}
-use Rattle.kalah_jobs.specs.Files.Entry.{entry_to, is_faulty_entry}
-use Rattle.kalah_jobs.specs.Files.Lines.{lines_of}
-use Rattle.kalah_jobs.specs.Files.NamedBytes.{NamedBytes}
-use Rattle.kalah_jobs.specs.Limits.{most_files, most_lines}
-use Rattle.kalah_jobs.specs.Types.{Entry, Question}
-use Rattle.kalah_jobs.specs.declared.files.jobs.FileJobs.{FileJobs}
-use Rattle.kalah_jobs.specs.declared.files.jobs.JobsFault.{JobsFault}
-use Rattle.kalah_jobs.specs.declared.files.jobs.JobsFault.TheVariants.{TooManyFiles, TooManyLines, OutOfMemory}
+use Rattle.kalah_jobs.specs.{Files.{Entry.{entry_to, is_faulty_entry}, Lines.{lines_of}, NamedBytes.{NamedBytes}}, Limits.{most_files, most_lines}, Types.{Entry, Question}, declared.files.jobs.{FileJobs.{FileJobs}, JobsFault.{JobsFault, TheVariants.{TooManyFiles, TooManyLines, OutOfMemory}}}}
 
 -- the number of lines of a file
 abbrev pub lines_in : NamedBytes → ℕ
@@ -49,12 +42,12 @@ pub record AreStarts (jobs : List (List Entry)) (starts : List ℕ) : Type 0 whe
   pub before : (f : ℕ) → f < length jobs → slice_index starts f ≡ job_count (take f jobs)
 
 -- the files are within the limits of a batch
-abbrev pub AreFew : List NamedBytes → Type 0
-AreFew files = (length files ≤ most_files) × (lines_in_all files ≤ most_lines)
+abbrev pub AreWithinBatchLimits : List NamedBytes → Type 0
+AreWithinBatchLimits files = (length files ≤ most_files) × (lines_in_all files ≤ most_lines)
 
 -- what is made of files: their jobs, with this asked of their positions, or the first of the faults that holds
 abbrev pub MakesJobs : Question → List NamedBytes → Result (List (List Entry)) JobsFault → Type 0
-MakesJobs question files (Ok jobs) = AreFew files × (jobs ≡ jobs_to question files)
+MakesJobs question files (Ok jobs) = AreWithinBatchLimits files × (jobs ≡ jobs_to question files)
 MakesJobs question files (Err TooManyFiles) = most_files < length files
 MakesJobs question files (Err TooManyLines) = (length files ≤ most_files) × (most_lines < lines_in_all files)
-MakesJobs question files (Err OutOfMemory) = AreFew files
+MakesJobs question files (Err OutOfMemory) = AreWithinBatchLimits files

@@ -1,6 +1,5 @@
 -- The lines of a file: its pieces between line feeds.
-use Rattle.std.specs.List.{flat_map, onto_first}
-use Rattle.std.specs.Prelude.{◌≡◌, ◌≢◌, ◌⊎◌, ◌==◌, if◌then◌else◌, ℕ, List, [], ◌∷◌, ◌++◌, All}
+use Rattle.std.specs.{List.{flat_map, onto_first}, Prelude.{◌≡◌, ◌≢◌, ◌⊎◌, ◌==◌, if◌then◌else◌, ℕ, List, [], ◌∷◌, ◌++◌, All}}
 
 -- the byte that ends a line
 abbrev pub line_feed : ℕ

@@ -1,15 +1,7 @@
 -- How a position is written in a line, as `1,1/0 1,1/0`, and which lines are read.
-use Rattle.std.specs.Char.{IsAsciiDigit}
-use Rattle.std.specs.List.{join_with_byte}
-use Rattle.std.specs.Prelude.{◌≡◌, ◌≢◌, ℕ, ◌+◌, ◌-◌, ◌*◌, ◌<◌, ◌≤◌, ◌==◌, if◌then◌else◌, List, [], ◌∷◌, ◌++◌, length, map, codes, decimal}
-use Rattle.kalah_rules.specs.Limits.{most_houses, most_seeds}
-use Rattle.kalah_rules.specs.Play.{position_after}
-use Rattle.kalah_rules.specs.Position.{Position, side_length, seeds_in_houses}
-use Rattle.kalah_rules.specs.declared.step.Step.{Step}
-use Rattle.kalah_rules.specs.declared.step.Step.TheVariants.{Again, Turn, Over}
-use Rattle.kalah_jobs.specs.Limits.{most_line_bytes}
-use Rattle.kalah_jobs.specs.Line.LineFault.{order_of}
-use Rattle.kalah_jobs.specs.Types.{LineFault, Rule, Classic, EmptyCapture, Long, Empty, Shape, Houses, Seeds}
+use Rattle.std.specs.{Char.{IsAsciiDigit}, List.{join_with_byte}, Prelude.{◌≡◌, ◌≢◌, ℕ, ◌+◌, ◌-◌, ◌*◌, ◌<◌, ◌≤◌, ◌==◌, if◌then◌else◌, List, [], ◌∷◌, ◌++◌, length, map, codes, decimal}}
+use Rattle.kalah_rules.specs.{Limits.{most_houses, most_seeds}, Play.{position_after}, Position.{Position, side_length, seeds_in_houses}, declared.step.Step.{Step, TheVariants.{Again, Turn, Over}}}
+use Rattle.kalah_jobs.specs.{Limits.{most_line_bytes}, Line.LineFault.{order_of}, Types.{LineFault, Rule, Classic, EmptyCapture, Long, Empty, Shape, Houses, Seeds}}
 
 -- the byte of `0`, after which come those of the other digits
 abbrev pub zero_digit : ℕ
@@ -76,7 +68,7 @@ abbrev pub suffix_of : Rule → List ℕ
 suffix_of Classic = []
 suffix_of EmptyCapture = codes " e"
 
--- the text writes the position, of any number of houses and seeds: the mover's side, a space, the other player's side
+-- the text writes the position, of any number of houses and seeds: the mover's side, a space, the opponent's side
 -- and the suffix of the rule
 pub record IsLineOf (text : List ℕ) (p : Position) : Type 0 where
   pub own_text : List ℕ

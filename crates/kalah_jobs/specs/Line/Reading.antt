@@ -1,12 +1,8 @@
 -- How a line is read, as a parser, so that what it is read as is a value. That this agrees with the grammar, for every line, is the law
 -- `EntriesAreOne`.
-use Rattle.std.specs.Char.{is_ascii_digit}
-use Rattle.std.specs.Prelude.{ℕ, zero, suc, ◌+◌, ◌-◌, ◌*◌, ◌==◌, ◌&&◌, not, nat_lt, if◌then◌else◌, List, [], ◌∷◌, ◌++◌, length, Option, Some, None, Result, Ok, Err}
-use Rattle.kalah_rules.specs.Limits.{most_houses, most_seeds}
-use Rattle.kalah_rules.specs.Position.{Position, side_length, seeds_in_houses}
-use Rattle.kalah_jobs.specs.Limits.{most_line_bytes}
-use Rattle.kalah_jobs.specs.Line.Line.{zero_digit, comma, slash, space, letter_e, without_cr}
-use Rattle.kalah_jobs.specs.Types.{LineFault, Rule, Classic, EmptyCapture, Long, Empty, Shape, Houses, Seeds}
+use Rattle.std.specs.{Char.{is_ascii_digit}, Prelude.{ℕ, zero, suc, ◌+◌, ◌-◌, ◌*◌, ◌==◌, ◌&&◌, not, nat_lt, if◌then◌else◌, List, [], ◌∷◌, ◌++◌, length, Option, Some, None, Result, Ok, Err}}
+use Rattle.kalah_rules.specs.{Limits.{most_houses, most_seeds}, Position.{Position, side_length, seeds_in_houses}}
+use Rattle.kalah_jobs.specs.{Limits.{most_line_bytes}, Line.Line.{zero_digit, comma, slash, space, letter_e, without_cr}, Types.{LineFault, Rule, Classic, EmptyCapture, Long, Empty, Shape, Houses, Seeds}}
 
 -- a first step of a reading, and with its value the next one
 infixl 10 ◌>>=◌

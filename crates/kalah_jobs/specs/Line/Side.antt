@@ -1,10 +1,7 @@
 -- The houses of a side, as they are kept, and the sides of a position.
 use Rattle.std.specs.Prelude.{◌≡◌, ◌⊎◌, ℕ, ◌+◌, ◌<◌, ◌≤◌, List, length, sum, Some}
-use Rattle.kalah_rules.specs.Limits.{most_houses, most_in_store, most_seeds}
-use Rattle.kalah_rules.specs.Position.{Position}
-use Rattle.kalah_jobs.specs.Line.Reading.{side_at}
-use Rattle.kalah_jobs.specs.Types.{Rule}
-use Rattle.kalah_jobs.specs.declared.line.side.Side.{Side}
+use Rattle.kalah_rules.specs.{Limits.{most_houses, most_in_store, most_seeds}, Position.{Position}}
+use Rattle.kalah_jobs.specs.{Line.Reading.{side_at}, Types.{Rule}, declared.line.side.Side.{Side}}
 
 -- the houses or their seeds are too many for a board, so that some are left out
 pub record HaveNoRoom (houses : List ℕ) (left_out : ℕ) : Type 0 where
@@ -30,5 +27,5 @@ pub record AreSidesOf (p : Position) (own other : Side) (rule : Rule) : Type 0 w
   pub other_store : other.store ≡ p.other_store
   pub same_rule : rule ≡ p.rule
   pub some_house : 1 ≤ length p.own
-  pub own_store_low : p.own_store ≤ most_in_store
-  pub other_store_low : p.other_store ≤ most_in_store
+  pub own_store_few : p.own_store ≤ most_in_store
+  pub other_store_few : p.other_store ≤ most_in_store

@@ -1,18 +1,9 @@
 -- The answer to a line, and how it is printed.
-use Rattle.std.specs.Fmt.{signed_decimal}
-use Rattle.std.specs.List.{join_with_byte}
-use Rattle.std.specs.Prelude.{ℕ, ◌+◌, List, [], ◌∷◌, ◌++◌, map, if◌then◌else◌, codes, decimal, ⊤}
-use Rattle.kalah_rules.specs.Play.{legal_houses, step_of}
+use Rattle.std.specs.{Fmt.{signed_decimal}, List.{join_with_byte}, Prelude.{ℕ, ◌+◌, List, [], ◌∷◌, ◌++◌, map, if◌then◌else◌, codes, decimal, ⊤}}
+use Rattle.kalah_rules.specs.{Play.{legal_houses, step_of}, Position.{is_over, final_margin}}
 use Rattle.kalah_rules.specs.Position as position
-use Rattle.kalah_rules.specs.Position.{is_over, final_margin}
-use Rattle.kalah_solve.specs.Solver.MoveValues.{values_of}
-use Rattle.kalah_solve.specs.Solver.Worth.{worth, best_house}
-use Rattle.kalah_jobs.specs.Files.Lines.{line_feed}
-use Rattle.kalah_jobs.specs.Line.Line.{space, step_text_of}
-use Rattle.kalah_jobs.specs.Line.LineFault.{fault_word}
-use Rattle.kalah_jobs.specs.Types.{Entry, Answer, Taken, MoveValue}
-use Rattle.kalah_jobs.specs.declared.files.entry.Entry.TheVariants.{Position, ValuesOf, StepsOf, Bad}
-use Rattle.kalah_jobs.specs.declared.writing.answer.Answer.TheVariants.{Best, Over, Values, Steps, Fault}
+use Rattle.kalah_solve.specs.Solver.{MoveValues.{values_of}, Worth.{worth, best_house}}
+use Rattle.kalah_jobs.specs.{Files.Lines.{line_feed}, Line.{Line.{space, step_text_of}, LineFault.{fault_word}}, Types.{Entry, Answer, Taken, MoveValue}, declared.{files.entry.Entry.TheVariants.{Position, ValuesOf, StepsOf, Bad}, writing.answer.Answer.TheVariants.{Best, Over, Values, Steps, Fault}}}
 
 -- the final margin of a game that is over, otherwise this answer
 abbrev pub unless_over : position.Position → Answer → Answer

@@ -1,14 +1,6 @@
 -- What a batch writes, and what it counts.
-use Rattle.std.specs.List.{flat_map, enumerate_from}
-use Rattle.std.specs.Prelude.{◌≡◌, ℕ, List, [], length, map, sum_by, count_by, slice_index_or}
-use Rattle.kalah_jobs.specs.Files.Entry.{entry_to, is_faulty}
-use Rattle.kalah_jobs.specs.Files.JobList.{job_list}
-pub use Rattle.kalah_jobs.specs.Files.JobList.{is_faulty_job}
-use Rattle.kalah_jobs.specs.Files.Jobs.{jobs_to, lines_in_all}
-use Rattle.kalah_jobs.specs.Files.Lines.{lines_of}
-use Rattle.kalah_jobs.specs.Files.NamedBytes.{NamedBytes}
-use Rattle.kalah_jobs.specs.Types.{BestMove, Entry, Taken, Tally, Question}
-use Rattle.kalah_jobs.specs.Writing.Answer.{answer_of, answer_output}
+use Rattle.std.specs.{List.{flat_map, enumerate_from}, Prelude.{◌≡◌, ℕ, List, [], length, map, sum_by, count_by, slice_index_or}}
+use Rattle.kalah_jobs.specs.{Files.{Entry.{entry_to, is_faulty}, JobList.{job_list, is_faulty_job}, Jobs.{jobs_to, lines_in_all}, Lines.{lines_of}, NamedBytes.{NamedBytes}}, Types.{BestMove, Entry, Taken, Tally, Question}, Writing.Answer.{answer_of, answer_output}}
 
 -- what is written for a line of a file, given with its number, which counts from 0, if this is asked of its position
 abbrev pub line_output : Question → List ℕ → ℕ × List ℕ → List ℕ

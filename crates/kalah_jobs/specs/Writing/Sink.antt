@@ -1,6 +1,5 @@
 -- What a sink has of the bytes that it was given, and when its caller may wait.
-use Rattle.std.specs.Io.KnownBytes.{Appends}
-use Rattle.std.specs.Prelude.{◌≡◌, ℕ, Bool, true, false, List, Option, take}
+use Rattle.std.specs.{Io.KnownBytes.{Appends}, Prelude.{◌≡◌, ℕ, Bool, true, false, List, Option, take}}
 
 -- known bytes stay at the front and grow by a prefix of the text: by its first n bytes, for some n
 abbrev pub AppendsPrefix : Option (List ℕ) → Option (List ℕ) → List ℕ → Type 0

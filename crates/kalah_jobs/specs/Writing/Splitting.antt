@@ -1,10 +1,6 @@
 -- How a batch can be split over machines: by its files, and within a file between two lines.
-use Rattle.std.specs.List.{flat_map, enumerate_from}
-use Rattle.std.specs.Prelude.{◌≡◌, ℕ, ◌+◌, List, [], ◌∷◌, ◌++◌, length}
-use Rattle.kalah_jobs.specs.Files.Lines.{lines_of, EndsWithItsLine}
-use Rattle.kalah_jobs.specs.Files.NamedBytes.{NamedBytes}
-use Rattle.kalah_jobs.specs.Types.{Question, Tally}
-use Rattle.kalah_jobs.specs.Writing.Output.{line_output, output_of, output_to, tally_of}
+use Rattle.std.specs.{List.{flat_map, enumerate_from}, Prelude.{◌≡◌, ℕ, ◌+◌, List, [], ◌∷◌, ◌++◌, length}}
+use Rattle.kalah_jobs.specs.{Files.{Lines.{lines_of, EndsWithItsLine}, NamedBytes.{NamedBytes}}, Types.{Question, Tally}, Writing.Output.{line_output, output_of, output_to, tally_of}}
 
 -- what two batches count together
 abbrev pub counted_together : Tally → Tally → Tally

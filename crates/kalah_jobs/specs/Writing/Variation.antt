@@ -1,6 +1,5 @@
 -- How a variation is printed: a move, what it is worth, and the moves of best play after it.
-use Rattle.std.specs.Fmt.{signed_decimal}
-use Rattle.std.specs.Prelude.{ℕ, ℤ, List, [], ◌++◌, Option, None, Some, codes, decimal}
+use Rattle.std.specs.{Fmt.{signed_decimal}, Prelude.{ℕ, ℤ, List, [], ◌++◌, Option, None, Some, codes, decimal}}
 use Rattle.kalah_jobs.specs.Types.{MoveValue}
 
 -- `2  -4  2`: a house, the value of its move, and the house once more, as the first of the variation

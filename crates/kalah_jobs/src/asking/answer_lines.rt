@@ -1,6 +1,5 @@
 //! Lines of a reader, answered as they come.
-ghost use Rattle.std.specs.Prelude.{◌≡◌, false, IfErr};
-ghost use Rattle.std.specs.Io.Buffered.{reader_remaining};
+ghost use Rattle.std.specs.{Prelude.{◌≡◌, false, IfErr}, Io.Buffered.{reader_remaining}};
 ghost use Rattle.kalah_jobs.specs.Asking.{AnswersLines, LeavesBy, start_of, unread};
 
 use crate::asking::ask_fault::AskFault;

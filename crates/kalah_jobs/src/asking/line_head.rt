@@ -27,7 +27,7 @@ impl Model for LineHead {
 }
 
 impl LineHead {
-    // Makes an empty head.
+    /// Makes an empty head.
     pub(crate) fn new() -> LineHead
         ensures { result ≡ [] }
     {
@@ -37,7 +37,7 @@ impl LineHead {
         }
     }
 
-    // Appends one byte of the line, which is kept if there is room.
+    /// Appends one byte of the line, which is kept if there is room.
     pub(crate) fn push(&mut self, byte: u8)
         ensures { self.new ≡ take kept_bytes (self.old ++ byte ∷ []) }
     {
@@ -47,7 +47,7 @@ impl LineHead {
         }
     }
 
-    // Returns the bytes.
+    /// Returns the bytes.
     pub(crate) fn bytes(&self) -> &[u8]
         ensures { result.now ≡ self.now }
     {

@@ -1,7 +1,5 @@
 //! The bytes of a reader one by one. More is read only when all lines so far are answered, and the answers flushed.
-ghost use Rattle.std.specs.Prelude.{◌≡◌, ◌+◌, ◌-◌, ◌<◌, ◌^◌, [], true, false, None, IfErr, IfOk, OnErr, OnOk, length, option_to_list};
-ghost use Rattle.std.specs.Io.KnownBytes.{Consumes, IsAtEnd, Keeps};
-ghost use Rattle.std.specs.Io.Buffered.{reader_buffer, reader_remaining};
+ghost use Rattle.std.specs.{Prelude.{◌≡◌, ◌+◌, ◌-◌, ◌<◌, ◌^◌, [], true, false, None, IfErr, IfOk, OnErr, OnOk, length, option_to_list}, Io.{KnownBytes.{Consumes, IsAtEnd, Keeps}, Buffered.{reader_buffer, reader_remaining}}};
 ghost use Rattle.kalah_jobs.specs.Asking.{AreAnswered, LeavesBy, start_of, unread};
 
 use crate::asking::ask_fault::AskFault;
@@ -61,7 +59,7 @@ fn read_ahead<I: Read + Drop, O: Sink>(
 }
 
 impl<'a, I: Read + Drop, O: Sink> PromptReader<'a, I, O> {
-    // Makes a prompt reader of a reader, of whose lines this is asked.
+    /// Makes a prompt reader of a reader, of whose lines this is asked.
     pub(crate) fn new(
         input: &'a mut BufReader<I>,
         question: Question,
@@ -82,7 +80,7 @@ impl<'a, I: Read + Drop, O: Sink> PromptReader<'a, I, O> {
         }
     }
 
-    // Returns the next byte, or `None` at the end. All lines so far are answered. Before a read all output is flushed.
+    /// Returns the next byte, or `None` at the end. All lines so far are answered. Before a read all output is flushed.
     pub(crate) fn next_byte(&mut self, out: &mut O) -> Result<Option<u8>, AskFault>
         requires answered { AreAnswered (start_of I.remaining O.state self.old) (unread I.remaining self.old) (O.state out.old).written }
         requires not_failed { (O.state out.old).has_failed ≡ false }

@@ -1,7 +1,6 @@
 //! A solver that is asked for the answer to a line once earlier answers are flushed, if that may take a while.
 ghost use Rattle.std.specs.Prelude.{◌≡◌, ◌↔◌, IsTrue, true};
-ghost use Rattle.kalah_jobs.specs.Asking.{TakesLong};
-ghost use Rattle.kalah_jobs.specs.Writing.Answer.{answer_of};
+ghost use Rattle.kalah_jobs.specs.{Asking.{TakesLong}, Writing.Answer.{answer_of}};
 
 use crate::collecting::found::Found;
 use crate::files::entry::Entry;
@@ -18,7 +17,7 @@ pub(crate) struct PromptSolver<'a> {
     solver: &'a mut Solver,
 }
 
-// Returns whether the answer may take a while: it takes a search, and the houses hold more than 9 seeds.
+/// Returns whether the answer may take a while: it takes a search, and the houses hold more than 9 seeds.
 pub(crate) fn takes_long(entry: &Entry) -> bool
     ensures { IsTrue result ↔ TakesLong entry.now }
 {
@@ -29,12 +28,12 @@ pub(crate) fn takes_long(entry: &Entry) -> bool
 }
 
 impl<'a> PromptSolver<'a> {
-    // Makes a prompt solver of a solver, which keeps what it has learned.
+    /// Makes a prompt solver of a solver, which keeps what it has learned.
     pub(crate) fn new(solver: &'a mut Solver) -> PromptSolver<'a> {
         PromptSolver { solver }
     }
 
-    // Finds the answer to what a line asks. Only if that may take a while is all flushed.
+    /// Finds the answer to what a line asks. Only if that may take a while is all flushed.
     pub(crate) fn answer<O: Sink>(&mut self, entry: &Entry, _out: &O) -> Answer
         requires all_flushed { TakesLong entry.now → (O.state _out.now).is_flushed ≡ true }
         ensures { result ≡ answer_of entry.now }

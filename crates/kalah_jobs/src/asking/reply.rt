@@ -1,8 +1,6 @@
 //! The answer to one line.
 ghost use Rattle.std.specs.Prelude.{◌≡◌, not, true, false};
-ghost use Rattle.kalah_jobs.specs.Asking.{is_last_read, reply, last_reply};
-ghost use Rattle.kalah_jobs.specs.Writing.Sink.{WasGiven};
-ghost use Rattle.kalah_jobs.specs.Files.Entry.{is_faulty};
+ghost use Rattle.kalah_jobs.specs.{Asking.{is_last_read, reply, last_reply}, Writing.Sink.{WasGiven}, Files.Entry.{is_faulty}};
 
 use crate::asking::line_head::LineHead;
 use crate::asking::prompt_solver::{PromptSolver, takes_long};
@@ -11,7 +9,7 @@ use crate::files::question::Question;
 use crate::writing::answer_line::write_joined_text;
 use crate::writing::sink::{Sink, flush_unless_failed};
 
-// Writes the answer to a line, and a line feed, and returns whether the line was read.
+/// Writes the answer to a line, and a line feed, and returns whether the line was read.
 pub(crate) fn write_reply<O: Sink>(
     line: &LineHead,
     question: Question,
@@ -34,8 +32,8 @@ pub(crate) fn write_reply<O: Sink>(
     is_read
 }
 
-// Writes the answer to what stands after the last line feed, if anything does, and flushes. Returns whether the line was
-// read, if there is one.
+/// Writes the answer to what stands after the last line feed, if anything does, and flushes. Returns whether the line was
+/// read, if there is one.
 pub(crate) fn write_last_reply<O: Sink>(
     line: &LineHead,
     question: Question,

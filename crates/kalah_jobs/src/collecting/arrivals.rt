@@ -1,7 +1,6 @@
 //! The answers that have arrived for one file.
 ghost use Rattle.std.specs.Prelude.{◌≡◌, ◌+◌, ◌<◌, ◌≤◌, ◌↔◌, ◌==◌, IfOk, IsTrue, IsSome, MatchOption, MatchBool, None, length};
-ghost use Rattle.kalah_jobs.specs.Collecting.CollectorState.{new_file, line_count, front, front_of, arrived_for, with_answer, HasEnded, with_one_taken, IsNext, HasNoNext};
-ghost use Rattle.kalah_jobs.specs.Limits.{most_lines};
+ghost use Rattle.kalah_jobs.specs.{Collecting.CollectorState.{new_file, line_count, front, front_of, arrived_for, with_answer, HasEnded, with_one_taken, IsNext, HasNoNext}, Limits.{most_lines}};
 
 use crate::writing::answer::{Answer, Taken};
 use std::alloc::{AllocError, Global};
@@ -29,7 +28,7 @@ impl Model for Arrivals {
 }
 
 impl Arrivals {
-    // Makes the state of a file of `lines` lines with no answer yet.
+    /// Makes the state of a file of `lines` lines with no answer yet.
     #[tactic(auto, using(crate::proofs::CollectingLemmas::front_none))]
     pub(crate) fn new(alloc: Global, lines: u32) -> Result<Arrivals, AllocError>
         requires { lines ≤ most_lines }
@@ -43,28 +42,28 @@ impl Arrivals {
         })
     }
 
-    // Returns whether every line is ready or taken.
+    /// Returns whether every line is ready or taken.
     pub(crate) fn ended(&self) -> bool
         ensures { IsTrue result ↔ HasEnded self.now }
     {
         self.front as usize == self.arrived.len()
     }
 
-    // Returns whether every line was taken.
+    /// Returns whether every line was taken.
     pub(crate) fn all_taken(&self) -> bool
         ensures { result ≡ (self.now.taken == line_count self.now) }
     {
         self.taken as usize == self.arrived.len()
     }
 
-    // Returns whether there is a line of this number.
+    /// Returns whether there is a line of this number.
     pub(crate) fn has_line(&self, line: u32) -> bool
         ensures { IsTrue result ↔ line < line_count self.now }
     {
         (line as usize) < self.arrived.len()
     }
 
-    // Returns whether the answer of a line has arrived.
+    /// Returns whether the answer of a line has arrived.
     pub(crate) fn has_arrived(&self, line: u32) -> bool
         requires { line < line_count self.now }
         ensures { MatchBool result (IsSome (arrived_for self.now line)) (arrived_for self.now line ≡ None) }
@@ -72,7 +71,7 @@ impl Arrivals {
         self.arrived[line as usize].is_some()
     }
 
-    // Keeps the answer of a line, and returns how many lines became ready.
+    /// Keeps the answer of a line, and returns how many lines became ready.
     pub(crate) fn accept(&mut self, line: u32, answer: Answer) -> u32
         requires within { line < line_count self.old }
         requires first { arrived_for self.old line ≡ None }
@@ -89,7 +88,7 @@ impl Arrivals {
         self.front - before
     }
 
-    // Returns the next line that is ready and was not taken.
+    /// Returns the next line that is ready and was not taken.
     #[tactic(auto, using(crate::proofs::CollectingLemmas::fronts))]
     pub(crate) fn take(&mut self) -> Option<Taken>
         ensures { MatchOption result (HasNoNext self.old × (self.new ≡ self.old))

@@ -1,8 +1,6 @@
 //! The collector: outcomes come in any order, and the answers of each file are returned in the order of its lines.
 ghost use Rattle.std.specs.Prelude.{◌≡◌, ◌<◌, ◌↔◌, IfOk, IsTrue, MatchOption, All, length, map};
-ghost use Rattle.kalah_jobs.specs.Collecting.CollectorState.{state_of, line_count, HasEnded, new_files, HasLinesOf};
-ghost use Rattle.kalah_jobs.specs.Collecting.Refusals.{IsWanted, IsRefusedFor};
-ghost use Rattle.kalah_jobs.specs.Collecting.CollectorEvents.{Offers, Takes};
+ghost use Rattle.kalah_jobs.specs.Collecting.{CollectorState.{state_of, line_count, HasEnded, new_files, HasLinesOf}, Refusals.{IsWanted, IsRefusedFor}, CollectorEvents.{Offers, Takes}};
 
 use crate::collecting::arrivals::Arrivals;
 use crate::collecting::outcome::Outcome;

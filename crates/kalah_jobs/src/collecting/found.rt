@@ -1,13 +1,12 @@
 //! What a solver finds for an entry.
 ghost use Rattle.std.specs.Prelude.{◌≡◌};
-ghost use Rattle.kalah_jobs.specs.Writing.Answer.{answer_of};
-ghost use Rattle.kalah_jobs.specs.Collecting.Found.{found_of};
+ghost use Rattle.kalah_jobs.specs.{Writing.Answer.{answer_of}, Collecting.Found.{found_of}};
 
 use crate::files::entry::Entry;
 use crate::writing::answer::Answer;
 use kalah_solve::{MoveValues, Solver, Verdict};
 
-// The part of an answer that is not in the entry. It has no board, so that an outcome has only one: its entry's.
+/// The part of an answer that is not in the entry. It has no board, so that an outcome has only one: its entry's.
 #[derive(Clone, Copy)]
 pub(crate) enum Found {
     // What the position is worth. For values and steps: that the game is over.
@@ -19,7 +18,7 @@ pub(crate) enum Found {
 }
 
 impl Found {
-    // Finds what the answer to an entry needs beside the entry.
+    /// Finds what the answer to an entry needs beside the entry.
     #[tactic(auto, unfolding(crate::specs::Writing::Answer::answer_of))]
     #[inline(always)]
     pub(crate) fn of(entry: &Entry, solver: &mut Solver) -> Found
@@ -36,7 +35,7 @@ impl Found {
         }
     }
 
-    // Returns the answer to the entry that this was found for.
+    /// Returns the answer to the entry that this was found for.
     #[tactic(auto, unfolding(crate::specs::Writing::Answer::answer_of))]
     #[inline(always)]
     pub(crate) fn answer(&self, entry: &Entry) -> Answer

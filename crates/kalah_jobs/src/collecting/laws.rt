@@ -1,7 +1,5 @@
 //! Laws of the collector and of the jobs of a batch, each on a function of its own.
-ghost use Rattle.kalah_jobs.specs.Collecting.Refusals.{AnswersInOneWay};
-ghost use Rattle.kalah_jobs.specs.Collecting.CollectorLaw.{KeepsItsLaw};
-ghost use Rattle.kalah_jobs.specs.Collecting.AnyOrder.{GetsEachJobOnce, AcceptsEachJob, MakesEveryLineReady};
+ghost use Rattle.kalah_jobs.specs.Collecting.{Refusals.{AnswersInOneWay}, CollectorLaw.{KeepsItsLaw}, AnyOrder.{GetsEachJobOnce, AcceptsEachJob, MakesEveryLineReady}};
 
 /// No offer that is wanted meets a refusal, and none meets two: so each is answered in one way only.
 #[tactic(auto, using(crate::proofs::CollectingLemmas::answers_in_one_way))]

@@ -1,13 +1,11 @@
 //! The answer that a worker found for a line of a file.
 ghost use Rattle.std.specs.Prelude.{◌≡◌, ◌<◌, slice_get, Some};
-ghost use Rattle.kalah_jobs.specs.Files.JobList.{job_list};
-ghost use Rattle.kalah_jobs.specs.Files.Jobs.{job_count};
-ghost use Rattle.kalah_jobs.specs.Writing.Answer.{answer_of};
+ghost use Rattle.kalah_jobs.specs.{Files.{JobList.{job_list}, Jobs.{job_count}}, Writing.Answer.{answer_of}};
 
 use crate::collecting::found::Found;
 use crate::files::entry::Entry;
 use crate::files::job::Job;
-use crate::files::jobs::{FoundJob, Jobs};
+use crate::files::jobs::{JobRef, Jobs};
 use crate::writing::answer::Answer;
 use kalah_solve::Solver;
 use std::fmt;
@@ -84,7 +82,7 @@ impl Outcome {
         requires { n < job_count jobs.now }
         ensures { slice_get (job_list jobs.now) n ≡ Some result }
     {
-        let FoundJob { file, line, entry } = jobs.find(n);
+        let JobRef { file, line, entry } = jobs.find(n);
         let found = Found::of(entry, solver);
         let entry = *entry;
         let job = Job { file, line, entry };

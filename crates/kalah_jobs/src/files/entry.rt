@@ -21,7 +21,7 @@ pub enum Entry {
 }
 
 impl Entry {
-    // Returns the entry of a line that writes this position, with this question.
+    /// Returns the entry of a line that writes this position, with this question.
     #[inline(always)]
     pub(crate) fn of_board(question: Question, board: Board) -> Entry
         ensures { result ≡ entry_asked question board }
@@ -33,7 +33,7 @@ impl Entry {
         }
     }
 
-    // Returns the entry of the line, with this question.
+    /// Returns the entry of the line, with this question.
     #[tactic(auto, unfolding(crate::specs::Files::Entry::entry_to))]
     #[inline(always)]
     pub(crate) fn of_line(question: Question, line: &[u8]) -> Entry
@@ -45,7 +45,7 @@ impl Entry {
         }
     }
 
-    // Returns whether the line is not read, so that it is answered by its fault.
+    /// Returns whether the line is not read, so that it is answered by its fault.
     pub(crate) fn is_faulty(&self) -> bool
         ensures { result ≡ is_faulty_entry self.now }
     {
@@ -67,7 +67,7 @@ fn is_same_board(p: &Board, q: &Board) -> bool
     *p == *q
 }
 
-// Returns whether two entries are equal.
+/// Returns whether two entries are equal.
 pub(crate) fn is_same_entry(a: &Entry, b: &Entry) -> bool
     ensures { IsTrue result ↔ (a.now ≡ b.now) }
 {

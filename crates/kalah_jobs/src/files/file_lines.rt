@@ -2,7 +2,7 @@
 ghost use Rattle.std.specs.Prelude.{◌≡◌, ◌+◌, ◌<◌, ◌≤◌, ◌==◌, ◌∷◌, length, take, get_or, count_by, IfSome, None};
 ghost use Rattle.kalah_jobs.specs.Files.Lines.{line_feed, lines_of, HasNoLineFeed};
 
-// The byte that ends a line.
+/// The byte that ends a line.
 pub(crate) const LINE_FEED: u8 = b'\n';
 
 // The most bytes whose line feeds are counted in a byte.
@@ -28,7 +28,7 @@ fn feed_among(bytes: &[u8], from: usize, count: usize) -> Option<usize>
     None
 }
 
-// Returns the first line of some bytes, and the bytes after it.
+/// Returns the first line of some bytes, and the bytes after it.
 #[inline(always)]
 #[tactic(auto, using(crate::proofs::FileLinesLemmas::first_lines))]
 pub(crate) fn first_line(bytes: &[u8]) -> (&[u8], &[u8])
@@ -63,7 +63,7 @@ fn count_feeds_in_block(block: &[u8]) -> u8
     count
 }
 
-// Returns the number of lines.
+/// Returns the number of lines.
 pub(crate) fn count_lines(bytes: &[u8]) -> usize
     ensures { result ≡ length (lines_of bytes.now) }
 {

@@ -1,10 +1,6 @@
 //! The jobs of a batch: the lines of its files.
 ghost use Rattle.std.specs.Prelude.{◌≡◌, ◌<◌, ◌≤◌, ◌++◌, ◌+◌, length, count_by, IfOk, MatchBool, slice_get, Some};
-ghost use Rattle.kalah_jobs.specs.Files.Entry.{is_faulty_entry};
-ghost use Rattle.kalah_jobs.specs.Files.JobList.{entries_of, is_faulty_job, line_job, job_list};
-ghost use Rattle.kalah_jobs.specs.Limits.{most_files, most_lines};
-ghost use Rattle.kalah_jobs.specs.Files.Jobs.{MakesJobs, entries_to, job_count, lines_in_all};
-ghost use Rattle.kalah_jobs.specs.declared.files.question.Question.TheVariants.{BestMove};
+ghost use Rattle.kalah_jobs.specs.{Files.{Entry.{is_faulty_entry}, JobList.{entries_of, is_faulty_job, line_job, job_list}, Jobs.{MakesJobs, entries_to, job_count, lines_in_all}}, Limits.{most_files, most_lines}, declared.files.question.Question.TheVariants.{BestMove}};
 
 use crate::files::entry::Entry;
 use crate::files::file_lines::{count_lines, first_line};
@@ -40,8 +36,8 @@ impl From<AllocError> for JobsFault {
     }
 }
 
-/// A job whose entry stays in its place.
-pub(crate) struct FoundJob<'a> {
+/// A job with a reference to its entry, which isn't copied.
+pub(crate) struct JobRef<'a> {
     pub(crate) file: u32,
     pub(crate) line: u32,
     pub(crate) entry: &'a Entry,
@@ -81,18 +77,22 @@ impl Model for Jobs {
 }
 
 impl Jobs {
-    /// Makes the jobs of these files, with the best move asked of each position. Fails as `asking` does.
+    /// Makes the jobs of these files, with the best move asked of each position. Fails as `with_question` does.
     pub fn of_files(alloc: Global, files: &[FileText]) -> Result<Jobs, JobsFault>
         ensures { MakesJobs BestMove files.now result }
     {
-        Jobs::asking(alloc, Question::BestMove, files)
+        Jobs::with_question(alloc, Question::BestMove, files)
     }
 
     /// Makes the jobs of these files: each line of each file, with its entry and what is asked of its position.
     ///
     /// Fails with `TooManyFiles` if there are more than 256 files, otherwise with `TooManyLines` if they have more than 1,000,000 lines
     /// together. Both are tested before any allocation. Fails with `OutOfMemory` only if memory was refused.
-    pub fn asking(alloc: Global, question: Question, files: &[FileText]) -> Result<Jobs, JobsFault>
+    pub fn with_question(
+        alloc: Global,
+        question: Question,
+        files: &[FileText],
+    ) -> Result<Jobs, JobsFault>
         ensures { MakesJobs question files.now result }
     {
         if files.len() > MOST_FILES {
@@ -146,7 +146,7 @@ impl Jobs {
         self.files[f as usize].entries.len() as u32
     }
 
-    // Returns the entry of a line of a file, in its place.
+    /// Returns the entry of a line of a file, in its place.
     #[tactic(auto, using(crate::proofs::FilesLemmas::counts_of_jobs))]
     pub(crate) fn entry(&self, f: u32, line: u32) -> &Entry
         requires file { f < length self.now }
@@ -156,9 +156,9 @@ impl Jobs {
         &self.files[f as usize].entries[line as usize]
     }
 
-    // Finds job `n`.
+    /// Finds job `n`.
     #[inline(always)]
-    pub(crate) fn find(&self, n: u32) -> FoundJob<'_>
+    pub(crate) fn find(&self, n: u32) -> JobRef<'_>
         requires { n < job_count self.now }
         ensures { slice_get (job_list self.now) n ≡ Some (line_job result.file result.line result.entry.now) }
     {
@@ -175,7 +175,7 @@ impl Jobs {
         }
         let found = &self.files[file];
         let line = n - found.start;
-        FoundJob {
+        JobRef {
             file: file as u32,
             line,
             entry: &found.entries[line as usize],
@@ -187,7 +187,7 @@ impl Jobs {
         requires { n < job_count self.now }
         ensures { slice_get (job_list self.now) n ≡ Some (line_job result.file result.line result.entry) }
     {
-        let FoundJob { file, line, entry } = self.find(n);
+        let JobRef { file, line, entry } = self.find(n);
         Job {
             file,
             line,

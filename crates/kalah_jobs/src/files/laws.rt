@@ -1,6 +1,5 @@
 //! Laws over all files.
-ghost use Rattle.kalah_jobs.specs.Files.Lines.{LinesAreOne};
-ghost use Rattle.kalah_jobs.specs.Files.Entry.{EntriesAreOne};
+ghost use Rattle.kalah_jobs.specs.Files.{Lines.{LinesAreOne}, Entry.{EntriesAreOne}};
 
 /// Every file has lines, for any bytes, and only one list of them.
 #[tactic(auto, using(crate::proofs::FileLinesLemmas::lines_are_one))]

@@ -1,11 +1,7 @@
 //! Position lines read.
 ghost use Rattle.std.specs.Prelude.{◌≡◌, ◌≤◌, length, IfOk, IfErr, IfSome, IfNone, Ok, Some, None};
-ghost use Rattle.kalah_rules.specs.Limits.{most_in_store};
-ghost use Rattle.kalah_rules.specs.Position.{Position};
-ghost use Rattle.kalah_jobs.specs.Line.Line.{without_cr, Reads, HasFault, line_text_of};
-ghost use Rattle.kalah_jobs.specs.Line.Reading.{admitted, reading_of_text, reading_of, rule_of_suffix, position_of_text};
-ghost use Rattle.kalah_jobs.specs.Line.Side.{AreSidesOf};
-ghost use Rattle.kalah_jobs.specs.Limits.{most_line_bytes};
+ghost use Rattle.kalah_rules.specs.{Limits.{most_in_store}, Position.{Position}};
+ghost use Rattle.kalah_jobs.specs.{Line.{Line.{without_cr, Reads, HasFault, line_text_of}, Reading.{admitted, reading_of_text, reading_of, rule_of_suffix, position_of_text}, Side.{AreSidesOf}}, Limits.{most_line_bytes}};
 
 #[cfg(test)]
 mod tests;
@@ -89,7 +85,7 @@ fn read_text(text: &[u8]) -> Result<Board, LineFault>
 }
 
 /// Returns the position that a line writes, such as `1,1/0 1,1/0`. The line has the mover's houses, separated by commas, a slash, the
-/// mover's store, one space, and the other player's side in the same form. A line that ends in a space and `e` is played under
+/// mover's store, one space, and the opponent's side in the same form. A line that ends in a space and `e` is played under
 /// `Rule::EmptyCapture`, any other under `Rule::Classic`. A number is `0`, or one or two digits that do not start with
 /// `0`. One CR at the end is dropped first.
 ///

@@ -1,7 +1,6 @@
 //! One side of a position line: its houses and its store.
 ghost use Rattle.std.specs.Prelude.{◌≡◌, ◌≤◌, IfSome, IfNone, Some, None};
-ghost use Rattle.kalah_jobs.specs.Limits.{most_line_bytes};
-ghost use Rattle.kalah_jobs.specs.Line.Reading.{number_at};
+ghost use Rattle.kalah_jobs.specs.{Limits.{most_line_bytes}, Line.Reading.{number_at}};
 
 use kalah_rules::HouseRow;
 
@@ -66,7 +65,7 @@ impl Side {
         }
     }
 
-    // Returns the side at the front of some bytes, and the bytes after it.
+    /// Returns the side at the front of some bytes, and the bytes after it.
     #[inline(always)]
     pub(crate) fn read(bytes: &[u8]) -> Option<(Side, &[u8])>
         requires { length bytes.now ≤ most_line_bytes }
@@ -90,7 +89,7 @@ impl Side {
         }
     }
 
-    // Returns the number of houses.
+    /// Returns the number of houses.
     pub(crate) fn len(&self) -> u8
         ensures { result ≡ length self.now.kept + self.now.left_out }
     {

@@ -1,9 +1,6 @@
 //! Answer lines, as text and written to a sink.
-ghost use Rattle.std.specs.Prelude.{◌≡◌, ◌+◌, ◌*◌, ◌≤◌, ◌↔◌, ◌∷◌, [], ◌++◌, true, false, IfOk, IsErr, OnOk, drop, length, codes, decimal, string_bytes};
-ghost use Rattle.std.specs.Io.KnownBytes.{Appends};
-ghost use Rattle.kalah_jobs.specs.Files.Lines.{line_feed};
-ghost use Rattle.kalah_jobs.specs.Writing.Answer.{answer_line, answer_output, joined_text, value_text, values_text, HasOneText};
-ghost use Rattle.kalah_jobs.specs.Writing.Sink.{AppendsPrefix, WasGiven};
+ghost use Rattle.std.specs.{Prelude.{◌≡◌, ◌+◌, ◌*◌, ◌≤◌, ◌↔◌, ◌∷◌, [], ◌++◌, true, false, IfOk, IsErr, OnOk, drop, length, codes, decimal, string_bytes}, Io.KnownBytes.{Appends}};
+ghost use Rattle.kalah_jobs.specs.{Files.Lines.{line_feed}, Writing.{Answer.{answer_line, answer_output, joined_text, value_text, values_text, HasOneText}, Sink.{AppendsPrefix, WasGiven}}};
 
 use crate::writing::answer::{Answer, Taken};
 use crate::writing::named_text::write_named;
@@ -145,7 +142,7 @@ pub fn write_answer<W: Sink>(out: &mut W, name: &str, taken: &Taken) -> Result<(
     Ok(())
 }
 
-// Writes the text of an answer in one line, and a line feed.
+/// Writes the text of an answer in one line, and a line feed.
 pub(crate) fn write_joined_text<W: Sink>(out: &mut W, answer: &Answer)
     ensures { WasGiven W.state out.old out.new (joined_text answer.now ++ line_feed ∷ []) }
 {

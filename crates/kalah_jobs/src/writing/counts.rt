@@ -1,8 +1,7 @@
 //! The numbers of ways to play on, as lines.
 ghost use Rattle.std.specs.Prelude.{◌≤◌};
 ghost use Rattle.kalah_rules.specs.Limits.{most_houses};
-ghost use Rattle.kalah_jobs.specs.Writing.Counts.{ways_line, total_line};
-ghost use Rattle.kalah_jobs.specs.Writing.Sink.{WasGiven};
+ghost use Rattle.kalah_jobs.specs.Writing.{Counts.{ways_line, total_line}, Sink.{WasGiven}};
 
 use crate::writing::sink::{Sink, write_unless_failed};
 use crate::writing::stack_text::StackText;

@@ -1,6 +1,5 @@
 //! Laws over the output of a batch: what it is by its jobs, and how it can be split over machines.
-ghost use Rattle.kalah_jobs.specs.Writing.Output.{FilesAreTheirJobs};
-ghost use Rattle.kalah_jobs.specs.Writing.Splitting.{OutputSplitsByFiles, FilesSplitBetweenLines};
+ghost use Rattle.kalah_jobs.specs.Writing.{Output.{FilesAreTheirJobs}, Splitting.{OutputSplitsByFiles, FilesSplitBetweenLines}};
 
 /// What a batch of files must write and count is the same, whether stated by its files or by its jobs.
 #[tactic(auto, using(crate::proofs::WritingLemmas::files_are_their_jobs))]

@@ -15,7 +15,7 @@ fn write_apart<W: Sink>(out: &mut W, name: &str, text: &StackText)
     write_unless_failed(out, text.bytes());
 }
 
-// Writes the name and then the text, by one call of the sink. If the name is too long to be put in front of the text, there are two.
+/// Writes the name and then the text, by one call of the sink. If the name is too long to be put in front of the text, there are two.
 #[inline(always)]
 pub(crate) fn write_named<W: Sink>(out: &mut W, name: &str, text: &mut StackText)
     ensures { WasGiven W.state out.old out.new (name.now ++ text.old) }

@@ -1,8 +1,7 @@
 //! Positions drawn as boards.
 ghost use Rattle.std.specs.Prelude.{◌≡◌, ◌≤◌, ◌+◌, ◌*◌, ◌++◌, length};
-ghost use Rattle.kalah_jobs.specs.Writing.Sink.{WasGiven};
+ghost use Rattle.kalah_jobs.specs.Writing.{Sink.{WasGiven}, Picture.{column_text, house_in, houses_line, picture_of}};
 ghost use Rattle.kalah_rules.specs.Position.{side_length};
-ghost use Rattle.kalah_jobs.specs.Writing.Picture.{column_text, house_in, houses_line, picture_of};
 
 use crate::writing::player::Player;
 use crate::writing::sink::{Sink, write_unless_failed};
@@ -70,7 +69,7 @@ fn picture(board: &Board) -> StackText
     text
 }
 
-/// Draws a board in three lines. The first has the houses of the other player, from the last to the first. The second has the stores,
+/// Draws a board in three lines. The first has the houses of the opponent, from the last to the first. The second has the stores,
 /// with the mover's at the right. The third has the houses of the mover, from the first to the last. Each number is right-aligned in
 /// a column of four bytes.
 pub fn write_picture<W: Sink>(out: &mut W, board: &Board)

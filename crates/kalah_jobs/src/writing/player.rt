@@ -10,12 +10,12 @@ use kalah_rules::Board;
 pub(crate) enum Player {
     /// The player to move.
     Mover,
-    /// The other player.
+    /// The opponent.
     Other,
 }
 
 impl Player {
-    // Returns the number of seeds in the player's house `i`.
+    /// Returns the number of seeds in the player's house `i`.
     pub(crate) fn seeds(self, board: &Board, i: u8) -> u8
         requires low { 1 ≤ i }
         requires high { i ≤ side_length board.now }
@@ -27,7 +27,7 @@ impl Player {
         }
     }
 
-    // Returns the number of seeds in the player's store.
+    /// Returns the number of seeds in the player's store.
     pub(crate) fn store(self, board: &Board) -> u8
         ensures { result ≡ store_of self board.now }
     {

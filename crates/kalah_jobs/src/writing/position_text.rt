@@ -1,13 +1,7 @@
 //! Positions and steps as text.
 ghost use Rattle.std.specs.Prelude.{◌≡◌, ◌<◌, ◌≤◌, ◌+◌, ◌*◌, ◌∷◌, [], ◌++◌, IfOk, drop, length, string_bytes};
-ghost use Rattle.kalah_jobs.specs.Writing.Sink.{WasGiven};
-ghost use Rattle.kalah_rules.specs.Limits.{most_in_store};
-ghost use Rattle.kalah_rules.specs.Play.{position_after};
-ghost use Rattle.kalah_rules.specs.Position.{IsWithinLimits, side_length};
-ghost use Rattle.kalah_jobs.specs.Files.Lines.{line_feed};
-ghost use Rattle.kalah_jobs.specs.Line.Line.{Reads, suffix_of, side_text, line_text_of, word_of_step, step_text_of};
-ghost use Rattle.kalah_jobs.specs.Writing.Player.{houses_of, store_of};
-ghost use Rattle.kalah_jobs.specs.Writing.Variation.{value_suffix};
+ghost use Rattle.kalah_jobs.specs.{Writing.{Sink.{WasGiven}, Player.{houses_of, store_of}, Variation.{value_suffix}}, Files.Lines.{line_feed}, Line.Line.{Reads, suffix_of, side_text, line_text_of, word_of_step, step_text_of}};
+ghost use Rattle.kalah_rules.specs.{Limits.{most_in_store}, Position.{IsWithinLimits, side_length}};
 
 use crate::writing::player::Player;
 use crate::writing::sink::{Sink, write_unless_failed};
@@ -74,16 +68,15 @@ pub fn line_text(alloc: Global, board: &Board) -> Result<String, AllocError>
     String::from_str(alloc, text.as_str())
 }
 
-// Returns the board that a step leads to, and its word.
-fn parts_of_step(step: &Step) -> (&Board, &'static str)
-    ensures board { result.0.now ≡ position_after step.now }
-    ensures word { result.1.now ≡ word_of_step step.now }
-    ensures short { length result.1.now ≤ 5 }
+// Returns the word of a step.
+fn word_of_step(step: &Step) -> &'static str
+    ensures word { result.now ≡ word_of_step step.now }
+    ensures short { length result.now ≤ 5 }
 {
     match step {
-        Step::Again(board) => (board, "again"),
-        Step::Turn(board) => (board, "turn"),
-        Step::Over(board) => (board, "over"),
+        Step::Again(_) => "again",
+        Step::Turn(_) => "turn",
+        Step::Over(_) => "over",
     }
 }
 
@@ -94,15 +87,14 @@ fn prepend_step(text: &mut StackText, h: u8, step: &Step)
     ensures step { text.new ≡ step_text_of h step.now ++ text.old }
     ensures short { length text.new ≤ length text.old + 67 }
 {
-    let (board, word) = parts_of_step(step);
-    text.prepend(word);
+    text.prepend(word_of_step(step));
     text.prepend(" ");
-    prepend_board(text, board);
+    prepend_board(text, step.board());
     text.prepend(" ");
     text.prepend_byte(h);
 }
 
-// Returns the text of a move, followed by `end`.
+/// Returns the text of a move, followed by `end`.
 pub(crate) fn text_of_step(h: u8, step: &Step, end: &str) -> StackText
     requires { length end.now ≤ 1 }
     ensures text { result ≡ step_text_of h step.now ++ end.now }

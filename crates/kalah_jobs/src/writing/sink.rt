@@ -1,7 +1,6 @@
 //! The sinks that answers are written to: bytes go out in order until a call fails, and none after that. What writes a text to a sink
 //! allocates nothing. If the sink has failed it is not called. If it fails, a prefix of the text was written, and nothing else.
-ghost use Rattle.std.specs.Prelude.{◌≡◌, ◌↔◌, [], true, false, OnOk, IsErr};
-ghost use Rattle.std.specs.Io.KnownBytes.{Appends, Keeps};
+ghost use Rattle.std.specs.{Prelude.{◌≡◌, ◌↔◌, [], true, false, OnOk, IsErr}, Io.KnownBytes.{Appends, Keeps}};
 ghost use Rattle.kalah_jobs.specs.Writing.Sink.{AppendsPrefix, IsReady, SinkState, WasGiven};
 
 use std::io;

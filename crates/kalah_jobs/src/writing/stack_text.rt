@@ -1,6 +1,5 @@
 //! A short text that is put together on the stack.
-ghost use Rattle.std.specs.Prelude.{◌≡◌, ◌+◌, ◌≤◌, [], ◌++◌, IsUtf8, length, replicate, decimal};
-ghost use Rattle.std.specs.Fmt.{signed_decimal};
+ghost use Rattle.std.specs.{Prelude.{◌≡◌, ◌+◌, ◌≤◌, [], ◌++◌, IsUtf8, length, replicate, decimal}, Fmt.{signed_decimal}};
 ghost use Rattle.kalah_jobs.specs.Line.Line.{space};
 
 use itoa::write_digits;
@@ -30,7 +29,7 @@ impl Model for StackText {
 }
 
 impl StackText {
-    // Makes an empty text.
+    /// Makes an empty text.
     pub(crate) fn new() -> StackText
         ensures { result ≡ [] }
     {
@@ -40,7 +39,7 @@ impl StackText {
         }
     }
 
-    // Returns the bytes.
+    /// Returns the bytes.
     pub(crate) fn bytes(&self) -> &[u8]
         ensures bytes { result.now ≡ self.now }
         ensures text { IsUtf8 result.now }
@@ -48,28 +47,28 @@ impl StackText {
         &self.bytes[self.start..]
     }
 
-    // Returns the text.
+    /// Returns the text.
     pub(crate) fn as_str(&self) -> &str
         ensures { result.now ≡ self.now }
     {
         str::from_utf8(self.bytes()).unwrap()
     }
 
-    // Returns how many more bytes there is room for.
+    /// Returns how many more bytes there is room for.
     pub(crate) fn room(&self) -> usize
         ensures { length self.now + result ≡ ROOM }
     {
         self.start
     }
 
-    // Returns the number of bytes.
+    /// Returns the number of bytes.
     pub(crate) fn len(&self) -> usize
         ensures { result ≡ length self.now }
     {
         self.bytes().len()
     }
 
-    // Puts a piece in front of the text.
+    /// Puts a piece in front of the text.
     #[inline]
     pub(crate) fn prepend(&mut self, piece: &str)
         requires { length piece.now + length self.old ≤ ROOM }
@@ -81,7 +80,7 @@ impl StackText {
         self.bytes[self.start..end].copy_from_slice(piece.as_bytes());
     }
 
-    // Puts `n` blanks in front of the text.
+    /// Puts `n` blanks in front of the text.
     pub(crate) fn prepend_blanks(&mut self, n: usize)
         requires { n + length self.old ≤ ROOM }
         ensures blanks { self.new ≡ replicate n space ++ self.old }
@@ -92,7 +91,7 @@ impl StackText {
         self.bytes[self.start..end].fill(b' ');
     }
 
-    // Puts a number in digits in front of the text.
+    /// Puts a number in digits in front of the text.
     pub(crate) fn prepend_number(&mut self, n: u64)
         requires { length (decimal n) + length self.old ≤ ROOM }
         ensures number { self.new ≡ decimal n ++ self.old }
@@ -101,7 +100,7 @@ impl StackText {
         self.start = write_digits(n, &mut self.bytes, self.start);
     }
 
-    // Puts a small number in digits in front of the text.
+    /// Puts a small number in digits in front of the text.
     #[tactic(auto, using(crate::proofs::TextLemmas::u8_length))]
     pub(crate) fn prepend_byte(&mut self, n: u8)
         requires { length self.old + 3 ≤ ROOM }
@@ -111,7 +110,7 @@ impl StackText {
         self.prepend_number(u64::from(n));
     }
 
-    // Puts a margin in digits, with `-` before it if it is negative, in front of the text.
+    /// Puts a margin in digits, with `-` before it if it is negative, in front of the text.
     #[tactic(auto, using(crate::proofs::TextLemmas::u32_length))]
     #[inline]
     pub(crate) fn prepend_margin(&mut self, margin: i32)

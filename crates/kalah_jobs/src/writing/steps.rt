@@ -1,10 +1,7 @@
 //! The steps of a position, a line each or all in one line.
-ghost use Rattle.std.specs.Prelude.{◌≡◌, ◌≤◌, ◌∷◌, [], ◌++◌, if◌then◌else◌, Contains, IfOk, OnOk, codes, length, map, string_bytes};
-ghost use Rattle.std.specs.List.{join_with_byte};
+ghost use Rattle.std.specs.{Prelude.{◌≡◌, ◌≤◌, ◌∷◌, [], ◌++◌, if◌then◌else◌, Contains, IfOk, OnOk, codes, length, map, string_bytes}, List.{join_with_byte}};
 ghost use Rattle.kalah_rules.specs.Play.{legal_houses};
-ghost use Rattle.kalah_jobs.specs.Files.Lines.{line_feed};
-ghost use Rattle.kalah_jobs.specs.Writing.Answer.{house_step_text, in_one_line, steps_texts};
-ghost use Rattle.kalah_jobs.specs.Writing.Sink.{WasGiven};
+ghost use Rattle.kalah_jobs.specs.{Files.Lines.{line_feed}, Writing.{Answer.{house_step_text, in_one_line, steps_texts}, Sink.{WasGiven}}};
 
 use crate::writing::named_text::write_named;
 use crate::writing::position_text::text_of_step;

@@ -1,6 +1,5 @@
 //! The sink over a writer.
-ghost use Rattle.std.specs.Prelude.{◌≡◌, ◌≤◌, false, true, IfOk, OnErr, OnOk, length, take};
-ghost use Rattle.std.specs.Io.KnownBytes.{Appends, Keeps};
+ghost use Rattle.std.specs.{Prelude.{◌≡◌, ◌≤◌, false, true, IfOk, OnErr, OnOk, length, take}, Io.KnownBytes.{Appends, Keeps}};
 ghost use Rattle.kalah_jobs.specs.Writing.Sink.{AppendsPrefix};
 
 use crate::Sink;

@@ -1,6 +1,5 @@
 //! The variation of a move: the houses that are moved from it on to the end of the game, in best play.
-ghost use Rattle.kalah_jobs.specs.Writing.Sink.{WasGiven};
-ghost use Rattle.kalah_jobs.specs.Writing.Variation.{next_house, variation_start};
+ghost use Rattle.kalah_jobs.specs.Writing.{Sink.{WasGiven}, Variation.{next_house, variation_start}};
 
 use crate::writing::sink::{Sink, write_unless_failed};
 use crate::writing::stack_text::StackText;

@@ -1,7 +1,6 @@
 //! The legal moves of a board, and their results.
 ghost use Rattle.std.specs.Prelude.{◌≡◌, ◌↔◌, IsTrue, Contains};
-ghost use Rattle.kalah_rules.specs.Position.{IsWithinLimits};
-ghost use Rattle.kalah_rules.specs.Sowing.{after};
+ghost use Rattle.kalah_rules.specs.{Position.{IsWithinLimits}, Sowing.{after}};
 
 use crate::board::Board;
 use crate::moves::Moves;

@@ -1,3 +1,4 @@
+//! Boards: moves, ends, margins and limits.
 use crate::{Board, Houses, Rule, Step};
 use std::process::Abort;
 

@@ -57,7 +57,7 @@ impl House {
         self.bit / 5 + 1
     }
 
-    // Returns the index of this house among the houses of all sides, where sides have `m` houses. House `h` of `m` has
+    /// Returns the index of this house among the houses of all sides, where sides have `m` houses. House `h` of `m` has
     /// `m + 5 * (h - 1) - 1`: sides of 1 to 5 houses have 0 to 4, 6 to 9, 12 to 14, 18, 19 and 24, and sides of 6 the multiples of 5 that
     /// these leave free.
     #[inline(always)]

@@ -1,7 +1,6 @@
 //! The houses of one side, put together one by one.
 ghost use Rattle.std.specs.Prelude.{◌≡◌, ◌+◌, ◌<◌, ◌≤◌, ◌^◌, ◌↔◌, [], ◌∷◌, ◌++◌, length, take, drop, sum, All, IsSome, IfSome, IsTrue, MatchBool};
-ghost use Rattle.kalah_rules.specs.Key.{row_number};
-ghost use Rattle.kalah_rules.specs.Limits.{most_houses, most_seeds};
+ghost use Rattle.kalah_rules.specs.{Key.{packed_row}, Limits.{most_houses, most_seeds}};
 
 use crate::houses::house::House;
 use crate::houses::numbers::row_with;
@@ -57,8 +56,8 @@ impl HouseRow {
         true
     }
 
-    // Returns the first `m` of these cells as houses. Returns `None` if and only if a later cell isn't 0, or the cells hold more than 31
-    // seeds.
+    /// Returns the first `m` of these cells as houses. Returns `None` if and only if a later cell isn't 0, or the cells hold more than 31
+    /// seeds.
     pub(super) fn of_cells(cells: &[u8; 6], m: u8) -> Option<HouseRow>
         requires { m ≤ most_houses }
         ensures valid { IsSome result ↔ (All (λ x. x ≡ 0) (drop m cells.now) × (sum cells.now ≤ most_seeds)) }
@@ -86,16 +85,16 @@ impl HouseRow {
         self.count
     }
 
-    // Returns the houses as a number.
+    /// Returns the houses as a number.
     #[tactic(auto, using(crate::proofs::KeyLemmas::row_is_small))]
     pub(super) fn number(&self) -> u64
-        ensures value { result ≡ row_number self.now }
+        ensures value { result ≡ packed_row self.now }
         ensures small { result < 2 ^ 30 }
     {
         self.number
     }
 
-    // Returns the number of seeds.
+    /// Returns the number of seeds.
     pub(super) fn seeds(&self) -> u64
         ensures value { result ≡ sum self.now }
         ensures few { result ≤ most_seeds }

@@ -1,23 +1,20 @@
 //! Rows of six cells, and rows of houses as numbers, with five bits for each house, house 1 lowest.
 ghost use Rattle.std.specs.Prelude.{◌≡◌, ◌+◌, ◌-◌, ◌*◌, ◌/◌, ◌%◌, ◌^◌, ◌<◌, ◌≤◌};
-ghost use Rattle.kalah_rules.specs.Key.{cells, rule_bit};
-ghost use Rattle.kalah_rules.specs.Fields.{ones, ones_up_to};
-ghost use Rattle.kalah_rules.specs.SowingTable.{own_gains, other_gains, store_gains};
-ghost use Rattle.kalah_rules.specs.declared.houses.numbers.TheConstants.{MOST_LAPS, ONE_EACH};
+ghost use Rattle.kalah_rules.specs.{Key.{cells, rule_bit}, Fields.{ones, ones_up_to}, SowingTable.{own_gains, other_gains, store_gains}, declared.houses.numbers.TheConstants.{MOST_LAPS, ONE_EACH}};
 
 use crate::houses::house::House;
 use crate::rule::Rule;
 
-// The factor of the other player's houses in a key: they begin at bit 30.
+/// The factor of the opponent's houses in a key: they begin at bit 30.
 pub(super) const OTHER_ROW_UNIT: u64 = 0x4000_0000;
 
-// The factor of the number of houses a side in a key: it begins at bit 60.
+/// The factor of the number of houses a side in a key: it begins at bit 60.
 pub(super) const SIDE_UNIT: u64 = 0x1000_0000_0000_0000;
 
-// The bit of the rule in a key, bit 63.
+/// The bit of the rule in a key, bit 63.
 pub(super) const RULE_UNIT: u64 = 0x8000_0000_0000_0000;
 
-// Returns the cells of the lowest thirty bits.
+/// Returns the cells of the lowest thirty bits.
 pub(super) fn cells_of(number: u64) -> [u8; 6]
     ensures { result ≡ cells 6 number }
 {
@@ -36,7 +33,7 @@ pub(super) fn cells_of(number: u64) -> [u8; 6]
     ]
 }
 
-// Returns the number of the variant with `m` houses a side and this rule.
+/// Returns the number of the variant with `m` houses a side and this rule.
 pub(super) fn variant_number(m: u8, rule: Rule) -> u32
     ensures { result ≡ m + 8 * rule_bit rule }
 {
@@ -46,7 +43,7 @@ pub(super) fn variant_number(m: u8, rule: Rule) -> u32
     }
 }
 
-// Returns the rule of a bit.
+/// Returns the rule of a bit.
 pub(super) fn rule_of_bit(bit: u64) -> Rule
     requires { bit ≤ 1 }
     ensures { rule_bit result ≡ bit }
@@ -58,7 +55,7 @@ pub(super) fn rule_of_bit(bit: u64) -> Rule
     }
 }
 
-// Returns the number of seeds in a house of a row.
+/// Returns the number of seeds in a house of a row.
 #[inline(always)]
 #[tactic(auto, using(crate::proofs::KeyLemmas::pow_five))]
 pub(super) fn seeds_at(row: u64, house: House) -> u64
@@ -67,7 +64,7 @@ pub(super) fn seeds_at(row: u64, house: House) -> u64
     (row >> house.bit()) % 32
 }
 
-// Returns a row with `seeds` seeds in this house, and none elsewhere.
+/// Returns a row with `seeds` seeds in this house, and none elsewhere.
 #[inline(always)]
 #[tactic(auto, using(crate::proofs::KeyLemmas::pow_five, crate::proofs::KeyLemmas::moved_fits))]
 pub(super) fn row_with(house: House, seeds: u64) -> u64
@@ -95,28 +92,21 @@ pub fn one_each(n: u8) -> u64
     ONES[n as usize]
 }
 
-// Less one seed in a house, modulo 2^64, by the number of the house.
-const LESS_1: u64 = 0xFFFF_FFFF_FFFF_FFFF;
-
-const LESS_2: u64 = 0xFFFF_FFFF_FFFF_FFE0;
-
-const LESS_3: u64 = 0xFFFF_FFFF_FFFF_FC00;
-
-const LESS_4: u64 = 0xFFFF_FFFF_FFFF_8000;
-
-const LESS_5: u64 = 0xFFFF_FFFF_FFF0_0000;
-
-const LESS_6: u64 = 0xFFFF_FFFF_FE00_0000;
-
 // What the move of a house adds to both rows, modulo 2^64, if its last seed falls into the store without a lap: a seed in each later house
-// of its side, less the seeds of the house. It is found by `House::index_in`, and 0 if there is no such house.
+// of its side, less the seeds of the house. A line for each house, with a cell for each number of houses a side from the house's own number
+// on, as `House::index_in` counts them; 0 where there is no such house. The cell of house 2 of 4: a seed in house 3 (0x400) and one in
+// house 4 (0x8000), less three in house 2 (0x60), are 0x83A0.
+#[rattlefmt::skip]
 static INTO_STORE: [u64; 31] = [
-    LESS_1, 30, 1053, 33820, 1082395, 34636826, LESS_2, 960, 33696, 1082240, 34636640, 0, LESS_3,
-    30720, 1078272, 34631680, 0, 0, LESS_4, 983040, 34504704, 0, 0, 0, LESS_5, 31457280, 0, 0, 0,
-    0, LESS_6,
+    0xFFFF_FFFF_FFFF_FFFF, 0x1E, 0x41D, 0x841C, 0x10_841B, 0x210_841A,
+    0xFFFF_FFFF_FFFF_FFE0, 0x3C0, 0x83A0, 0x10_8380, 0x210_8360, 0,
+    0xFFFF_FFFF_FFFF_FC00, 0x7800, 0x10_7400, 0x210_7000, 0, 0,
+    0xFFFF_FFFF_FFFF_8000, 0xF_0000, 0x20E_8000, 0, 0, 0,
+    0xFFFF_FFFF_FFF0_0000, 0x1E0_0000, 0, 0, 0, 0,
+    0xFFFF_FFFF_FE00_0000,
 ];
 
-// Returns what the move of this house of `m` adds to both rows, modulo 2^64, if it has `m + 1 - house` seeds.
+/// Returns what the move of this house of `m` adds to both rows, modulo 2^64, if it has `m + 1 - house` seeds.
 #[inline(always)]
 pub(super) fn into_store(m: u8, house: House) -> u64
     requires side { m ≤ 6 }
@@ -126,7 +116,7 @@ pub(super) fn into_store(m: u8, house: House) -> u64
     INTO_STORE[house.index_in(m)]
 }
 
-// Returns a row of `m` houses with one seed in each house up to `x`.
+/// Returns a row of `m` houses with one seed in each house up to `x`.
 pub(super) fn ones_up_to(m: u8, x: u8) -> u64
     requires { m ≤ 6 }
     ensures value { result ≡ ones_up_to m x }
@@ -135,7 +125,7 @@ pub(super) fn ones_up_to(m: u8, x: u8) -> u64
     one_each(if x < m { x } else { m })
 }
 
-// Returns a row of `m` houses with `seeds` seeds in each.
+/// Returns a row of `m` houses with `seeds` seeds in each.
 #[tactic(auto, using(crate::proofs::KeyLemmas::product_small))]
 pub(super) fn same_in_each(m: u8, seeds: u8) -> u64
     requires side { m ≤ 6 }
@@ -146,8 +136,8 @@ pub(super) fn same_in_each(m: u8, seeds: u8) -> u64
     seeds as u64 * one_each(m)
 }
 
-// Returns what the mover's houses gain if `count` seeds are sown from house `h` of `m`: a seed in each for each whole lap, and then one in
-// each house that the last lap reaches, before it comes round or after.
+/// Returns what the mover's houses gain if `count` seeds are sown from house `h` of `m`: a seed in each for each whole lap, and then one in
+/// each house that the last lap reaches, before it comes round or after.
 #[tactic(auto, using(crate::proofs::KeyLemmas::up_to_past, crate::proofs::KeyLemmas::laps_few))]
 pub(super) fn own_gains(m: u8, h: u8, count: u8) -> u64
     requires first { 1 ≤ h }
@@ -163,7 +153,7 @@ pub(super) fn own_gains(m: u8, h: u8, count: u8) -> u64
     same_in_each(m, count / lap) + past + ones_up_to(m, reach.saturating_sub(lap))
 }
 
-// Returns what the other player's houses gain by the same sowing.
+/// Returns what the opponent's houses gain by the same sowing.
 #[tactic(auto, using(crate::proofs::KeyLemmas::laps_few))]
 pub(super) fn other_gains(m: u8, h: u8, count: u8) -> u64
     requires first { 1 ≤ h }
@@ -178,7 +168,7 @@ pub(super) fn other_gains(m: u8, h: u8, count: u8) -> u64
     same_in_each(m, count / lap) + ones_up_to(m, reach.saturating_sub(m + 1))
 }
 
-// Returns what the mover's store gains by it.
+/// Returns what the mover's store gains by it.
 pub(super) fn store_gains(m: u8, h: u8, count: u8) -> u8
     requires first { 1 ≤ h }
     requires last { h ≤ m }

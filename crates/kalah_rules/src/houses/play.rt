@@ -1,10 +1,6 @@
 //! Moves on houses, by whole rows.
 ghost use Rattle.std.specs.Prelude.{◌≡◌, ◌+◌, ◌-◌, ◌*◌, ◌<◌, ◌≤◌, ◌==◌, ◌&&◌, length, Contains, MatchBool};
-ghost use Rattle.kalah_rules.specs.Position.{storeless, seeds, AreWithinLimits};
-ghost use Rattle.kalah_rules.specs.Lap.{HoldsSeeds};
-ghost use Rattle.kalah_rules.specs.Play.{legal_houses};
-ghost use Rattle.kalah_rules.specs.Sowing.{captures, after, is_again, EndsInStore};
-ghost use Rattle.kalah_rules.specs.SowingTable.{IsSowing};
+ghost use Rattle.kalah_rules.specs.{Position.{storeless, seeds, AreWithinLimits}, Lap.{HoldsSeeds}, Play.{legal_houses}, Sowing.{captures, after, moves_again, EndsInStore}, SowingTable.{IsSowing}};
 
 use crate::houses::Houses;
 use crate::houses::house::House;
@@ -13,7 +9,7 @@ use crate::houses::sowing_table::{Sowing, SowingTable};
 use crate::rule::Rule;
 use crate::step::HousesStep;
 
-// Both rows of a position as in a key, and the number of seeds in its own store.
+/// Both rows of a position as in a key, and the number of seeds in its own store.
 #[derive(Clone, Copy)]
 pub(super) struct RowNumbers {
     rows: u64,
@@ -98,7 +94,7 @@ impl Houses {
     fn step(&self, house: House, rows: RowNumbers, again: bool) -> HousesStep
         requires legal { Contains (legal_houses (storeless self.now)) house }
         requires rows { ShowsPosition rows (after (storeless self.now) house) }
-        requires again { again ≡ is_again (storeless self.now) house }
+        requires again { again ≡ moves_again (storeless self.now) house }
         ensures { result ≡ houses_step self.now house }
     {
         let seeds = self.seeds - rows.store;
@@ -140,7 +136,7 @@ impl Houses {
 
     // Plays this house, whose seeds are sown so.
     #[inline(always)]
-    fn play_as(&self, house: House, sowing: Sowing) -> HousesStep
+    fn play_sown(&self, house: House, sowing: Sowing) -> HousesStep
         requires legal { Contains (legal_houses (storeless self.now)) house }
         requires sowing { IsSowing (length self.now.own) house (seeds self.now.own house) sowing }
         ensures { result ≡ houses_step self.now house }
@@ -150,8 +146,8 @@ impl Houses {
 
     /// Plays the mover's house `h`, which must be legal.
     ///
-    /// Its seeds are sown one into each cell: the mover's houses after `h`, the mover's store, the other player's houses,
-    /// the mover's houses up to `h`, and round again. The other player's store is skipped. If the last seed falls into the
+    /// Its seeds are sown one into each cell: the mover's houses after `h`, the mover's store, the opponent's houses,
+    /// the mover's houses up to `h`, and round again. The opponent's store is skipped. If the last seed falls into the
     /// mover's store, the mover moves again. If it falls into an empty house of the mover, it captures as the rule says.
     /// If the houses of one player are then all empty, the game is over, and each player's houses are swept into that
     /// player's store.
@@ -161,17 +157,17 @@ impl Houses {
         ensures limits { AreWithinLimits self.now }
     {
         let sowing = Sowing::new(self.m(), h, self.own(h));
-        self.play_as(House::new(h), sowing)
+        self.play_sown(House::new(h), sowing)
     }
 
     /// Plays a house of the mover, which must be legal. The result is that of `play`, computed with less work.
     #[inline(always)]
-    pub fn play_by(&self, sowings: &SowingTable, house: House) -> HousesStep
+    pub fn play_with(&self, sowings: &SowingTable, house: House) -> HousesStep
         requires { Contains (legal_houses (storeless self.now)) house }
         ensures step { result ≡ houses_step self.now house }
         ensures limits { AreWithinLimits self.now }
     {
-        self.play_as(
+        self.play_sown(
             house,
             sowings.get(self.m(), house, self.own_seeds_in(house)),
         )

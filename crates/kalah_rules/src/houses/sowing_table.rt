@@ -1,7 +1,6 @@
 //! How each house is sown, for each number of its seeds. A sowing is one subtraction from both rows.
 ghost use Rattle.std.specs.Prelude.{◌<◌, ◌≤◌, ℕ};
-ghost use Rattle.kalah_rules.specs.SowingTable.{IsLastHouse, IsNoHouse, IsSowing, IsSowingCell};
-ghost use Rattle.kalah_rules.specs.declared.houses.sowing_table.TheConstants.{CELLS};
+ghost use Rattle.kalah_rules.specs.{SowingTable.{IsLastHouse, IsNoHouse, IsSowing, IsSowingCell}, declared.houses.sowing_table.TheConstants.{CELLS}};
 
 use crate::houses::house::House;
 use crate::houses::numbers::{OTHER_ROW_UNIT, other_gains, own_gains, row_with, store_gains};

@@ -1,3 +1,4 @@
+//! Numbers of ways to play on, to each depth.
 use crate::{Board, MOST_DEPTH, Rule};
 
 // Two seeds in each of twelve houses.

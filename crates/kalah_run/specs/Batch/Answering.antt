@@ -1,17 +1,8 @@
 -- What a batch promises, for each question.
-use Rattle.std.specs.Prelude.{◌≡◌, ◌<◌, ◌≤◌, ℕ, List, Bool, Result, Ok, Err, length, count_by, true, false, IfErr, ◌⊎◌, Option, IfOk}
-use Rattle.std.specs.Io.KnownBytes.{Appends, Keeps}
-use Rattle.kalah_jobs.specs.Writing.Sink.{AppendsPrefix, SinkState}
-use Rattle.kalah_jobs.specs.Limits.{most_files, most_lines}
-use Rattle.kalah_jobs.specs.Files.Jobs.{AreFew, lines_in_all}
-use Rattle.kalah_run.specs.Types.{Entry, Tally, Question}
-use Rattle.kalah_jobs.specs.Files.JobList.{job_list}
-use Rattle.kalah_jobs.specs.Files.NamedBytes.{NamedBytes}
-use Rattle.kalah_jobs.specs.Writing.Output.{tally_of, is_faulty_job, output_to}
-use Rattle.kalah_jobs.specs.declared.files.jobs.JobsFault.{JobsFault}
+use Rattle.std.specs.{Prelude.{◌≡◌, ◌<◌, ◌≤◌, ℕ, List, Bool, Result, Ok, Err, length, count_by, true, false, IfErr, ◌⊎◌, Option, IfOk}, Io.KnownBytes.{Appends, Keeps}}
+use Rattle.kalah_jobs.specs.{Writing.{Sink.{AppendsPrefix, SinkState}, Output.{tally_of, output_to}}, Limits.{most_files, most_lines}, Files.{Jobs.{AreWithinBatchLimits, lines_in_all}, JobList.{job_list, is_faulty_job}, NamedBytes.{NamedBytes}}, declared.files.jobs.JobsFault.{JobsFault}}
+use Rattle.kalah_run.specs.{Types.{Entry, Tally, Question}, declared.batch.run_fault.RunFault.{RunFault, TheVariants.{TooManyFiles, TooManyLines, OutOfMemory, NoWorker, Write}}}
 use Rattle.kalah_jobs.specs.declared.files.jobs.JobsFault.TheVariants as jobs
-use Rattle.kalah_run.specs.declared.batch.run_fault.RunFault.{RunFault}
-use Rattle.kalah_run.specs.declared.batch.run_fault.RunFault.TheVariants.{TooManyFiles, TooManyLines, OutOfMemory, NoWorker, Write}
 
 -- the fault of a batch whose jobs could not be made
 abbrev pub run_fault_of : JobsFault → RunFault
@@ -35,7 +26,7 @@ module _ {W : Type 0} (state : W → SinkState) (output : List ℕ) (files : Lis
 
   -- the output was written, and nothing else, all of it is flushed, and lines and faults are counted
   pub record AnswersAll (tally : Tally) : Type 0 where
-    pub few : AreFew files
+    pub few : AreWithinBatchLimits files
     pub written : Appends (state old).written (state new).written output
     pub sound : (state new).has_failed ≡ false
     pub flushed : (state new).is_flushed ≡ true
@@ -46,10 +37,11 @@ module _ {W : Type 0} (state : W → SinkState) (output : List ℕ) (files : Lis
   AnswersBatch (Ok tally) = AnswersAll tally
   AnswersBatch (Err TooManyFiles) = (most_files < length files) × IsUntouched
   AnswersBatch (Err TooManyLines) = (length files ≤ most_files) × (most_lines < lines_in_all files) × IsUntouched
-  AnswersBatch (Err OutOfMemory) = AreFew files × IsUntouched
-  AnswersBatch (Err NoWorker) = AreFew files × (0 < lines_in_all files) × IsUntouched
+  AnswersBatch (Err OutOfMemory) = AreWithinBatchLimits files × IsUntouched
+  AnswersBatch (Err NoWorker) = AreWithinBatchLimits files × (0 < lines_in_all files) × IsUntouched
   -- a prefix of the output was written, and nothing else
-  AnswersBatch (Err Write) = AreFew files × AppendsPrefix (state old).written (state new).written output × ((state new).has_failed ≡ true)
+  AnswersBatch (Err Write) = AreWithinBatchLimits files × AppendsPrefix (state old).written (state new).written output
+      × ((state new).has_failed ≡ true)
 
 -- ==== The result of a batch whose files have no line
 

@@ -1,11 +1,7 @@
 -- What is known of workers, before and after they have run.
 use Rattle.std.specs.Prelude.{◌≡◌, ℕ, ◌<◌, Bool, true, List, length, map, slice_index_or, All}
-use Rattle.kalah_run.specs.Types.{Entry, Job}
+use Rattle.kalah_run.specs.{Types.{Entry, Job}, Desk.States.{PassState, IsPassAt}, Queue.States.{PutPassState}, declared.batch.{shared_work.SharedWork.{SharedWork}, worker.Worker.{Worker}}}
 use Rattle.kalah_jobs.specs.Collecting.AnyOrder.{job}
-use Rattle.kalah_run.specs.Desk.States.{PassState, IsPassAt}
-use Rattle.kalah_run.specs.Queue.States.{PutPassState}
-use Rattle.kalah_run.specs.declared.batch.shared_work.SharedWork.{SharedWork}
-use Rattle.kalah_run.specs.declared.batch.worker.Worker.{Worker}
 
 -- the jobs of these numbers, in their order
 abbrev pub drawn_jobs : List (List Entry) → List ℕ → List Job
@@ -46,6 +42,6 @@ module _ {G : Type 0} (knows : G → ℕ → Bool) where
   OnceRun shared before fact = (after : List Worker) → HaveRun shared before after → fact
 
   -- workers that are at work can be run, for a fact that holds once each has
-  pub record CanRun (shared : SharedWork G) (workers : List Worker) (Ended : Type 0) : Type 0 where
+  pub record CanRun (shared : SharedWork G) (workers : List Worker) (AtEnd : Type 0) : Type 0 where
     pub at_work : AreAtWork shared workers
-    pub ends : OnceRun shared workers Ended
+    pub ends : OnceRun shared workers AtEnd

@@ -1,14 +1,10 @@
 -- What is kept of the desk's word and of the views of its seats, and what each step returns.
-use Rattle.std.specs.Prelude.{◌≡◌, ℕ, ◌+◌, ◌≤◌, List, [], ◌∷◌, length, sum_by, flat_map, ⊤, ◌-◌, ◌<◌, ◌++◌, true, false, nat_lt, All, MatchBool}
+use Rattle.std.specs.{Prelude.{◌≡◌, ℕ, ◌+◌, ◌≤◌, List, [], ◌∷◌, length, sum_by, flat_map, ⊤, ◌-◌, ◌<◌, ◌++◌, true, false, nat_lt, All, MatchBool}, List.{range_with_len}}
 use mathlib.Core.Option.{some}
 use lib.ListN.{get_elem?}
 use Rattle.atomic_table.specs.Table.{State, Me, Step}
 use Rattle.kalah_jobs.specs.Limits.{most_lines}
-use Rattle.kalah_run.specs.Limits.{most_passes}
-use Rattle.kalah_run.specs.Types.{DrawnRow, DeskPlan, DeskView}
-use Rattle.kalah_run.specs.declared.desk.protocol.DeskView.TheVariants.{Opening, Drawing, Closing, Ended}
-use Rattle.kalah_run.specs.Desk.Rows.{spent_in, DealsEachOnce, drawn_row}
-use Rattle.std.specs.List.{range_with_len}
+use Rattle.kalah_run.specs.{Limits.{most_passes}, Types.{DrawnRow, DeskPlan, DeskView}, declared.desk.protocol.DeskView.TheVariants.{Opening, Drawing, Closing, Reclaimed}, Desk.Rows.{spent_in, DealsEachOnce, drawn_row}}
 
 -- the first seat: all passes are yet to be handed out
 abbrev pub opening_view : DeskPlan → DeskView
@@ -29,7 +25,7 @@ abbrev pub passes_in : DeskView → ℕ
 passes_in (Opening total handed_out left) = left
 passes_in (Drawing total number r) = 1
 passes_in (Closing rows) = length rows
-passes_in Ended = 0
+passes_in Reclaimed = 0
 
 -- if a seat knows a total, it is t
 abbrev pub HasTotal : ℕ → DeskView → Type 0
@@ -82,7 +78,7 @@ after_handing_out view = view
 -- the pass that it hands out: its number is the count of those before it, its row is empty, and it is not spent
 abbrev pub pass_handed_out : DeskView → DeskView
 pass_handed_out (Opening total handed_out left) = Drawing total handed_out (drawn_row [] false)
-pass_handed_out _ = Ended
+pass_handed_out _ = Reclaimed
 
 -- the closing seat with a pass's row before the others
 abbrev pub after_reclaiming : DeskView → DeskView → DeskView

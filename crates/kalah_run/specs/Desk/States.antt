@@ -1,9 +1,7 @@
 -- A desk and a pass, as contracts see them.
 use Rattle.std.specs.Prelude.{◌≡◌, ℕ, ◌<◌, List, [], length, false, slice_index_or, map}
 use Rattle.atomic_table.specs.Seated.{TableId}
-use Rattle.kalah_run.specs.Types.{DrawnRow, DeskView}
-use Rattle.kalah_run.specs.declared.desk.protocol.DeskView.TheVariants.{Drawing}
-use Rattle.kalah_run.specs.Desk.Rows.{drawn_row}
+use Rattle.kalah_run.specs.{Types.{DrawnRow, DeskView}, declared.desk.protocol.DeskView.TheVariants.{Drawing}, Desk.Rows.{drawn_row}}
 
 -- the identity of the desk, the total, and the number of passes
 pub record DeskState : Type 0 where

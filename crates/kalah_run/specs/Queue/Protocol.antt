@@ -2,26 +2,24 @@
 use Rattle.std.specs.Prelude.{◌≡◌, ℕ, suc, ◌≤◌, List, ◌++◌, length, ◌<◌, All, slice_index_or, [], ◌+◌, ◌∷◌}
 use mathlib.Core.Option.{some}
 use lib.ListN.{get_elem?}
-use Rattle.kalah_run.specs.Types.{Job, QueueView}
+use Rattle.kalah_run.specs.{Types.{Job, QueueView}, declared.queue.protocol.QueueView.TheVariants.{Getting, Putting, Reclaimed}, Queue.States.{Accounts, outcomes_in}}
 use Rattle.kalah_jobs.specs.Collecting.Shares.{sent_by_worker}
-use Rattle.kalah_run.specs.declared.queue.protocol.QueueView.TheVariants.{Getting, Putting, Ended}
-use Rattle.kalah_run.specs.Queue.States.{Accounts, outcomes_in}
 
--- A pass to put stands after the one to get, at the place of its worker's number. It knows what that worker has sent, who is not one of
--- those that have ended.
+-- A pass to put stands after the one to get, at the place of its worker's number. It knows what that worker has sent, whose pass is
+-- not reclaimed.
 pub record FitsPut (pairs : List (ℕ × Job)) (ended : List (List Job)) (place number : ℕ) (sent : List Job) : Type 0 where
   pub place_is : place ≡ suc number
   pub running : length ended ≤ number
   pub all_sent : sent ≡ sent_by_worker number pairs
 
--- the view of the pass at this place fits all pairs, if `ended` is what the workers sent that have ended
-abbrev pub Fits : List (ℕ × Job) → List (List Job) → ℕ → QueueView → Type 0
-Fits pairs ended place (Putting number sent) = FitsPut pairs ended place number sent
-Fits pairs ended place (Getting workers got others) = place ≡ 0
-Fits pairs ended place Ended = Unit {0}
+-- the view of the pass at this place fits all pairs, if `ended` is what the workers of the reclaimed passes sent
+abbrev pub FitsPairs : List (ℕ × Job) → List (List Job) → ℕ → QueueView → Type 0
+FitsPairs pairs ended place (Putting number sent) = FitsPut pairs ended place number sent
+FitsPairs pairs ended place (Getting workers got others) = place ≡ 0
+FitsPairs pairs ended place Reclaimed = Unit {0}
 
--- The one pass to get stands first, and knows how many workers have a pass to put, which pairs were got, and what the workers sent that
--- have ended. The pairs inside have the outcomes that the queue holds, and each view fits all pairs.
+-- The one pass to get stands first, and knows how many workers have a pass to put, which pairs were got, and what the workers of
+-- the reclaimed passes sent. The pairs inside have the outcomes that the queue holds, and each view fits all pairs.
 pub record IsLawful (items : List Job) (views : List QueueView) : Type 0 where
   pub workers : ℕ
   pub got : List (ℕ × Job)
@@ -31,7 +29,7 @@ pub record IsLawful (items : List Job) (views : List QueueView) : Type 0 where
   pub count : length views ≡ suc workers
   pub held : outcomes_in inside ≡ items
   pub accounts : Accounts workers ended (got ++ inside)
-  pub fits : (place : ℕ) (v : QueueView) → get_elem? views place ≡ some v → Fits (got ++ inside) ended place v
+  pub fits : (place : ℕ) (v : QueueView) → get_elem? views place ≡ some v → FitsPairs (got ++ inside) ended place v
 
 -- ==== How each step changes what a pass knows
 
@@ -67,7 +65,7 @@ after_handing_out view = view
 -- the pass that it hands out: it has sent nothing
 abbrev pub pass_handed_out : QueueView → QueueView
 pass_handed_out (Getting workers got ended) = Putting workers []
-pass_handed_out _ = Ended
+pass_handed_out _ = Reclaimed
 
 -- the outcome is put after what was sent
 abbrev pub after_put : QueueView → Job → QueueView
@@ -83,12 +81,12 @@ after_get view pair = view
 abbrev pub IsGot : QueueView → Job → QueueView → Type 0
 IsGot before outcome after = (worker : ℕ) × (worker < workers_in before) × (after ≡ after_get before (worker, outcome))
 
--- a worker has ended: what its pass has sent stands after what the others did
+-- a pass is reclaimed: what it has sent stands after what those before it did
 abbrev pub after_reclaiming : QueueView → QueueView → QueueView
 after_reclaiming (Getting workers got ended) other = Getting workers got (ended ++ sent_in other ∷ [])
 after_reclaiming view other = view
 
--- what was got, followed by what the queue holds, is all that the workers sent that have ended
+-- what was got, followed by what the queue holds, is all that the workers of the reclaimed passes sent
 abbrev pub KnowsSent : QueueView → List Job → Type 0
 KnowsSent (Getting workers got ended) items = (inside : List (ℕ × Job)) × (outcomes_in inside ≡ items) × Accounts workers ended (got ++ inside)
 KnowsSent _ items = Unit {0}

@@ -24,9 +24,9 @@ fn work<R: Wait, G: Gate>(rt: &R, shared: &SharedWork<'_, G>, worker: &mut Worke
     }
 }
 
-/// What the workers of a batch leave, after their end is signalled.
+/// The workers of a crew that has run. Their end is signalled.
 #[derive(Drop)]
-pub(crate) struct AfterEnd {
+pub(crate) struct EndedCrew {
     pub(crate) workers: Vec<Worker>,
     _signal: EndSignal,
 }
@@ -42,9 +42,9 @@ pub(crate) struct Crew<'a, 'b, G, E: Rule> {
 impl<'a, 'b, G: Gate, E: Rule> Crew<'a, 'b, G, E> {
     ghost use Rattle.kalah_run.specs.Batch.AtWork.{CanRun, HasRun, HaveRun, IsAtWork};
 
-    /// Runs each worker in a thread of its own, as far as threads can be started, and returns the workers. The receiver learns that they
-    /// have ended.
-    pub(crate) fn run<R: Threads + Wait + Sync>(self, rt: &R) -> AfterEnd
+    /// Runs each worker, one in this thread and the others in new ones, and returns the workers. A worker for which no thread can be
+    /// started runs in this thread or another worker's, once that one is done. The receiver learns that they have ended.
+    pub(crate) fn run<R: Threads + Wait + Sync>(self, rt: &R) -> EndedCrew
         requires { CanRun G.knows self.shared.now self.workers.items (E.invariant 1) }
         ensures { HaveRun G.knows self.entry.shared.now self.entry.workers.items result.workers.items }
     {
@@ -62,7 +62,7 @@ impl<'a, 'b, G: Gate, E: Rule> Crew<'a, 'b, G, E> {
                 ensures { HasRun G.knows shared.entry.now worker.old worker.new }
             { work(rt, shared, worker) },
         );
-        AfterEnd {
+        EndedCrew {
             _signal: shared.queue.signal_end(ended),
             workers,
         }

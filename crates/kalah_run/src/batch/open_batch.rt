@@ -1,12 +1,7 @@
 //! A batch that is opened, run and closed.
 ghost use Rattle.std.specs.Prelude.{◌≡◌, ◌≤◌, ◌⊎◌, ℕ, ◌<◌, [], ◌∷◌, ◌++◌, length, vec_len, vec_capacity, false, true, IfOk, IfNone, IfSome};
-ghost use Rattle.kalah_jobs.specs.Files.Jobs.{job_count};
-ghost use Rattle.kalah_run.specs.Limits.{IsTableSize};
-ghost use Rattle.kalah_run.specs.Batch.AtWork.{passes_of, puts_of, OnceRun};
-ghost use Rattle.kalah_run.specs.Batch.Running.{IsAsAsked, IsReadyToRun, HaveOwnTables};
-ghost use Rattle.kalah_run.specs.Batch.OrderedOutput.{whole_output};
-ghost use Rattle.kalah_jobs.specs.Writing.Sink.{WasGiven};
-ghost use Rattle.kalah_run.specs.declared.batch.request.Rest.TheVariants.{Solve};
+ghost use Rattle.kalah_jobs.specs.{Files.Jobs.{job_count}, Writing.Sink.{WasGiven}};
+ghost use Rattle.kalah_run.specs.{Limits.{IsTableSize}, Batch.{AtWork.{passes_of, puts_of, OnceRun}, Running.{IsAsAsked, IsReadyToRun, HaveOwnTables}, OrderedOutput.{whole_output}}, declared.batch.request.OnFailedWrite.TheVariants.{Solve}};
 
 use crate::batch::crew::Crew;
 use crate::batch::gate::Gate;
@@ -121,7 +116,7 @@ impl<'a, G: Gate> OpenBatch<'a, G> {
             get_pass,
             rest_pass: RestPass {
                 pass,
-                rest: request.rest,
+                on_failed_write: request.on_failed_write,
             },
         };
         let workers = workers_of_passes(alloc, &mut passes, &mut puts, request.table)?;
@@ -150,7 +145,7 @@ impl<'a, G: Gate> OpenBatch<'a, G> {
         requires ends { OnceRun G.knows self.shared self.workers.items (E.invariant 1) }
         ensures given { IfSome result (λ _. WasGiven W.state out.old out.new (whole_output self.entry.output)) }
         ensures untouched { IfNone result (out.new ≡ out.old) }
-        ensures gate_hears_all { (self.entry.caller.rest_pass.rest ≡ Solve) ⊎ ((W.state out.new).has_failed ≡ false)
+        ensures gate_hears_all { (self.entry.caller.rest_pass.on_failed_write ≡ Solve) ⊎ ((W.state out.new).has_failed ≡ false)
             → IfSome result (λ _. (job : ℕ) → job < job_count self.entry.shared.jobs.now → G.knows self.entry.shared.gate.now job ≡ true) }
     {
         let OpenBatch {

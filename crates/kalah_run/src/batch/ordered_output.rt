@@ -1,7 +1,6 @@
 //! The answers of a batch, written in the order of its lines.
 ghost use Rattle.std.specs.Prelude.{◌≡◌, ℕ, List, length, IfOk};
-ghost use Rattle.kalah_jobs.specs.Writing.Sink.{WasGiven};
-ghost use Rattle.kalah_jobs.specs.Collecting.CollectorState.{HasLinesOf};
+ghost use Rattle.kalah_jobs.specs.{Writing.Sink.{WasGiven}, Collecting.CollectorState.{HasLinesOf}};
 
 use kalah_jobs::{Collector, FileText, Jobs, Outcome, Sink, write_answer_unless_failed};
 use std::alloc::{AllocError, Global};
@@ -19,7 +18,7 @@ pub(crate) struct OrderedOutput<'a> {
 }
 
 impl<'a> OrderedOutput<'a> {
-    ghost use Rattle.kalah_run.specs.Batch.OrderedOutput.{IsNew, IsOffered, Waits, WritesOn};
+    ghost use Rattle.kalah_run.specs.Batch.OrderedOutput.{IsNew, HasBeenOffered, AwaitsLine, WritesOn};
 
     /// Makes the output of these files, with no outcome yet. It allocates all its memory here.
     pub(crate) fn new(
@@ -40,10 +39,10 @@ impl<'a> OrderedOutput<'a> {
         })
     }
 
-    /// Accepts the outcome of a job. It is refused, and nothing changes, only if its job had an outcome.
+    /// Offers the outcome of a job to the collector. One that is refused changes nothing; if each job is offered once, none is.
     #[inline(always)]
     pub(crate) fn accept(&mut self, outcome: Outcome)
-        ensures { IsOffered self.old outcome self.new }
+        ensures { HasBeenOffered self.old outcome self.new }
     {
         let _ = self.collector.offer(self.jobs, outcome);
     }
@@ -53,7 +52,7 @@ impl<'a> OrderedOutput<'a> {
     pub(crate) fn write_ready<W: Sink>(&mut self, out: &mut W)
         ensures given { (text : List ℕ) × WasGiven W.state out.old out.new text }
         ensures writes { WritesOn W.state self.old out.old self.new out.new }
-        ensures waits { Waits self.new }
+        ensures waits { AwaitsLine self.new }
     {
         while self.current < self.jobs.files() {
             let f = self.current;

@@ -2,11 +2,9 @@
 //! each wait for an outcome.
 ghost use Rattle.std.specs.Prelude.{◌≡◌, ◌≤◌, ◌↔◌, true, IfNone};
 ghost use Rattle.kalah_jobs.specs.Writing.Sink.{IsReady};
-ghost use Rattle.kalah_run.specs.Batch.Leaving.{IsAbandoned, NothingRemains, DrawsOnlyTheRest};
-ghost use Rattle.kalah_run.specs.Desk.States.{IsPassAt};
-ghost use Rattle.kalah_run.specs.Queue.States.{HasGot, MayGet};
+ghost use Rattle.kalah_run.specs.{Batch.Leaving.{IsAbandoned, NothingRemains, DrawsOnlyTheRest}, Desk.States.{IsPassAt}, Queue.States.{HasGot, MayGet}};
 
-use crate::batch::request::Rest;
+use crate::batch::request::OnFailedWrite;
 use crate::batch::watch::Watch;
 use crate::desk::Desk;
 use crate::desk::pass::Pass;
@@ -20,7 +18,7 @@ use std::sync::atomic::{AtomicIn, Rule};
 #[derive(Drop)]
 pub(crate) struct RestPass {
     pub(crate) pass: Pass,
-    pub(crate) rest: Rest,
+    pub(crate) on_failed_write: OnFailedWrite,
 }
 
 /// The passes of the calling thread: that by which it gets outcomes, and that by which it may draw the rest.
@@ -65,13 +63,13 @@ impl<'a, E: Rule> Receiver<'a, E> {
     /// so. From then on a worker sends at most one outcome more, that of the job under way.
     #[inline(always)]
     pub(crate) fn leave_after(&mut self, has_failed: bool) -> bool
-        ensures left { (result ≡ true) ↔ IsAbandoned self.old.passes.rest_pass.rest has_failed }
+        ensures left { (result ≡ true) ↔ IsAbandoned self.old.passes.rest_pass.on_failed_write has_failed }
         ensures spent { result ≡ true → NothingRemains self.new.passes.rest_pass }
         ensures draws { DrawsOnlyTheRest has_failed self.old.passes.rest_pass self.new.passes.rest_pass }
         ensures get_pass { self.new.passes.get_pass ≡ self.old.passes.get_pass }
     {
         let rest_pass = &mut self.passes.rest_pass;
-        let leaves = has_failed && rest_pass.rest == Rest::Leave;
+        let leaves = has_failed && rest_pass.on_failed_write == OnFailedWrite::Leave;
         if leaves {
             self.desk.draw_rest(&mut rest_pass.pass);
         }
@@ -97,7 +95,7 @@ impl<'a, E: Rule> Receiver<'a, E> {
         _out: &W,
     ) -> Outcome
         // The workers go on, so an outcome comes.
-        requires goes_on { IsAbandoned self.old.passes.rest_pass.rest (W.state _out.now).has_failed → ⊥ }
+        requires goes_on { IsAbandoned self.old.passes.rest_pass.on_failed_write (W.state _out.now).has_failed → ⊥ }
         requires known { V.is_waiting _watch.now ≡ true }
         // The sink has flushed all that was written, unless it may keep bytes in its buffer while its caller waits.
         requires ready { IsReady (W.state _out.now) }

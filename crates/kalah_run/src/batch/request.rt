@@ -1,5 +1,5 @@
 //! What is asked of a batch: the question about its files, how it is run, and what happens to the rest if a write fails.
-ghost use Rattle.kalah_run.specs.Limits.{AreWorkers, IsTableSize};
+ghost use Rattle.kalah_run.specs.Limits.{IsWorkerCount, IsTableSize};
 
 use kalah_jobs::{FileText, Question};
 
@@ -15,14 +15,14 @@ pub struct BatchRequest<'a> {
     /// The number of entries of each worker's table, 1 to 1,048,576.
     pub table: u32,
     /// What happens to the lines that are left if a write fails.
-    pub rest: Rest,
-    ghost few_workers: { AreWorkers workers },
+    pub on_failed_write: OnFailedWrite,
+    ghost few_workers: { IsWorkerCount workers },
     ghost table_size: { IsTableSize table },
 }
 
 /// What happens to the jobs that are left when the output has failed.
 #[derive(Clone, Copy, Debug, PartialEq, Eq)]
-pub enum Rest {
+pub enum OnFailedWrite {
     /// They are solved, and the gate is called for each.
     Solve,
     /// They are left. A worker sends at most one outcome more, that of the job under way.

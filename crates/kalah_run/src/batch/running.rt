@@ -1,13 +1,9 @@
 //! Runs the workers on further threads, while the calling thread accepts what they send.
-ghost use Rattle.std.specs.Prelude.{◌≡◌, ◌⊎◌, [], length, IfNone, IfSome};
-ghost use Rattle.std.specs.Thread.{IsSync};
-ghost use Rattle.kalah_jobs.specs.Files.Jobs.{job_count};
-ghost use Rattle.kalah_jobs.specs.Writing.Sink.{IsReady, WasGiven};
-ghost use Rattle.kalah_run.specs.Batch.AtWork.{CanRun, HaveRun};
-ghost use Rattle.kalah_run.specs.Batch.Running.{HasCollected, IsAtStart, MayHaveGot};
-ghost use Rattle.kalah_run.specs.Batch.Leaving.{NothingRemains};
+ghost use Rattle.std.specs.{Prelude.{◌≡◌, ◌⊎◌, [], length, IfNone, IfSome}, Thread.{IsSync}};
+ghost use Rattle.kalah_jobs.specs.{Files.Jobs.{job_count}, Writing.Sink.{IsReady, WasGiven}};
+ghost use Rattle.kalah_run.specs.Batch.{AtWork.{CanRun, HaveRun}, Running.{HasCollected, IsAtStart, GetsOrEnds}, Leaving.{NothingRemains}};
 
-use crate::batch::crew::{AfterEnd, Crew};
+use crate::batch::crew::{Crew, EndedCrew};
 use crate::batch::gate::Gate;
 use crate::batch::ordered_output::OrderedOutput;
 use crate::batch::receiver::{CallerPasses, Receiver};
@@ -29,7 +25,7 @@ struct AllHaveRun<'a, 'b, G> {
     workers: Snapshot<Vec<Worker>>,
 }
 
-impl<'a, 'b, G: Gate> Promise<AfterEnd> for AllHaveRun<'a, 'b, G> {
+impl<'a, 'b, G: Gate> Promise<EndedCrew> for AllHaveRun<'a, 'b, G> {
     ghost use Rattle.kalah_run.specs.Batch.AtWork.{HaveRun};
 
     ghost kept_by = { λ p r. HaveRun G.knows p.shared.now p.workers.value.items r.workers.items };
@@ -55,19 +51,19 @@ fn flush_and_get<R: Wait, V: Watch, W: Sink, E: Rule>(
     watch: &mut V,
     out: &mut W,
 ) -> Option<Outcome>
-    ensures { MayHaveGot W.state (E.invariant 1) receiver.old.passes receiver.new.passes out.old out.new result }
+    ensures { GetsOrEnds W.state (E.invariant 1) receiver.old.passes receiver.new.passes out.old out.new result }
 {
     flush_to_wait(out);
     if receiver.leave_after(out.failed()) {
         return receiver.get_last(rt, out);
     }
-    watch.waits();
+    watch.before_wait();
     Some(receiver.get(rt, watch, out))
 }
 
-// Accepts the outcome of each job, and writes each line once it is ready and all earlier ones are written; then the output may flush.
-// If the output fails and the rest is left, it draws that itself, and accepts what the workers still send. It accepts until they have
-// ended, since a worker may sleep until another outcome is got. Returns both passes, to close the queue and the desk.
+// Accepts the outcome of each job, and after each writes the lines that became ready. Before each wait it lets the output flush. If the
+// output has failed and the rest is to be left, it draws all jobs that are left, so that no worker begins one, and accepts until the
+// workers have ended: one of them may sleep at the full queue. Returns both passes, to close the queue and the desk.
 fn collect<R: Wait, V: Watch, W: Sink, E: Rule>(
     rt: &R,
     mut receiver: Receiver<'_, E>,
@@ -98,7 +94,7 @@ fn collect<R: Wait, V: Watch, W: Sink, E: Rule>(
         };
         output.accept(outcome);
         output.write_ready(out);
-        watch.accepts();
+        watch.on_accepted();
     }
     flush_to_wait(out);
     receiver.into_passes()
@@ -136,7 +132,7 @@ pub(crate) fn run_and_write<R: Threads + Wait + Sync, G: Gate, V: Watch, W: Sink
             };
             let started = scope.spawn_with(
                 all_have_run,
-                move || -> AfterEnd
+                move || -> EndedCrew
                     requires { CanRun G.knows crew.shared.now crew.workers.items (E.invariant 1) }
                 { crew.run(rt) },
             );
@@ -144,7 +140,7 @@ pub(crate) fn run_and_write<R: Threads + Wait + Sync, G: Gate, V: Watch, W: Sink
                 return (None, watch, out);
             };
             let passes = collect(rt, receiver, output, watch, out);
-            let AfterEnd { workers, .. } = child.join(rt);
+            let EndedCrew { workers, .. } = child.join(rt);
             (Some((workers, passes)), watch, out)
         },
     );

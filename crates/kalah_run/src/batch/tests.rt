@@ -1,3 +1,4 @@
+//! Batches with several workers, and what the gate and the output get.
 ghost use Rattle.std.specs.Prelude.{◌<◌, ◌≤◌, false};
 
 mod gate;
@@ -5,7 +6,7 @@ mod in_parallel;
 mod out_of_memory;
 mod writers;
 
-use crate::{BatchRequest, Gate, OpenGate, Rest, RunFault, Tally, solve_batch};
+use crate::{BatchRequest, Gate, OnFailedWrite, OpenGate, RunFault, Tally, solve_batch};
 use kalah_jobs::{FileText, Question, Sink, Stream};
 use std::alloc::{AllocError, Global};
 use std::process::Abort;
@@ -109,7 +110,12 @@ fn tally_of(lines: u32) -> Tally {
 }
 
 // What is asked of the lines of the files, by workers with small tables.
-fn request_of(question: Question, files: &[FileText], workers: u32, rest: Rest) -> BatchRequest<'_>
+fn request_of(
+    question: Question,
+    files: &[FileText],
+    workers: u32,
+    on_failed_write: OnFailedWrite,
+) -> BatchRequest<'_>
     requires workers { (0 < workers) × (workers ≤ 64) }
 {
     BatchRequest {
@@ -117,7 +123,7 @@ fn request_of(question: Question, files: &[FileText], workers: u32, rest: Rest) 
         files,
         workers,
         table: 16,
-        rest,
+        on_failed_write,
     }
 }
 

@@ -1,19 +1,19 @@
 //! The watch: an observer of the progress of a batch.
 ghost use Rattle.std.specs.Prelude.{◌≡◌, Bool, true};
 
-/// An observer of a batch, called on the calling thread: `accepts` after each accepted outcome, once the answers that became ready are
-/// written; `waits` before each wait for an outcome, except while the rest is left after a failed write. A watch that blocks delays the
-/// batch.
+/// An observer of a batch, called on the calling thread: `on_accepted` after each accepted outcome, once the answers that became ready
+/// are written; `before_wait` before each wait for an outcome, except while the rest is left after a failed write. A watch that blocks
+/// delays the batch.
 pub trait Watch {
-    /// Whether the watch knows that the next outcome has not come yet. `waits` ensures it, and the call that waits requires it. By default
-    /// it is true.
+    /// Whether the watch knows that the next outcome has not come yet. `before_wait` ensures it, and the call that waits requires it.
+    /// By default it is true.
     ghost is_waiting: { Self → Bool } = { λ _. true };
 
     /// One more outcome was accepted.
-    fn accepts(&mut self);
+    fn on_accepted(&mut self);
 
     /// The next outcome has not come yet.
-    fn waits(&mut self)
+    fn before_wait(&mut self)
         ensures known { is_waiting self.new ≡ true };
 }
 
@@ -22,7 +22,7 @@ pub trait Watch {
 pub struct NoWatch;
 
 impl Watch for NoWatch {
-    fn accepts(&mut self) {}
+    fn on_accepted(&mut self) {}
 
-    fn waits(&mut self) {}
+    fn before_wait(&mut self) {}
 }

@@ -1,6 +1,5 @@
 //! The protocol under which the desk's word is kept, and what each step on it returns.
-ghost use Rattle.kalah_run.specs.Desk.Protocol.{IsLawful, opening_view, after_handing_out, pass_handed_out, Draws, DrawsRest, StartsClosing, after_reclaiming};
-ghost use Rattle.kalah_run.specs.declared.desk.protocol.DeskView.TheVariants.{Ended};
+ghost use Rattle.kalah_run.specs.{Desk.Protocol.{IsLawful, opening_view, after_handing_out, pass_handed_out, Draws, DrawsRest, StartsClosing, after_reclaiming}, declared.desk.protocol.DeskView.TheVariants.{Reclaimed}};
 
 use atomic_table::{Join, Play, Split, TableRule};
 use std::collections::LinkedList;
@@ -29,7 +28,7 @@ pub enum DeskView {
     /// The seat that reclaims the passes: the rows of those that it has reclaimed.
     Closing(LinkedList<DrawnRow>),
     /// The seat of a pass that was reclaimed.
-    Ended,
+    Reclaimed,
 }
 
 /// The plan with which the desk is opened: numbers below `total`, for `passes` passes.
@@ -85,5 +84,5 @@ pub struct Reclaim;
 impl Join<DeskView> for Reclaim {
     ghost both = { after_reclaiming };
 
-    ghost spent = { Ended };
+    ghost spent = { Reclaimed };
 }

@@ -1,3 +1,4 @@
+//! Numbers that are drawn from a desk, each once.
 ghost use Rattle.std.specs.Prelude.{◌≡◌, length, All};
 ghost use Rattle.kalah_run.specs.Desk.States.{IsPassAt};
 

@@ -1,9 +1,7 @@
 //! The passes of a results queue: what each stores, and what contracts see of it.
 ghost use Rattle.std.specs.Prelude.{◌≡◌, []};
 ghost use Rattle.crossbeam_queue.specs.Passes.{view as view_of};
-ghost use Rattle.kalah_run.specs.Queue.Protocol.{sent_in, worker_in, got_in, workers_in};
-ghost use Rattle.kalah_run.specs.Queue.States.{PutPassState, GetPassState};
-ghost use Rattle.kalah_run.specs.declared.queue.protocol.QueueView.TheVariants.{Putting, Getting};
+ghost use Rattle.kalah_run.specs.{Queue.{Protocol.{sent_in, worker_in, got_in, workers_in}, States.{PutPassState, GetPassState}}, declared.queue.protocol.QueueView.TheVariants.{Putting, Getting}};
 
 use crate::queue::protocol::RuledPass;
 use std::marker::Model;

@@ -1,7 +1,6 @@
 //! The protocol of the results queue, over the outcomes that it holds and what each pass knows.
 ghost use Rattle.std.specs.Prelude.{◌≡◌};
-ghost use Rattle.kalah_run.specs.Queue.Protocol.{IsLawful, opening_view, after_handing_out, pass_handed_out, after_put, IsGot, after_reclaiming, KnowsSent};
-ghost use Rattle.kalah_run.specs.declared.queue.protocol.QueueView.TheVariants.{Ended};
+ghost use Rattle.kalah_run.specs.{Queue.Protocol.{IsLawful, opening_view, after_handing_out, pass_handed_out, after_put, IsGot, after_reclaiming, KnowsSent}, declared.queue.protocol.QueueView.TheVariants.{Reclaimed}};
 
 use crossbeam_queue::{Pass, RuledArrayQueue, protocol};
 use kalah_jobs::Outcome;
@@ -10,7 +9,7 @@ use std::collections::LinkedList;
 /// What one pass of the queue knows. It is used in contracts only; no program makes one.
 pub enum QueueView {
     /// The pass to get: how many passes to put were handed out, what was got, as pairs of a worker and its outcome, and what the workers
-    /// sent that have ended.
+    /// of the reclaimed passes sent.
     Getting {
         workers: u32,
         got: LinkedList<(u32, Outcome)>,
@@ -22,7 +21,7 @@ pub enum QueueView {
         sent: LinkedList<Outcome>,
     },
     /// A pass to put that was reclaimed.
-    Ended,
+    Reclaimed,
 }
 
 /// The protocol, between any two steps and for each worker: what was got of it, followed by what the queue holds of it, is what it has
@@ -64,7 +63,7 @@ pub struct Reclaim;
 impl protocol::Join<QueueView> for Reclaim {
     ghost both = { after_reclaiming };
 
-    ghost spent = { Ended };
+    ghost spent = { Reclaimed };
 }
 
 /// What was got, followed by what the queue holds, is all that the workers whose passes were reclaimed have sent.

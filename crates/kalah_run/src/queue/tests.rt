@@ -10,7 +10,7 @@ use std::sync::Wait;
 use std::thread;
 use std::thread::Threads;
 
-// PutOutcome the outcome repeatedly.
+// Puts the outcome repeatedly.
 fn put_often<R: Wait>(
     rt: &R,
     queue: &ResultsQueue,
@@ -47,7 +47,7 @@ fn put_all<R: Threads + Wait + Sync>(
     );
 }
 
-// GetOutcome `total` outcomes.
+// Gets `total` outcomes.
 fn get_all<R: Wait>(rt: &R, queue: &ResultsQueue, mut pass: GetPass, total: u32)
     requires { pass.queue ≡ queue.now.id }
 {

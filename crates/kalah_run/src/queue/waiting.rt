@@ -1,8 +1,8 @@
 //! Waiting for events of other threads: first by spinning briefly, then by sleeping. No contract mentions it, and no answer depends
 //! on it: a thread that is woken tries for itself.
 //!
-//! Why no thread sleeps for long while what it waits for is there: a waiter stores 1 before it tries, and sleeps only while the word
-//! is 1. What comes after its try owes a wake-up (`WakeUp`), which is sent on every path. It finds 1, stores 0 and wakes a sleeper; or
+//! Why no thread sleeps for long while what it waits for is there: a waiter stores 1 before the try after which it may sleep, and sleeps
+//! only while the word is 1. What comes after its try owes a wake-up (`WakeUp`), which is sent on every path. It finds 1, stores 0 and wakes a sleeper; or
 //! it finds 0, as an earlier one has stored it since. So the waiter does not fall asleep, or a sleeper has been woken that stores 1
 //! and tries after what has come. Once that one has what it waited for, it wakes the next. All steps are in one total order
 //! (`SeqCst`).

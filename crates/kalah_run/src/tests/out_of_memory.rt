@@ -2,8 +2,7 @@
 //! repeatedly, with the first request refused, then the second, and so on: the test must pass each time, until the request that
 //! is refused is one of its own marks.
 ghost use Rattle.std.specs.Prelude.{◌≡◌, ◌<◌, ◌≤◌, All, length, vec_len};
-ghost use Rattle.kalah_run.specs.Desk.States.{IsPassAt};
-ghost use Rattle.kalah_run.specs.Queue.States.{ArePassesFrom};
+ghost use Rattle.kalah_run.specs.{Desk.States.{IsPassAt}, Queue.States.{ArePassesFrom}};
 
 use crate::{Desk, Gate, GetPass, OpenGate, Pass, PutPass, ResultsQueue};
 use kalah_jobs::{Entry, LineFault, Outcome};
@@ -13,7 +12,7 @@ use std::process::Abort;
 use std::sync::Wait;
 use std::test::Fail;
 
-// Makes a request that is refused only if none before it was.
+/// Makes a request that is refused only if none before it was.
 pub(crate) fn mark(alloc: Global, place: &'static str) -> Result<(), Fail> {
     match Box::new(alloc, 0u8) {
         Ok(_) => Ok(()),
@@ -95,7 +94,7 @@ fn a_desk_closed_before_all_is_drawn(rt: HostRuntime) -> Result<(), Fail> {
     draw_first(&rt, rt.alloc(), 5, (Some(0), (1, false)))
 }
 
-// The outcomes of two lines of two files.
+/// The outcomes of two lines of two files.
 pub(crate) fn two_outcomes(alloc: Global) -> Result<(Outcome, Outcome), AllocError> {
     let table = Table::new(alloc, 16).or_else(|_| Table::new(alloc, 16))?;
     let mut solver = Solver::new(table);

@@ -1,6 +1,5 @@
 -- Intervals of margins, and the numbers that a window distinguishes.
-use Rattle.std.specs.Prelude.{ℕ, ◌+◌, ◌*◌, ℤ, pos, neg_ℤ, ◌-ℤ◌, ◌≤ℤ◌}
-use Rattle.std.specs.Int.{int_max, int_min}
+use Rattle.std.specs.{Prelude.{ℕ, ◌+◌, ◌*◌, ℤ, pos, neg_ℤ, ◌-ℤ◌, ◌≤ℤ◌}, Int.{int_max, int_min}}
 use Rattle.kalah_rules.specs.Limits.{most_seeds}
 use Rattle.kalah_solve.specs.declared.bounds.interval.Interval.{Interval}
 

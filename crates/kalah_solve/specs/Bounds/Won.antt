@@ -1,10 +1,7 @@
 -- How many of the seeds in houses a player ends up with.
 use Rattle.std.specs.Prelude.{ℕ, ◌+◌, ◌-◌, ◌/◌, ◌≤◌, ℤ, pos, negsuc, ◌+ℤ◌}
-use Rattle.kalah_rules.specs.Position.{HousesState, storeless, seeds_in_houses}
-use Rattle.kalah_rules.specs.declared.step.HousesStep.{HousesStep}
-use Rattle.kalah_rules.specs.declared.step.HousesStep.TheVariants.{Over, Again, Turn}
-use Rattle.kalah_solve.specs.Solver.Worth.{houses_worth}
-use Rattle.kalah_solve.specs.declared.bounds.seed_bounds.SeedBounds.{SeedBounds}
+use Rattle.kalah_rules.specs.{Position.{HousesState, storeless, seeds_in_houses}, declared.step.HousesStep.{HousesStep, TheVariants.{Over, Again, Turn}}}
+use Rattle.kalah_solve.specs.{Solver.Worth.{houses_worth}, declared.bounds.seed_bounds.SeedBounds.{SeedBounds}}
 
 -- an integer as a natural number, 0 if below 0
 abbrev pub nat_or_zero : ℤ → ℕ
@@ -15,7 +12,7 @@ nat_or_zero (negsuc n) = 0
 unfoldable pub won : HousesState → ℕ
 won a = nat_or_zero (houses_worth a +ℤ pos (seeds_in_houses (storeless a))) / 2
 
--- what the mover wins by a step, if best play follows; after a turn it is what the other player leaves
+-- what the mover wins by a step, if best play follows; after a turn it is what the opponent leaves
 abbrev pub won_by_step : HousesStep → ℕ
 won_by_step (Over own other) = own
 won_by_step (Again gained b) = gained + won b

@@ -1,8 +1,6 @@
 -- What best play is: strategies, the games that are played, and the margin that each side can secure.
 use Rattle.std.specs.Prelude.{◌≡◌, ℕ, true, false, List, [], ◌∷◌, Contains, ℤ, neg_ℤ, ◌≤ℤ◌}
-use Rattle.kalah_rules.specs.Position.{Position, HasEqualSides, is_over, final_margin, swapped}
-use Rattle.kalah_rules.specs.Sowing.{after, is_again}
-use Rattle.kalah_rules.specs.Play.{legal_houses}
+use Rattle.kalah_rules.specs.{Position.{Position, HasEqualSides, is_over, final_margin, swapped}, Sowing.{after, moves_again}, Play.{legal_houses}}
 
 -- a strategy: the house that a player moves at each position in which it is that player's turn
 abbrev pub Strategy : Type 0
@@ -25,10 +23,10 @@ follow s p = s p ∷ []
 pub data Game : Policy → Policy → Position → List ℕ → Position → Type 0 where
   is_at_end : {mine theirs : Policy} {p : Position} → is_over p ≡ true → Game mine theirs p [] p
   moves_on : {mine theirs : Policy} {p : Position} {h : ℕ} {houses : List ℕ} {final : Position} →
-      is_over p ≡ false → Contains (mine p) h → is_again p h ≡ true →
+      is_over p ≡ false → Contains (mine p) h → moves_again p h ≡ true →
       Game mine theirs (after p h) houses final → Game mine theirs p (h ∷ houses) final
   passes_turn : {mine theirs : Policy} {p : Position} {h : ℕ} {houses : List ℕ} {final : Position} →
-      is_over p ≡ false → Contains (mine p) h → is_again p h ≡ false →
+      is_over p ≡ false → Contains (mine p) h → moves_again p h ≡ false →
       Game theirs mine (swapped (after p h)) houses final → Game mine theirs p (h ∷ houses) (swapped final)
 
 -- each game in which the player to move follows `mine` ends with at least v for that player, for any play of the opponent
@@ -48,8 +46,8 @@ pub record IsBestPlay (p : Position) (v : ℤ) : Type 0 where
 -- v is what the move of house h gets in best play, and no more: the margin of best play of the position after it, seen by the player
 -- who moved. That of a game that is over is its final margin
 pub record IsWorthOfMove (p : Position) (h : ℕ) (v : ℤ) : Type 0 where
-  pub again : is_again p h ≡ true → IsBestPlay (after p h) v
-  pub turn : is_again p h ≡ false → IsBestPlay (swapped (after p h)) (neg_ℤ v)
+  pub again : moves_again p h ≡ true → IsBestPlay (after p h) v
+  pub turn : moves_again p h ≡ false → IsBestPlay (swapped (after p h)) (neg_ℤ v)
 
 -- house h is a best move: it may be moved, and gets the margin of best play
 pub record IsBestMove (p : Position) (h : ℕ) (v : ℤ) : Type 0 where

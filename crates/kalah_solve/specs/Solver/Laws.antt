@@ -1,12 +1,7 @@
 -- Laws over all positions and strategies.
 use Rattle.std.specs.Prelude.{◌≡◌, ◌↔◌, ℕ, ◌<◌, ◌≤◌, true, false, List, length, map, Contains, ℤ, pos, ◌+ℤ◌, ◌-ℤ◌, ◌≤ℤ◌}
-use Rattle.kalah_rules.specs.Position.{Position, HasEqualSides, is_over, final_margin, houses_in, storeless}
-use Rattle.kalah_rules.specs.Play.{legal_houses}
-use Rattle.kalah_rules.specs.Measure.{moves_left}
-use Rattle.kalah_solve.specs.Solver.Worth.{greatest, worth_within, worth, value_of_move, best_house, houses_worth}
-use Rattle.kalah_solve.specs.Solver.BestPlay.{Strategy, IsStrategy, follow, Game, Secures, HoldsTo, IsBestPlay, IsBestMove}
-use Rattle.kalah_solve.specs.Solver.Verdict.{StatesBestPlay}
-use Rattle.kalah_solve.specs.declared.solver.Verdict.{Verdict}
+use Rattle.kalah_rules.specs.{Position.{Position, HasEqualSides, is_over, final_margin, houses_in, storeless}, Play.{legal_houses}, Measure.{moves_left}}
+use Rattle.kalah_solve.specs.{Solver.{Worth.{greatest, worth_within, worth, value_of_move, best_house, houses_worth}, BestPlay.{Strategy, IsStrategy, follow, Game, Secures, HoldsTo, IsBestPlay, IsBestMove}, Verdict.{StatesBestPlay}}, declared.solver.Verdict.{Verdict}}
 
 -- a game that is over is worth its final margin
 abbrev pub WorthOfOver : Type 0

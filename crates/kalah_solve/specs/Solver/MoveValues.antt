@@ -1,17 +1,7 @@
 -- What each move of a position is worth, in its numbers and by the strategies of best play.
-use Rattle.std.specs.Prelude.{◌≡◌, ℕ, zero, suc, ◌+◌, ◌-◌, ◌*◌, ◌/◌, ◌%◌, ◌==◌, ◌≤◌, if◌then◌else◌, false, List, [], ◌∷◌, All, Contains, map, find, option_map, unwrap_or, ℤ, pos, ◌+ℤ◌, ◌-ℤ◌}
-use Rattle.std.specs.Ordering.{int_eq}
-use Rattle.kalah_rules.specs.Limits.{most_houses, most_in_play}
-use Rattle.kalah_rules.specs.Position.{Position, HasEqualSides, IsSmallMargin, is_over}
-use Rattle.kalah_rules.specs.Play.{legal_houses}
-use Rattle.kalah_solve.specs.Bounds.Won.{nat_or_zero}
-use Rattle.kalah_solve.specs.Solver.Worth.{greatest, value_of_move}
-use Rattle.kalah_solve.specs.Solver.BestPlay.{IsWorthOfMove}
-use Rattle.kalah_solve.specs.Solver.Verdict.{verdict_of}
-use Rattle.kalah_solve.specs.declared.solver.move_values.MoveValue.{MoveValue}
-use Rattle.kalah_solve.specs.declared.solver.move_values.TheConstants.{VALUE_COUNT, DIGIT_BASE}
-use Rattle.kalah_solve.specs.declared.solver.Verdict.{Verdict}
-use Rattle.kalah_solve.specs.declared.solver.Verdict.TheVariants.{Best}
+use Rattle.std.specs.{Prelude.{◌≡◌, ℕ, zero, suc, ◌+◌, ◌-◌, ◌*◌, ◌/◌, ◌%◌, ◌==◌, ◌≤◌, if◌then◌else◌, false, List, [], ◌∷◌, All, Contains, map, find, option_map, unwrap_or, ℤ, pos, ◌+ℤ◌, ◌-ℤ◌}, Ordering.{int_eq}}
+use Rattle.kalah_rules.specs.{Limits.{most_houses, most_in_play}, Position.{Position, HasEqualSides, IsMarginInRange, is_over}, Play.{legal_houses}}
+use Rattle.kalah_solve.specs.{Bounds.Won.{nat_or_zero}, Solver.{Worth.{greatest, value_of_move}, BestPlay.{IsWorthOfMove}, Verdict.{verdict_of}}, declared.solver.{move_values.{MoveValue.{MoveValue}, TheConstants.{VALUE_COUNT, DIGIT_BASE}}, Verdict.{Verdict, TheVariants.{Best}}}}
 
 -- house h, with the margin that its move gets in best play
 abbrev pub move_value : Position → ℕ → MoveValue
@@ -38,7 +28,7 @@ best_of values =
 pub record IsMoveValue (v : MoveValue) : Type 0 where
   pub first : 1 ≤ v.house
   pub last : v.house ≤ most_houses
-  pub small : IsSmallMargin v.value
+  pub small : IsMarginInRange v.value
 
 -- a value as a digit: each house has one for each of its values, and the least value of house 1 has digit 1
 abbrev pub digit_of : MoveValue → ℕ
@@ -49,9 +39,9 @@ abbrev pub value_at : ℕ → MoveValue
 value_at d = record { house = (d - 1) / VALUE_COUNT + 1; value = pos ((d - 1) % VALUE_COUNT) -ℤ pos most_in_play }
 
 -- values as a number to the base `DIGIT_BASE`, the digit of the first one lowest
-abbrev pub values_number : List MoveValue → ℕ
-values_number [] = 0
-values_number (v ∷ vs) = digit_of v + DIGIT_BASE * values_number vs
+abbrev pub packed_values : List MoveValue → ℕ
+packed_values [] = 0
+packed_values (v ∷ vs) = digit_of v + DIGIT_BASE * packed_values vs
 
 -- the values in the lowest n digits of a number
 abbrev pub values_in : ℕ → ℕ → List MoveValue
@@ -59,8 +49,8 @@ values_in zero k = []
 values_in (suc n) k = if k == 0 then [] else (value_at (k % DIGIT_BASE) ∷ values_in n (k / DIGIT_BASE))
 
 -- the number is that of at most n values
-abbrev pub IsValuesNumber : ℕ → ℕ → Type 0
-IsValuesNumber n k = values_number (values_in n k) ≡ k
+abbrev pub ArePackedValues : ℕ → ℕ → Type 0
+ArePackedValues n k = packed_values (values_in n k) ≡ k
 
 -- ---- laws
 

@@ -1,25 +1,21 @@
 -- What a position is worth, and by which house.
 use Rattle.std.specs.Prelude.{◌≡◌, ℕ, ◌≤◌, true, false, ℤ, if◌then◌else◌}
-use Rattle.kalah_rules.specs.Limits.{most_houses}
-use Rattle.kalah_rules.specs.Position.{Position, is_over, final_margin, IsSmallMargin}
-use Rattle.kalah_solve.specs.Solver.Worth.{worth, best_house}
-use Rattle.kalah_solve.specs.Solver.BestPlay.{IsBestPlay, IsBestMove}
-use Rattle.kalah_solve.specs.declared.solver.Verdict.{Verdict}
-use Rattle.kalah_solve.specs.declared.solver.Verdict.TheVariants.{Best, Over}
+use Rattle.kalah_rules.specs.{Limits.{most_houses}, Position.{Position, is_over, final_margin, IsMarginInRange}}
+use Rattle.kalah_solve.specs.{Solver.{Worth.{worth, best_house}, BestPlay.{IsBestPlay, IsBestMove}}, declared.solver.Verdict.{Verdict, TheVariants.{Best, Over}}}
 
 -- the final margin of a game that is over, otherwise the margin of best play with the lowest-numbered best house
 abbrev pub verdict_of : Position → Verdict
 verdict_of p = if is_over p then Over (final_margin p) else Best (worth p) (best_house p)
 
 -- the margin is one that a player can have, and the house is one of a side
-pub record IsSmallBest (margin : ℤ) (house : ℕ) : Type 0 where
-  pub small : IsSmallMargin margin
+pub record IsBestInRange (margin : ℤ) (house : ℕ) : Type 0 where
+  pub small : IsMarginInRange margin
   pub first : 1 ≤ house
   pub last : house ≤ most_houses
 
-abbrev pub IsSmallVerdict : Verdict → Type 0
-IsSmallVerdict (Best margin house) = IsSmallBest margin house
-IsSmallVerdict (Over margin) = IsSmallMargin margin
+abbrev pub IsVerdictInRange : Verdict → Type 0
+IsVerdictInRange (Best margin house) = IsBestInRange margin house
+IsVerdictInRange (Over margin) = IsMarginInRange margin
 
 -- the game goes on, and the house is the lowest-numbered best house, which secures the margin of best play
 pub record StatesBestMove (p : Position) (margin : ℤ) (house : ℕ) : Type 0 where

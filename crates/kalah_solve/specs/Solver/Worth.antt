@@ -1,17 +1,12 @@
 -- The margin of best play, and the house that attains it.
-use Rattle.std.specs.Prelude.{ℕ, zero, suc, if◌then◌else◌, List, [], ◌∷◌, map, fold, find, unwrap_or, ℤ, pos, neg_ℤ}
-use Rattle.std.specs.Int.{int_max}
-use Rattle.std.specs.Ordering.{int_eq}
-use Rattle.kalah_rules.specs.Position.{Position, HousesState, storeless, is_over, final_margin, swapped}
-use Rattle.kalah_rules.specs.Sowing.{after, is_again}
-use Rattle.kalah_rules.specs.Play.{legal_houses}
-use Rattle.kalah_rules.specs.Measure.{moves_left}
+use Rattle.std.specs.{Prelude.{ℕ, zero, suc, if◌then◌else◌, List, [], ◌∷◌, map, fold, find, unwrap_or, ℤ, pos, neg_ℤ}, Int.{int_max}, Ordering.{int_eq}}
+use Rattle.kalah_rules.specs.{Position.{Position, HousesState, storeless, is_over, final_margin, swapped}, Sowing.{after, moves_again}, Play.{legal_houses}, Measure.{moves_left}}
 
 -- the margin that the mover gets by house h, where `worth_of` is the margin of best play of what follows
 abbrev pub value_by : (Position → ℤ) → Position → ℕ → ℤ
 value_by worth_of p h =
     let q = after p h in
-    if is_over q then final_margin q else (if is_again p h then worth_of q else neg_ℤ (worth_of (swapped q)))
+    if is_over q then final_margin q else (if moves_again p h then worth_of q else neg_ℤ (worth_of (swapped q)))
 
 -- the greatest of some numbers
 abbrev pub greatest : List ℤ → ℤ

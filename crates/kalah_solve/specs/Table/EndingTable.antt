@@ -1,11 +1,7 @@
 -- What the words of endings store.
 use Rattle.std.specs.Prelude.{◌≡◌, ℕ, ◌+◌, ◌*◌, ◌/◌, ◌%◌, ◌^◌, ◌<◌, ◌≤◌, ◌≢◌, suc, List, length, slice_index}
-use Rattle.kalah_rules.specs.Position.{HousesState, storeless, seeds_in_houses, AreWithinLimits}
-use Rattle.kalah_rules.specs.Key.{rule_bit}
-use Rattle.kalah_solve.specs.Table.RowRank.{choose, rank_of_houses}
-use Rattle.kalah_solve.specs.declared.table.ending_table.TheConstants.{MOST_ENDING_SEEDS, COUNTS, CELLS_OF_PAIR}
-use Rattle.kalah_solve.specs.declared.table.ending_table.words.TheConstants.{FIRST_WORDS, RULE_WORDS}
-use Rattle.kalah_solve.specs.Bounds.Won.{won}
+use Rattle.kalah_rules.specs.{Position.{HousesState, storeless, seeds_in_houses, AreWithinLimits}, Key.{rule_bit}}
+use Rattle.kalah_solve.specs.{Table.RowRank.{choose, rank_of_houses}, declared.table.ending_table.{TheConstants.{MOST_ENDING_SEEDS, COUNTS, CELLS_OF_PAIR}, words.TheConstants.{FIRST_WORDS, RULE_WORDS}}, Bounds.Won.{won}}
 
 -- the most seeds of an ending
 abbrev pub most_ending_seeds : ℕ

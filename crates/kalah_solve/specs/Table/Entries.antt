@@ -1,11 +1,7 @@
 -- What a table of intervals stores.
 use Rattle.std.specs.Prelude.{◌≡◌, ℕ, List, [], Contains}
-use Rattle.kalah_rules.specs.Position.{HousesState, AreWithinLimits}
-use Rattle.kalah_rules.specs.Key.{key_of}
-use Rattle.kalah_solve.specs.Solver.Worth.{houses_worth}
-use Rattle.kalah_solve.specs.Bounds.Intervals.{Encloses}
-use Rattle.kalah_solve.specs.declared.bounds.interval.Interval.{Interval}
-use Rattle.kalah_solve.specs.declared.table.TheConstants.{MOST_ENTRIES}
+use Rattle.kalah_rules.specs.{Position.{HousesState, AreWithinLimits}, Key.{key_of}}
+use Rattle.kalah_solve.specs.{Solver.Worth.{houses_worth}, Bounds.Intervals.{Encloses}, declared.{bounds.interval.Interval.{Interval}, table.TheConstants.{MOST_ENTRIES}}}
 
 -- the most entries of a table
 abbrev pub most_entries : ℕ

@@ -15,9 +15,9 @@ row_rank [] = 0
 row_rank (x ∷ xs) = choose (x + sum xs + length xs) (suc (length xs)) + row_rank xs
 
 -- the seeds of a row from each cell on, as a number with five bits for each
-abbrev pub sums_number : List ℕ → ℕ
-sums_number [] = 0
-sums_number (x ∷ xs) = x + sum xs + 32 * sums_number xs
+abbrev pub packed_sums : List ℕ → ℕ
+packed_sums [] = 0
+packed_sums (x ∷ xs) = x + sum xs + 32 * packed_sums xs
 
 -- the rank of the houses of both players in one row
 abbrev pub rank_of_houses : HousesState → ℕ

@@ -1,12 +1,7 @@
 -- What the slots of houses state.
 use Rattle.std.specs.Prelude.{◌≡◌, ◌⊎◌, ℕ, ◌-◌, ◌*◌, ◌/◌, ◌%◌, ◌^◌, ◌<◌, ◌≤◌, max, min, List, length, slice_index_or}
-use Rattle.kalah_rules.specs.Position.{HousesState, AreWithinLimits}
-use Rattle.kalah_rules.specs.Key.{key_of}
-use Rattle.kalah_solve.specs.Bounds.Won.{won}
-use Rattle.kalah_solve.specs.Table.Entries.{most_entries}
-use Rattle.kalah_solve.specs.declared.table.TheConstants.{FIRST_SLOTS}
-use Rattle.kalah_solve.specs.declared.table.slot_table.TheConstants.{LEAST_SLOTS, MIX}
-use Rattle.kalah_solve.specs.declared.table.slot_table.Slot.{Slot}
+use Rattle.kalah_rules.specs.{Position.{HousesState, AreWithinLimits}, Key.{key_of}}
+use Rattle.kalah_solve.specs.{Bounds.Won.{won}, Table.Entries.{most_entries}, declared.table.{TheConstants.{FIRST_SLOTS}, slot_table.{TheConstants.{LEAST_SLOTS, MIX}, Slot.{Slot}}}}
 
 -- a key, mixed: each key has a number of its own
 unfoldable pub mixed : ℕ → ℕ

@@ -17,7 +17,7 @@ pub(crate) struct Interval {
 }
 
 impl Interval {
-    // Returns the interval of all margins that houses can be worth.
+    /// Returns the interval of all margins that houses can be worth.
     pub(crate) fn whole() -> Interval
         ensures is { result ≡ from_to least_margin most_margin }
         ensures held { (z : ℤ) → least_margin ≤ℤ z → z ≤ℤ most_margin → Encloses result z }
@@ -28,7 +28,7 @@ impl Interval {
         }
     }
 
-    // Returns the numbers that are in both intervals.
+    /// Returns the numbers that are in both intervals.
     pub(crate) fn intersection(self, with: Interval) -> Interval
         ensures { (z : ℤ) → Encloses result z ↔ (Encloses self z × Encloses with z) }
     {

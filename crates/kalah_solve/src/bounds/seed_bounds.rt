@@ -1,7 +1,6 @@
 //! Bounds on the number of seeds that a player wins.
 ghost use Rattle.std.specs.Prelude.{◌≡◌, max, min, ◌≤◌, ◌≤ℤ◌, ◌+ℤ◌, ℕ, ℤ, pos};
-ghost use Rattle.kalah_rules.specs.Limits.{most_seeds};
-ghost use Rattle.kalah_rules.specs.Position.{storeless, seeds_in_houses};
+ghost use Rattle.kalah_rules.specs.{Limits.{most_seeds}, Position.{storeless, seeds_in_houses}};
 ghost use Rattle.kalah_solve.specs.Bounds.Intervals.{Encloses, IsHalf, clamped, margin_of};
 
 use crate::bounds::interval::Interval;
@@ -16,7 +15,7 @@ pub(crate) struct SeedBounds {
     ghost few: { most ≤ most_seeds },
 }
 
-// Returns how many of `seeds` seeds a player wins who has this margin: half of both together, rounded down, or 0 if that is negative.
+/// Returns how many of `seeds` seeds a player wins who has this margin: half of both together, rounded down, or 0 if that is negative.
 pub(crate) fn won_of(margin: i32, seeds: u8) -> u8
     requires { (margin +ℤ pos seeds) ≤ℤ pos 255 }
     ensures { IsHalf (margin +ℤ pos seeds) result }
@@ -25,7 +24,7 @@ pub(crate) fn won_of(margin: i32, seeds: u8) -> u8
     if number <= 0 { 0 } else { number as u8 / 2 }
 }
 
-// Returns the margin of a player who wins `won` of `seeds` seeds.
+/// Returns the margin of a player who wins `won` of `seeds` seeds.
 #[inline(always)]
 pub(crate) fn margin_of(won: u8, seeds: u8) -> i32
     ensures { result ≡ margin_of won seeds }
@@ -36,7 +35,7 @@ pub(crate) fn margin_of(won: u8, seeds: u8) -> i32
 impl SeedBounds {
     ghost use Rattle.kalah_solve.specs.Bounds.Won.{won, IsWithinBounds};
 
-    // Returns what the mover can win of the seeds in these houses.
+    /// Returns what the mover can win of the seeds in these houses.
     #[tactic(auto, using(crate::proofs::BoundsLemmas::won_of_houses))]
     pub(crate) fn unknown(houses: &Houses) -> SeedBounds
         ensures least { result.least ≡ 0 }
@@ -49,7 +48,7 @@ impl SeedBounds {
         }
     }
 
-    // Returns the bounds of what is won of `seeds` seeds that a window of margins distinguishes.
+    /// Returns the bounds of what is won of `seeds` seeds that a window of margins distinguishes.
     pub(crate) fn of_window(window: Window, seeds: u8) -> SeedBounds
         requires { seeds ≤ most_seeds }
         ensures ordered { result.least ≤ result.most }
@@ -62,7 +61,7 @@ impl SeedBounds {
         }
     }
 
-    // Returns the bounds of what is won of `seeds` seeds that a margin in the interval allows.
+    /// Returns the bounds of what is won of `seeds` seeds that a margin in the interval allows.
     pub(crate) fn of_margins(interval: Interval, seeds: u8) -> SeedBounds
         requires { seeds ≤ most_seeds }
         ensures held { (t : ℕ) → t ≤ seeds → Encloses interval (margin_of t seeds) → IsWithinBounds result t }
@@ -75,7 +74,7 @@ impl SeedBounds {
         }
     }
 
-    // Returns the margins of what is won of `seeds` seeds within these bounds.
+    /// Returns the margins of what is won of `seeds` seeds within these bounds.
     pub(crate) fn margins(self, seeds: u8) -> Interval
         requires { seeds ≤ most_seeds }
         ensures held { (t : ℕ) → t ≤ seeds → IsWithinBounds self t → Encloses result (margin_of t seeds) }

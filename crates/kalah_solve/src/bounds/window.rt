@@ -59,21 +59,21 @@ impl Window {
         ensures exact { self.lo <ℤ answer → answer <ℤ self.hi → result ≡ from_to answer answer }
         ensures held { (z : ℤ) → least_margin ≤ℤ z → z ≤ℤ most_margin → answer ≡ clamped self.lo self.hi z → Encloses result z }
     {
-        let answer_there = answer as i8;
+        let margin = answer as i8;
         if answer <= self.lo {
             Interval {
                 lo: -MOST_MARGIN,
-                hi: answer_there,
+                hi: margin,
             }
         } else if answer >= self.hi {
             Interval {
-                lo: answer_there,
+                lo: margin,
                 hi: MOST_MARGIN,
             }
         } else {
             Interval {
-                lo: answer_there,
-                hi: answer_there,
+                lo: margin,
+                hi: margin,
             }
         }
     }

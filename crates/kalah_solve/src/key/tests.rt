@@ -1,3 +1,4 @@
+//! Keys, beside their layout.
 use super::*;
 use kalah_rules::Rule;
 

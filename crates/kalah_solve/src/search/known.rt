@@ -1,8 +1,6 @@
 //! Bounds of houses: looked up before a search of them, and stored after it.
 ghost use Rattle.kalah_rules.specs.Position.{AreWithinLimits};
-ghost use Rattle.kalah_solve.specs.Solver.Worth.{houses_worth};
-ghost use Rattle.kalah_solve.specs.Bounds.Intervals.{Encloses};
-ghost use Rattle.kalah_solve.specs.Bounds.Won.{won, IsWithinBounds};
+ghost use Rattle.kalah_solve.specs.{Solver.Worth.{houses_worth}, Bounds.{Intervals.{Encloses}, Won.{won, IsWithinBounds}}};
 
 use crate::bounds::interval::Interval;
 use crate::bounds::seed_bounds::SeedBounds;
@@ -11,7 +9,7 @@ use kalah_rules::Houses;
 use std::alloc::Allocator;
 
 impl<A: Allocator + Clone> Search<A> {
-    // Returns an interval that holds the worth of the houses.
+    /// Returns an interval that holds the worth of the houses.
     #[tactic(auto, using(crate::proofs::BoundsLemmas::worth_low, crate::proofs::BoundsLemmas::worth_high))]
     pub(super) fn known_margins(&mut self, houses: &Houses) -> Interval
         requires { AreWithinLimits houses.now }
@@ -23,7 +21,7 @@ impl<A: Allocator + Clone> Search<A> {
         }
     }
 
-    // Returns what is known of the seeds that the mover wins.
+    /// Returns what is known of the seeds that the mover wins.
     pub(super) fn known_seeds(&mut self, houses: &Houses) -> SeedBounds
         ensures { IsWithinBounds result (won houses.now) }
     {
@@ -46,7 +44,7 @@ impl<A: Allocator + Clone> Search<A> {
         }
     }
 
-    // Stores what was learned of the houses in this many nodes.
+    /// Stores what was learned of the houses in this many nodes.
     #[tactic(auto, using(crate::proofs::BoundsLemmas::won_of_houses, crate::proofs::BoundsLemmas::worth_of_won))]
     pub(super) fn learn_seeds(&mut self, houses: &Houses, bounds: SeedBounds, nodes: u64)
         requires { IsWithinBounds bounds (won houses.now) }
@@ -59,7 +57,7 @@ impl<A: Allocator + Clone> Search<A> {
         }
     }
 
-    // Stores what was learned of their worth as an entry, unless it took too few nodes.
+    /// Stores what was learned of their worth as an entry, unless it took too few nodes.
     pub(super) fn learn_margins(&mut self, houses: Houses, interval: Interval, nodes: u64)
         requires { Encloses interval (houses_worth houses) }
     {

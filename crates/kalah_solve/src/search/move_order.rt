@@ -30,7 +30,7 @@ impl MoveOrder {
         MoveOrder { weights }
     }
 
-    // Returns what the houses count that a turn leaves.
+    // Returns what the houses count that a turn leaves. The limit keeps a priority below 2^16.
     #[inline(always)]
     fn weight(&self, m: u8, next: &Houses) -> u32
         requires { m ≤ 6 }

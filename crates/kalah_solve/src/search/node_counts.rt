@@ -11,8 +11,8 @@ pub(super) const SEEDS_THAT_ALWAYS_PAY: u8 = 7;
 // The nodes of a variant from which on all slots pay.
 const NODES_FOR_ALL_SLOTS: u64 = 8_000;
 
-// The nodes of a variant from which on endings of 8 seeds pay. To find an ending costs as much as a node, and with six houses a side there
-// are 75,582 of 8 seeds.
+// The nodes of a variant from which on endings of 8 seeds pay. The first look-up of an ending costs as much as a node, and with six
+// houses a side there are 75,582 of 8 seeds.
 const NODES_FOR_8_SEEDS: u64 = 42_000;
 
 // The nodes of a variant from which on endings of 9 seeds pay, if houses with many seeds were asked about. There are 167,960 of 9 seeds.
@@ -21,7 +21,7 @@ const NODES_FOR_9_SEEDS: u64 = 120_000;
 // Houses with this many seeds or more have many.
 const MANY_SEEDS: u8 = 17;
 
-/// The most seeds for which a search looks up what the mover wins among the endings.
+/// Houses with at most this many seeds are looked up among the endings.
 #[derive(Clone, Copy)]
 pub(super) struct EndingLimit {
     pub(super) seeds: u8,

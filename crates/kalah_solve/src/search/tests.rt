@@ -5,7 +5,7 @@ use std::alloc::Global;
 use std::io::Print;
 use std::process::Abort;
 
-// Houses a side, the houses of the mover and of the other player, and what they are worth.
+// Houses a side, the houses of the mover and of the opponent, and what they are worth.
 type Position = (u8, [u8; 6], [u8; 6], i32);
 
 // Games as they begin.

@@ -1,6 +1,5 @@
 //! Laws over all positions, all strategies and both rules of capture.
-ghost use Rattle.kalah_solve.specs.Solver.Laws.{WorthOfOver, WorthIsGreatestValue, WorthIsMostOfMoves, GameThatGoesOnHasMove, CountPlaysNoPart, BestHouseIsLowest, StoresShiftWorth, StoresKeepBestHouse, StrategiesPlayAGame, StrategiesPlayOneGame, GamesEnd, WorthIsBestPlay, BestPlayIsOne, BestHouseIsBestPlay, BestPlayAgainstStrategies, BestMovesAttain, BestVerdictIsOne};
-ghost use Rattle.kalah_solve.specs.Solver.MoveValues.{ValueIsWorthOfMove, WorthOfMoveIsOne, ValuesTellVerdict};
+ghost use Rattle.kalah_solve.specs.Solver.{Laws.{WorthOfOver, WorthIsGreatestValue, WorthIsMostOfMoves, GameThatGoesOnHasMove, CountPlaysNoPart, BestHouseIsLowest, StoresShiftWorth, StoresKeepBestHouse, StrategiesPlayAGame, StrategiesPlayOneGame, GamesEnd, WorthIsBestPlay, BestPlayIsOne, BestHouseIsBestPlay, BestPlayAgainstStrategies, BestMovesAttain, BestVerdictIsOne}, MoveValues.{ValueIsWorthOfMove, WorthOfMoveIsOne, ValuesTellVerdict}};
 
 /// The worth of a game that is over is its final margin. That of any other position is the greatest value of a legal move. Such a
 /// position has at least one legal move.
@@ -35,7 +34,7 @@ pub fn players_play_one_game()
 {}
 
 /// The worth of a position is the margin of best play. The player to move has a strategy that gets at least as much against any play of
-/// the other player, who has one that allows no more. No other margin is both. Always moving the lowest-numbered best house is such a
+/// the opponent, who has one that allows no more. No other margin is both. Always moving the lowest-numbered best house is such a
 /// strategy, for either player and in every position.
 pub fn worth_is_best_play()
     ensures worth { WorthIsBestPlay }

@@ -58,28 +58,28 @@ impl Model for MoveValues {
     ghost use Rattle.std.proofs.Common.{ap};
     ghost use Rattle.kalah_solve.specs.declared.solver.move_values.MoveValues.TheInside.{Inside};
     ghost use Rattle.kalah_solve.specs.declared.solver.move_values.MoveValue.{MoveValue};
-    ghost use Rattle.kalah_solve.specs.Solver.MoveValues.{values_number, values_in, IsValuesNumber};
+    ghost use Rattle.kalah_solve.specs.Solver.MoveValues.{packed_values, values_in, ArePackedValues};
 
     ghost Value = { List MoveValue };
 
     ghost view = { λ values. values_in 6 values.number };
 
-    ghost invariant = { λ values. IsValuesNumber 6 values.number };
+    ghost invariant = { λ values. ArePackedValues 6 values.number };
 
-    ghost inverse = { λ xs. record { number = values_number xs } };
+    ghost inverse = { λ xs. record { number = packed_values xs } };
 
     ghost inverse_ok = { λ values packed. ap (λ (n : ℕ). let same : Inside = record { number = n } in same) packed };
 }
 
 impl MoveValues {
-    // Makes an empty list.
+    /// Makes an empty list.
     pub(crate) fn none() -> MoveValues
         ensures { result ≡ [] }
     {
         MoveValues { number: 0 }
     }
 
-    // Puts a value in front of the others.
+    /// Puts a value in front of the others.
     pub(crate) fn prepend(&mut self, value: MoveValue)
         requires room { length self.old < 6 }
         requires small { IsMoveValue value }

@@ -1,3 +1,4 @@
+//! Verdicts and values of worked positions, and verdicts beside those of a plain recursion.
 use super::*;
 use crate::search::Search;
 use crate::table::MOST_ENTRIES;
@@ -5,7 +6,7 @@ use crate::tests::plain;
 use kalah_rules::Rule;
 use std::process::Abort;
 
-// A solver with this table, into which the search puts every answer if it `keeps_all`.
+/// A solver with this table, into which the search puts every answer if it `keeps_all`.
 pub(crate) fn solver_with(table: Table, keeps_all: bool) -> Solver {
     if keeps_all {
         Solver {
@@ -76,7 +77,7 @@ const WORKED: [Worked; 28] = [
     (3, [4, 1, 4, 9], [3, 3, 2, 4], Rule::EmptyCapture, 14, 1),
 ];
 
-// The verdicts, in order.
+/// The verdicts, in order.
 pub(crate) fn solves_worked_positions(rt: &impl Abort, solver: &mut Solver) {
     for (m, own, other, rule, margin, house) in WORKED {
         let board = board(rt, m, own, other, rule);

@@ -1,9 +1,7 @@
 //! `Solver::values`: the search for each move.
 ghost use Rattle.std.specs.Prelude.{◌≡◌, Contains};
-ghost use Rattle.kalah_rules.specs.Position.{IsSmallMargin};
-ghost use Rattle.kalah_rules.specs.Play.{legal_houses};
-ghost use Rattle.kalah_solve.specs.Solver.Worth.{worth, value_of_move};
-ghost use Rattle.kalah_solve.specs.Solver.MoveValues.{move_value, values_of, AreValuesByBestPlay};
+ghost use Rattle.kalah_rules.specs.{Position.{IsMarginInRange}, Play.{legal_houses}};
+ghost use Rattle.kalah_solve.specs.Solver.{Worth.{worth, value_of_move}, MoveValues.{move_value, values_of, AreValuesByBestPlay}};
 
 use super::{Solver, worth_of_board};
 use crate::solver::move_values::{MoveValue, MoveValues};
@@ -43,7 +41,7 @@ impl<A: Allocator + Clone> Solver<A> {
     fn value_of_move(&mut self, board: &Board, h: u8) -> i32
         requires { Contains (legal_houses board.now) h }
         ensures value { result ≡ value_of_move board.now h }
-        ensures small { IsSmallMargin result }
+        ensures small { IsMarginInRange result }
     {
         match board.apply(h) {
             Step::Over(end) => end.returns(),
@@ -55,7 +53,7 @@ impl<A: Allocator + Clone> Solver<A> {
     // Returns the margin of best play of the position.
     fn worth(&mut self, board: &Board) -> i32
         ensures worth { result ≡ worth board.now }
-        ensures small { IsSmallMargin result }
+        ensures small { IsMarginInRange result }
     {
         if board.is_over() {
             return board.returns();

@@ -1,11 +1,7 @@
 //! The exact number of seeds that the mover wins of houses with few seeds, mostly kept once it is known.
 ghost use Rattle.std.specs.Prelude.{◌≡◌, ◌<◌, ◌+◌, ◌*◌, ◌/◌, ◌%◌, ◌^◌, ◌++◌, IfSome};
-ghost use Rattle.kalah_rules.specs.Position.{AreWithinLimits};
-ghost use Rattle.kalah_rules.specs.Key.{row_number};
-ghost use Rattle.kalah_solve.specs.Table.RowRank.{choose, sums_number, rank_of_houses};
-ghost use Rattle.kalah_solve.specs.Bounds.Won.{won};
-ghost use Rattle.kalah_solve.specs.Table.EndingTable.{IsEnding, AreChoices, choice_at, ArePairs, pair_at};
-ghost use Rattle.kalah_solve.specs.declared.table.ending_table.TheConstants.{COUNTS, CHOICES, PAIRS};
+ghost use Rattle.kalah_rules.specs.{Position.{AreWithinLimits}, Key.{packed_row}};
+ghost use Rattle.kalah_solve.specs.{Table.{RowRank.{choose, packed_sums, rank_of_houses}, EndingTable.{IsEnding, AreChoices, choice_at, ArePairs, pair_at}}, Bounds.Won.{won}, declared.table.ending_table.TheConstants.{COUNTS, CHOICES, PAIRS}};
 
 mod exact;
 #[cfg(test)]
@@ -118,7 +114,7 @@ fn pairs() -> [u32; PAIRS]
 
 // Returns the houses of both players as one row: a number with five bits for each house.
 fn joined_rows(houses: &Houses) -> u64
-    ensures row { result ≡ row_number (houses.now.own ++ houses.now.other) }
+    ensures row { result ≡ packed_row (houses.now.own ++ houses.now.other) }
     ensures small { result < 2 ^ 60 }
     ensures limits { AreWithinLimits houses.now }
 {
@@ -127,7 +123,7 @@ fn joined_rows(houses: &Houses) -> u64
 
 // Returns the number of seeds in that row from each house on: a number with five bits for each.
 fn sums_of(houses: &Houses) -> u64
-    ensures sums { result ≡ sums_number (houses.now.own ++ houses.now.other) }
+    ensures sums { result ≡ packed_sums (houses.now.own ++ houses.now.other) }
     ensures limits { AreWithinLimits houses.now }
 {
     let seeds = houses.seeds() as u64;

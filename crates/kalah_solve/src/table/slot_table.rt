@@ -1,10 +1,7 @@
 //! A table of slots for what is known of houses. Each slot keeps what was stored last; nothing is searched for.
 ghost use Rattle.std.specs.Prelude.{◌≡◌, ◌≤◌, ◌<◌, ◌-◌, ◌*◌, ◌/◌, ◌^◌, ◌↔◌, IfOk, IfSome, IsSome, length};
-ghost use Rattle.kalah_rules.specs.Limits.{most_seeds};
-ghost use Rattle.kalah_rules.specs.Position.{AreWithinLimits};
-ghost use Rattle.kalah_rules.specs.Key.{key_of};
-ghost use Rattle.kalah_solve.specs.Bounds.Won.{won, IsWithinBounds};
-ghost use Rattle.kalah_solve.specs.Table.SlotTable.{mixed, slot_index, tag_of, stored_tag, stored_least, stored_most, AreSlotsFor};
+ghost use Rattle.kalah_rules.specs.{Limits.{most_seeds}, Position.{AreWithinLimits}, Key.{key_of}};
+ghost use Rattle.kalah_solve.specs.{Bounds.Won.{won, IsWithinBounds}, Table.SlotTable.{mixed, slot_index, tag_of, stored_tag, stored_least, stored_most, AreSlotsFor}};
 
 use crate::bounds::seed_bounds::SeedBounds;
 use kalah_rules::{Houses, MOST_SEEDS};

@@ -1,3 +1,4 @@
+//! Tables made beside each other share endings.
 use super::*;
 
 #[test]

@@ -1,10 +1,6 @@
-use Rattle.std.proofs.lemmas.Grind.{common_steps}
-use Rattle.std.proofs.Common.{◌∙◌, arith, subst, sym}
-use Rattle.std.proofs.lemmas.Bool.{false_from_ne_true}
-use Rattle.kalah_cli.specs.Exit.Ends.{IsPrinted}
-use Rattle.kalah_cli.specs.Runs.{version_line}
-use Rattle.kalah_cli.proofs.EndsLemmas.{statuses_differ}
-use Rattle.kalah_cli.proofs.run.end_without_request.Goals.{in-DisplayHelp, in-DisplayVersion}
+use Rattle.std.proofs.{lemmas.{Grind.{common_steps}, Bool.{false_from_ne_true}}, Common.{◌∙◌, arith, subst, sym}}
+use Rattle.kalah_cli.specs.{IsPrinted, version_line}
+use Rattle.kalah_cli.proofs.{EndsLemmas.{statuses_differ}, run.end_without_request.Goals.{in-DisplayHelp, in-DisplayVersion}}
 use Rattle.kalah_cli.proofs.run.end_without_request.Goals as goal
 
 pub returns-clause-version : goal.returns-clause-version

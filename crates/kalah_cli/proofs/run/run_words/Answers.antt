@@ -1,10 +1,7 @@
+-- The arguments are accepted, and what they ask for is done; or they are refused, with an error that is one of their faults.
 use Rattle.std.proofs.Common.{ap, sym}
-use Rattle.kalah_cli.specs.Arguments.Request.{texts_of}
-use Rattle.kalah_cli.proofs.RunLemmas.{KeepsPromises, run_of_request, by_arguments, run_without_request}
-use Rattle.kalah_cli.proofs.RequestLemmas.{accepted_at}
-use Rattle.kalah_cli.proofs.GameLemmas.{plays_best, variations_end}
-use Rattle.kalah_cli.proofs.run.run_words.Goals.{After-drop-words, in-Err+in-None-1, in-Err+in-Some-1, in-Ok+in-Files-1, in-Ok+in-Line-1}
-use Rattle.kalah_cli.proofs.run.run_words.Given.{Over}
+use Rattle.kalah_cli.specs.{texts_of}
+use Rattle.kalah_cli.proofs.{RunLemmas.{KeepsPromises, run_of_request, by_arguments, run_without_request}, RequestLemmas.{accepted_at}, GameLemmas.{plays_best, variations_end}, run.run_words.{Goals.{After-drop-words, in-Err+in-None-1, in-Err+in-Some-1, in-Ok+in-Files-1, in-Ok+in-Line-1}, Given.{Over}}}
 use Rattle.kalah_cli.proofs.run.run_words.Goals as goal
 
 -- the arguments are accepted, and the request is carried out; or they are refused
@@ -14,17 +11,17 @@ ran g c =
     let arguments = ap texts_of (sym c.as_slice-arguments.ensures.value) in
     elim c.match-parse.branch [
       | in-Ok+in-Line-1 w ↦ rw (c.report_end.ensures, w.ended-is, w.out-is)
-          (run_of_request _ _ _ _ _ _ c.requires.sink (accepted_at arguments w.in-Ok.ensures.accepted) w.run_request-ended.ensures)
+          (run_of_request c.requires.sink (accepted_at arguments w.in-Ok.ensures.accepted) w.run_request-ended.ensures)
       | in-Ok+in-Files-1 w ↦ rw (c.report_end.ensures, w.ended-is, w.out-is)
-          (run_of_request _ _ _ _ _ _ c.requires.sink (accepted_at arguments w.in-Ok.ensures.accepted) w.run_request-ended.ensures)
+          (run_of_request c.requires.sink (accepted_at arguments w.in-Ok.ensures.accepted) w.run_request-ended.ensures)
       | in-Err+in-None-1 w ↦
           let refused = w.end_without_request-ended.ensures in
-          rw (c.report_end.ensures, w.ended-is, w.out-is) (run_without_request _ _ _ _ _ _ w.in-Err.error
+          rw (c.report_end.ensures, w.ended-is, w.out-is) (run_without_request w.in-Err.error
           (rw c.as_slice-arguments.ensures.value at w.in-Err.ensures.kinds) refused.mistake refused.failed refused.unchanged refused.no_line
           refused.version refused.all_flushed)
       | in-Err+in-Some-1 w ↦
           let refused = w.end_without_request-ended.ensures in
-          rw (c.report_end.ensures, w.ended-is, w.out-is) (run_without_request _ _ _ _ _ _ w.in-Err.error
+          rw (c.report_end.ensures, w.ended-is, w.out-is) (run_without_request w.in-Err.error
           (rw c.as_slice-arguments.ensures.value at w.in-Err.ensures.kinds) refused.mistake refused.failed refused.unchanged refused.no_line
           refused.version refused.all_flushed)
     ]
@@ -32,7 +29,7 @@ ran g c =
 pub returns : goal.returns
 returns g c = record {
   accepted = (ran g c).accepted;
-  by_arguments = by_arguments _ _ _ _ _ _ (ran g c).accepted;
+  by_arguments = by_arguments (ran g c).accepted;
   best_play = plays_best;
   variations = variations_end;
   no_request = (ran g c).no_request;

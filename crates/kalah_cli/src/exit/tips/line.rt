@@ -1,4 +1,5 @@
 //! Why a line can't be read, and the tip that follows.
+use super::write_tip;
 use kalah_jobs::LineFault;
 use std::io::Write;
 
@@ -24,7 +25,7 @@ pub(crate) fn report_fault<E: Write>(fault: LineFault, line: &str, on_terminal: 
         LineFault::Shape => tip_for_shape(line),
         LineFault::Empty => FORM,
     };
-    let _ = writeln!(err, "  tip: {tip}");
+    write_tip(tip, "", err);
 }
 
 // Returns whether a text has a letter or a dot, as the name of a file, and no position.

@@ -1,8 +1,6 @@
 //! Runs over files and a standard input that are known, so that a contract sees them.
 ghost use Rattle.std.specs.Prelude.{◌<◌, vec_len};
-ghost use Rattle.kalah_cli.specs.KnownRuns.{AnswersWhatIsKnown};
-ghost use Rattle.kalah_cli.specs.Arguments.Request.{texts_of};
-ghost use Rattle.kalah_cli.specs.System.Sources.{known_bytes};
+ghost use Rattle.kalah_cli.specs.{KnownRuns.{AnswersWhatIsKnown}, Arguments.Request.{texts_of}, System.Sources.{known_bytes}};
 
 use super::{Host, arguments_of, run_words};
 use crate::exit::status::ExitStatus;

@@ -68,10 +68,10 @@ fn shown(
         let mut progress = Progress::begin(machine, &mut err, &[file], true);
         machine.seconds.fetch_add(seconds, SeqCst);
         for _ in 0..answered {
-            progress.accepts();
+            progress.on_accepted();
         }
-        progress.waits();
-        progress.waits();
+        progress.before_wait();
+        progress.before_wait();
         progress.end();
     }
     err

@@ -1,3 +1,4 @@
+//! Files that are read within the limit of their bytes, and that are not.
 use super::{ReadFault, read_limited};
 use crate::exit::failure::Failure;
 use std::io;

@@ -1,3 +1,4 @@
+//! Lines answered as they come, and readers and outputs that fail.
 use crate::{AskFault, Question, Stream, answer_lines};
 use kalah_solve::{Solver, Table};
 use std::io;

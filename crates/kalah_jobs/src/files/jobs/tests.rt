@@ -1,3 +1,4 @@
+//! The lines that are found in files, and the limits of their number.
 use crate::{Entry, FileText, Jobs, JobsFault, LineFault};
 use std::process::Abort;
 

@@ -1,3 +1,4 @@
+//! Lines that are read, and each fault.
 use crate::{LineFault, read_line};
 use kalah_rules::{Board, Rule};
 use std::process::Abort;

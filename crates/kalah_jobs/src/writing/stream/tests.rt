@@ -1,3 +1,4 @@
+//! Writers that take part of the bytes, are interrupted, or fail.
 use crate::{Sink, Stream};
 use std::io;
 use std::io::{ErrorKind, Write};

@@ -1,11 +1,8 @@
-use Rattle.std.proofs.lemmas.Grind.{common_steps}
-use Rattle.std.proofs.Common.{◌∙◌, sym, ap, ⊎_elim, inl, inr, arith}
-use Rattle.kalah_jobs.specs.Files.Jobs.{job_count}
-use Rattle.kalah_jobs.specs.Writing.Sink.{WasGiven}
-use Rattle.kalah_jobs.specs.Writing.Output.{output_to}
+-- The sink is given the output of the files, by the batch that was run, or because it is empty; the flush adds nothing to it.
+use Rattle.std.proofs.{lemmas.Grind.{common_steps}, Common.{◌∙◌, sym, ap, ⊎_elim, inl, inr, arith}}
+use Rattle.kalah_jobs.specs.{Files.Jobs.{job_count}, Writing.{Sink.{WasGiven}, Output.{output_to}}}
 use Rattle.kalah_jobs.proofs.SinkLemmas.{given_none, given_then_flush}
-use Rattle.kalah_run.proofs.AnsweringLemmas.{answered, as_many_jobs, no_output, whole_output_is}
-use Rattle.kalah_run.proofs.batch.answer_batch.Goals.{then-total-gt0+in_ok-open+in-Some, else-total-gt0}
+use Rattle.kalah_run.proofs.{AnsweringLemmas.{answered, as_many_jobs, no_output, whole_output_is}, batch.answer_batch.Goals.{then-total-gt0+in_ok-open+in-Some, else-total-gt0}}
 use Rattle.kalah_run.proofs.batch.answer_batch.Goals as goal
 
 -- no thread could be started
@@ -38,7 +35,7 @@ returns-clause-answers g c =
           rw (w.out-is, no_output question files (omega (arith, w.if-total-gt0.false, c.total.ensures.lines, as_many_jobs _ _ _ jobs.1)))
           (given_none g.W.Sink.state c.args.out.now)
     ] in
-    answered g.W.Sink.state question files _ jobs _ _ (given_then_flush g.W.Sink.state _ _ _ _ given end.given) end.counted end.all_flushed
+    answered g.W.Sink.state question files _ jobs _ _ (given_then_flush g.W.Sink.state given end.given) end.counted end.all_flushed
     end.fault
 
 -- the gate knows each job, if the rest is to be solved or no write has failed
@@ -51,7 +48,7 @@ returns-clause-gate_hears_all g c = λ unless ok job low.
           let asked = w.in_ok-open.ensures.asked in
           let same = ap (λ o. (g.W.Sink.state o).has_failed) (sym w.out-is) in
           rw (← asked.of_gate) (w.in-Some.ensures.gate_hears_all
-          (⊎_elim (λ solve. inl (asked.of_rest ∙ solve)) (λ sound. inr (same ∙ (end.given.whole sound).0)) unless) job
+          (⊎_elim (λ solve. inl (asked.of_choice ∙ solve)) (λ sound. inr (same ∙ (end.given.whole sound).0)) unless) job
           (omega (arith, low, jobs, ap job_count asked.of_jobs)))
       | else-total-gt0 w ↦ absurd (omega (arith, low, jobs, w.if-total-gt0.false, c.total.ensures.lines))
     ]

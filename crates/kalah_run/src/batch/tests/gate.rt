@@ -56,13 +56,13 @@ fn the_gate_observes_each_job_once(rt: HostRuntime) {
     }
 }
 
-// The number of outcomes that are got, or wait in the queue, while the first line is written.
+/// The number of outcomes that are got, or wait in the queue, while the first line is written.
 pub(super) const ROOM: u32 = QUEUE_CAPACITY + 1;
 
 // How many turns the test waits for a job to be sent though there is no room.
 const A_WHILE: u32 = 1_000_000;
 
-// Waits until this many jobs have begun, and a while longer.
+/// Waits until this many jobs have begun, and a while longer.
 pub(super) fn wait_for_begun(gate: &Counting, jobs: u32) {
     let _ = comes_to(&gate.begun, jobs);
     for _ in 0..A_WHILE {

@@ -3,7 +3,7 @@
 use super::{
     ONE_AND_TWO, answers, are, comes_to, file_of, lines_are_answered, request_of, tally_of,
 };
-use crate::{Gate, Rest, Watch, answer_batch};
+use crate::{Gate, OnFailedWrite, Watch, answer_batch};
 use kalah_jobs::{FileText, Question, Stream};
 use std::alloc::Global;
 use std::io;
@@ -170,13 +170,13 @@ struct Following<'a> {
 }
 
 impl Watch for Following<'_> {
-    fn accepts(&mut self) {
+    fn on_accepted(&mut self) {
         if self.written.count.load(SeqCst) > self.accepted {
             self.accepted = self.accepted.saturating_add(1);
         }
     }
 
-    fn waits(&mut self) {}
+    fn before_wait(&mut self) {}
 }
 
 #[test]
@@ -188,7 +188,7 @@ fn a_line_is_written_before_the_next_job_begins(rt: HostRuntime) {
         bytes: Vec::new(rt.alloc()),
         written: &written,
     });
-    let request = request_of(Question::BestMove, &files, 1, Rest::Solve);
+    let request = request_of(Question::BestMove, &files, 1, OnFailedWrite::Solve);
     let mut watch = Following {
         written: &written,
         accepted: 0,

@@ -4,7 +4,7 @@ ghost use Rattle.std.specs.Prelude.{◌<◌, ◌≤◌};
 use super::gate::{ROOM, wait_for_begun};
 use super::{ANSWERS, Counting, SEVEN_LINES, four_files, request_of, same_lines};
 use crate::limits::QUEUE_CAPACITY;
-use crate::{NoWatch, Rest, RunFault, Tally, answer_batch, solve_batch};
+use crate::{NoWatch, OnFailedWrite, RunFault, Tally, answer_batch, solve_batch};
 use kalah_jobs::{FileText, Question, Stream};
 use std::alloc::Global;
 use std::io;
@@ -59,12 +59,12 @@ fn run_with<R: Threads + Wait + Sync>(
     alloc: Global,
     question: Question,
     files: &[FileText],
-    rest: Rest,
+    on_failed_write: OnFailedWrite,
     most: u32,
 ) -> Run {
     let gate = Counting::new();
     let mut out = Stream::new(Failing::after(alloc, most));
-    let request = request_of(question, files, 2, rest);
+    let request = request_of(question, files, 2, on_failed_write);
     let tally = answer_batch(rt, alloc, &request, &gate, &mut NoWatch, &mut out);
     Run {
         tally,
@@ -110,7 +110,14 @@ fn every_failing_call_ends_the_writing_and_nothing_else(rt: HostRuntime) {
     let files = four_files(alloc).expect(&rt, "no memory");
     for question in [Question::BestMove, Question::Values, Question::Steps] {
         for most in 0..9u32 {
-            let run = run_with(&rt, alloc, question, files.as_slice(), Rest::Solve, most);
+            let run = run_with(
+                &rt,
+                alloc,
+                question,
+                files.as_slice(),
+                OnFailedWrite::Solve,
+                most,
+            );
             assert!(rt; ends_the_writing_alone(&run, most), "{most}");
         }
     }
@@ -127,7 +134,14 @@ fn a_flush_that_fails_is_a_failed_write(rt: HostRuntime) {
     let alloc = rt.alloc();
     let files = four_files(alloc).expect(&rt, "no memory");
     for (files, text, most) in [(files.as_slice(), ANSWERS, 7), (&[], "", 0)] {
-        let run = run_with(&rt, alloc, Question::BestMove, files, Rest::Solve, most);
+        let run = run_with(
+            &rt,
+            alloc,
+            Question::BestMove,
+            files,
+            OnFailedWrite::Solve,
+            most,
+        );
         assert!(rt; run.tally == Err(RunFault::Write), "{most}");
         assert!(rt; run.writer.bytes.as_slice() == text.as_bytes(), "{most}");
     }
@@ -138,7 +152,14 @@ fn a_flush_that_fails_is_a_failed_write(rt: HostRuntime) {
 fn all_jobs_are_done_though_the_writer_takes_one_line(rt: HostRuntime) {
     for lines in [200, ROOM + 200] {
         let files = same_lines(&rt, rt.alloc(), lines);
-        let asked = run_with(&rt, rt.alloc(), Question::BestMove, &files, Rest::Solve, 1);
+        let asked = run_with(
+            &rt,
+            rt.alloc(),
+            Question::BestMove,
+            &files,
+            OnFailedWrite::Solve,
+            1,
+        );
         let solved = solve_with(&rt, rt.alloc(), &files, 64, 1);
         for run in [&asked, &solved] {
             let ended = (run.tally, run.writer.calls);
@@ -157,7 +178,14 @@ const MOST_BEGUN: u32 = 1 + QUEUE_CAPACITY + 2;
 #[test]
 fn no_job_begins_once_the_rest_is_left(rt: HostRuntime) {
     let files = same_lines(&rt, rt.alloc(), 3000);
-    let run = run_with(&rt, rt.alloc(), Question::BestMove, &files, Rest::Leave, 0);
+    let run = run_with(
+        &rt,
+        rt.alloc(),
+        Question::BestMove,
+        &files,
+        OnFailedWrite::Leave,
+        0,
+    );
     assert!(rt; (run.tally, run.writer.calls) == (Err(RunFault::Write), 1));
     let begun = run.gate.begun.load(SeqCst);
     assert!(rt; begun <= MOST_BEGUN && run.gate.sent.load(SeqCst) == begun);
@@ -191,7 +219,7 @@ fn a_batch_ends_though_its_workers_wait_for_room(rt: HostRuntime) {
             gate: &gate,
             workers,
         });
-        let request = request_of(Question::BestMove, &files, workers, Rest::Leave);
+        let request = request_of(Question::BestMove, &files, workers, OnFailedWrite::Leave);
         let tally = answer_batch(&rt, rt.alloc(), &request, &gate, &mut NoWatch, &mut out);
         assert!(rt; tally == Err(RunFault::Write), "{workers}");
         let (begun, sent) = (gate.begun.load(SeqCst), gate.sent.load(SeqCst));

@@ -1,13 +1,7 @@
-//! The number of seeds that the mover wins of houses with few seeds, by trying each move to the end.
+//! The number of seeds that the mover wins of an ending: looked up, or else found by trying its moves until one wins all.
 ghost use Rattle.std.specs.Prelude.{◌≡◌, ◌<◌, Contains};
-ghost use Rattle.kalah_rules.specs.Position.{storeless};
-ghost use Rattle.kalah_rules.specs.Play.{legal_houses};
-ghost use Rattle.kalah_rules.specs.HousesStep.{houses_step};
-ghost use Rattle.kalah_rules.specs.Key.{variant_of};
-ghost use Rattle.kalah_solve.specs.Table.EndingTable.{IsEnding};
-ghost use Rattle.kalah_solve.specs.Table.RowRank.{rank_of_houses};
-ghost use Rattle.kalah_solve.specs.Bounds.Won.{won, won_by_step};
-ghost use Rattle.kalah_solve.specs.Search.{IsOngoing};
+ghost use Rattle.kalah_rules.specs.{Position.{storeless}, Play.{legal_houses}, HousesStep.{houses_step}, Key.{variant_of}};
+ghost use Rattle.kalah_solve.specs.{Table.{EndingTable.{IsEnding}, RowRank.{rank_of_houses}}, Bounds.Won.{won, won_by_step}, Search.{IsOngoing}};
 
 use crate::house_set::HouseSet;
 use crate::table::ending_table::EndingTable;
@@ -73,7 +67,7 @@ impl<A: Allocator + Clone> EndingTable<A> {
         requires ending { IsEnding houses.now }
         ensures { result ≡ won_by_step (houses_step houses.now house) }
     {
-        match houses.play_by(&self.sowings, house) {
+        match houses.play_with(&self.sowings, house) {
             HousesStep::Over { own, .. } => own,
             HousesStep::Again { gained, next } => gained + self.won::<VARIANT>(next),
             HousesStep::Turn { gained, next } => {

@@ -1,3 +1,4 @@
+//! An ending is known once it was asked for.
 use super::*;
 use kalah_rules::Rule;
 

@@ -1,9 +1,7 @@
 //! Words of endings: each stores how many seeds the mover wins, for sixteen values of houses.
 ghost use Rattle.std.specs.Prelude.{◌≡◌, ◌<◌, ◌+◌, ◌*◌, ◌^◌, IfOk};
 ghost use Rattle.kalah_rules.specs.Position.{AreWithinLimits};
-ghost use Rattle.kalah_solve.specs.Table.RowRank.{rank_of_houses};
-ghost use Rattle.kalah_solve.specs.Table.EndingTable.{IsEnding, stored_at, word_index};
-ghost use Rattle.kalah_solve.specs.declared.table.ending_table.words.TheConstants.{WORDS};
+ghost use Rattle.kalah_solve.specs.{Table.{RowRank.{rank_of_houses}, EndingTable.{IsEnding, stored_at, word_index}}, declared.table.ending_table.words.TheConstants.{WORDS}};
 
 use atomic_table::{Play, Table, TableRule};
 use kalah_rules::{Houses, Rule};
@@ -50,7 +48,7 @@ impl Play<(), ()> for WriteWord {
     ghost then = { λ _ _ _ _. Unit {0} };
 }
 
-// Returns the index of the word for houses of this rank in their variant.
+/// Returns the index of the word for houses of this rank in their variant.
 #[tactic(auto, using(crate::proofs::EndingLemmas::word_inside))]
 pub(super) fn word_index(houses: &Houses, rank: u32) -> usize
     requires rank { rank ≡ rank_of_houses houses.now }
@@ -67,7 +65,7 @@ pub(super) fn word_index(houses: &Houses, rank: u32) -> usize
     (of_rule + rank / 16) as usize
 }
 
-// Returns what a word stores at `at`: 0 if nothing is known, otherwise one more than the mover wins.
+/// Returns what a word stores at `at`: 0 if nothing is known, otherwise one more than the mover wins.
 pub(super) fn stored_at(word: u64, at: u32) -> u64
     requires { at < 16 }
     ensures { result ≡ stored_at word at }
@@ -75,7 +73,7 @@ pub(super) fn stored_at(word: u64, at: u32) -> u64
     (word >> (4 * at)) % 16
 }
 
-// Returns the word with `stored` at a place that was empty.
+/// Returns the word with `stored` at a place that was empty.
 pub(super) fn with_stored(word: u64, at: u32, stored: u64) -> u64
     requires place { at < 16 }
     requires nothing { stored_at word at ≡ 0 }
@@ -85,7 +83,7 @@ pub(super) fn with_stored(word: u64, at: u32, stored: u64) -> u64
     word + (stored << (4 * at))
 }
 
-// Makes this many words, with no ending known. Fails only if memory was refused.
+/// Makes this many words, with no ending known. Fails only if memory was refused.
 #[tactic(auto, using(crate::proofs::EndingLemmas::zeros_are_true))]
 pub(super) fn empty_words<A: Allocator + Clone>(
     alloc: A,
@@ -94,6 +92,5 @@ pub(super) fn empty_words<A: Allocator + Clone>(
     ensures { IfOk result (λ words. words.shared.table_id.words ≡ count) }
 {
     let empty = Vec::from_elem(alloc.clone()?, 0u64, count)?;
-    let (words, _) = Table::of_words(alloc, &empty, &())?;
-    Ok(words)
+    Ok(Table::of_words(alloc, &empty, &())?.0)
 }

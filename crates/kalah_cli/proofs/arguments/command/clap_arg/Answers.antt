@@ -1,5 +1,4 @@
-use Rattle.std.proofs.Common.{arith}
-use Rattle.std.proofs.lemmas.Grind.{common_steps}
+use Rattle.std.proofs.{Common.{arith}, lemmas.Grind.{common_steps}}
 use Rattle.kalah_cli.proofs.arguments.command.clap_arg.Goals as goal
 
 pub returns-in-NumberOption : goal.returns-in-NumberOption

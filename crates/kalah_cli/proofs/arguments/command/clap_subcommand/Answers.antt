@@ -1,5 +1,4 @@
-use Rattle.std.proofs.Common.{arith}
-use Rattle.std.proofs.lemmas.Grind.{common_steps}
+use Rattle.std.proofs.{Common.{arith}, lemmas.Grind.{common_steps}}
 use Rattle.kalah_cli.proofs.CommandLemmas.{argument_added}
 use Rattle.kalah_cli.proofs.arguments.command.clap_subcommand.Goals as goal
 

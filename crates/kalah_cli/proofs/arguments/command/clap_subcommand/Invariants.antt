@@ -1,6 +1,6 @@
 use Rattle.std.proofs.Common.{◌≡◌, take, fold}
 use Rattle.clap.specs.Words.{app_of, new_app}
-use Rattle.kalah_cli.specs.Arguments.Command.{with_argument}
+use Rattle.kalah_cli.specs.{with_argument}
 use Rattle.kalah_cli.proofs.arguments.command.clap_subcommand.Given as goal
 
 abbrev pub invariant-loop-argument : goal.invariant-loop-argument

@@ -1,6 +1,5 @@
-use Rattle.std.proofs.lemmas.Grind.{common_steps}
-use Rattle.std.proofs.Common.{◌∙◌, ap, arith, fold, take_all}
-use Rattle.kalah_cli.specs.Arguments.Command.{program_app, with_listed}
+use Rattle.std.proofs.{lemmas.Grind.{common_steps}, Common.{◌∙◌, ap, arith, fold, take_all}}
+use Rattle.kalah_cli.specs.{program_app, with_listed}
 use Rattle.kalah_cli.proofs.CommandLemmas.{subcommand_added}
 use Rattle.kalah_cli.proofs.arguments.command.command.Goals as goal
 

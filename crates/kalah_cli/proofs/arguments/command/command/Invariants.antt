@@ -1,6 +1,6 @@
 use Rattle.std.proofs.Common.{◌≡◌, take, fold}
 use Rattle.clap.specs.Words.{app_of}
-use Rattle.kalah_cli.specs.Arguments.Command.{program_app, with_listed}
+use Rattle.kalah_cli.specs.{program_app, with_listed}
 use Rattle.kalah_cli.proofs.arguments.command.command.Given as goal
 
 abbrev pub invariant-loop-subcommand : goal.invariant-loop-subcommand

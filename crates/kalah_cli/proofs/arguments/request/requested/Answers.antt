@@ -1,9 +1,9 @@
+-- The rules of the subcommand of this name say what its rows have: LINE and DEPTH, once each, and numbers that are in range.
 use Rattle.std.proofs.Common.{◌≤◌, ◌∙◌, IfSome, Some, ap, arith, codes, is_some, option_map, refl, subst, sym}
 use Rattle.clap.specs.Words.{one_of}
 use Rattle.kalah_rules.specs.Limits.{most_depth}
-use Rattle.kalah_cli.proofs.RequestLemmas.{byte_ranged, in_range, may_have_number, value_given}
-use Rattle.kalah_cli.specs.Arguments.Request.{number_written, rows_in}
-use Rattle.kalah_cli.proofs.arguments.request.requested.Goals.{in-count, in-moves, in-play, in-show}
+use Rattle.kalah_cli.proofs.{RequestLemmas.{byte_ranged, in_range, may_have_number, value_given}, arguments.request.requested.Goals.{in-count, in-moves, in-play, in-show}}
+use Rattle.kalah_cli.specs.{number_written, rows_in}
 use Rattle.kalah_cli.proofs.arguments.request.requested.Goals as goal
 
 pub table_entries-requires : goal.table_entries-requires

@@ -1,7 +1,7 @@
 use Rattle.std.proofs.Common.{◌∙◌, ap, arith, codes, subst, sym, unwrap_or}
 use Rattle.clap.specs.Words.{found_of, one_of}
-use Rattle.kalah_run.specs.Limits.{AreWorkers, most_workers}
-use Rattle.kalah_cli.specs.Arguments.Request.{default_workers, number_given, rows_in}
+use Rattle.kalah_run.specs.Limits.{IsWorkerCount, most_workers}
+use Rattle.kalah_cli.specs.{default_workers, number_given, rows_in}
 use Rattle.kalah_cli.proofs.RequestLemmas.{in_range, number_read, or_default}
 use Rattle.kalah_cli.proofs.arguments.request.worker_count.Goals as goal
 
@@ -13,6 +13,6 @@ returns-clause-number c = c.unwrap_or.ensures ∙ ap (λ o. unwrap_or o default_
 pub returns-clause-range : goal.returns-clause-range
 returns-clause-range c =
     let rows = rows_in c.args.matches.now in
-    subst AreWorkers (sym (returns-clause-number c))
-    (or_default AreWorkers (number_given (codes "workers") rows) default_workers
+    subst IsWorkerCount (sym (returns-clause-number c))
+    (or_default IsWorkerCount (number_given (codes "workers") rows) default_workers
     (in_range 1 most_workers (one_of (codes "workers") rows) c.requires) (omega arith, omega arith))

@@ -6,6 +6,6 @@ use Rattle.kalah_cli.proofs.commands.count.write_count.Goals as goal
 
 pub returns : goal.returns
 returns g c =
-    let lines = given_then_if_sound _ _ _ _ _ _ _ c.write_houses-total.ensures.given
-    (λ sound. ap total_line (c.write_houses-total.ensures.total sound)) c.write_total.ensures in
+    let lines = given_then_if_sound _ _ _ _ _ _ _ c.write_ways_by_house-total.ensures.given
+    (λ sound. ap total_line (c.write_ways_by_house-total.ensures.total sound)) c.write_total.ensures in
     printed_flushed _ lines c.flush_unless_failed.ensures.given c.flush_unless_failed.ensures.all_flushed

@@ -1,11 +1,11 @@
+-- A game's text is that of its next move, and then that of the game from the position after it, from which fewer moves are left.
 use Rattle.std.proofs.Common.{◌<◌, ◌∙◌, [], ap, arith, subst, sym}
 use Rattle.kalah_rules.specs.Measure.{moves_left}
 use Rattle.kalah_solve.proofs.WorthLemmas.{board_equal_sides}
 use Rattle.kalah_jobs.specs.Writing.Sink.{WasGiven}
 use Rattle.kalah_jobs.proofs.SinkLemmas.{given_then}
-use Rattle.kalah_cli.specs.Commands.Game.{move_text}
-use Rattle.kalah_cli.proofs.GameLemmas.{fewer_left, text_goes_on}
-use Rattle.kalah_cli.proofs.SolverLemmas.{reached_after_flush, next_is_reached}
+use Rattle.kalah_cli.specs.{move_text}
+use Rattle.kalah_cli.proofs.{GameLemmas.{fewer_left, text_goes_on}, GameSolverLemmas.{reached_after_flush, next_is_reached}}
 use Rattle.kalah_cli.proofs.commands.game.+game.Goals as goal
 
 pub apply-step-requires : goal.apply-step-requires
@@ -16,8 +16,8 @@ write_game-requires g t c κs within =
     let next = c.in-Some.ensures.some in
     let step = c.apply-step.ensures.step in
     let equal = board_equal_sides c.args.board.now c.apply-step.ensures.limits in
-    let fewer : moves_left c.board_after.result.now < moves_left c.args.board.now =
-    subst (λ q. moves_left q < moves_left c.args.board.now) (sym c.board_after.ensures)
+    let fewer : moves_left c.board.result.now < moves_left c.args.board.now =
+    subst (λ q. moves_left q < moves_left c.args.board.now) (sym c.board.ensures)
     (fewer_left c.apply-step.result equal next.legal step) in (
       omega (arith, fewer),
       (
@@ -25,7 +25,7 @@ write_game-requires g t c κs within =
         (
           tt,
           next_is_reached _ (reached_after_flush _ c.requires.reached c.next_move.ensures.flushed)
-              (ap (λ game. game.form) c.next_move.ensures.begun) next step c.board_after.ensures
+              (ap (λ game. game.form) c.next_move.ensures.begun) next step c.board.ensures
               c.next_move.ensures.begun c.write_in_form.ensures,
         ),
       ),
@@ -39,11 +39,11 @@ returns-clause-printed g t c =
     let equal = board_equal_sides c.args.board.now c.apply-step.ensures.limits in
     let same_form = ap (λ game. game.form) c.next_move.ensures.begun in
     let text = text_goes_on c.in-Some.ensures.some c.apply-step.ensures.step equal same_form same_form
-    c.board_after.ensures in
+    c.board.ensures in
     record {
       given = subst (WasGiven g.O.Sink.state c.args.out.now c.write_game.new.out) (sym text)
-          (given_then _ _ _ _ [] _ c.next_move.ensures.flushed
-          (given_then _ _ _ _ (move_text c.next_move.new.solver.form c.in-Some.field-0.value c.in-Some.field-0.house c.apply-step.result) _
+          (given_then _ c.next_move.ensures.flushed
+          (given_then _
           c.write_in_form.ensures c.write_game.ensures.printed.given));
       all_flushed = c.write_game.ensures.printed.all_flushed;
     }

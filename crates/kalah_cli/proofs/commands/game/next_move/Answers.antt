@@ -1,8 +1,8 @@
+-- A flush gives nothing, so the position is still reached and may be solved. The verdict has the next move, or no move is left.
 use Rattle.std.proofs.Common.{◌∙◌, [], sym, subst}
 use Rattle.kalah_jobs.specs.Writing.Sink.{WasGiven}
 use Rattle.kalah_jobs.proofs.SinkLemmas.{given_more_after_failure}
-use Rattle.kalah_cli.proofs.GameLemmas.{next_of_verdict, no_text}
-use Rattle.kalah_cli.proofs.SolverLemmas.{reached_after_flush}
+use Rattle.kalah_cli.proofs.{GameLemmas.{next_of_verdict, no_text}, GameSolverLemmas.{reached_after_flush}}
 use Rattle.kalah_cli.proofs.commands.game.next_move.Goals as goal
 
 pub solve-requires-clause-reached : goal.solve-requires-clause-reached
@@ -10,7 +10,7 @@ solve-requires-clause-reached g c = reached_after_flush _ c.requires.reached c.f
 
 pub returns-then-failed-clause-none : goal.returns-then-failed-clause-none
 returns-then-failed-clause-none g c = record {
-  given = given_more_after_failure _ _ _ [] _ c.flush_unless_failed.ensures.given (sym c.failed.ensures ∙ c.if-failed.true);
+  given = given_more_after_failure _ _ c.flush_unless_failed.ensures.given (sym c.failed.ensures ∙ c.if-failed.true);
   all_flushed = c.flush_unless_failed.ensures.all_flushed;
 }
 

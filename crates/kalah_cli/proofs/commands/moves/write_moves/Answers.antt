@@ -1,8 +1,9 @@
+-- After i moves their lines were given, in order.
 use Rattle.std.proofs.Common.{ℕ, List, None, arith, subst}
 use Rattle.kalah_rules.specs.Play.{step_of}
 use Rattle.kalah_jobs.specs.Writing.Sink.{WasGiven}
 use Rattle.kalah_jobs.proofs.SinkLemmas.{given_all, given_more}
-use Rattle.kalah_cli.specs.Commands.Moves.{move_lines}
+use Rattle.kalah_cli.specs.{move_lines}
 use Rattle.kalah_cli.proofs.EndsLemmas.{printed_flushed}
 use Rattle.kalah_cli.proofs.commands.moves.write_moves.Goals as goal
 

@@ -1,7 +1,7 @@
 use Rattle.std.proofs.Common.{◌≡◌, None, flat_map, take}
 use Rattle.kalah_rules.specs.Play.{legal_houses, step_of}
 use Rattle.kalah_jobs.specs.Writing.Sink.{WasGiven}
-use Rattle.kalah_cli.specs.Commands.Moves.{move_lines}
+use Rattle.kalah_cli.specs.{move_lines}
 use Rattle.kalah_cli.proofs.commands.moves.write_moves.Given as goal
 
 abbrev pub invariant-loop-i : goal.invariant-loop-i

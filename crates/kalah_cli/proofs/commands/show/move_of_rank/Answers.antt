@@ -1,7 +1,8 @@
+-- No move before place i has this rank, so the first one that has it is the one that is sought.
 use Rattle.std.proofs.Common.{◌≡◌, ℕ, ◌+◌, ◌==◌, ◌∙◌, Bool, true, false, if◌then◌else◌, List, Some, find, drop, slice_get, arith, refl, sym}
 use Rattle.kalah_solve.specs.declared.solver.move_values.MoveValue.{MoveValue}
 use Rattle.kalah_jobs.proofs.ListLemmas.{items_from}
-use Rattle.kalah_cli.specs.Commands.Show.{rank_in}
+use Rattle.kalah_cli.specs.{rank_in}
 use Rattle.kalah_cli.proofs.commands.show.move_of_rank.Goals as goal
 
 -- the first of the moves from place i on is the one there, or is after it

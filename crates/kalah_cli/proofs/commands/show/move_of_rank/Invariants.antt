@@ -1,5 +1,5 @@
 use Rattle.std.proofs.Common.{◌≡◌, ◌==◌, drop, find}
-use Rattle.kalah_cli.specs.Commands.Show.{move_of_rank, rank_in}
+use Rattle.kalah_cli.specs.{move_of_rank, rank_in}
 use Rattle.kalah_cli.proofs.commands.show.move_of_rank.Given as goal
 
 -- the move is sought from place i on

@@ -1,5 +1,5 @@
 use Rattle.std.proofs.Common.{◌≡◌, ◌≤◌, count_by, take}
-use Rattle.kalah_cli.specs.Commands.Show.{is_better}
+use Rattle.kalah_cli.specs.{is_better}
 use Rattle.kalah_cli.proofs.commands.show.rank_in.Given as goal
 
 abbrev pub invariant-loop-i : goal.invariant-loop-i

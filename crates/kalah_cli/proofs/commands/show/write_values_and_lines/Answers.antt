@@ -1,15 +1,10 @@
+-- The picture, the line of values and the lines that are asked for are given in turn. If the picture fails, a prefix of all was given.
 use Rattle.std.proofs.Common.{◌≡◌, ◌∷◌, [], ◌++◌, ◌∙◌, Bool, ap, append_assoc, refl, subst, sym, false}
 use Rattle.kalah_rules.specs.Position.{Position}
-use Rattle.kalah_jobs.specs.Files.Lines.{line_feed}
-use Rattle.kalah_jobs.specs.Writing.Sink.{WasGiven}
-use Rattle.kalah_jobs.specs.Writing.Picture.{picture_of}
-use Rattle.kalah_jobs.specs.Writing.Shown.{shown_of, values_line}
+use Rattle.kalah_jobs.specs.{Files.Lines.{line_feed}, Writing.{Sink.{WasGiven}, Picture.{picture_of}, ValuesLine.{shown_of, values_line}}}
 use Rattle.kalah_jobs.proofs.SinkLemmas.{given_more_after_failure, given_none, given_then}
-use Rattle.kalah_cli.specs.Exit.Ends.{IsPrinted}
-use Rattle.kalah_cli.specs.Commands.Show.{lines_asked, show_output}
-use Rattle.kalah_cli.proofs.EndsLemmas.{printed_flushed}
-use Rattle.kalah_cli.proofs.SolverLemmas.{variations_begin}
-use Rattle.kalah_cli.proofs.commands.show.write_values_and_lines.Goals.{else-lines, then-lines}
+use Rattle.kalah_cli.specs.{IsPrinted, lines_asked, show_output}
+use Rattle.kalah_cli.proofs.{EndsLemmas.{printed_flushed}, GameSolverLemmas.{variations_begin}, commands.show.write_values_and_lines.Goals.{else-lines, then-lines}}
 use Rattle.kalah_cli.proofs.commands.show.write_values_and_lines.Goals as goal
 
 -- the picture, and the line below it
@@ -27,7 +22,7 @@ output_parts lines p =
 pub returns-then-failed : goal.returns-then-failed
 returns-then-failed g c = record {
   given = subst (WasGiven g.O.Sink.state c.args.out.now c.write_plain.new.out) (sym (output_parts c.args.lines c.args.board.now))
-      (given_more_after_failure _ _ _ _ _ c.write_plain.ensures.given (sym c.failed.ensures ∙ c.if-failed.true));
+      (given_more_after_failure _ _ c.write_plain.ensures.given (sym c.failed.ensures ∙ c.if-failed.true));
   all_flushed = c.write_plain.ensures.all_flushed;
 }
 
@@ -40,8 +35,8 @@ returns g c =
     ] in
     subst (IsPrinted g.O.Sink.state c.args.out.now c.flush_unless_failed.new.out)
     (sym (output_parts c.args.lines c.args.board.now))
-    (printed_flushed _ (given_then _ _ _ _ _ _ c.write_plain.ensures.given
-    (given_then _ _ _ _ _ _ c.write_values.ensures lines))
+    (printed_flushed _ (given_then _ c.write_plain.ensures.given
+    (given_then _ c.write_values.ensures lines))
     c.flush_unless_failed.ensures.given c.flush_unless_failed.ensures.all_flushed)
 
 -- the picture is drawn before the search

@@ -1,19 +1,12 @@
-use Rattle.std.proofs.Common.{◌≡◌, ◌∷◌, [], ◌∙◌, ℕ, List, Bool, Some, ◌==◌, ap, cond, find, inl, inr, map, subst, sym, ◌++◌, refl, Contains}
-use Rattle.std.proofs.lemmas.Bool.{cases_Bool}
-use Rattle.std.proofs.lemmas.List.Elements.{Contains-append_left, Contains-append_right, Contains-push}
-use Rattle.kalah_rules.specs.Position.{Position}
-use Rattle.kalah_rules.specs.Play.{legal_houses, position_after}
-use Rattle.kalah_solve.specs.Solver.MoveValues.{move_value, values_of}
-use Rattle.kalah_solve.specs.declared.solver.move_values.MoveValue.{MoveValue}
-use Rattle.kalah_cli.specs.Commands.Show.{move_of_rank, rank_in, variation_line}
-use Rattle.std.proofs.lemmas.Option.{none-some, same_Some}
+-- The move of a rank is one of those with values, so it is legal. Its line is its house and value, and the game from the position after it.
+use Rattle.std.proofs.{Common.{◌≡◌, ◌∷◌, [], ◌∙◌, ℕ, List, Bool, Some, ◌==◌, ap, cond, find, inl, inr, map, subst, sym, ◌++◌, refl, Contains}, lemmas.{Bool.{cases_Bool}, List.Elements.{Contains-append_left, Contains-append_right, Contains-push}, Option.{none-some, same_Some}}}
+use Rattle.kalah_rules.specs.{Position.{Position}, Play.{legal_houses, position_after}}
+use Rattle.kalah_solve.specs.{Solver.MoveValues.{move_value, values_of}, declared.solver.move_values.MoveValue.{MoveValue}}
+use Rattle.kalah_cli.specs.{move_of_rank, rank_in, variation_line, best_game, game_text, Houses}
 use Rattle.std.specs.Option.{option_map_or}
-use Rattle.kalah_jobs.specs.Files.Lines.{line_feed}
-use Rattle.kalah_jobs.specs.Writing.Sink.{WasGiven}
-use Rattle.kalah_jobs.specs.Writing.Variation.{variation_start}
+use Rattle.kalah_jobs.specs.{Files.Lines.{line_feed}, Writing.{Sink.{WasGiven}, Variation.{variation_start}}}
 use Rattle.kalah_jobs.proofs.SinkLemmas.{given_then}
-use Rattle.kalah_cli.specs.Commands.Game.{best_game, game_text, Houses}
-use Rattle.kalah_cli.proofs.SolverLemmas.{variation_is_reached}
+use Rattle.kalah_cli.proofs.GameSolverLemmas.{variation_is_reached}
 use Rattle.kalah_cli.proofs.commands.show.write_variation.Goals as goal
 
 -- what is found among the values of houses is the value of one of them
@@ -46,11 +39,11 @@ apply-step-requires g c =
 pub write_game-requires-clause-reached : goal.write_game-requires-clause-reached
 write_game-requires-clause-reached g c =
     variation_is_reached _ c.in-Some.value c.requires.shown c.write_variation_start.ensures
-    (c.board_after.ensures ∙ ap position_after c.apply-step.ensures.step) refl
+    (c.board.ensures ∙ ap position_after c.apply-step.ensures.step) refl
 
 pub returns-clause-line : goal.returns-clause-line
 returns-clause-line g c =
-    let q = c.board_after.result.now in
+    let q = c.board.result.now in
     let game = subst (λ form. WasGiven g.O.Sink.state c.write_variation_start.new.out c.write_game.new.out (game_text form q (best_game q)))
     c.requires.shown.form c.write_game.ensures.printed.given in
     let found = sym c.in-Some.is ∙ c.move_of_rank.ensures ∙ ap (λ values. move_of_rank values c.args.rank) c.requires.values in
@@ -58,6 +51,6 @@ returns-clause-line g c =
     (option_map_or (variation_line c.args.board.now) found [])) found
     (subst (λ q. WasGiven g.O.Sink.state c.args.out.now c.write_unless_failed.new.out
     (variation_start c.in-Some.value ++ (game_text Houses q (best_game q) ++ line_feed ∷ [])))
-    (c.board_after.ensures ∙ ap position_after c.apply-step.ensures.step)
-    (given_then _ _ _ _ _ _ c.write_variation_start.ensures
-    (given_then _ _ _ _ _ _ game c.write_unless_failed.ensures)))
+    (c.board.ensures ∙ ap position_after c.apply-step.ensures.step)
+    (given_then _ c.write_variation_start.ensures
+    (given_then _ game c.write_unless_failed.ensures)))

@@ -1,9 +1,9 @@
-use Rattle.std.proofs.Common.{◌≡◌, ◌<◌, ◌≤◌, ◌+◌, ◌∙◌, ap, arith, length, refl, sym}
-use Rattle.std.proofs.lemmas.List.FromFn.{get_or-range_with_len, length-range_with_len}
+-- After so many ranks the lines of the moves of these ranks were given, the best first.
+use Rattle.std.proofs.{Common.{◌≡◌, ◌<◌, ◌≤◌, ◌+◌, ◌∙◌, ap, arith, length, refl, sym}, lemmas.List.FromFn.{get_or-range_with_len, length-range_with_len}}
 use Rattle.kalah_solve.specs.Solver.MoveValues.{values_of}
 use Rattle.kalah_jobs.proofs.SinkLemmas.{given_all, given_more}
-use Rattle.kalah_cli.specs.Commands.Show.{ranked_line}
-use Rattle.kalah_cli.proofs.SolverLemmas.{variations_go_on}
+use Rattle.kalah_cli.specs.{ranked_line}
+use Rattle.kalah_cli.proofs.GameSolverLemmas.{variations_go_on}
 use Rattle.kalah_cli.proofs.commands.show.write_variations.Goals as goal
 
 pub loop-rank-preserved : goal.loop-rank-preserved

@@ -2,8 +2,7 @@ use Rattle.std.proofs.Common.{flat_map, length, take}
 use Rattle.std.specs.List.{range_with_len}
 use Rattle.kalah_solve.specs.Solver.MoveValues.{values_of}
 use Rattle.kalah_jobs.specs.Writing.Sink.{WasGiven}
-use Rattle.kalah_cli.specs.Commands.Show.{ranked_line}
-use Rattle.kalah_cli.specs.Commands.GameSolver.{ShowsValues, begun}
+use Rattle.kalah_cli.specs.{ranked_line, ShowsValues, begun}
 use Rattle.kalah_cli.proofs.commands.show.write_variations.Given as goal
 
 abbrev pub invariant-loop-rank : goal.invariant-loop-rank

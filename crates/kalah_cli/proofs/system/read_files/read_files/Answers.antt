@@ -1,9 +1,7 @@
-use Rattle.std.proofs.lemmas.Grind.{common_steps}
-use Rattle.std.proofs.Common.{List, [], ◌∷◌, ◌<◌, ℕ, arith, length, refl, Bor}
-use Rattle.std.proofs.lemmas.List.Elements.{Contains-get_or}
-use Rattle.kalah_cli.specs.Exit.Failure.{FailsToReadOneOf}
+-- After i names their files were read, in order. A failure is that of one name; memory may be refused for any, so the first will do.
+use Rattle.std.proofs.{lemmas.{Grind.{common_steps}, List.Elements.{Contains-get_or}}, Common.{List, [], ◌∷◌, ◌<◌, ℕ, arith, length, refl, Bor}}
+use Rattle.kalah_cli.specs.{FailsToReadOneOf, declared.exit.failure.Failure.TheVariants.{Run}}
 use Rattle.kalah_run.specs.declared.batch.run_fault.RunFault.TheVariants.{OutOfMemory}
-use Rattle.kalah_cli.specs.declared.exit.failure.Failure.TheVariants.{Run}
 use Rattle.kalah_cli.proofs.system.read_files.read_files.Goals as goal
 
 -- there is no memory for one of some names

@@ -1,6 +1,6 @@
 use Rattle.std.proofs.Common.{◌≤◌, All, length, map, take}
 use Rattle.kalah_jobs.specs.Limits.{most_file_bytes}
-use Rattle.kalah_cli.specs.System.Sources.{AreFilesOf}
+use Rattle.kalah_cli.specs.{AreFilesOf}
 use Rattle.kalah_cli.proofs.system.read_files.read_files.Given as goal
 
 abbrev pub invariant-loop-name : goal.invariant-loop-name

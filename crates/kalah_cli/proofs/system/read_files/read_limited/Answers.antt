@@ -1,5 +1,4 @@
-use Rattle.std.proofs.lemmas.Grind.{common_steps}
-use Rattle.std.proofs.Common.{arith}
+use Rattle.std.proofs.{lemmas.Grind.{common_steps}, Common.{arith}}
 use Rattle.kalah_cli.proofs.system.read_files.read_limited.Goals as goal
 
 pub loop-chunk-preserved : goal.loop-chunk-preserved

@@ -1,6 +1,5 @@
-use Rattle.std.proofs.Common.{◌∙◌, refl, sym, arith}
-use Rattle.std.proofs.lemmas.Grind.{common_steps}
-use Rattle.std.proofs.lemmas.Result.{err_from_is_err_and}
+-- After each byte the lines read so far are answered. A read or a write that fails leaves the answers of whole lines, or a prefix of them.
+use Rattle.std.proofs.{Common.{◌∙◌, refl, sym, arith}, lemmas.{Grind.{common_steps}, Result.{err_from_is_err_and}}}
 use Rattle.kalah_jobs.proofs.AskingLemmas.{begun_last, begun_line, byte_read, line_read, nothing_read, reading_done, reading_ended, write_failed}
 use Rattle.kalah_jobs.proofs.asking.answer_lines.answer_each.Goals as goal
 

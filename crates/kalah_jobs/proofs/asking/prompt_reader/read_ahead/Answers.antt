@@ -1,6 +1,4 @@
-use Rattle.std.proofs.Common.{arith}
-use Rattle.std.proofs.KnownBytes.{Keeps-trans}
-use Rattle.std.proofs.lemmas.Grind.{common_steps}
+use Rattle.std.proofs.{Common.{arith}, KnownBytes.{Keeps-trans}, lemmas.Grind.{common_steps}}
 use Rattle.kalah_jobs.proofs.asking.prompt_reader.read_ahead.Goals as goal
 
 pub loop-preserved : goal.loop-preserved

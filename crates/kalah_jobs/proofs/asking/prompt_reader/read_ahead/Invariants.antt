@@ -1,5 +1,4 @@
-use Rattle.std.specs.Io.Buffered.{reader_remaining}
-use Rattle.std.specs.Io.KnownBytes.{Keeps}
+use Rattle.std.specs.Io.{Buffered.{reader_remaining}, KnownBytes.{Keeps}}
 use Rattle.kalah_jobs.proofs.asking.prompt_reader.read_ahead.Given as goal
 
 -- the reader has left what it had

@@ -1,17 +1,12 @@
-use Rattle.std.proofs.Common.{◌∙◌, ◌++◌, ◌∷◌, [], ap, arith, subst, sym}
-use Rattle.std.proofs.lemmas.Grind.{common_steps}
-use Rattle.kalah_jobs.specs.Files.Entry.{entry_to}
-use Rattle.kalah_jobs.specs.Files.Lines.{line_feed}
-use Rattle.kalah_jobs.specs.Writing.Answer.{answer_of, joined_text}
-use Rattle.kalah_jobs.specs.Writing.Sink.{WasGiven}
-use Rattle.kalah_jobs.proofs.FilesLemmas.{asked_fault}
-use Rattle.kalah_jobs.proofs.SinkLemmas.{given_more_after_failure, given_none, given_then}
-use Rattle.kalah_jobs.proofs.asking.reply.write_reply.Goals.{else-takes_long, then-takes_long+else-failed}
+-- Whether or not the output was flushed first, nothing but the answer is given to it; the answer is that of the line as it was read.
+use Rattle.std.proofs.{Common.{◌∙◌, ◌++◌, ◌∷◌, [], ap, arith, subst, sym}, lemmas.Grind.{common_steps}}
+use Rattle.kalah_jobs.specs.{entry_to, line_feed, answer_of, joined_text, WasGiven}
+use Rattle.kalah_jobs.proofs.{FilesLemmas.{asked_fault}, SinkLemmas.{given_more_after_failure, given_none, given_then}, asking.reply.write_reply.Goals.{else-takes_long, then-takes_long+else-failed}}
 use Rattle.kalah_jobs.proofs.asking.reply.write_reply.Goals as goal
 
 pub returns-then-failed-clause-given : goal.returns-then-failed-clause-given
 returns-then-failed-clause-given g c =
-    given_more_after_failure _ _ _ [] _ c.flush_unless_failed.ensures.given (sym c.failed.ensures ∙ c.if-failed.true)
+    given_more_after_failure _ _ c.flush_unless_failed.ensures.given (sym c.failed.ensures ∙ c.if-failed.true)
 
 pub returns-clause-read : goal.returns-clause-read
 returns-clause-read g c = grind (arith, common_steps, asked_fault)
@@ -28,4 +23,4 @@ returns-clause-given g c =
     ] in
     let answer = c.answer-answer.ensures ∙ ap answer_of (c.of_line-entry.ensures ∙ ap (entry_to c.args.question) c.bytes.ensures) in
     subst (WasGiven state c.args.out.now c.write_joined_text.new.out) (ap (λ a. joined_text a ++ line_feed ∷ []) answer)
-    (given_then state _ _ _ _ _ flushed c.write_joined_text.ensures)
+    (given_then state flushed c.write_joined_text.ensures)

@@ -1,5 +1,5 @@
 use Rattle.std.proofs.Common.{◌≡◌, ◌≤◌, ◌==◌, take, count_by}
-use Rattle.kalah_jobs.specs.Files.Lines.{line_feed}
+use Rattle.kalah_jobs.specs.{line_feed}
 use Rattle.kalah_jobs.proofs.files.file_lines.count_feeds_in_block.Given as goal
 
 abbrev pub invariant-loop-byte : goal.invariant-loop-byte

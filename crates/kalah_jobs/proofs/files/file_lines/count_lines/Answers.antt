@@ -1,5 +1,4 @@
-use Rattle.std.proofs.Common.{arith}
-use Rattle.std.proofs.lemmas.Grind.{common_steps}
+use Rattle.std.proofs.{Common.{arith}, lemmas.Grind.{common_steps}}
 use Rattle.kalah_jobs.proofs.FileLinesLemmas.{line_numbers}
 use Rattle.kalah_jobs.proofs.files.file_lines.count_lines.Goals as goal
 

@@ -1,5 +1,5 @@
 use Rattle.std.proofs.Common.{◌≡◌, ◌+◌, ◌≤◌, ◌==◌, count_by, length}
-use Rattle.kalah_jobs.specs.Files.Lines.{line_feed, lines_of}
+use Rattle.kalah_jobs.specs.{line_feed, lines_of}
 use Rattle.kalah_jobs.proofs.files.file_lines.count_lines.Given as goal
 
 abbrev pub invariant-loop-rest : goal.invariant-loop-rest

@@ -1,5 +1,5 @@
 use Rattle.std.proofs.Common.{◌≤◌, ◌-◌, length, take}
-use Rattle.kalah_jobs.specs.Files.Lines.{HasNoLineFeed}
+use Rattle.kalah_jobs.specs.{HasNoLineFeed}
 use Rattle.kalah_jobs.proofs.files.file_lines.first_line.Given as goal
 
 abbrev pub invariant-loop-from : goal.invariant-loop-from

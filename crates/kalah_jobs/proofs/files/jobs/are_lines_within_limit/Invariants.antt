@@ -1,6 +1,5 @@
 use Rattle.std.proofs.Common.{◌≡◌, ◌+◌, take}
-use Rattle.kalah_jobs.specs.Files.Jobs.{lines_in_all}
-use Rattle.kalah_jobs.specs.Limits.{most_lines}
+use Rattle.kalah_jobs.specs.{lines_in_all, most_lines}
 use Rattle.kalah_jobs.proofs.files.jobs.are_lines_within_limit.Given as goal
 
 abbrev pub invariant-loop-file : goal.invariant-loop-file

@@ -1,7 +1,5 @@
-use Rattle.std.proofs.Common.{arith}
-use Rattle.std.proofs.lemmas.Grind.{common_steps}
-use Rattle.std.proofs.lemmas.List.Sums.{count_by-le-length}
-use Rattle.kalah_jobs.specs.Files.Entry.{is_faulty_entry}
+use Rattle.std.proofs.{Common.{arith}, lemmas.{Grind.{common_steps}, List.Sums.{count_by-le-length}}}
+use Rattle.kalah_jobs.specs.{is_faulty_entry}
 use Rattle.kalah_jobs.proofs.files.jobs.read_entries.Goals as goal
 
 -- there are no more faults than entries

@@ -1,6 +1,5 @@
 use Rattle.std.proofs.Common.{◌≡◌, ◌+◌, ◌≤◌, ◌++◌, length, map, count_by, vec_capacity}
-use Rattle.kalah_jobs.specs.Files.Entry.{entry_to, is_faulty_entry}
-use Rattle.kalah_jobs.specs.Files.Lines.{lines_of}
+use Rattle.kalah_jobs.specs.{entry_to, is_faulty_entry, lines_of}
 use Rattle.kalah_jobs.proofs.files.jobs.read_entries.Given as goal
 
 abbrev pub invariant-loop-rest : goal.invariant-loop-rest

@@ -1,7 +1,6 @@
 use Rattle.std.proofs.Common.{Ok, ◌∙◌, ap, subst, sym}
-use Rattle.kalah_jobs.specs.Line.Reading.{reading_of_text, reading_of}
-use Rattle.kalah_jobs.proofs.LineLemmas.{IsReading, is_reading, only_reading}
-use Rattle.kalah_jobs.proofs.LineTextLemmas.{result_of_reading}
+use Rattle.kalah_jobs.specs.{reading_of_text, reading_of}
+use Rattle.kalah_jobs.proofs.{LineLemmas.{IsReading, is_reading, only_reading}, LineTextLemmas.{result_of_reading}}
 use Rattle.kalah_jobs.proofs.line.reading.read_line.Goals as goal
 
 pub returns : goal.returns

@@ -1,9 +1,8 @@
-use Rattle.std.proofs.Common.{◌≡◌, ◌∷◌, ◌-◌, arith, drop, length, refl, sym, take}
-use Rattle.std.proofs.lemmas.Grind.{common_steps}
+-- What was read of both sides and the suffix is the text of one position, and a number of at most two digits keeps its limit.
+use Rattle.std.proofs.{Common.{◌≡◌, ◌∷◌, ◌-◌, arith, drop, length, refl, sym, take}, lemmas.Grind.{common_steps}}
 use Rattle.kalah_rules.specs.Position.{Position}
-use Rattle.kalah_jobs.specs.Line.Line.{space}
-use Rattle.kalah_jobs.proofs.LineLemmas.{sides_are_read, line_is_written}
-use Rattle.kalah_jobs.proofs.SideLemmas.{houses_are_some, number_at_most_99, rest_is_no_longer}
+use Rattle.kalah_jobs.specs.{space}
+use Rattle.kalah_jobs.proofs.{LineLemmas.{sides_are_read, line_is_written}, SideLemmas.{houses_are_some, number_at_most_99, rest_is_no_longer}}
 use Rattle.kalah_jobs.proofs.line.reading.read_sides.Goals as goal
 
 pub read-requires-2 : goal.read-requires-2
@@ -33,8 +32,8 @@ returns-clause-read c =
           other_store = refl;
           same_rule = refl;
           some_house = houses_are_some form.own_side.houses_text p.own form.own_side.houses_written;
-          own_store_low = number_at_most_99 form.own_side.store_text p.own_store form.own_side.store_written;
-          other_store_low = number_at_most_99 form.other_side.store_text p.other_store form.other_side.store_written;
+          own_store_few = number_at_most_99 form.own_side.store_text p.own_store form.own_side.store_written;
+          other_store_few = number_at_most_99 form.other_side.store_text p.other_store form.other_side.store_written;
         }),
         written,
       ),

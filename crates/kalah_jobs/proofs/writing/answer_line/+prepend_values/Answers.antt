@@ -1,5 +1,4 @@
-use Rattle.std.proofs.Common.{arith}
-use Rattle.std.proofs.lemmas.Grind.{common_steps}
+use Rattle.std.proofs.{Common.{arith}, lemmas.Grind.{common_steps}}
 use Rattle.kalah_jobs.proofs.TextLemmas.{value_before}
 use Rattle.kalah_jobs.proofs.writing.answer_line.+prepend_values.Goals as goal
 

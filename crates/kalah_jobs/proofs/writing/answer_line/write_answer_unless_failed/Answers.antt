@@ -1,7 +1,5 @@
 use Rattle.std.proofs.Common.{◌++◌, ◌∷◌, ◌∙◌, ap, subst, rules}
-use Rattle.kalah_jobs.specs.Files.Lines.{line_feed}
-use Rattle.kalah_jobs.specs.Writing.Answer.{answer_line}
-use Rattle.kalah_jobs.specs.Writing.Sink.{WasGiven}
+use Rattle.kalah_jobs.specs.{line_feed, answer_line, WasGiven}
 use Rattle.kalah_jobs.proofs.TextLemmas.{line_before}
 use Rattle.kalah_jobs.proofs.writing.answer_line.write_answer_unless_failed.Goals as goal
 

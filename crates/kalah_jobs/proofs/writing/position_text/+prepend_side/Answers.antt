@@ -1,5 +1,5 @@
 use Rattle.std.proofs.Common.{arith}
-use Rattle.kalah_jobs.specs.Writing.Player.{houses_of, store_of}
+use Rattle.kalah_jobs.specs.{houses_of, store_of}
 use Rattle.kalah_jobs.proofs.TextLemmas.{side_before, length-houses_of}
 use Rattle.kalah_jobs.proofs.writing.position_text.+prepend_side.Goals as goal
 

@@ -1,11 +1,8 @@
+-- After i moves their lines were given, each with its line feed; all of them are the lines joined, and one more line feed.
 use Rattle.std.proofs.Common.{◌≡◌, ◌++◌, ◌∷◌, [], ◌<◌, ◌∙◌, ℕ, List, ap, append_assoc, arith, length, map, subst, sym}
 use Rattle.std.specs.List.{join_with_byte}
-use Rattle.kalah_jobs.specs.Files.Lines.{line_feed}
-use Rattle.kalah_jobs.specs.Line.Line.{step_text_of}
-use Rattle.kalah_jobs.specs.Writing.Answer.{house_step_text}
-use Rattle.kalah_jobs.specs.Writing.Sink.{WasGiven}
-use Rattle.kalah_jobs.proofs.SinkLemmas.{given_all, given_more, given_none}
-use Rattle.kalah_jobs.proofs.TextLemmas.{legal_at, lines_end_in_feeds}
+use Rattle.kalah_jobs.specs.{line_feed, step_text_of, house_step_text, WasGiven}
+use Rattle.kalah_jobs.proofs.{SinkLemmas.{given_all, given_more, given_none}, TextLemmas.{legal_at, lines_end_in_feeds}}
 use Rattle.kalah_jobs.proofs.writing.steps.write_steps.Goals as goal
 
 -- the line that is put together from its end

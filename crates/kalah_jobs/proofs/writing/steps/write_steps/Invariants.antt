@@ -1,7 +1,5 @@
 use Rattle.std.proofs.Common.{◌++◌, ◌∷◌, [], flat_map, take}
-use Rattle.kalah_jobs.specs.Files.Lines.{line_feed}
-use Rattle.kalah_jobs.specs.Writing.Answer.{house_step_text}
-use Rattle.kalah_jobs.specs.Writing.Sink.{WasGiven}
+use Rattle.kalah_jobs.specs.{line_feed, house_step_text, WasGiven}
 use Rattle.kalah_jobs.proofs.writing.steps.write_steps.Given as goal
 
 abbrev pub invariant-loop-i : goal.invariant-loop-i

@@ -1,9 +1,7 @@
+-- After i moves their texts were given, with `; ` between any two.
 use Rattle.std.proofs.Common.{◌++◌, ◌∷◌, [], ◌==◌, ◌∙◌, ℕ, List, ap, arith, codes, cond, subst, sym, take, take_all}
-use Rattle.kalah_jobs.specs.Files.Lines.{line_feed}
-use Rattle.kalah_jobs.specs.Writing.Answer.{house_step_text}
-use Rattle.kalah_jobs.specs.Writing.Sink.{WasGiven}
-use Rattle.kalah_jobs.proofs.SinkLemmas.{given_none, given_then}
-use Rattle.kalah_jobs.proofs.TextLemmas.{legal_at, one_text_more, texts_in_line}
+use Rattle.kalah_jobs.specs.{line_feed, house_step_text, WasGiven}
+use Rattle.kalah_jobs.proofs.{SinkLemmas.{given_none, given_then}, TextLemmas.{legal_at, one_text_more, texts_in_line}}
 use Rattle.kalah_jobs.proofs.writing.steps.write_steps_in_line.Goals as goal
 
 pub loop-i-preserved : goal.loop-i-preserved
@@ -15,7 +13,7 @@ loop-i-preserved g c =
     subst (WasGiven g.W.Sink.state c.args.out.now c.write_unless_failed.new.out)
     (ap (texts_in_line text (take i moves) ++◌) (c.bytes.ensures.bytes ∙ c.next_text.ensures)
     ∙ sym (more ∙ ap (λ h. texts_in_line text (take i moves) ++ (cond (i == 0) [] (codes "; ") ++ text h)) (sym c.get.ensures)))
-    (given_then _ _ _ _ _ _ c.loop-i.invariant c.write_unless_failed.ensures)
+    (given_then _ c.loop-i.invariant c.write_unless_failed.ensures)
 
 pub next_text-requires : goal.next_text-requires
 next_text-requires g c =
@@ -31,4 +29,4 @@ returns g c =
     let all = take_all c.loop-i.i moves (omega (arith, c.loop-i-test.false, c.len-i-end.ensures)) ∙ c.legal-moves.ensures.moves in
     subst (WasGiven g.W.Sink.state c.args.out.now c.write_unless_failed-2.new.out)
     (ap (λ ms. texts_in_line text ms ++ line_feed ∷ []) all)
-    (given_then _ _ _ _ _ _ c.loop-i.invariant c.write_unless_failed-2.ensures)
+    (given_then _ c.loop-i.invariant c.write_unless_failed-2.ensures)

@@ -1,5 +1,4 @@
-use Rattle.std.proofs.Common.{arith}
-use Rattle.std.proofs.lemmas.Grind.{common_steps}
+use Rattle.std.proofs.{Common.{arith}, lemmas.Grind.{common_steps}}
 use Rattle.kalah_jobs.proofs.SinkLemmas.{left_all, left_part, left_prefix}
 use Rattle.kalah_jobs.proofs.writing.stream.write_pieces.Goals as goal
 

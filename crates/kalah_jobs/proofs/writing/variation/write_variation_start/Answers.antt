@@ -1,5 +1,4 @@
-use Rattle.std.proofs.Common.{arith}
-use Rattle.std.proofs.lemmas.Grind.{common_steps}
+use Rattle.std.proofs.{Common.{arith}, lemmas.Grind.{common_steps}}
 use Rattle.kalah_jobs.proofs.writing.variation.write_variation_start.Goals as goal
 
 pub prepend-requires-2 : goal.prepend-requires-2

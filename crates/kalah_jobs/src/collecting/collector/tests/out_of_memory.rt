@@ -7,7 +7,7 @@ use kalah_solve::{Solver, Table};
 use std::process::Abort;
 use std::test::Fail;
 
-// A collector for the jobs of two files and a solver, each made at the second try if memory was refused.
+/// A collector for the jobs of two files and a solver, each made at the second try if memory was refused.
 pub(super) fn trial_of(rt: &(impl Abort + AllocGlobal)) -> Result<Trial, JobsFault> {
     let alloc = rt.alloc();
     let files = match two_texts(alloc) {

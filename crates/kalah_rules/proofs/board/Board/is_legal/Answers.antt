@@ -1,8 +1,7 @@
-use Rattle.std.proofs.Common.{◌∙◌, sym, arith, lt-ltb, ltb-true}
-use Rattle.std.proofs.lemmas.Bool.{false≢true}
-use Rattle.kalah_rules.proofs.PlayLemmas.{legal_holds, legal_going, holds_legal}
+-- A house outside 1 to m, or of a game that is over, isn't legal; of the others those with seeds are.
+use Rattle.std.proofs.{Common.{◌∙◌, sym, arith, lt-ltb, ltb-true}, lemmas.Bool.{false≢true}}
+use Rattle.kalah_rules.proofs.{PlayLemmas.{legal_holds, legal_going, holds_legal}, board.Board.is_legal.Goals.{then-h-lt1-via-then-h-lt1, then-h-lt1-via-else-h-lt1+then-h-m, then-h-lt1-via-else-h-lt1+else-h-m+then-is_over}}
 use Rattle.kalah_rules.proofs.board.Board.is_legal.Goals as goal
-use Rattle.kalah_rules.proofs.board.Board.is_legal.Goals.{then-h-lt1-via-then-h-lt1, then-h-lt1-via-else-h-lt1+then-h-m, then-h-lt1-via-else-h-lt1+else-h-m+then-is_over}
 
 pub returns-then-h-lt1 : goal.returns-then-h-lt1
 returns-then-h-lt1 c = (

@@ -1,7 +1,7 @@
+-- Each round adds the ways that begin with one more legal house.
 use Rattle.std.proofs.Common.{arith, inl, inr, sym, ◌≡◌, ◌+◌, ◌-◌, ◌∙◌, ◌==◌, ◌≤◌, ◌^◌}
 use Rattle.kalah_rules.specs.{storeless, HoldsSeeds, most_houses, ways_by}
-use Rattle.kalah_rules.proofs.PlayLemmas.{holds_legal, legal_holds}
-use Rattle.kalah_rules.proofs.WaysLemmas.{one_if, one_way, ways_none, ways_over, ways_by_step, before_none, before_more, before_same, before_all, before_small, power_fits}
+use Rattle.kalah_rules.proofs.{PlayLemmas.{holds_legal, legal_holds}, WaysLemmas.{one_if, one_way, ways_none, ways_over, ways_by_step, before_none, before_more, before_same, before_all, before_small, power_fits}}
 use Rattle.kalah_rules.proofs.houses.Houses.+ways.Goals as goal
 use Rattle.kalah_rules.proofs.houses.Houses.+ways.Goals.{ways-then-own-gt0, ways-else-own-gt0, ways-then-depth-eq1, ways-else-depth-eq1}
 
@@ -77,14 +77,14 @@ ways_by-new-requires-clause-last t c = omega (arith, (legal_holds (storeless c.a
 
 pub ways_by-returns-in-Over-clause-ways : goal.ways_by-returns-in-Over-clause-ways
 ways_by-returns-in-Over-clause-ways t c =
-    let step = rw c.new.ensures at c.play_by.ensures.step in
+    let step = rw c.new.ensures at c.play_with.ensures.step in
     c.from.ensures ∙ one_if (c.args.depth == 0)
-    ∙ ways_by_step _ _ _ _ _ step c.in-Over.is
+    ∙ ways_by_step c.args.depth c.args.self.now c.args.h step c.in-Over.is
 
 pub ways_by-returns-in-Again-clause-ways : goal.ways_by-returns-in-Again-clause-ways
 ways_by-returns-in-Again-clause-ways t c =
-    let step = rw c.new.ensures at c.play_by.ensures.step in
+    let step = rw c.new.ensures at c.play_with.ensures.step in
     c.ways.ensures.ways ∙ elim c.in-Again.is [
-      | inl again ↦ ways_by_step _ _ _ _ _ step again.1
-      | inr turn ↦ ways_by_step _ _ _ _ _ step turn.1
+      | inl again ↦ ways_by_step c.args.depth c.args.self.now c.args.h step again.1
+      | inr turn ↦ ways_by_step c.args.depth c.args.self.now c.args.h step turn.1
     ]

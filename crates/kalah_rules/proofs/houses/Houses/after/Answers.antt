@@ -1,6 +1,6 @@
+-- The sown rows without what is captured show the houses after the move (`move_leaves`), and no subtraction falls below 0.
 use Rattle.std.proofs.Common.{arith, ◌/◌, ◌%◌, ◌^◌}
-use Rattle.kalah_rules.proofs.KeyLemmas.{fields_of}
-use Rattle.kalah_rules.proofs.PackedLemmas.{rows_sown, move_leaves, across_within, captured_fits}
+use Rattle.kalah_rules.proofs.{KeyLemmas.{fields_of}, PackedLemmas.{rows_sown, move_leaves, across_within, captured_fits}}
 use Rattle.kalah_rules.proofs.houses.Houses.after.Goals as goal
 
 pub overflow_shr-across : goal.overflow_shr-across

@@ -1,8 +1,8 @@
+-- After house h the moves are the houses up to it that have seeds.
 use Rattle.std.proofs.Common.{◌≡◌, ◌+◌, ◌-◌, sym, arith, refl, lt-ltb, append-nil, nat_lt, true, false, le-ltb}
 use Rattle.kalah_rules.specs.{seeds}
-use Rattle.kalah_rules.proofs.PlayLemmas.{filter_range-suc, length-filter_range}
+use Rattle.kalah_rules.proofs.{PlayLemmas.{filter_range-suc, length-filter_range}, houses.Houses.legal.Goals.{then-own-gt0, else-own-gt0}}
 use Rattle.kalah_rules.proofs.houses.Houses.legal.Goals as goal
-use Rattle.kalah_rules.proofs.houses.Houses.legal.Goals.{then-own-gt0, else-own-gt0}
 
 pub push-requires : goal.push-requires
 push-requires c =

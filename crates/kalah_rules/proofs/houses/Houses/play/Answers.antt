@@ -1,3 +1,4 @@
+-- A legal house is one of 1 to m, as each call requires.
 use Rattle.std.proofs.Common.{arith}
 use Rattle.kalah_rules.specs.{storeless}
 use Rattle.kalah_rules.proofs.PlayLemmas.{legal_holds}

@@ -1,7 +1,6 @@
-use Rattle.std.proofs.Common.{arith, refl, ◌≡◌, ◌≤◌, ◌<◌, ◌+◌, ◌-◌, ◌*◌, ◌/◌, ◌%◌, ◌^◌, ◌==◌, Bool, ℕ, true, nat_le, if◌then◌else◌, get_or}
-use Rattle.std.proofs.lemmas.{Bool.agree_below_at, Bool.Decides.nat_tests}
-use Rattle.kalah_rules.specs.{ones}
-use Rattle.kalah_rules.specs.declared.houses.numbers.TheConstants.{INTO_STORE}
+-- There are 36 pairs of a side and a house at most, so each cell of the table is computed.
+use Rattle.std.proofs.{Common.{arith, refl, ◌≡◌, ◌≤◌, ◌<◌, ◌+◌, ◌-◌, ◌*◌, ◌/◌, ◌%◌, ◌^◌, ◌==◌, Bool, ℕ, true, nat_le, if◌then◌else◌, get_or}, lemmas.{Bool.agree_below_at, Bool.Decides.nat_tests}}
+use Rattle.kalah_rules.specs.{ones, declared.houses.numbers.TheConstants.{INTO_STORE}}
 use Rattle.kalah_rules.proofs.houses.numbers.into_store.Goals as goal
 
 -- the cell of house h of m has what its move adds to the rows

@@ -1,7 +1,6 @@
 use Rattle.std.proofs.Common.{arith, lt-ltb, le-ltb, refl, ◌≡◌, ◌+◌, ◌*◌, ◌%◌, nat_lt, if◌then◌else◌}
-use Rattle.kalah_rules.proofs.KeyLemmas.{store_gain}
+use Rattle.kalah_rules.proofs.{KeyLemmas.{store_gain}, houses.numbers.store_gains.Goals.{then-h-count, else-h-count}}
 use Rattle.kalah_rules.proofs.houses.numbers.store_gains.Goals as goal
-use Rattle.kalah_rules.proofs.houses.numbers.store_gains.Goals.{then-h-count, else-h-count}
 
 pub returns : goal.returns
 returns c =

@@ -1,5 +1,5 @@
-use Rattle.std.proofs.Common.{arith, ◌≡◌, ◌+◌, ◌<◌, ◌^◌, ◌&&◌, ℕ, Bool, true, false, MatchBool, cond, bit_and, refl, ◌≤◌, ◌-◌, ◌%◌}
-use Rattle.std.proofs.lemmas.Nat.{and_le_l, and_le_r, and_mask}
+-- A mask of all bits or of none keeps both numbers, or leaves 0 of each.
+use Rattle.std.proofs.{Common.{arith, ◌≡◌, ◌+◌, ◌<◌, ◌^◌, ◌&&◌, ℕ, Bool, true, false, MatchBool, cond, bit_and, refl, ◌≤◌, ◌-◌, ◌%◌}, lemmas.Nat.{and_le_l, and_le_r, and_mask}}
 use Rattle.kalah_rules.specs.{captures}
 use Rattle.kalah_rules.proofs.houses.play.captured_seeds.Goals as goal
 

@@ -1,3 +1,4 @@
+-- The number of a cell names houses a side, house and seeds: sides of 6 have each fifth group of cells.
 use Rattle.std.proofs.Common.{arith, ◌≡◌, ◌≤◌, ◌+◌, ◌-◌, ◌*◌, ◌/◌, ◌%◌}
 use Rattle.kalah_rules.proofs.houses.sowing_table.sowing_at.Goals as goal
 use Rattle.kalah_rules.proofs.houses.sowing_table.sowing_at.Goals.{else-group-gt0-via-then-group-gt0+else-group-eq0, else-group-gt0-via-else-group-gt0}

@@ -1,8 +1,6 @@
-use Rattle.std.proofs.Common.{◌≡◌, ℕ, ◌∷◌, ◌++◌, [], true, rules, sym, ap, ◌∙◌}
-use Rattle.kalah_run.specs.Types.{DrawnRow}
-use Rattle.kalah_run.specs.Desk.States.{PassState}
-use Rattle.kalah_run.specs.Queue.States.{PutPassState}
-use Rattle.std.proofs.lemmas.List.Elements.{All-push}
+-- A round adds one number to the worker's row, a job that the gate knows, and sends the outcome of that job.
+use Rattle.std.proofs.{Common.{◌≡◌, ℕ, ◌∷◌, ◌++◌, [], true, rules, sym, ap, ◌∙◌}, lemmas.List.Elements.{All-push}}
+use Rattle.kalah_run.specs.{DrawnRow, PassState, PutPassState}
 use Rattle.kalah_run.proofs.WorkerLemmas.{drawn_jobs-more, less_left}
 use Rattle.kalah_run.proofs.batch.crew.work.Goals as goal
 
@@ -29,5 +27,5 @@ loop-job-preserved g c =
 pub loop-job-smaller : goal.loop-job-smaller
 loop-job-smaller g c =
     let same = c.answer-outcome.ensures.same in
-    less_left _ _ _ _ (ap (λ (p : PassState). p.row.numbers) same.0 ∙ ap (λ (r : DrawnRow). r.numbers) c.in-Some.ensures.drawn)
+    less_left _ (ap (λ (p : PassState). p.row.numbers) same.0 ∙ ap (λ (r : DrawnRow). r.numbers) c.in-Some.ensures.drawn)
     c.in-Some.ensures.above c.in-Some.ensures.below

@@ -1,6 +1,5 @@
 use Rattle.std.proofs.Common.{◌≡◌, ◌≤◌, ◌+◌, ◌++◌, reverse, vec_len, vec_capacity}
-use Rattle.kalah_run.specs.Batch.AtWork.{passes_of, puts_of}
-use Rattle.kalah_run.specs.Batch.Running.{HaveOwnTables}
+use Rattle.kalah_run.specs.{passes_of, puts_of, HaveOwnTables}
 use Rattle.kalah_run.proofs.batch.open_batch.workers_of_passes.Given as goal
 
 abbrev pub invariant-loop : goal.invariant-loop

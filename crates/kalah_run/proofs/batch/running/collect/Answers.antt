@@ -1,11 +1,11 @@
-use Rattle.std.proofs.Common.{◌+◌, inl, inr, length, ap, ◌∙◌, arith, rules, Some}
-use Rattle.std.proofs.lemmas.Grind.{common_steps}
+-- After each outcome that is accepted, all lines that became ready stand written. The loop ends with as many outcomes as jobs, or with the
+-- rest left and the workers ended.
+use Rattle.std.proofs.{Common.{◌+◌, inl, inr, length, ap, ◌∙◌, arith, rules, Some}, lemmas.Grind.{common_steps}}
 use Rattle.kalah_jobs.proofs.SinkLemmas.{given_none}
-use Rattle.kalah_run.specs.Batch.Running.{MayHaveGot}
-use Rattle.kalah_run.proofs.BatchLemmas.{failed_still, got_after, has_collected, collected_at_start, one_collected, one_longer, rest_left}
+use Rattle.kalah_run.specs.{GetsOrEnds}
+use Rattle.kalah_run.proofs.{BatchLemmas.{failed_still, got_after, has_collected, collected_at_start, one_collected, one_longer, rest_left}, batch.running.collect.Goals.{in-Some, in-None+in-Some-flush_and_get, else-loop-test, then-loop-test+in-None+in-None-flush_and_get}}
 use Rattle.kalah_run.proofs.batch.running.collect.Given as given
 use Rattle.kalah_run.proofs.batch.running.collect.Goals as goal
-use Rattle.kalah_run.proofs.batch.running.collect.Goals.{in-Some, in-None+in-Some-flush_and_get, else-loop-test, then-loop-test+in-None+in-None-flush_and_get}
 
 pub loop-init : goal.loop-init
 loop-init g c = record {
@@ -15,7 +15,7 @@ loop-init g c = record {
 }
 
 -- an outcome was got, soon or later
-outcome_got : (g : given.Over) (c : goal.After-accepts g) → MayHaveGot g.W.Sink.state (g.E.Rule.invariant 1) c.loop.receiver.passes
+outcome_got : (g : given.Over) (c : goal.After-on_accepted g) → GetsOrEnds g.W.Sink.state (g.E.Rule.invariant 1) c.loop.receiver.passes
     c.match-get_soon.receiver.passes c.loop.out c.match-get_soon.out (Some c.match-get_soon.outcome)
 outcome_got g c =
     let draws = rw c.failed.ensures at c.leave_after.ensures.draws in

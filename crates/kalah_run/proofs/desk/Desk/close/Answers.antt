@@ -1,8 +1,6 @@
-use Rattle.std.proofs.Common.{rules, List, [], ◌∷◌, ◌++◌, length, get_or, length-append, arith, ◌≡◌, ◌<◌, sym, ap, ◌∙◌}
-use Rattle.std.proofs.lemmas.List.{length-map, map-append, append_assoc, get_or_append_left}
-use Rattle.kalah_run.specs.Desk.Protocol.{rows_in}
-use Rattle.kalah_run.specs.Desk.States.{PassState, drawn_rows}
-use Rattle.kalah_run.specs.declared.desk.protocol.DeskView.TheVariants.{Closing}
+-- Each pass that is joined adds its row to those of the closing seat. With all joined, the last word says which numbers the rows hold.
+use Rattle.std.proofs.{Common.{rules, List, [], ◌∷◌, ◌++◌, length, get_or, length-append, arith, ◌≡◌, ◌<◌, sym, ap, ◌∙◌}, lemmas.List.{length-map, map-append, append_assoc, get_or_append_left}}
+use Rattle.kalah_run.specs.{PassState, drawn_rows, Desk.Protocol.{rows_in}, declared.desk.protocol.DeskView.TheVariants.{Closing}}
 use Rattle.kalah_run.proofs.DeskLemmas.{Determines, rows_at_end, start_closing_is_lawful}
 use Rattle.kalah_run.proofs.desk.Desk.close.Goals as goal
 

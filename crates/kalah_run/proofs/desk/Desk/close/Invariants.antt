@@ -1,7 +1,5 @@
 use Rattle.std.proofs.Common.{◌≡◌, ◌++◌, vec_len, All}
-use Rattle.kalah_run.specs.declared.desk.protocol.DeskView.TheVariants.{Closing}
-use Rattle.kalah_run.specs.Desk.Protocol.{rows_in}
-use Rattle.kalah_run.specs.Desk.States.{drawn_rows}
+use Rattle.kalah_run.specs.{drawn_rows, declared.desk.protocol.DeskView.TheVariants.{Closing}, Desk.Protocol.{rows_in}}
 use Rattle.kalah_run.proofs.desk.Desk.close.Given as goal
 
 abbrev pub invariant-loop-pass : goal.invariant-loop-pass

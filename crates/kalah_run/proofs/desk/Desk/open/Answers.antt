@@ -1,13 +1,11 @@
+-- Each round hands out the pass of the next number, with an empty row, and the opener has one pass less left to hand out.
 use Rattle.std.proofs.Common.{◌∙◌, ◌+◌, [], rules, ap, arith, subst, sym}
-use Rattle.kalah_run.proofs.DeskLemmas.{hand_out_is_lawful}
-use Rattle.kalah_run.proofs.PassLemmas.{draw_pass_more}
-use Rattle.kalah_run.specs.Desk.Protocol.{after_handing_out, pass_handed_out}
-use Rattle.kalah_run.specs.Desk.States.{DeskState, AreNewPasses, number_in, row_in, total_in}
-use Rattle.kalah_run.specs.declared.desk.protocol.DeskView.TheVariants.{Opening}
+use Rattle.kalah_run.proofs.{DeskLemmas.{hand_out_is_lawful}, PassLemmas.{draw_pass_more}}
+use Rattle.kalah_run.specs.{DeskState, AreNewPasses, number_in, row_in, total_in, Desk.Protocol.{after_handing_out, pass_handed_out}, declared.desk.protocol.DeskView.TheVariants.{Opening}}
 use Rattle.kalah_run.proofs.desk.Desk.open.Goals as goal
 
 pub split_seat-seat-requires : goal.split_seat-seat-requires
-split_seat-seat-requires c = (search rules, search rules, hand_out_is_lawful _ _ _ _ _ _ (ap (λ m. m.0) c.loop.invariant.opener) (omega arith))
+split_seat-seat-requires c = (search rules, search rules, hand_out_is_lawful _ (ap (λ m. m.0) c.loop.invariant.opener) (omega arith))
 
 pub loop-preserved : goal.loop-preserved
 loop-preserved c =

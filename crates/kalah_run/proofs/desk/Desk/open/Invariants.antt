@@ -1,6 +1,5 @@
 use Rattle.std.proofs.Common.{◌≡◌, ◌-◌, [], vec_capacity}
-use Rattle.kalah_run.specs.declared.desk.protocol.DeskView.TheVariants.{Opening}
-use Rattle.kalah_run.specs.Desk.States.{AreNewPasses}
+use Rattle.kalah_run.specs.{AreNewPasses, declared.desk.protocol.DeskView.TheVariants.{Opening}}
 use Rattle.kalah_run.proofs.desk.Desk.open.Given as goal
 
 abbrev pub invariant-loop : goal.invariant-loop

@@ -1,4 +1,4 @@
-use Rattle.kalah_run.specs.Desk.States.{IsPassAt}
+use Rattle.kalah_run.specs.{IsPassAt}
 use Rattle.kalah_run.proofs.desk.tests.draw_all.Given as goal
 
 abbrev pub invariant-loop : goal.invariant-loop

@@ -1,10 +1,9 @@
-use Rattle.std.proofs.lemmas.Grind.{common_steps}
-use Rattle.std.proofs.Common.{◌≡◌, ◌∷◌, ◌++◌, [], ◌∙◌, ap, append_assoc, arith, length, subst, sym}
-use Rattle.std.proofs.lemmas.List.{length-map, length_push}
+-- Each pass that is absorbed adds what its worker sent to what the getter knows of the ended. With all absorbed it knows all that was sent:
+-- what was got, and then what is left inside.
+use Rattle.std.proofs.{lemmas.{Grind.{common_steps}, List.{length-map, length_push}}, Common.{◌≡◌, ◌∷◌, ◌++◌, [], ◌∙◌, ap, append_assoc, arith, length, subst, sym}}
 use Rattle.std.specs.Vec.Iter.{into_iter_deque, into_iter_items}
 use Rattle.crossbeam_queue.specs.Passes.{view}
-use Rattle.kalah_run.specs.declared.queue.protocol.QueueView.TheVariants.{Getting, Putting}
-use Rattle.kalah_run.specs.Queue.States.{ArePassesFrom, PutPassState, sent_by}
+use Rattle.kalah_run.specs.{ArePassesFrom, PutPassState, sent_by, declared.queue.protocol.QueueView.TheVariants.{Getting, Putting}}
 use Rattle.kalah_run.proofs.QueueLemmas.{reclaim_is_lawful, getter_knows_sent, reclaimed, whole_when_reclaimed, ended_in}
 use Rattle.kalah_run.proofs.queue.ResultsQueue.close.Goals as goal
 

@@ -1,8 +1,7 @@
 use Rattle.std.proofs.Common.{◌≡◌, ◌++◌, length}
 use Rattle.std.specs.Vec.Iter.{into_iter_items}
 use Rattle.crossbeam_queue.specs.Passes.{view, IsPassOf}
-use Rattle.kalah_run.specs.declared.queue.protocol.QueueView.TheVariants.{Getting}
-use Rattle.kalah_run.specs.Queue.States.{ArePassesFrom, sent_by}
+use Rattle.kalah_run.specs.{ArePassesFrom, sent_by, declared.queue.protocol.QueueView.TheVariants.{Getting}}
 use Rattle.kalah_run.proofs.QueueLemmas.{ended_in}
 use Rattle.kalah_run.proofs.queue.ResultsQueue.close.Given as goal
 

@@ -1,5 +1,4 @@
-use Rattle.std.proofs.Common.{arith}
-use Rattle.std.proofs.lemmas.Grind.{common_steps}
+use Rattle.std.proofs.{Common.{arith}, lemmas.Grind.{common_steps}}
 use Rattle.kalah_run.proofs.queue.ResultsQueue.get_until_end.Goals as goal
 
 pub returns-in-Some-try_get-clause-got : goal.returns-in-Some-try_get-clause-got

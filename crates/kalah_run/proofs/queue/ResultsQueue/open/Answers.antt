@@ -1,9 +1,7 @@
-use Rattle.std.proofs.lemmas.Grind.{common_steps}
-use Rattle.std.proofs.Common.{rules, arith, ◌≡◌, [], ap, ◌∙◌}
-use Rattle.std.proofs.lemmas.List.Elements.{All-push}
+-- Each round hands out a pass to put, with the next number, and the rule of the shared word holds with one pass more.
+use Rattle.std.proofs.{lemmas.{Grind.{common_steps}, List.Elements.{All-push}}, Common.{rules, arith, ◌≡◌, [], ap, ◌∙◌}}
 use Rattle.kalah_run.specs.Queue.Protocol.{sent_in, after_handing_out, pass_handed_out}
-use Rattle.kalah_run.proofs.QueueLemmas.{opening_is_lawful, hand_out_is_lawful}
-use Rattle.kalah_run.proofs.PassLemmas.{put_pass_more}
+use Rattle.kalah_run.proofs.{QueueLemmas.{opening_is_lawful, hand_out_is_lawful}, PassLemmas.{put_pass_more}}
 use Rattle.kalah_run.proofs.queue.ResultsQueue.open.Goals as goal
 
 pub ruled-requires-clause-rule : goal.ruled-requires-clause-rule

@@ -1,7 +1,6 @@
 use Rattle.std.proofs.Common.{◌≡◌, ◌≤◌, [], All, vec_len, vec_capacity}
 use Rattle.crossbeam_queue.specs.Passes.{view, IsPassOf}
-use Rattle.kalah_run.specs.declared.queue.protocol.QueueView.TheVariants.{Getting}
-use Rattle.kalah_run.specs.Queue.States.{ArePassesFrom}
+use Rattle.kalah_run.specs.{ArePassesFrom, declared.queue.protocol.QueueView.TheVariants.{Getting}}
 use Rattle.kalah_run.proofs.queue.ResultsQueue.open.Given as goal
 
 abbrev pub invariant-loop : goal.invariant-loop

@@ -1,5 +1,4 @@
-use Rattle.std.proofs.Common.{arith}
-use Rattle.std.proofs.lemmas.Grind.{common_steps}
+use Rattle.std.proofs.{Common.{arith}, lemmas.Grind.{common_steps}}
 use Rattle.kalah_solve.proofs.bounds.seed_bounds.won_of.Goals as goal
 
 pub returns-else-number-le0 : goal.returns-else-number-le0

@@ -1,13 +1,12 @@
-use Rattle.std.proofs.Common.{arith, rules, sym, subst, lit≤, ◌+◌}
-use Rattle.kalah_rules.specs.Sowing.{EndsInStore}
-use Rattle.kalah_rules.specs.HousesStep.{houses_step}
+-- Each move that was tried wins at most `most` seeds, so best play wins no more once none is left; a move that is enough wins no more than
+-- best play.
+use Rattle.std.proofs.Common.{ℕ, arith, rules, sym, subst, lit≤, ◌+◌}
+use Rattle.kalah_rules.specs.{Sowing.{EndsInStore}, HousesStep.{houses_step}}
 use Rattle.kalah_solve.specs.{GoesOn, IsSoftBound, won_by_step}
-use Rattle.kalah_solve.proofs.HouseSetLemmas.{without_last_less, last_is_legal, each_at_last}
-use Rattle.kalah_solve.proofs.SearchLemmas.{lower_measure, enough_is_won, soft_if_enough, turn_enough, reply_left, step_is_turn, taken_is_turn, taken_falls, reply_fits, bound_le_max, bound_of_rest, played_at_start, played_and_waits, played_and_bounded, played_enough, all_played, tried_at_start, tried_without_last, all_tried, untried_at_start, untried_fewer, none_untried}
-use Rattle.kalah_solve.proofs.WorthLemmas.{goes_on, leads_by, step_falls}
-use Rattle.kalah_solve.proofs.BoundsLemmas.{won_of_houses}
+use Rattle.kalah_solve.proofs.{HouseSetLemmas.{without_last_less, last_is_legal, each_at_last}, SearchLemmas.{lower_measure, enough_is_won, soft_if_enough, turn_enough, reply_left, step_is_turn, taken_is_turn, taken_falls, reply_fits, bound_le_max, bound_of_rest, played_at_start, played_and_waits, played_and_bounded, played_enough, all_played, tried_at_start, tried_without_last, all_tried, untried_at_start, untried_fewer, none_untried}, WorthLemmas.{goes_on, leads_by, step_falls}, BoundsLemmas.{won_of_houses}}
+use Rattle.kalah_solve.proofs.search.Search.+bound.Given.{Over}
 use Rattle.kalah_solve.proofs.search.Search.+bound.Goals as goal
-use Rattle.kalah_solve.proofs.search.Search.+bound.Goals.{try_remaining-in-Turn+else-gained-beta, try_remaining-in_default-step}
+use Rattle.kalah_solve.proofs.search.Search.+bound.Goals.{try_remaining-Joined-step, try_remaining-in-Turn+else-gained-beta, try_remaining-in_default-step}
 
 -- ==== bound_step and bound_turn: the bound of one move
 pub bound_step-overflow_add-result : goal.bound_step-overflow_add-result
@@ -23,7 +22,7 @@ bound_turn-overflow_sub-result g t c =
 pub bound_turn-returns-else-all-beta : goal.bound_turn-returns-else-all-beta
 bound_turn-returns-else-all-beta g t c =
     let few = (won_of_houses c.requires.on.limits).few in
-    bound_of_rest (c.args.gained + c.seeds.result) _ c.args.gained (omega arith) few c.bound.ensures
+    bound_of_rest c.args.gained (omega arith) few c.bound.ensures
 
 -- ==== bound_by_moves: moves into the store, the remaining moves, and the turns that wait, by their priority
 pub bound_by_moves-bound_by_search-requires : goal.bound_by_moves-bound_by_search-requires
@@ -31,8 +30,8 @@ bound_by_moves-bound_by_search-requires g t c κs within =
     let limits = c.seeds-seeds.ensures.limits in
     let turn = taken_is_turn c.loop-next.invariant.waiting c.in-Some.ensures.taken in
     let step = sym turn.step in (
-      lower_measure 5 4 c.decreases (step_falls _ _ _ limits turn.legal step) (lit≤ tt),
-      (within, (search rules, (goes_on _ _ _ _ c.requires.variant_is limits turn.legal step).ongoing)),
+      lower_measure 5 4 c.decreases (step_falls limits turn.legal step) (lit≤ tt),
+      (within, (search rules, (goes_on c.requires.variant_is limits turn.legal step).ongoing)),
     )
 
 pub bound_by_moves-overflow_sub-bound : goal.bound_by_moves-overflow_sub-bound
@@ -85,14 +84,14 @@ bound_into_store-bound_step-bound-requires g t c κs within =
     let limits = c.ending_in_store-untried.ensures.limits in
     let legal = last_is_legal c.loop-house.invariant.movable c.in-Some.ensures.0 in
     let step = c.play_into_store.ensures in (
-      lower_measure 8 3 c.decreases (step_falls _ _ _ limits legal step) (lit≤ tt),
-      (within, (search rules, goes_on _ _ _ _ c.requires.variant_is limits legal step)),
+      lower_measure 8 3 c.decreases (step_falls limits legal step) (lit≤ tt),
+      (within, (search rules, goes_on c.requires.variant_is limits legal step)),
     )
 
 pub bound_into_store-returns-then-beta-bound-clause-lower : goal.bound_into_store-returns-then-beta-bound-clause-lower
 bound_into_store-returns-then-beta-bound-clause-lower g t c =
     let legal = last_is_legal c.loop-house.invariant.movable c.in-Some.ensures.0 in
-    enough_is_won _ _ _ _ c.ending_in_store-untried.ensures.limits legal (rw c.play_into_store.ensures at c.bound_step-bound.ensures)
+    enough_is_won c.ending_in_store-untried.ensures.limits legal (rw c.play_into_store.ensures at c.bound_step-bound.ensures)
 
 pub bound_into_store-loop-house-preserved : goal.bound_into_store-loop-house-preserved
 bound_into_store-loop-house-preserved g t c =
@@ -112,8 +111,8 @@ try_remaining-loop-house-init g t c =
     let set = c.remaining-untried.ensures in
     played_at_start set.limits c.requires.ongoing.going c.requires.none set.members
 
-pub try_remaining-play_by-step-requires : goal.try_remaining-play_by-step-requires
-try_remaining-play_by-step-requires g t c = last_is_legal c.loop-house.invariant.movable c.in-Some.ensures.0
+pub try_remaining-play_with-step-requires : goal.try_remaining-play_with-step-requires
+try_remaining-play_with-step-requires g t c = last_is_legal c.loop-house.invariant.movable c.in-Some.ensures.0
 
 pub try_remaining-priority-priority-requires-clause-first : goal.try_remaining-priority-priority-requires-clause-first
 try_remaining-priority-priority-requires-clause-first g t c = omega (arith, c.remaining-untried.ensures.limits.some_house)
@@ -123,47 +122,47 @@ try_remaining-priority-priority-requires-clause-last g t c = omega (arith, c.rem
 
 pub try_remaining-priority-priority-requires-clause-few : goal.try_remaining-priority-priority-requires-clause-few
 try_remaining-priority-priority-requires-clause-few g t c =
-    let leads = leads_by _ _ c.remaining-untried.ensures.limits (last_is_legal c.loop-house.invariant.movable c.in-Some.ensures.0)
-    (rw c.in-Turn.is at c.play_by-step.ensures.step) in
+    let leads = leads_by c.remaining-untried.ensures.limits (last_is_legal c.loop-house.invariant.movable c.in-Some.ensures.0)
+    (rw c.in-Turn.is at c.play_with-step.ensures.step) in
     omega arith
 
 pub try_remaining-bound_step-bound-requires : goal.try_remaining-bound_step-bound-requires
 try_remaining-bound_step-bound-requires g t c κs within =
     let limits = c.remaining-untried.ensures.limits in
     let legal = last_is_legal c.loop-house.invariant.movable c.in-Some.ensures.0 in
-    let step = c.play_by-step.ensures.step in (
-      lower_measure 8 3 c.decreases (step_falls _ _ _ limits legal step) (lit≤ tt),
-      (within, (search rules, goes_on _ _ _ _ c.requires.ongoing.variant_is limits legal step)),
+    let step = c.play_with-step.ensures.step in (
+      lower_measure 8 3 c.decreases (step_falls limits legal step) (lit≤ tt),
+      (within, (search rules, goes_on c.requires.ongoing.variant_is limits legal step)),
     )
 
 pub try_remaining-bound_turn-bound-requires : goal.try_remaining-bound_turn-bound-requires
 try_remaining-bound_turn-bound-requires g t c κs within =
     let limits = c.remaining-untried.ensures.limits in
     let legal = last_is_legal c.loop-house.invariant.movable c.in-Some.ensures.0 in
-    let step = rw c.in-Turn.is at c.play_by-step.ensures.step in (
-      lower_measure 7 3 c.decreases (step_falls _ _ _ limits legal step) (lit≤ tt),
-      (within, (search rules, goes_on _ _ _ _ c.requires.ongoing.variant_is limits legal step)),
+    let step = rw c.in-Turn.is at c.play_with-step.ensures.step in (
+      lower_measure 7 3 c.decreases (step_falls limits legal step) (lit≤ tt),
+      (within, (search rules, goes_on c.requires.ongoing.variant_is limits legal step)),
     )
+
+-- the bound is one of the step that was played
+played_bound : (g : Over) (t : ℕ) (c : try_remaining-Joined-step g t)
+    → IsSoftBound c.args.beta (won_by_step (houses_step c.args.houses.now c.in-Some.house)) c.match-step.bound
+played_bound g t c = elim c.match-step.branch [
+  | try_remaining-in-Turn+else-gained-beta w ↦ rw (w.bound-is, ← c.play_with-step.ensures.step, w.in-Turn.is) w.bound_turn-bound.ensures
+  | try_remaining-in_default-step w ↦ rw (w.bound-is, ← c.play_with-step.ensures.step) w.bound_step-bound.ensures
+]
 
 pub try_remaining-returns-then-beta-bound : goal.try_remaining-returns-then-beta-bound
 try_remaining-returns-then-beta-bound g t c =
     let played = c.loop-house.invariant in
     let legal = last_is_legal played.movable c.in-Some.ensures.0 in
-    let bounded : IsSoftBound c.args.beta (won_by_step (houses_step c.args.houses.now c.in-Some.house)) c.match-step.bound =
-    elim c.match-step.branch [
-      | try_remaining-in-Turn+else-gained-beta w ↦ rw (w.bound-is, ← c.play_by-step.ensures.step, w.in-Turn.is) w.bound_turn-bound.ensures
-      | try_remaining-in_default-step w ↦ rw (w.bound-is, ← c.play_by-step.ensures.step) w.bound_step-bound.ensures
-    ] in
+    let bounded = played_bound g t (goal.at.try_remaining-returns-then-beta-bound g t c).Joined-step in
     played_enough _ played c.if-beta-bound.true
-    (enough_is_won _ _ _ _ c.remaining-untried.ensures.limits legal bounded c.if-beta-bound.true)
+    (enough_is_won c.remaining-untried.ensures.limits legal bounded c.if-beta-bound.true)
 
 pub try_remaining-loop-house-preserved : goal.try_remaining-loop-house-preserved
 try_remaining-loop-house-preserved g t c =
-    let bounded : IsSoftBound c.args.beta (won_by_step (houses_step c.args.houses.now c.in-Some.house)) c.match-step.bound =
-    elim c.match-step.branch [
-      | try_remaining-in-Turn+else-gained-beta w ↦ rw (w.bound-is, ← c.play_by-step.ensures.step, w.in-Turn.is) w.bound_turn-bound.ensures
-      | try_remaining-in_default-step w ↦ rw (w.bound-is, ← c.play_by-step.ensures.step) w.bound_step-bound.ensures
-    ] in
+    let bounded = played_bound g t (goal.at.try_remaining-loop-house-preserved g t c).Joined-step in
     played_and_bounded c.loop-house.invariant c.in-Some.ensures.0 c.in-Some.ensures.1 _ _ (bounded.upper c.if-beta-bound.false)
     c.if-beta-bound.false c.max-most.ensures
 
@@ -172,7 +171,7 @@ try_remaining-loop-house-preserved-then-seeds-self g t c =
     let played = c.loop-house.invariant in
     let priority = c.priority-priority.ensures in
     let turn = step_is_turn c.remaining-untried.ensures.limits (last_is_legal played.movable c.in-Some.ensures.0)
-    (rw c.in-Turn.is at c.play_by-step.ensures.step) in
+    (rw c.in-Turn.is at c.play_with-step.ensures.step) in
     rw (c.add.ensures.priorities, c.add.ensures.turns) (played_and_waits played c.in-Some.ensures.0 c.in-Some.ensures.1
     _ _ c.loop-house.waiting.placed priority.house priority.some turn)
 

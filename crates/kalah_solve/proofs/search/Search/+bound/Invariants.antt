@@ -1,8 +1,7 @@
-use Rattle.kalah_rules.specs.Position.{storeless}
-use Rattle.kalah_rules.specs.Measure.{moves_left}
+-- Each call has fewer moves left or a lower number, and each round of a loop has fewer moves to try.
+use Rattle.kalah_rules.specs.{Position.{storeless}, Measure.{moves_left}}
 use Rattle.std.proofs.Common.{◌+◌, ◌*◌, sum}
-use Rattle.kalah_solve.proofs.WorthLemmas.{moves_after}
-use Rattle.kalah_solve.proofs.SearchLemmas.{AreTriedIntoStore, ArePlayed, AreUntried}
+use Rattle.kalah_solve.proofs.{WorthLemmas.{moves_after}, SearchLemmas.{AreTriedIntoStore, ArePlayed, AreUntried}}
 use Rattle.kalah_solve.proofs.search.Search.+bound.Given as goal
 
 -- Each function calls only those of a lower number: on the same houses a step (8) calls a turn (7), that calls `bound` (6), and so on down to

@@ -1,8 +1,7 @@
-use Rattle.std.proofs.Common.{refl, rules, ◌≡◌, ◌∙◌, w8, w32, to_z, of_z, SFits}
-use Rattle.std.proofs.lemmas.Int.{to_z-of_z}
+-- What is won gives the worth in the narrowed window (`found`), and that the worth in the window that was asked for.
+use Rattle.std.proofs.{Common.{refl, rules, ◌≡◌, ◌∙◌, w8, w32, to_z, of_z, SFits}, lemmas.Int.{to_z-of_z}}
 use Rattle.kalah_solve.specs.{clamped, houses_worth}
-use Rattle.kalah_solve.proofs.BoundsLemmas.{worth_low, worth_high, clamped_within, worth_by_bounds}
-use Rattle.kalah_solve.proofs.search.Search.clamped_by_tests.Given.{Over}
+use Rattle.kalah_solve.proofs.{BoundsLemmas.{worth_low, worth_high, clamped_within, worth_by_bounds}, search.Search.clamped_by_tests.Given.{Over}}
 use Rattle.kalah_solve.proofs.search.Search.clamped_by_tests.Goals as goal
 
 pub interval_of-requires-clause-least : goal.interval_of-requires-clause-least

@@ -1,5 +1,4 @@
-use Rattle.std.proofs.Common.{ap, rules, ◌∙◌, w32}
-use Rattle.std.proofs.lemmas.Int.{to_z-of_z}
+use Rattle.std.proofs.{Common.{ap, rules, ◌∙◌, w32}, lemmas.Int.{to_z-of_z}}
 use Rattle.kalah_solve.specs.{clamped}
 use Rattle.kalah_solve.proofs.BoundsLemmas.{margin_of_won_is_worth}
 use Rattle.kalah_solve.proofs.search.Search.clamped_in_variant.Goals as goal

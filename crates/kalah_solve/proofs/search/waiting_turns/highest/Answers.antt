@@ -1,5 +1,5 @@
-use Rattle.std.proofs.Common.{arith, ◌≡◌, ◌≤◌, ◌<◌, ◌+◌, ℕ, List, length, get_or, inl, inr, Contains, max}
-use Rattle.std.proofs.lemmas.{Bool.cases_lt, List.Elements.Contains-get_or}
+-- After i places the greatest so far is one of the priorities, and none of those is greater.
+use Rattle.std.proofs.{Common.{arith, ◌≡◌, ◌≤◌, ◌<◌, ◌+◌, ℕ, List, length, get_or, inl, inr, Contains, max}, lemmas.{Bool.cases_lt, List.Elements.Contains-get_or}}
 use Rattle.kalah_solve.proofs.search.waiting_turns.highest.Goals as goal
 
 -- the greater of a priority and the next one is a priority

@@ -1,5 +1,5 @@
-use Rattle.std.proofs.Common.{arith, rules, ◌∙◌, ap, ◌≡◌, to_z, of_z, pos, neg_ℤ, ◌-ℤ◌, w32}
-use Rattle.std.proofs.lemmas.Int.{ints, to_z-of_z}
+-- By what the move leads to: the final margin, the worth of the next position, or the opponent's with its sign changed.
+use Rattle.std.proofs.{Common.{arith, rules, ◌∙◌, ap, ◌≡◌, to_z, of_z, pos, neg_ℤ, ◌-ℤ◌, w32}, lemmas.Int.{ints, to_z-of_z}}
 use Rattle.kalah_solve.proofs.WorthLemmas.{over_ends, value_of_over, value_of_again, value_of_turn}
 use Rattle.kalah_solve.proofs.solver.Solver.value_of_move.Goals as goal
 

@@ -1,38 +1,35 @@
-use Rattle.std.proofs.lemmas.{Grind.common_steps, List.drop_more, List.Elements.Contains-get_or}
-use Rattle.std.proofs.Common.{◌≡◌, ℕ, ◌<◌, ◌≤◌, ◌-◌, ◌+◌, List, ◌∷◌, arith, length, subst, sym, map, drop, get_or, Contains, refl}
+-- The loop runs from the last move to the first, and puts the value of each before those of the moves behind it.
+use Rattle.std.proofs.{lemmas.{Grind.common_steps, List.drop_more, List.Elements.Contains-get_or}, Common.{◌≡◌, ℕ, ◌<◌, ◌≤◌, ◌-◌, ◌+◌, List, ◌∷◌, arith, length, subst, sym, map, drop, get_or, Contains, refl}}
 use Rattle.kalah_rules.specs.Position.{Position}
-use Rattle.kalah_solve.specs.{IsMoveValue, move_value, AreValuesByBestPlay}
-use Rattle.kalah_solve.specs.declared.solver.move_values.MoveValue.{MoveValue}
+use Rattle.kalah_solve.specs.{IsMoveValue, move_value, AreValuesByBestPlay, declared.solver.move_values.MoveValue.{MoveValue}}
 use Rattle.kalah_solve.proofs.SolverLemmas.{values_state, move_value_small}
 use Rattle.kalah_solve.proofs.solver.Solver.values.Goals as goal
 
-module _ (moves : List ℕ) (i h : ℕ) (some : 0 < i) (within : i ≤ length moves) (h_is : h ≡ get_or moves (i - 1) 0) where
+module _ (moves : List ℕ) {i h : ℕ} (some : 0 < i) (within : i ≤ length moves) (h_is : h ≡ get_or moves (i - 1) 0) where
   -- the move before place i is one of the houses
-  at_place : (houses : List ℕ) → moves ≡ houses → Contains houses h
-  at_place houses same = rw (h_is, ← same) (Contains-get_or moves (i - 1) 0 (omega arith))
+  at_place : {houses : List ℕ} → moves ≡ houses → Contains houses h
+  at_place same = rw (h_is, ← same) (Contains-get_or moves (i - 1) 0 (omega arith))
 
   -- the values of the moves from that place on
-  one_more : (p : Position) (old new : List MoveValue) (v : MoveValue) → v ≡ move_value p h
+  one_more : (p : Position) {old new : List MoveValue} {v : MoveValue} → v ≡ move_value p h
       → old ≡ map (move_value p) (drop i moves) → new ≡ v ∷ old → new ≡ map (move_value p) (drop (i - 1) moves)
-  one_more p old new v v_is old_is new_is =
+  one_more p v_is old_is new_is =
       let next : i - 1 + 1 ≡ i = omega arith in
       rw (new_is, old_is, v_is, h_is, drop_more moves (i - 1) 0 (omega arith), next) refl
 
 pub move_value-requires : goal.move_value-requires
 move_value-requires g c =
-    at_place c.legal-moves.result c.loop-i.i c.get.result c.loop-i-test.true c.loop-i.invariant.within c.get.ensures
-    _ c.legal-moves.ensures.moves
+    at_place c.legal-moves.result c.loop-i-test.true c.loop-i.invariant.within c.get.ensures c.legal-moves.ensures.moves
 
 pub prepend-requires-clause-small : goal.prepend-requires-clause-small
 prepend-requires-clause-small g c =
-    let legal = at_place c.legal-moves.result c.loop-i.i c.get.result c.loop-i-test.true c.loop-i.invariant.within c.get.ensures
-    _ c.legal-moves.ensures.moves in
+    let legal = at_place c.legal-moves.result c.loop-i-test.true c.loop-i.invariant.within c.get.ensures c.legal-moves.ensures.moves in
     subst IsMoveValue (sym c.move_value.ensures) (move_value_small _ _ c.legal-moves.ensures.limits legal)
 
 pub loop-i-preserved : goal.loop-i-preserved
 loop-i-preserved g c = record {
-  done = one_more c.legal-moves.result c.loop-i.i c.get.result c.loop-i-test.true c.loop-i.invariant.within c.get.ensures
-      _ _ _ _ c.move_value.ensures c.loop-i.invariant.done c.prepend.ensures;
+  done = one_more c.legal-moves.result c.loop-i-test.true c.loop-i.invariant.within c.get.ensures
+      c.args.board.now c.move_value.ensures c.loop-i.invariant.done c.prepend.ensures;
   within = omega arith;
 }
 

@@ -1,5 +1,4 @@
-use Rattle.std.proofs.Common.{rules, sym, ap, ◌∙◌, w32}
-use Rattle.std.proofs.lemmas.Int.{to_z-of_z}
+use Rattle.std.proofs.{Common.{rules, sym, ap, ◌∙◌, w32}, lemmas.Int.{to_z-of_z}}
 use Rattle.kalah_rules.proofs.PackedLemmas.{houses_within}
 use Rattle.kalah_solve.specs.{houses_worth}
 use Rattle.kalah_solve.proofs.WorthLemmas.{worth_of_over}

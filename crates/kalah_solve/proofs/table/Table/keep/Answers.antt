@@ -1,3 +1,4 @@
+-- A put adds the entry, which is true, or leaves all as they were, so all entries stay true.
 use Rattle.kalah_solve.proofs.EntryLemmas.{put_replaces, put_leaves, put_or_same, true_after_put}
 use Rattle.kalah_solve.proofs.table.Table.keep.Goals as goal
 

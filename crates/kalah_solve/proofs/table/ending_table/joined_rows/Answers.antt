@@ -1,5 +1,6 @@
+-- The other row stands m cells above the own one.
 use Rattle.std.proofs.Common.{ℕ, ◌≡◌, ◌<◌, ◌+◌, ◌*◌, ◌%◌, ◌^◌, ◌++◌}
-use Rattle.kalah_rules.specs.Key.{row_number}
+use Rattle.kalah_rules.specs.Key.{packed_row}
 use Rattle.kalah_solve.proofs.RankLemmas.{both_rows}
 use Rattle.kalah_solve.proofs.table.ending_table.joined_rows.Goals as goal
 
@@ -9,9 +10,9 @@ module _ (c : goal.After-m) where
   row = c.own_row.result + c.other_row.result * 2 ^ (5 * c.m.result) % 2 ^ 64
 
   -- it is the joined row, and small
-  joined : (row ≡ row_number (c.args.houses.now.own ++ c.args.houses.now.other)) × (row < 2 ^ 60)
+  joined : (row ≡ packed_row (c.args.houses.now.own ++ c.args.houses.now.other)) × (row < 2 ^ 60)
   joined =
-      both_rows _ _ _ c.m.ensures.limits c.own_row.ensures.value c.other_row.ensures.value c.own_row.ensures.small c.other_row.ensures.small
+      both_rows c.m.ensures.limits c.own_row.ensures.value c.other_row.ensures.value c.own_row.ensures.small c.other_row.ensures.small
       c.m.ensures.side
 
 pub returns-clause-row : goal.returns-clause-row

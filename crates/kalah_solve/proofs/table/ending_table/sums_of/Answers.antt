@@ -1,5 +1,5 @@
-use Rattle.std.proofs.Common.{arith, ◌++◌, length-append}
-use Rattle.std.proofs.lemmas.List.Sums.{sum_by-append}
+-- What the sums are follows from the joined rows (`sums_are`). They are small, so nothing overflows.
+use Rattle.std.proofs.{Common.{arith, ◌++◌, length-append}, lemmas.List.Sums.{sum_by-append}}
 use Rattle.kalah_solve.proofs.RankLemmas.{AreSums, sums_are}
 use Rattle.kalah_solve.proofs.table.ending_table.sums_of.Goals as goal
 

@@ -1,6 +1,5 @@
 use Rattle.std.proofs.Common.{ap, ◌*◌, ◌%◌, ◌^◌}
-use Rattle.kalah_solve.specs.{mixed}
-use Rattle.kalah_solve.specs.declared.table.slot_table.TheConstants.{MIX}
+use Rattle.kalah_solve.specs.{mixed, declared.table.slot_table.TheConstants.{MIX}}
 use Rattle.kalah_solve.proofs.table.slot_table.mixed_key.Goals as goal
 
 pub returns-clause-mixed : goal.returns-clause-mixed

@@ -1,6 +1,6 @@
-use Rattle.std.proofs.Common.{◌∷◌, [], ◌++◌, ◌∙◌, sym, ap, arith, length, length-append, take}
-use Rattle.std.proofs.lemmas.List.{length-take-le, take_all, take-append-le, take_more_set}
-use Rattle.kalah_jobs.specs.Asking.{kept_bytes}
+-- Bytes past those that are kept change nothing.
+use Rattle.std.proofs.{Common.{◌∷◌, [], ◌++◌, ◌∙◌, sym, ap, arith, length, length-append, take}, lemmas.List.{length-take-le, take_all, take-append-le, take_more_set}}
+use Rattle.kalah_jobs.specs.{kept_bytes}
 use Rattle.kalah_jobs.proofs.asking.line_head.LineHead.push.Goals as goal
 
 pub returns-then-self-lt-KEPT_BYTES : goal.returns-then-self-lt-KEPT_BYTES

@@ -1,6 +1,4 @@
-use Rattle.std.proofs.Common.{arith}
-use Rattle.std.proofs.KnownBytes.{Keeps-refl}
-use Rattle.std.proofs.lemmas.Grind.{common_steps}
+use Rattle.std.proofs.{Common.{arith}, KnownBytes.{Keeps-refl}, lemmas.Grind.{common_steps}}
 use Rattle.kalah_jobs.proofs.asking.prompt_reader.PromptReader.next_byte.Goals as goal
 
 pub returns-then-is_err-clause-untaken : goal.returns-then-is_err-clause-untaken

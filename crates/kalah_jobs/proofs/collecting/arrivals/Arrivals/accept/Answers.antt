@@ -1,8 +1,7 @@
-use Rattle.std.proofs.Common.{◌≤◌, ap, arith, rules}
-use Rattle.std.proofs.lemmas.Grind.{common_steps}
-use Rattle.kalah_jobs.specs.Collecting.CollectorState.{front, front_of}
-use Rattle.kalah_jobs.proofs.CollectingLemmas.{front_more, front_set, front_stops, front_within}
-use Rattle.kalah_jobs.proofs.collecting.arrivals.Arrivals.accept.Goals.{then-loop-self-test+else-is_some, else-loop-self-test}
+-- The front goes on while the next answer is there: each turn makes one more line ready, and it stops at one that is missing.
+use Rattle.std.proofs.{Common.{◌≤◌, ap, arith, rules}, lemmas.Grind.{common_steps}}
+use Rattle.kalah_jobs.specs.{front, front_of}
+use Rattle.kalah_jobs.proofs.{CollectingLemmas.{front_more, front_set, front_stops, front_within}, collecting.arrivals.Arrivals.accept.Goals.{then-loop-self-test+else-is_some, else-loop-self-test}}
 use Rattle.kalah_jobs.proofs.collecting.arrivals.Arrivals.accept.Goals as goal
 
 pub invariant_of-self : goal.invariant_of-self

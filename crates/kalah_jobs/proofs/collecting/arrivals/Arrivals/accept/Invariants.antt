@@ -1,5 +1,5 @@
 use Rattle.std.proofs.Common.{◌≡◌, ◌≤◌, ◌-◌, length, set, Some}
-use Rattle.kalah_jobs.specs.Collecting.CollectorState.{front_of}
+use Rattle.kalah_jobs.specs.{front_of}
 use Rattle.kalah_jobs.proofs.collecting.arrivals.Arrivals.accept.Given as goal
 
 abbrev pub invariant-loop-self : goal.invariant-loop-self

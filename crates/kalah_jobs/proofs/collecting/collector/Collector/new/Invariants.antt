@@ -1,5 +1,5 @@
 use Rattle.std.proofs.Common.{◌≡◌, ◌≤◌, map, length, take, vec_capacity}
-use Rattle.kalah_jobs.specs.Collecting.CollectorState.{new_file}
+use Rattle.kalah_jobs.specs.{new_file}
 use Rattle.kalah_jobs.proofs.collecting.collector.Collector.new.Given as goal
 
 abbrev pub invariant-loop-f : goal.invariant-loop-f

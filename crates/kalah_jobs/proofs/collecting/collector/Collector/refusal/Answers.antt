@@ -1,5 +1,4 @@
-use Rattle.std.proofs.Common.{arith}
-use Rattle.std.proofs.lemmas.Grind.{common_steps}
+use Rattle.std.proofs.{Common.{arith}, lemmas.Grind.{common_steps}}
 use Rattle.kalah_jobs.proofs.CollectingLemmas.{files_many, lines_are}
 use Rattle.kalah_jobs.proofs.collecting.collector.Collector.refusal.Goals as goal
 

@@ -1,7 +1,5 @@
-use Rattle.std.proofs.Common.{◌-◌, ap, length, arith}
-use Rattle.std.proofs.lemmas.Grind.{common_steps}
-use Rattle.std.proofs.lemmas.List.{get_or_default, get_or-map, length-map}
-use Rattle.std.proofs.lemmas.Option.{slice_get-get_or}
+-- The search keeps between which files the job lies; the lines before its file say which of the file's lines it is.
+use Rattle.std.proofs.{Common.{◌-◌, ap, length, arith}, lemmas.{Grind.{common_steps}, List.{get_or_default, get_or-map, length-map}, Option.{slice_get-get_or}}}
 use Rattle.kalah_jobs.proofs.FilesLemmas.{lines_between, slice_get-job_list}
 use Rattle.kalah_jobs.proofs.files.jobs.Jobs.find.Goals as goal
 

@@ -1,5 +1,5 @@
 use Rattle.std.proofs.Common.{◌<◌, ◌≤◌, ◌-◌, length, take}
-use Rattle.kalah_jobs.specs.Files.Jobs.{job_count}
+use Rattle.kalah_jobs.specs.{job_count}
 use Rattle.kalah_jobs.proofs.files.jobs.Jobs.find.Given as goal
 
 abbrev pub invariant-loop-past : goal.invariant-loop-past

@@ -1,5 +1,5 @@
-use Rattle.std.proofs.Common.{drop, arith}
-use Rattle.std.proofs.lemmas.Grind.{common_steps}
+-- The piece is copied into the free bytes before the text, so it stands in front of it.
+use Rattle.std.proofs.{Common.{drop, arith}, lemmas.Grind.{common_steps}}
 use Rattle.kalah_jobs.proofs.TextLemmas.{piece_before}
 use Rattle.kalah_jobs.proofs.writing.stack_text.StackText.prepend.Goals as goal
 

@@ -1,5 +1,4 @@
-use Rattle.std.proofs.Common.{IsUtf8, arith, subst}
-use Rattle.std.proofs.lemmas.Grind.{common_steps}
+use Rattle.std.proofs.{Common.{IsUtf8, arith, subst}, lemmas.Grind.{common_steps}}
 use Rattle.kalah_jobs.proofs.TextLemmas.{piece_before, blanks_are_text, blanks_before}
 use Rattle.kalah_jobs.proofs.writing.stack_text.StackText.prepend_blanks.Goals as goal
 

@@ -1,5 +1,4 @@
-use Rattle.std.proofs.Common.{rules, arith}
-use Rattle.std.proofs.lemmas.Grind.{common_steps}
+use Rattle.std.proofs.{Common.{rules, arith}, lemmas.Grind.{common_steps}}
 use Rattle.kalah_jobs.proofs.TextLemmas.{piece_before, number_is_text}
 use Rattle.kalah_jobs.proofs.writing.stack_text.StackText.prepend_number.Goals as goal
 

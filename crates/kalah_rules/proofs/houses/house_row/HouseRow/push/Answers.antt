@@ -1,3 +1,4 @@
+-- The new house is the next digit of the number, so the cells are those from before and one more at the end.
 use Rattle.std.proofs.Common.{◌≡◌, ◌-◌, ◌∷◌, [], ◌++◌, ap, refl, sym, ◌∙◌, length, arith, sum}
 use Rattle.kalah_rules.proofs.KeyLemmas.{length-cells, row_is_small, houses_pushed, row_pushed}
 use Rattle.kalah_rules.proofs.houses.house_row.HouseRow.push.Goals as goal

@@ -11,4 +11,4 @@ returns c =
       few = c.requires.few;
       index = omega arith;
     } in
-    c.self.invariant _ _ _ _ _ cell (omega arith)
+    c.self.invariant c.args.m c.args.house c.args.count _ _ cell (omega arith)

@@ -1,3 +1,4 @@
+-- After i cells each of them has the sowing that its number names.
 use Rattle.std.proofs.Common.{arith, rules, ◌∙◌, length-set}
 use Rattle.kalah_rules.proofs.PackedLemmas.{sowings_more}
 use Rattle.kalah_rules.proofs.houses.sowing_table.SowingTable.new.Goals as goal

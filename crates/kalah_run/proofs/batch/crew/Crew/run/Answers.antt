@@ -1,8 +1,6 @@
-use Rattle.std.proofs.Common.{◌∙◌, ap, length, sym}
-use Rattle.std.proofs.lemmas.List.{with_items_is}
+use Rattle.std.proofs.{Common.{◌∙◌, ap, length, sym}, lemmas.List.{with_items_is}}
 use denote.Param.Send.{sendable}
-use Rattle.kalah_run.proofs.WorkerLemmas.{have_run}
-use Rattle.kalah_run.proofs.Crossing.{worker_send}
+use Rattle.kalah_run.proofs.{WorkerLemmas.{have_run}, Crossing.{worker_send}}
 use Rattle.kalah_run.proofs.batch.crew.Crew.run.Goals as goal
 
 pub for_each_mut-requires-send-T : goal.for_each_mut-requires-send-T

@@ -1,8 +1,7 @@
+-- Of the new passes the last one is the calling thread's, and the workers have the others; nothing was drawn, sent or got.
 use Rattle.std.proofs.Common.{◌≡◌, ◌+◌, [], ap, arith, length, refl, sym, ◌∙◌}
-use Rattle.kalah_run.specs.Desk.States.{PassState}
-use Rattle.kalah_run.specs.Queue.States.{GetPassState}
-use Rattle.kalah_run.proofs.WorkerLemmas.{as_many_as_asked, as_many_workers, new_at_work}
-use Rattle.kalah_run.proofs.PassLemmas.{last_new_pass}
+use Rattle.kalah_run.specs.{PassState, GetPassState}
+use Rattle.kalah_run.proofs.{WorkerLemmas.{as_many_as_asked, as_many_workers, new_at_work}, PassLemmas.{last_new_pass}}
 use Rattle.kalah_run.proofs.batch.open_batch.OpenBatch.open.Goals as goal
 
 pub returns-clause-asked : goal.returns-clause-asked
@@ -13,7 +12,7 @@ returns-clause-asked g c = record {
   tables = c.in_ok-workers.ensures.tables;
   of_files = c.in_ok-output.ensures.of.0;
   of_jobs = refl;
-  of_rest = refl;
+  of_choice = refl;
   of_gate = refl;
   queue = c.in_ok-queue.ensures.queue;
 }
@@ -26,14 +25,14 @@ returns-clause-ready g c =
     let new = last_new_pass c.in_ok-desk.desk _ _ _ c.in-Some.ensures.items c.in_ok-desk.ensures.passes in
     let many : length c.in_ok-workers.workers.items ≡ c.max-count.result = as_many_workers _ _ _ workers.passes new.0.0 in
     record {
-      some = (as_many_as_asked c.args.request.now.workers many c.max-count.ensures c.min.ensures c.total-total.ensures.lines).1;
+      some_worker = (as_many_as_asked c.args.request.now.workers many c.max-count.ensures c.min.ensures c.total-total.ensures.lines).1;
       passes = c.in_ok-desk.ensures.desk.1 ∙ ap (◌+ 1) (sym many);
-      own = (ap (λ (p : PassState). p.desk) new.1, ap (λ (p : PassState). p.total) new.1);
-      drawn = ap (λ (p : PassState). p.row.numbers) new.1;
+      rest_pass = (ap (λ (p : PassState). p.desk) new.1, ap (λ (p : PassState). p.total) new.1);
+      nothing_drawn = ap (λ (p : PassState). p.row.numbers) new.1;
       at_work = new_at_work _ _ _ (rw (← workers.passes) at new.0) (rw (← workers.puts) at queue.puts.1)
           (rw (← workers.puts) at queue.puts.2);
-      puts = rw workers.puts queue.puts.1;
-      get = queue.get ∙ ap (λ n. let p : GetPassState = record { queue = c.in_ok-queue.queue.id; workers = n; got = [] } in p) (sym many);
+      put_passes = rw workers.puts queue.puts.1;
+      get_pass = queue.get ∙ ap (λ n. let p : GetPassState = record { queue = c.in_ok-queue.queue.id; workers = n; got = [] } in p) (sym many);
       output = c.in_ok-output.ensures.new;
       jobs = c.in_ok-output.ensures.of.1;
       room = record {

@@ -1,26 +1,19 @@
-use Rattle.std.proofs.lemmas.Grind.{common_steps}
-use Rattle.std.proofs.Common.{arith, ◌≡◌, ⊎_elim, inl, inr, length, ap, ◌∙◌}
-use Rattle.kalah_jobs.specs.Collecting.AnyOrder.{AreJobsInSomeOrder}
-use Rattle.kalah_jobs.specs.Files.Jobs.{job_count}
-use Rattle.kalah_run.specs.Desk.Rows.{DealsEachOnce}
-use Rattle.kalah_run.specs.Desk.States.{drawn_rows}
-use Rattle.kalah_run.specs.Queue.States.{GetPassState, outcomes_in}
-use Rattle.kalah_run.specs.Batch.AtWork.{passes_of}
-use Rattle.kalah_run.specs.Batch.Leaving.{HasDrawnNothing}
-use Rattle.kalah_run.proofs.WorkerLemmas.{each_job_known, each_job_got}
-use Rattle.kalah_run.proofs.BatchLemmas.{passes_are_back, nothing_drawn, own_back, passes_fit, puts_back, unless_left}
-use Rattle.kalah_run.proofs.RowLemmas.{deals_to_others}
-use Rattle.kalah_run.proofs.batch.open_batch.OpenBatch.run.Given.{Over}
+-- The desk closes with each number drawn once, and the queue with each outcome sent got once or left inside. So the outcomes got are those
+-- of all jobs, or the rest is left after a failed write; in either case the collection says what the sink was given.
+use Rattle.std.proofs.{lemmas.Grind.{common_steps}, Common.{arith, ◌≡◌, ⊎_elim, inl, inr, length, ap, ◌∙◌}}
+use Rattle.kalah_jobs.specs.{Collecting.AnyOrder.{IsPermutationOfJobs}, Files.Jobs.{job_count}}
+use Rattle.kalah_run.specs.{DealsEachOnce, drawn_rows, GetPassState, outcomes_in, passes_of, HasDrawnNothing}
+use Rattle.kalah_run.proofs.{WorkerLemmas.{each_job_known, each_job_got}, BatchLemmas.{passes_are_back, nothing_drawn, own_back, passes_fit, puts_back, unless_left}, RowLemmas.{deals_to_others}, batch.open_batch.OpenBatch.run.Given.{Over}}
 use Rattle.kalah_run.proofs.batch.open_batch.OpenBatch.run.Goals as goal
 
 pub new-receiver-requires-clause-gets : goal.new-receiver-requires-clause-gets
-new-receiver-requires-clause-gets g c = ap (λ (p : GetPassState). p.queue) c.requires.ready.get
+new-receiver-requires-clause-gets g c = ap (λ (p : GetPassState). p.queue) c.requires.ready.get_pass
 
 pub run_and_write-requires-after_bounds : goal.run_and_write-requires-after_bounds
 run_and_write-requires-after_bounds g c κs within =
     let ready = c.requires.ready in (
       record { at_work = ready.at_work; ends = c.requires.ends },
-      rw c.new-receiver.ensures (ap (λ (p : GetPassState). p.got) ready.get, ready.output),
+      rw c.new-receiver.ensures (ap (λ (p : GetPassState). p.got) ready.get_pass, ready.output),
     )
 
 -- ---- the passes come back
@@ -41,15 +34,15 @@ close-requires-clause-own g c =
     let draws = c.in-Some.ensures.collected.draws in
     let same = ap (λ p. p.rest_pass.pass) c.new-receiver.ensures in
     own_back c.in-Some.ensures.ran _ c.passes_of_workers.ensures.passes (
-      draws.desk ∙ ap (λ p. p.desk) same ∙ c.requires.ready.own.0,
-      draws.total ∙ ap (λ p. p.total) same ∙ c.requires.ready.own.1,
+      draws.desk ∙ ap (λ p. p.desk) same ∙ c.requires.ready.rest_pass.0,
+      draws.total ∙ ap (λ p. p.total) same ∙ c.requires.ready.rest_pass.1,
     )
 
 pub close-requires-2-clause-puts : goal.close-requires-2-clause-puts
 close-requires-2-clause-puts g c =
     puts_back c.in-Some.ensures.ran c.passes_of_workers.new.puts.ok.0 c.passes_of_workers.ensures.puts
-    (c.in-Some.ensures.collected.workers ∙ ap (λ p. p.get_pass.workers) c.new-receiver.ensures ∙ ap (λ p. p.workers) c.requires.ready.get)
-    c.requires.ready.puts
+    (c.in-Some.ensures.collected.workers ∙ ap (λ p. p.get_pass.workers) c.new-receiver.ensures ∙ ap (λ p. p.workers) c.requires.ready.get_pass)
+    c.requires.ready.put_passes
 
 -- ---- what has come is written
 
@@ -62,10 +55,10 @@ dealt g c nothing = deals_to_others (passes_of c.in-Some.workers.items) c.in-Som
 -- each job's outcome was got once, if as many were got as there are jobs
 each_got : (g : Over) (c : goal.After-drop-ended-2 g) → HasDrawnNothing c.in-Some.caller.rest_pass
     → length c.in-Some.caller.get_pass.got ≡ job_count c.args.self.output.jobs.now
-    → AreJobsInSomeOrder c.args.self.output.jobs.now (outcomes_in c.in-Some.caller.get_pass.got)
+    → IsPermutationOfJobs c.args.self.output.jobs.now (outcomes_in c.in-Some.caller.get_pass.got)
 each_got g c nothing all =
     let workers = c.in-Some.ensures.collected.workers ∙ ap (λ p. p.get_pass.workers) c.new-receiver.ensures
-    ∙ ap (λ p. p.workers) c.requires.ready.get in
+    ∙ ap (λ p. p.workers) c.requires.ready.get_pass in
     each_job_got c.in-Some.ensures.ran c.in-Some.caller.get_pass.got workers (dealt g c nothing)
     c.passes_of_workers.ensures.puts c.close-2.ensures.whole c.requires.ready.jobs all
 
@@ -73,12 +66,12 @@ pub returns-clause-given : goal.returns-clause-given
 returns-clause-given g c =
     let collected = c.in-Some.ensures.collected in
     collected.given (⊎_elim (λ nothing. ⊎_elim (λ all. inl (each_got g c nothing all)) inr collected.all_got) inr
-    (nothing_drawn (rw c.new-receiver.ensures c.requires.ready.drawn) collected.draws))
+    (nothing_drawn (rw c.new-receiver.ensures c.requires.ready.nothing_drawn) collected.draws))
 
 pub returns-clause-gate_hears_all : goal.returns-clause-gate_hears_all
 returns-clause-gate_hears_all g c = λ unless job low.
-    let drawn = nothing_drawn c.requires.ready.drawn (rw c.new-receiver.ensures at c.in-Some.ensures.collected.draws) in
-    each_job_known c.in-Some.ensures.ran c.requires.ready.some (dealt g c (unless_left drawn unless)) job low
+    let drawn = nothing_drawn c.requires.ready.nothing_drawn (rw c.new-receiver.ensures at c.in-Some.ensures.collected.draws) in
+    each_job_known c.in-Some.ensures.ran c.requires.ready.some_worker (dealt g c (unless_left drawn unless)) job low
 
 pub returns-in_default-clause-untouched : goal.returns-in_default-clause-untouched
 returns-in_default-clause-untouched g c = grind (arith, common_steps)

@@ -1,9 +1,8 @@
-use Rattle.std.proofs.lemmas.Grind.{common_steps}
-use Rattle.std.proofs.Common.{arith, refl, ◌<◌, ap, length, ◌∙◌}
+-- Each round writes the next line of the current file, or goes on to the next file once all lines of this one are written.
+use Rattle.std.proofs.{lemmas.Grind.{common_steps}, Common.{arith, refl, ◌<◌, ap, length, ◌∙◌}}
 use Rattle.kalah_jobs.specs.Files.NamedBytes.{NamedBytes}
-use Rattle.kalah_jobs.proofs.CollectingLemmas.{files_many}
-use Rattle.kalah_jobs.proofs.SinkLemmas.{given_then}
-use Rattle.kalah_run.proofs.OutputLemmas.{wrote_file, wrote_line, wrote_nothing, written_on, text_of_taken}
+use Rattle.kalah_jobs.proofs.{CollectingLemmas.{files_many}, SinkLemmas.{given_then}}
+use Rattle.kalah_run.proofs.OutputLemmas.{under_way_after_line, under_way_after_no_line, under_way_in_next_file, writes_then, text_of_taken}
 use Rattle.kalah_run.proofs.batch.ordered_output.OrderedOutput.write_ready.Goals as goal
 
 pub bounds-files-f : goal.bounds-files-f
@@ -17,26 +16,24 @@ loop-self-preserved-in-Some g c =
     let text = text_of_taken r.files.now r.current c.index-files-f.result c.as_str.result.now c.in-Some.taken low c.index-files-f.is
     (c.as_str.ensures.value ∙ ap (λ (x : NamedBytes). x.name) c.file.view_is) in
     record {
-      given = (_, given_then g.W.Sink.state _ _ _ _ _ c.loop-self.invariant.given.1 line);
-      writes = λ files jobs past begun so_far. written_on (c.loop-self.invariant.writes files jobs past begun so_far) refl refl
-          (λ progress. wrote_line progress c.take.new.self c.in-Some.taken _ c.in-Some.ensures.takes (rw text line));
+      given = (_, given_then g.W.Sink.state c.loop-self.invariant.given.1 line);
+      writes = writes_then c.loop-self.invariant.writes refl refl
+          (λ past begun was. under_way_after_line was c.in-Some.ensures.takes (rw text line));
     }
 
 pub loop-self-preserved : goal.loop-self-preserved
 loop-self-preserved g c = record {
   given = c.loop-self.invariant.given;
-  writes = λ files jobs past begun so_far.
+  writes =
       let ended = c.if-ended.ensures.0 refl in
       let nothing = c.in_default.ensures.takes in
-      written_on (c.loop-self.invariant.writes files jobs past begun so_far) refl refl
-      (λ progress. wrote_file (wrote_nothing progress c.take.new.self nothing) ended.0 ended.1
-      (rw nothing.unchanged nothing.none_ready));
+      writes_then c.loop-self.invariant.writes refl refl (λ past begun was.
+      under_way_in_next_file (under_way_after_no_line was nothing) ended.0 ended.1 (rw nothing.unchanged nothing.none_ready));
 }
 
 pub returns-else-ended-clause-writes : goal.returns-else-ended-clause-writes
-returns-else-ended-clause-writes g c = λ files jobs past begun so_far.
-    written_on (c.loop-self.invariant.writes files jobs past begun so_far) refl refl
-    (λ progress. wrote_nothing progress c.take.new.self c.in_default.ensures.takes)
+returns-else-ended-clause-writes g c =
+    writes_then c.loop-self.invariant.writes refl refl (λ past begun was. under_way_after_no_line was c.in_default.ensures.takes)
 
 pub returns-clause-waits : goal.returns-clause-waits
 returns-clause-waits g c = λ low ended.

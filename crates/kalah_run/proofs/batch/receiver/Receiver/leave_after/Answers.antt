@@ -1,5 +1,4 @@
-use Rattle.std.proofs.Common.{arith}
-use Rattle.std.proofs.lemmas.Grind.{common_steps}
+use Rattle.std.proofs.{Common.{arith}, lemmas.Grind.{common_steps}}
 use Rattle.kalah_run.proofs.batch.receiver.Receiver.leave_after.Goals as goal
 
 pub returns-then-leaves-clause-draws : goal.returns-then-leaves-clause-draws

@@ -1,5 +1,4 @@
-use Rattle.std.proofs.Common.{arith}
-use Rattle.std.proofs.lemmas.Int.{ints, clamps}
+use Rattle.std.proofs.{Common.{arith}, lemmas.Int.{ints, clamps}}
 use Rattle.kalah_solve.proofs.bounds.interval.Interval.intersection.Goals as goal
 
 pub returns : goal.returns

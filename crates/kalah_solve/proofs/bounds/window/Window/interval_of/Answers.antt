@@ -1,5 +1,4 @@
-use Rattle.std.proofs.Common.{rules, arith}
-use Rattle.std.proofs.lemmas.Int.{ints, clamps}
+use Rattle.std.proofs.{Common.{rules, arith}, lemmas.Int.{ints, clamps}}
 use Rattle.kalah_solve.proofs.bounds.window.Window.interval_of.Goals as goal
 
 pub returns-then-answer-self-clause-held : goal.returns-then-answer-self-clause-held

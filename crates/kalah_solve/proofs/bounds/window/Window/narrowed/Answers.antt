@@ -1,5 +1,5 @@
-use Rattle.std.proofs.Common.{arith, rules, w8, w32, SFits, ◌≤ℤ◌}
-use Rattle.std.proofs.lemmas.Int.{ints, clamps, to_z-of_z}
+-- If the ends meet or cross, each margin that the interval encloses gives the same answer.
+use Rattle.std.proofs.{Common.{arith, rules, w8, w32, SFits, ◌≤ℤ◌}, lemmas.Int.{ints, clamps, to_z-of_z}}
 use Rattle.kalah_solve.proofs.BoundsLemmas.{known_answers}
 use Rattle.kalah_solve.proofs.bounds.window.Window.narrowed.Goals as goal
 

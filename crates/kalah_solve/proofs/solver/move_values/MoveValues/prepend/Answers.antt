@@ -1,3 +1,4 @@
+-- The value becomes the lowest digit of the number, which stays within its bits.
 use Rattle.std.proofs.Common.{◌∷◌, ◌∙◌, arith, ap, length}
 use Rattle.kalah_solve.proofs.MoveValuesLemmas.{values_prepended, packed_prepended, fits_prepended}
 use Rattle.kalah_solve.proofs.solver.move_values.MoveValues.prepend.Goals as goal

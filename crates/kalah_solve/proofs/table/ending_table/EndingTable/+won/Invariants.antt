@@ -1,8 +1,7 @@
+-- Each call of the four functions is nearer to the end of the game, or one step on in their order.
 use Rattle.std.proofs.Common.{◌+◌, ◌*◌}
-use Rattle.kalah_rules.specs.Position.{storeless}
-use Rattle.kalah_rules.specs.Measure.{moves_left}
-use Rattle.kalah_solve.proofs.EndingLemmas.{IsMostOutside}
-use Rattle.kalah_solve.proofs.HouseSetLemmas.{AreMovable}
+use Rattle.kalah_rules.specs.{Position.{storeless}, Measure.{moves_left}}
+use Rattle.kalah_solve.proofs.{EndingLemmas.{IsMostOutside}, HouseSetLemmas.{AreMovable}}
 use Rattle.kalah_solve.proofs.table.ending_table.EndingTable.+won.Given as goal
 
 abbrev pub decreases-won : goal.decreases-won

@@ -1,6 +1,5 @@
 use Rattle.std.proofs.Common.{arith, rules, sym, ◌∙◌}
-use Rattle.kalah_solve.proofs.EndingLemmas.{ending_may_be_written}
-use Rattle.kalah_solve.proofs.BoundsLemmas.{won_of_houses}
+use Rattle.kalah_solve.proofs.{EndingLemmas.{ending_may_be_written}, BoundsLemmas.{won_of_houses}}
 use Rattle.kalah_solve.proofs.table.ending_table.EndingTable.keep.Goals as goal
 
 pub with_stored-word-requires-clause-small : goal.with_stored-word-requires-clause-small

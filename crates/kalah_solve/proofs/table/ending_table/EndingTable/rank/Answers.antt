@@ -1,10 +1,8 @@
-use Rattle.std.proofs.Common.{arith, ◌++◌, ◌+◌, ◌-◌, ◌<◌, ◌≤◌, ◌*◌, ◌%◌, ◌/◌, ◌≡◌, ℕ, length, length-append, sum}
-use Rattle.std.proofs.lemmas.List.Sums.{sum_by-append}
+-- Each step that passes two cells of the joined rows adds what they give to the rank, so that all is added once no cell is left.
+use Rattle.std.proofs.{Common.{arith, ◌++◌, ◌+◌, ◌-◌, ◌<◌, ◌≤◌, ◌*◌, ◌%◌, ◌/◌, ◌≡◌, ℕ, length, length-append, sum}, lemmas.List.Sums.{sum_by-append}}
 use Rattle.kalah_rules.specs.Position.{HousesState, AreWithinLimits}
-use Rattle.kalah_solve.specs.{choose, IsEnding, most_ending_seeds}
-use Rattle.kalah_solve.specs.declared.table.ending_table.TheConstants.{COUNTS}
-use Rattle.kalah_solve.proofs.RankLemmas.{IsRanked, two_few, rank_next, ranked_small, ranked_all}
-use Rattle.kalah_solve.proofs.table.ending_table.EndingTable.rank.Goals.{then-step-m-ge6, else-step-m-ge6}
+use Rattle.kalah_solve.specs.{choose, IsEnding, most_ending_seeds, declared.table.ending_table.TheConstants.{COUNTS}}
+use Rattle.kalah_solve.proofs.{RankLemmas.{IsRanked, two_few, rank_next, ranked_small, ranked_all}, table.ending_table.EndingTable.rank.Goals.{then-step-m-ge6, else-step-m-ge6}}
 use Rattle.kalah_solve.proofs.table.ending_table.EndingTable.rank.Goals as goal
 
 -- the joined rows of an ending hold few seeds
@@ -65,17 +63,15 @@ overflow_add-rank g c =
     let limits = c.m-m.ensures.limits in
     let next = ranked_here limits c.requires c.loop-step-test.true (omega arith) c.loop-step.invariant c.pair_rank-rank.result
     c.pair_rank-rank.ensures.value in
-    omega (arith, ranked_small _ _ _ _ (few a c.requires) (omega (arith, long a limits)) next)
+    omega (arith, ranked_small (a.own ++ a.other) (few a c.requires) (omega (arith, long a limits)) next)
 
 pub returns-clause-rank : goal.returns-clause-rank
 returns-clause-rank g c =
     let a = c.args.houses.now in
-    ranked_all (a.own ++ a.other) (c.loop-step.step + length a.own - 6) c.loop-step.sums c.loop-step.rank
-    (omega (arith, long a c.m-m.ensures.limits)) c.loop-step.invariant
+    ranked_all (a.own ++ a.other) (omega (arith, long a c.m-m.ensures.limits)) c.loop-step.invariant
 
 pub returns-clause-small : goal.returns-clause-small
 returns-clause-small g c =
     let a = c.args.houses.now in
     let limits = c.m-m.ensures.limits in
-    ranked_small (a.own ++ a.other) (c.loop-step.step + length a.own - 6) c.loop-step.sums c.loop-step.rank (few a c.requires)
-    (omega (arith, long a limits)) c.loop-step.invariant
+    ranked_small (a.own ++ a.other) (few a c.requires) (omega (arith, long a limits)) c.loop-step.invariant

@@ -1,3 +1,4 @@
+-- The slot of the key has bounds that are true of the houses; all other slots stay.
 use Rattle.std.proofs.Common.{arith, ◌∙◌, length-set}
 use Rattle.kalah_solve.specs.{IsWithinSlot, won}
 use Rattle.kalah_solve.proofs.SlotLemmas.{bounds_more}

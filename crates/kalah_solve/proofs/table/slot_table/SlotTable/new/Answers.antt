@@ -1,5 +1,4 @@
-use Rattle.std.proofs.Common.{arith, refl, ◌≡◌, ◌-◌, ◌*◌, ◌%◌, ◌^◌}
-use Rattle.std.proofs.lemmas.List.{length-replicate}
+use Rattle.std.proofs.{Common.{arith, refl, ◌≡◌, ◌-◌, ◌*◌, ◌%◌, ◌^◌}, lemmas.List.{length-replicate}}
 use Rattle.kalah_solve.proofs.SlotLemmas.{bounds_unknown, ten_bits}
 use Rattle.kalah_solve.proofs.table.slot_table.SlotTable.new.Goals as goal
 

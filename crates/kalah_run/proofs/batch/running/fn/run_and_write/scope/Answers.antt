@@ -1,7 +1,6 @@
+-- What crosses to the crew's thread may cross, and what that returns is what it promised: workers that have run.
 use denote.Param.Send.{sendable}
-use Rattle.std.proofs.Common.{arith, refl}
-use Rattle.std.proofs.lemmas.Grind.{common_steps}
-use Rattle.std.proofs.Crossing.{crosses}
+use Rattle.std.proofs.{Common.{arith, refl}, lemmas.Grind.{common_steps}, Crossing.{crosses}}
 use Rattle.kalah_run.proofs.Crossing.{crew_send, worker_send}
 use Rattle.kalah_run.proofs.batch.running.fn.run_and_write.scope.Goals as goal
 

@@ -1,8 +1,7 @@
 use Rattle.std.proofs.Common.{◌∙◌, sym}
 use Rattle.kalah_rules.specs.{storeless}
-use Rattle.kalah_rules.proofs.PlayLemmas.{legal_holds}
-use Rattle.kalah_rules.proofs.PackedLemmas.{again_at}
-use Rattle.kalah_rules.proofs.houses.Houses.play_as.Goals as goal
+use Rattle.kalah_rules.proofs.{PlayLemmas.{legal_holds}, PackedLemmas.{again_at}}
+use Rattle.kalah_rules.proofs.houses.Houses.play_sown.Goals as goal
 
 pub after-requires-clause-holds : goal.after-requires-clause-holds
 after-requires-clause-holds c = legal_holds _ _ c.requires.legal

@@ -1,5 +1,5 @@
 use Rattle.kalah_jobs.proofs.TextLemmas.{value_at_right, value_longer, value_room}
-use Rattle.kalah_jobs.proofs.writing.shown.prepend_value_column.Goals as goal
+use Rattle.kalah_jobs.proofs.writing.values_line.prepend_value_column.Goals as goal
 
 pub overflow_sub-end : goal.overflow_sub-end
 overflow_sub-end c = value_room _ c.requires.small c.from.ensures c.prepend_margin.ensures.margin c.len-end.ensures c.len.ensures

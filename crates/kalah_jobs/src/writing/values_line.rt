@@ -1,11 +1,8 @@
 //! What each move is worth, below the picture of a board.
 ghost use Rattle.std.specs.Prelude.{◌≡◌, ◌≤◌, ◌+◌, ◌-◌, ◌*◌, ◌∷◌, [], ◌++◌, drop, length};
-ghost use Rattle.kalah_rules.specs.Limits.{most_houses};
-ghost use Rattle.kalah_rules.specs.Position.{IsSmallMargin};
+ghost use Rattle.kalah_rules.specs.{Limits.{most_houses}, Position.{IsMarginInRange}};
 ghost use Rattle.kalah_solve.specs.Solver.MoveValues.{values_of};
-ghost use Rattle.kalah_jobs.specs.Files.Lines.{line_feed};
-ghost use Rattle.kalah_jobs.specs.Writing.Sink.{WasGiven};
-ghost use Rattle.kalah_jobs.specs.Writing.Shown.{AreMoveValues, AscendFrom, value_column, value_columns, values_line};
+ghost use Rattle.kalah_jobs.specs.{Files.Lines.{line_feed}, Writing.{Sink.{WasGiven}, ValuesLine.{AreMoveValues, AscendFrom, value_column, value_columns, values_line}}};
 
 use crate::writing::picture::COLUMN_WIDTH;
 use crate::writing::sink::{Sink, write_unless_failed};
@@ -15,7 +12,7 @@ use kalah_solve::{MoveValue, MoveValues};
 
 // Puts the value of a move, at the right of a column, in front of the text.
 fn prepend_value_column(text: &mut StackText, value: MoveValue)
-    requires small { IsSmallMargin value.value }
+    requires small { IsMarginInRange value.value }
     requires room { length text.old + 11 ≤ ROOM }
     ensures column { text.new ≡ value_column value.value ++ text.old }
     ensures longer { length text.new ≡ 4 + length text.old }

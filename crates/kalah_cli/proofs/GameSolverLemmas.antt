@@ -1,21 +1,11 @@
 -- What stands in the output before a position of a game is solved.
 use Rattle.std.proofs.Common.{◌≡◌, ℕ, ℤ, List, Option, [], ◌∷◌, ◌++◌, Bool, refl, sym, subst, ap, append_assoc, ◌∙◌, append-nil}
-use Rattle.kalah_rules.specs.Position.{Position}
-use Rattle.kalah_rules.specs.Play.{position_after, step_of}
-use Rattle.kalah_rules.specs.declared.step.Step.{Step}
-use Rattle.kalah_solve.specs.Solver.Worth.{worth}
-use Rattle.kalah_jobs.specs.Writing.Sink.{SinkState, WasGiven}
-use Rattle.kalah_jobs.specs.Writing.Shown.{shown_of, values_line}
-use Rattle.kalah_jobs.specs.Writing.Variation.{variation_start}
+use Rattle.kalah_rules.specs.{Position.{Position}, Play.{position_after, step_of}, declared.step.Step.{Step}}
+use Rattle.kalah_solve.specs.{Solver.Worth.{worth}, declared.solver.move_values.MoveValue.{MoveValue}}
+use Rattle.kalah_jobs.specs.{Writing.{Sink.{SinkState, WasGiven}, ValuesLine.{shown_of, values_line}, Variation.{variation_start}, Picture.{picture_of}}, Files.Lines.{line_feed}}
 use Rattle.kalah_jobs.proofs.SinkLemmas.{given_then_flush, given_then}
-use Rattle.kalah_solve.specs.declared.solver.move_values.MoveValue.{MoveValue}
-use Rattle.kalah_cli.specs.Commands.Game.{IsNextMove, move_text, printed_value, MoveForm, Houses, Lines}
-use Rattle.kalah_cli.specs.Commands.Moves.{board_lines}
-use Rattle.kalah_cli.specs.Commands.GameSolver.{Begins, GameStart, ShowsValues, IsReached}
-use Rattle.kalah_cli.specs.Commands.GameSolver.IsReached.{reached_by_move, reached_at_start}
+use Rattle.kalah_cli.specs.{IsNextMove, move_text, printed_value, MoveForm, Houses, Lines, board_lines, BeginsGame, GameStart, ShowsValues, IsReached, Commands.GameSolver.IsReached.{reached_by_move, reached_at_start}}
 use Rattle.kalah_cli.proofs.GameLemmas.{next_text}
-use Rattle.kalah_jobs.specs.Files.Lines.{line_feed}
-use Rattle.kalah_jobs.specs.Writing.Picture.{picture_of}
 
 module _ {O : Type 0} (state : O → SinkState) where
   -- the first position of a game is shown, once it was given
@@ -30,7 +20,7 @@ module _ {O : Type 0} (state : O → SinkState) where
       → IsReached state now new q
   variation_is_reached {game} {now} {p} {q} {between} {new} v below given after_move same_game =
       subst (λ game. IsReached state game new q) (sym same_game)
-      (reached_at_start (subst (λ f. Begins state game f new q) (sym below.form) (record {
+      (reached_at_start (subst (λ f. BeginsGame state game f new q) (sym below.form) (record {
         between = between;
         move = v;
         below = subst (λ r. ShowsValues state game r between) (sym below.first) below;
@@ -48,7 +38,7 @@ module _ {O : Type 0} (state : O → SinkState) where
         form = refl;
         first = refl;
         more = [];
-        shown = subst (WasGiven state old new) (sym (append-nil (shown_of p))) (given_then state old between new _ _ picture values);
+        shown = subst (WasGiven state old new) (sym (append-nil (shown_of p))) (given_then state picture values);
       })
 
   -- more of the variations was given
@@ -59,19 +49,19 @@ module _ {O : Type 0} (state : O → SinkState) where
     first = below.first;
     more = below.more ++ text;
     shown = subst (WasGiven state game.sink new) (append_assoc (shown_of p) below.more text)
-        (given_then state game.sink between new (shown_of p ++ below.more) text below.shown given);
+        (given_then state below.shown given);
   })
 
   -- how a game began, after a flush
-  begins_flushed : (game : GameStart O) (form : MoveForm) (p : Position) (between new : O) → Begins state game form between p
-      → WasGiven state between new [] → Begins state game form new p
+  begins_flushed : (game : GameStart O) (form : MoveForm) (p : Position) (between new : O) → BeginsGame state game form between p
+      → WasGiven state between new [] → BeginsGame state game form new p
   begins_flushed game (Lines boards values) p between new (at_first, given) flushed =
-      (at_first, given_then_flush state _ _ _ _ given flushed)
+      (at_first, given_then_flush state given flushed)
   begins_flushed game Houses p between new begun flushed = record {
     between = begun.between;
     move = begun.move;
     below = begun.below;
-    line = given_then_flush state _ _ _ _ begun.line flushed;
+    line = given_then_flush state begun.line flushed;
     after = begun.after;
   }
 
@@ -83,7 +73,7 @@ module _ {O : Type 0} (state : O → SinkState) where
     reached_after_flush flushed = go reached flushed where
       go : {q : Position} {o : O} → IsReached state game o q → WasGiven state o new [] → IsReached state game new q
       go (reached_at_start begun) flushed = reached_at_start (begins_flushed game game.form _ _ _ begun flushed)
-      go (reached_by_move o q h before given) flushed = reached_by_move o q h before (given_then_flush state _ _ _ _ given flushed)
+      go (reached_by_move o q h before given) flushed = reached_by_move o q h before (given_then_flush state given flushed)
 
     -- the next position is reached, once its move was given
     pub next_is_reached : {now : GameStart O} {form : MoveForm} {first : Option ℕ} {value : Option ℤ} {h : ℕ} {s : Step} {q : Position}

@@ -1,18 +1,12 @@
-use Rattle.std.proofs.Common.{◌≡◌, ◌<◌, ◌≤◌, ◌+◌, ◌-◌, ◌^◌, ◌∙◌, ℕ, List, add-one, ap, arith, get_or, length, subst, suc, sym, take, Contains, sum_by, take_all}
-use Rattle.std.proofs.lemmas.List.Elements.{Contains-get_or}
-use Rattle.std.proofs.lemmas.List.Sums.{sum_by_more}
-use Rattle.std.proofs.Math.Nat.{le_trans, pow-le-pow_right}
-use Rattle.kalah_rules.specs.Limits.{most_depth, most_houses}
-use Rattle.kalah_rules.specs.Play.{legal_houses}
-use Rattle.kalah_rules.specs.Position.{Position}
-use Rattle.kalah_rules.specs.Ways.{ways, ways_by}
+-- After i moves their lines were given, and the total is the sum of their ways: at most 6 ^ 19 for each, so that no sum wraps.
+use Rattle.std.proofs.{Common.{◌≡◌, ◌<◌, ◌≤◌, ◌+◌, ◌-◌, ◌^◌, ◌∙◌, ℕ, List, add-one, ap, arith, get_or, length, subst, suc, sym, take, Contains, sum_by, take_all}, lemmas.List.{Elements.{Contains-get_or}, Sums.{sum_by_more}}, Math.Nat.{le_trans, pow-le-pow_right}}
+use Rattle.kalah_rules.specs.{Limits.{most_depth, most_houses}, Play.{legal_houses}, Position.{Position}, Ways.{ways, ways_by}}
 use Rattle.kalah_rules.proofs.WaysLemmas.{legal_few, ways-suc}
 use Rattle.kalah_solve.proofs.SolverLemmas.{house_small}
-use Rattle.kalah_jobs.specs.Writing.Counts.{ways_line}
-use Rattle.kalah_jobs.specs.Writing.Sink.{WasGiven}
-use Rattle.kalah_cli.specs.Commands.Count.{house_line, ways_lines}
+use Rattle.kalah_jobs.specs.Writing.{Counts.{ways_line}, Sink.{WasGiven}}
+use Rattle.kalah_cli.specs.{house_line, ways_lines}
 use Rattle.kalah_jobs.proofs.SinkLemmas.{given_all, given_all_after_failure, given_then_flush, given_more}
-use Rattle.kalah_cli.proofs.commands.count.write_houses.Goals as goal
+use Rattle.kalah_cli.proofs.commands.count.write_ways_by_house.Goals as goal
 
 -- the sum of the ways that begin with a legal move is the number of all
 all_counted : {depth total : ℕ} {moves : List ℕ} (p : Position) (n : ℕ) → depth ≡ n + 1 → moves ≡ legal_houses p → (i : ℕ)
@@ -34,7 +28,7 @@ loop-i-preserved g c =
     let house = c.get-house.result in
     let within : i < length moves = omega (arith, c.loop-i-test.true, c.len-i-end.ensures) in
     let line = subst (λ n. WasGiven g.O.Sink.state c.loop-i.out c.flush_unless_failed.new.out (ways_line house n))
-    c.ways_by-ways.ensures.ways (given_then_flush _ _ _ _ _ c.write_ways.ensures c.flush_unless_failed.ensures.given) in
+    c.ways_by-ways.ensures.ways (given_then_flush _ c.write_ways.ensures c.flush_unless_failed.ensures.given) in
     let few = few_ways c.ways_by-ways.result c.args.depth c.ways_by-ways.ensures.small c.requires in
     record {
       same = c.loop-i.invariant.same;

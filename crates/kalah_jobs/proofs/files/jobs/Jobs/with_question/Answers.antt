@@ -1,11 +1,8 @@
-use Rattle.std.proofs.Common.{◌∷◌, [], ◌∙◌, ap, sym, arith}
-use Rattle.std.proofs.lemmas.Grind.{common_steps}
-use Rattle.std.proofs.lemmas.List.{drop_all, take_all, length-map, map-append}
-use Rattle.std.proofs.lemmas.List.Sums.{sum_by-drop_more}
-use Rattle.kalah_jobs.specs.Files.Jobs.{jobs_to, lines_in, lines_in_all}
-use Rattle.kalah_jobs.specs.declared.files.jobs.FileJobs.{FileJobs}
+-- After each file its lines and faults are counted as those of the files so far, so the limits that hold for all hold for each sum.
+use Rattle.std.proofs.{Common.{◌∷◌, [], ◌∙◌, ap, sym, arith}, lemmas.{Grind.{common_steps}, List.{drop_all, take_all, length-map, map-append, Sums.{sum_by-drop_more}}}}
+use Rattle.kalah_jobs.specs.{jobs_to, lines_in, lines_in_all, declared.files.jobs.FileJobs.{FileJobs}}
 use Rattle.kalah_jobs.proofs.FilesLemmas.{length-entries_to, one_more_read}
-use Rattle.kalah_jobs.proofs.files.jobs.Jobs.asking.Goals as goal
+use Rattle.kalah_jobs.proofs.files.jobs.Jobs.with_question.Goals as goal
 
 pub overflow_add-faults : goal.overflow_add-faults
 overflow_add-faults c =

@@ -1,9 +1,8 @@
 use Rattle.std.proofs.Common.{◌≡◌, ◌≤◌, ◌*◌, ◌^◌, ◌-◌, flat_map, take, sum_by}
-use Rattle.kalah_rules.specs.Play.{legal_houses}
-use Rattle.kalah_rules.specs.Ways.{ways_by}
+use Rattle.kalah_rules.specs.{Play.{legal_houses}, Ways.{ways_by}}
 use Rattle.kalah_jobs.specs.Writing.Sink.{WasGiven}
-use Rattle.kalah_cli.specs.Commands.Count.{house_line}
-use Rattle.kalah_cli.proofs.commands.count.write_houses.Given as goal
+use Rattle.kalah_cli.specs.{house_line}
+use Rattle.kalah_cli.proofs.commands.count.write_ways_by_house.Given as goal
 
 abbrev pub invariant-loop-i : goal.invariant-loop-i
 invariant-loop-i g l = record {

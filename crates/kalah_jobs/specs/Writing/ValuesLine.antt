@@ -1,12 +1,8 @@
 -- A position as it is shown: its picture, and below it what each move is worth.
-use Rattle.std.specs.Fmt.{signed_decimal}
-use Rattle.std.specs.Prelude.{ℕ, ℤ, ◌+◌, ◌-◌, ◌≤◌, List, [], ◌∷◌, ◌++◌, All, if◌then◌else◌, codes, length, replicate, ⊤}
+use Rattle.std.specs.{Fmt.{signed_decimal}, Prelude.{ℕ, ℤ, ◌+◌, ◌-◌, ◌≤◌, List, [], ◌∷◌, ◌++◌, All, if◌then◌else◌, codes, length, replicate, ⊤}}
 use Rattle.kalah_rules.specs.Position.{Position, final_margin, is_over}
 use Rattle.kalah_solve.specs.Solver.MoveValues.{IsMoveValue, values_of}
-use Rattle.kalah_jobs.specs.Files.Lines.{line_feed}
-use Rattle.kalah_jobs.specs.Line.Line.{space}
-use Rattle.kalah_jobs.specs.Types.{MoveValue}
-use Rattle.kalah_jobs.specs.Writing.Picture.{column_width, empty_columns, picture_of}
+use Rattle.kalah_jobs.specs.{Files.Lines.{line_feed}, Line.Line.{space}, Types.{MoveValue}, Writing.Picture.{column_width, empty_columns, picture_of}}
 
 -- a value at the right of a column, which it fills if it is less than -99
 abbrev pub value_column : ℤ → List ℕ

@@ -1,7 +1,7 @@
 use Rattle.std.proofs.Common.{arith}
 use Rattle.kalah_rules.specs.{storeless}
 use Rattle.kalah_rules.proofs.PlayLemmas.{legal_holds}
-use Rattle.kalah_rules.proofs.houses.Houses.play_by.Goals as goal
+use Rattle.kalah_rules.proofs.houses.Houses.play_with.Goals as goal
 
 pub own_seeds_in-requires : goal.own_seeds_in-requires
 own_seeds_in-requires c = (legal_holds (storeless c.args.self.now) c.args.house c.requires).last
