@@ -76,7 +76,7 @@ LeavesBy Write out budget = out.has_failed ≡ true
 abbrev pub quick_seeds : ℕ
 quick_seeds = QUICK_SEEDS
 
--- the position is to be solved, and has more seeds in houses
+-- the best move or the values of the position are asked, and it has more seeds in houses
 abbrev pub TakesLong : Entry → Type 0
 TakesLong (Position p) = quick_seeds < seeds_in_houses p
 TakesLong (ValuesOf p) = quick_seeds < seeds_in_houses p

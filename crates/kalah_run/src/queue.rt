@@ -194,7 +194,7 @@ impl ResultsQueue {
     }
 
     /// Like `get`, but never sleeps: returns `None`, with nothing got, if `tries` tries find no outcome. Each such try is spent. Only
-    /// the first few of them yield the processor, so that they soon end also on a busy machine.
+    /// four of them, early ones, yield the processor, so that they soon end also on a busy machine.
     #[inline(always)]
     pub(crate) fn get_soon(&self, pass: &mut GetPass, tries: &mut u32) -> Option<Outcome>
         requires { pass.old.queue ≡ self.now.id }

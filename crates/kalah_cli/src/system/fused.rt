@@ -1,4 +1,4 @@
-//! A writer that is not called again after its first error.
+//! A writer that is not called again after its first failure.
 ghost use Rattle.std.specs.{Prelude.{◌≡◌, ◌≢◌, ◌↔◌, [], true, false, IfErr, IfOk, IsErr, OnOk}, IoError.{error_kind}, Io.{WritesAtMost, KnownBytes.{Keeps, WriteAppends}}};
 
 use std::io;

@@ -7,7 +7,8 @@ use std::rt::Clock;
 use std::time::Duration;
 
 /// Shows how many lines of a batch are answered, and how long the others will take at that rate. It writes at most a line for each per
-/// cent. On a terminal without the answers it rewrites one line ten times as often. Text that standard error does not accept is dropped.
+/// cent. On a terminal without the answers it rewrites one line, at most ten times as often, and before each wait. Text that standard
+/// error does not accept is dropped.
 #[derive(Drop)]
 pub(crate) struct Progress<'a, R, E> {
     rt: &'a R,

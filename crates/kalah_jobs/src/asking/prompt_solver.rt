@@ -17,7 +17,7 @@ pub(crate) struct PromptSolver<'a> {
     solver: &'a mut Solver,
 }
 
-/// Returns whether the answer may take a while: it takes a search, and the houses hold more than 9 seeds.
+/// Returns whether the answer may take a while: the best move or values are asked, and the houses hold more than 9 seeds.
 pub(crate) fn takes_long(entry: &Entry) -> bool
     ensures { IsTrue result ↔ TakesLong entry.now }
 {

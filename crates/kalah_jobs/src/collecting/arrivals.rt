@@ -88,7 +88,7 @@ impl Arrivals {
         self.front - before
     }
 
-    /// Returns the next line that is ready and was not taken.
+    /// Takes the next line that is ready. Returns `None`, with nothing changed, if there is none.
     #[tactic(auto, using(crate::proofs::CollectingLemmas::fronts))]
     pub(crate) fn take(&mut self) -> Option<Taken>
         ensures { MatchOption result (HasNoNext self.old × (self.new ≡ self.old))

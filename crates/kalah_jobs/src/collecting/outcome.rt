@@ -76,7 +76,7 @@ impl Outcome {
         Outcome { job, found }
     }
 
-    /// Answers job `n`, which must be below `total`, and returns its outcome, as `of` does, but without a copy of the job.
+    /// Answers job `n`, which must be below `total`, and returns its outcome, as `of` does. The entry is copied once, after the search.
     #[inline(always)]
     pub fn of_job(jobs: &Jobs, n: u32, solver: &mut Solver) -> Outcome
         requires { n < job_count jobs.now }

@@ -61,8 +61,8 @@ pub fn write_pieces<W: Write>(writer: &mut W, bytes: &[u8]) -> io::Result<()>
     Ok(())
 }
 
-/// The sink over a writer, with that writer's bytes. It fails if a call of the writer returns an
-/// error, or if the writer takes no byte. An interrupted call is repeated and is no error.
+/// The sink over a writer, with that writer's bytes. It fails if a call of the writer returns an error, or if the writer takes no byte. An
+/// interrupted write is repeated and is no error; an interrupted flush is one.
 #[derive(Drop)]
 pub struct Stream<W> {
     writer: W,

@@ -2,9 +2,9 @@
 //! on it: a thread that is woken tries for itself.
 //!
 //! Why no thread sleeps for long while what it waits for is there: a waiter stores 1 before the try after which it may sleep, and sleeps
-//! only while the word is 1. What comes after its try owes a wake-up (`WakeUp`), which is sent on every path. It finds 1, stores 0 and wakes a sleeper; or
-//! it finds 0, as an earlier one has stored it since. So the waiter does not fall asleep, or a sleeper has been woken that stores 1
-//! and tries after what has come. Once that one has what it waited for, it wakes the next. All steps are in one total order
+//! only while the word is 1. What comes after its try owes a wake-up (`WakeUp`), which is sent on every path. It finds 1, stores 0 and
+//! wakes a sleeper; or it finds 0, as an earlier one has stored it since. So the waiter does not fall asleep, or a sleeper has been woken
+//! that stores 1 and tries after what has come. Once that one has what it waited for, it wakes the next. All steps are in one total order
 //! (`SeqCst`).
 //!
 //! A try can also fail because another thread is in the way. If that thread has claimed a place and has not finished its step, what
@@ -19,7 +19,8 @@ use std::sync::Wait;
 use std::sync::atomic::AtomicU64;
 use std::sync::atomic::Ordering::SeqCst;
 
-/// A pause that spins takes this many steps of its backoff; each step is twice as long as the one before. Each try reads what the
+/// A pause before a sleep takes this many steps of its backoff. The first pause spins, each step twice as long as the one before; the second
+/// mostly yields the processor. Each try reads what the
 /// other side changes, and so delays it: a full queue moves on faster if it isn't tried after each outcome.
 const PAUSE_SPINS: u32 = 6;
 
