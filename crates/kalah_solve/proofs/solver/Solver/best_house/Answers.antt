@@ -16,15 +16,10 @@ before_last : {moves legal : List ℕ} {i count house : ℕ} → count ≡ lengt
     → moves ≡ legal → (i < length legal) × (house ≡ get_or legal i 0)
 before_last {i = i} many before house_is are = (omega (arith, ap length are), house_is ∙ ap (λ xs. get_or xs i 0) are)
 
--- so is the house that is looked at
-looked_at : (g : Over) (c : After-get-h g) → (c.loop-i.i < length (legal_houses (storeless c.args.houses.now)))
-    × (c.get-h.result ≡ get_or (legal_houses (storeless c.args.houses.now)) c.loop-i.i 0)
-looked_at g c = before_last c.len-last.ensures c.loop-i-test.true c.get-h.ensures c.legal-moves.ensures.moves
-
--- it holds seeds
+-- so it holds seeds
 looked_at_holds : (g : Over) (c : After-get-h g) → HoldsSeeds (storeless c.args.houses.now) c.get-h.result
 looked_at_holds g c =
-    let at = looked_at g c in
+    let at = before_last c.len-last.ensures c.loop-i-test.true c.get-h.ensures c.legal-moves.ensures.moves in
     legal_holds _ _ (rw at.1 (Contains-get_or _ c.loop-i.i 0 at.0))
 
 pub new-requires-clause-first : goal.new-requires-clause-first
@@ -37,14 +32,14 @@ new-requires-clause-last g c =
 pub returns-then-move_reaches : goal.returns-then-move_reaches
 returns-then-move_reaches g c =
     let enough = c.if-move_reaches.ensures.0 refl in
-    let at = looked_at g (goal.at.returns-then-move_reaches g c).After-get-h in
+    let at = before_last c.len-last.ensures c.loop-i-test.true c.get-h.ensures c.legal-moves.ensures.moves in
     at.1 ∙ first_enough_is_best c.args.houses.now c.legal-moves.ensures.limits c.loop-i.i at.0 c.loop-i.invariant
     (rw (← at.1, ← c.new.ensures, ← c.requires.best) enough)
 
 pub loop-i-preserved : goal.loop-i-preserved
 loop-i-preserved g c =
     let less = below_if_test_fails c.if-move_reaches.ensures refl in
-    let at = looked_at g (goal.at.loop-i-preserved g c).After-get-h in
+    let at = before_last c.len-last.ensures c.loop-i-test.true c.get-h.ensures c.legal-moves.ensures.moves in
     one_more_falls_short c.args.houses.now c.legal-moves.ensures.limits c.loop-i.i at.0 c.loop-i.invariant
     (rw (← at.1, ← c.new.ensures, ← c.requires.best) less)
 
