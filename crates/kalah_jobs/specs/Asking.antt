@@ -110,9 +110,9 @@ pub record AnswersLines (question : Question) (before after : Option (List ℕ))
 abbrev pub reply_texts : Question → List ℕ → List (List ℕ)
 reply_texts question line = answer_texts (answer_of (entry_to question line))
 
--- What is written for lines that are asked of is what is written for a file with these bytes, but for what stands before each
--- answer; if steps are asked, the texts that have a line each for a file stand in one line, with `; ` between any two. And what
--- begins with whole lines is answered as they are, and then as the rest is.
+-- Some lines are answered as a file of them, without the name and number before each answer. If steps are asked, the texts that have a
+-- line each for a file stand in one line, with `; ` between any two. Bytes that begin with whole lines are answered as these lines are,
+-- and then as the rest is.
 pub record AnswersAreThoseOfAFile : Type 0 where
   pub lines : (question : Question) → question ≢ Steps → (name : List ℕ) (number : ℕ) (line : List ℕ) →
       line_output question name (number, line) ≡ place_text name number ++ reply question line

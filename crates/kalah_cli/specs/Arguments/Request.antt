@@ -52,7 +52,7 @@ number_written text = digits_value 10 (without_leading_plus text)
 abbrev pub number_given : Text → List Row → Option ℕ
 number_given id rows = option_map number_written (one_of id rows)
 
--- these, as the matches say, or by default
+-- the numbers of workers and of entries, from the matches or by default
 abbrev pub worker_count : List Row → ℕ
 worker_count rows = unwrap_or (number_given (codes "workers") rows) default_workers
 

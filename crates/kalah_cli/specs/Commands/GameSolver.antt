@@ -35,7 +35,7 @@ module _ {O : Type 0} (state : O → SinkState) (game : GameStart O) where
     pub line : WasGiven state between new (variation_start move)
     pub after : p ≡ position_after (step_of game.first move.house)
 
-  -- The game begins at this position. Of one in lines it is the first position, and the sink was given that, if boards are drawn.
+  -- The game begins at this position: one in lines at the first position, whose picture was given to the sink if boards are drawn.
   abbrev pub BeginsGame : MoveForm → O → Position → Type 0
   BeginsGame (Lines boards values) new p = (p ≡ game.first) × WasGiven state game.sink new (board_lines boards game.first)
   BeginsGame Houses new p = BeginsVariation new p

@@ -3,7 +3,7 @@ use Rattle.std.specs.Prelude.{◌≡◌, ℕ, List, Bool, true, false, Result, O
 use Rattle.kalah_rules.specs.Position as position
 use Rattle.kalah_jobs.specs.{Line.{Line.{Reads, HasFault}, Reading.{reading_of}}, Types.{LineFault, Entry, Question}, declared.files.{entry.Entry.TheVariants.{Position, ValuesOf, StepsOf, Bad}, question.Question.TheVariants.{BestMove, Values, Steps}}}
 
--- the line reads as the entry: as its position, or with its fault as the first that holds. A question is no part of a line
+-- what the line says before anything is asked: its position, or its first fault
 abbrev pub ReadsAs : List ℕ → Entry → Type 0
 ReadsAs line (Position p) = Reads line p
 ReadsAs line (ValuesOf p) = ⊥

@@ -1,7 +1,7 @@
-//! Errors that end the answers to lines before the last line.
+//! Why `answer_lines` stopped early.
 use thiserror::Error;
 
-/// An error that ends the answers to lines before the last line.
+/// An error that ended the answers before the last line.
 #[derive(Clone, Copy, Debug, PartialEq, Eq, Error)]
 pub enum AskFault {
     /// A read failed.

@@ -33,7 +33,7 @@ impl<'a> PromptSolver<'a> {
         PromptSolver { solver }
     }
 
-    /// Finds the answer to what a line asks. Only if that may take a while is all flushed.
+    /// Finds the answer to what a line asks. If that may take a while, all that was written is flushed.
     pub(crate) fn answer<O: Sink>(&mut self, entry: &Entry, _out: &O) -> Answer
         requires all_flushed { TakesLong entry.now → (O.state _out.now).is_flushed ≡ true }
         ensures { result ≡ answer_of entry.now }

@@ -62,7 +62,7 @@ impl Entry {
 fn is_same_board(p: &Board, q: &Board) -> bool
     ensures { IsTrue result ↔ (p.now ≡ q.now) }
 {
-    // For a proof: these calls promise the limits of a board, and within these houses with equal keys are equal.
+    // For a proof: these calls promise the limits of a board, and within these houses with equal fields are equal.
     let _ = (p.m(), q.m());
     *p == *q
 }

@@ -19,14 +19,13 @@ use std::sync::Wait;
 use std::sync::atomic::AtomicU64;
 use std::sync::atomic::Ordering::SeqCst;
 
-/// A pause before a sleep takes this many steps of its backoff. The first pause spins, each step twice as long as the one before; the second
-/// mostly yields the processor. Each try reads what the
-/// other side changes, and so delays it: a full queue moves on faster if it isn't tried after each outcome.
+/// A pause before a sleep takes this many steps of its backoff. The first pause spins, each step twice as long as the one before; the
+/// second mostly yields the processor. Each try reads what the other side changes, and so delays it: a full queue moves on faster if it
+/// isn't tried after each outcome.
 const PAUSE_SPINS: u32 = 6;
 
-/// The threads that wait for the same event, such as room in a queue. They are woken sequentially: a wake-up wakes one, and none if
-/// one is under way. A thread that was woken, and got what it waited for, wakes the next. So room for
-/// one thread doesn't wake all of them.
+/// The threads that wait for the same event, such as room in a queue. They are woken sequentially: a wake-up wakes one, and none if one
+/// is under way. A thread that was woken, and got what it waited for, wakes the next. So room for one thread doesn't wake all of them.
 #[derive(Drop)]
 pub(crate) struct Waiters {
     // 1 from the time when a thread announces that it will sleep until a wake-up is sent.

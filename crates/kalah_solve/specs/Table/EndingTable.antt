@@ -29,8 +29,8 @@ pair_at k = choose (k % 32 + 2 * (k / CELLS_OF_PAIR) + 1) (2 * (k / CELLS_OF_PAI
 abbrev pub ArePairs : ℕ → List ℕ → Type 0
 ArePairs n pairs = (k : ℕ) → k < n → k % 32 < COUNTS → slice_index pairs k ≡ pair_at k
 
--- the index of the word of an ending: first come the variants of the classic rule, each of these by its houses a side, and then by rank, of
--- which sixteen share a word
+-- The index of the word of an ending. First come the variants of the classic rule, those of fewer houses first. Within a variant sixteen
+-- endings with consecutive ranks share a word.
 abbrev pub word_index : HousesState → ℕ
 word_index a = slice_index FIRST_WORDS (length a.own) + RULE_WORDS * rule_bit a.rule + rank_of_houses a / 16
 
