@@ -194,12 +194,12 @@ fn answers_each_line_of_each_file(rt: HostRuntime) {
 // Arguments with a file that can't be read, and the message.
 const NOT_READ: &[(&[&str], &str)] = &[
     (
-        &["solve", "kalah_run_one.txt", "kalah_run_none.txt", "/"],
-        "kalah: cannot read kalah_run_none.txt\n",
+        &["solve", "one.txt", "none.txt", "/"],
+        "kalah: cannot read none.txt\n",
     ),
     (&["solve", "/"], "kalah: cannot read /\n"),
     (
-        &["solve", "kalah_run_none.txt", "x\ny"],
+        &["solve", "none.txt", "x\ny"],
         "kalah: line feed in a file name\n",
     ),
     (&["solve", "odd\0name"], "kalah: cannot read odd\0name\n"),
@@ -207,7 +207,7 @@ const NOT_READ: &[(&[&str], &str)] = &[
 
 #[test]
 fn a_file_that_is_not_read(rt: HostRuntime) {
-    write_file(&rt, "kalah_run_one.txt", b"1/0 1/0\n");
+    write_file(&rt, "one.txt", b"1/0 1/0\n");
     assert_said(&rt, ExitStatus::Failed, NOT_READ);
 }
 
