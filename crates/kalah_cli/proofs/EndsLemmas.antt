@@ -52,7 +52,7 @@ module _ {O : Type 0} (state : O → SinkState) {status : ExitStatus} where
             record {
               read = λ q other_reads. (
                 no_fault,
-                subst (λ r. PrintsByStatus state old new status (command_output command r)) (same q other_reads) prints,
+                rw (same q other_reads) at prints,
               );
               unread = λ none. absurd (none p reads);
               ends = record {
@@ -61,14 +61,14 @@ module _ {O : Type 0} (state : O → SinkState) {status : ExitStatus} where
                 all_flushed = λ not_failed _. printed.all_flushed (sound not_failed);
               };
             },
-            λ q other_reads never. absurd (never (subst (MayPrint command) (same q other_reads) printable)),
+            λ q other_reads never. absurd (never (rw (same q other_reads) at printable)),
           )
 
       -- the command failed before anything was written
       pub line_refused : {old new : O} → status ≡ Failed → (state old).has_failed ≡ false → new ≡ old
           → Does state old new status any_bytes (about_line command line)
       line_refused {old} failed sound unchanged =
-          subst (λ new. Does state old new status any_bytes (about_line command line)) (sym unchanged) (
+          rw unchanged (
             record {
               read = λ q other_reads. (λ fault. cc, prints_nothing failed);
               unread = λ none. absurd (none p reads);
@@ -98,11 +98,6 @@ read_whole may_give None new bytes possible consumed at_end = possible bytes
 read_whole may_give (Some all) None bytes possible consumed at_end = absurd consumed
 read_whole may_give (Some all) (Some left) bytes possible consumed at_end =
     subst may_give (consumed ∙ ap (λ l. bytes ++ l) at_end ∙ append-nil bytes) possible
-
--- one of the names has a line feed exactly when one of their texts has
-pub texts_have_line_feed : (names : List (Bor (List ℕ)))
-    → list_any (λ name. has_line_feed name.now) names ≡ list_any has_line_feed (map (λ name. name.now) names)
-texts_have_line_feed names = list_any-map has_line_feed (λ name. name.now) names
 
 -- files of these names
 empty_files : List (List ℕ) → List NamedBytes
@@ -143,7 +138,7 @@ module _ {O : Type 0} (state : O → SinkState) {status : ExitStatus} {may_give 
         whole = λ _. answered.written;
       };
       no_line_feed = λ _. no_line_feed;
-      clean = λ _. subst (λ (tally : Tally). (status ≡ Clean) ↔ (tally.faults ≡ 0)) answered.counted clean;
+      clean = λ _. rw answered.counted at clean;
       ends = record {
         failed = λ write_failed. absurd (both_ways _ answered.sound write_failed);
         unchanged = λ failed. absurd (not_failed failed);
@@ -154,31 +149,22 @@ module _ {O : Type 0} (state : O → SinkState) {status : ExitStatus} {may_give 
     -- the batch failed
     pub files_failed : (cause : RunFault) → AnswersBatch state (output_to question files) files old new (Err cause) → status ≡ Failed
         → (state old).has_failed ≡ false → AnswersFiles state old new status may_give question names
-    files_failed cause answered failed sound = by_fault cause answered
-      where
-        untouched : new ≡ old → AnswersFiles state old new status may_give question names
-        untouched unchanged =
-            subst (λ o. AnswersFiles state old o status may_give question names) (sym unchanged) (files_refused failed sound)
-
-        by_fault : (f : RunFault) → AnswersBatch state (output_to question files) files old new (Err f)
-            → AnswersFiles state old new status may_give question names
-        by_fault fault.TooManyFiles answered = untouched answered.1.0
-        by_fault fault.TooManyLines answered = untouched answered.2.0
-        by_fault fault.OutOfMemory answered = untouched answered.1.0
-        by_fault fault.NoWorker answered = untouched answered.2.0
-        by_fault fault.Write answered = record {
-          files = files;
-          named = read.0;
-          given = inr read.1;
-          printed = record { start = answered.1; whole = λ not_failed. absurd (not_failed failed) };
-          no_line_feed = λ not_failed. absurd (not_failed failed);
-          clean = λ not_failed. absurd (not_failed failed);
-          ends = record {
-            failed = λ _. failed;
-            unchanged = λ _ sound. absurd (both_ways _ sound answered.2);
-            all_flushed = λ not_failed. absurd (not_failed failed);
-          };
-        }
+    files_failed fault.Write answered failed sound = record {
+      files = files;
+      named = read.0;
+      given = inr read.1;
+      printed = record { start = answered.1; whole = λ not_failed. absurd (not_failed failed) };
+      no_line_feed = λ not_failed. absurd (not_failed failed);
+      clean = λ not_failed. absurd (not_failed failed);
+      ends = record {
+        failed = λ _. failed;
+        unchanged = λ _ unfailed. absurd (both_ways _ unfailed answered.2);
+        all_flushed = λ not_failed. absurd (not_failed failed);
+      };
+    }
+    files_failed cause answered failed sound =
+        let unchanged : new ≡ old = cc in
+        rw unchanged (files_refused failed sound)
 
 -- ---- what `ask` has answered
 

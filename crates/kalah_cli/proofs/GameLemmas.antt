@@ -3,8 +3,8 @@ use Rattle.std.proofs.{Common.{◌⊎◌, ◌<◌, ◌≤◌, ◌-◌, ◌≡◌
 use Rattle.kalah_rules.specs.{Position.{Position, HasEqualSides, final_margin, is_over, swapped, swept}, Sowing.{after, moves_again}, Measure.{moves_left}, Play.{legal_houses, position_after, step_of}, declared.step.Step.{Step}}
 use Rattle.kalah_rules.proofs.{PlayLemmas.{after_equal_sides, legal_going, row_distance_le, sum-zeros}, PackedLemmas.{is_over-swapped}}
 use Rattle.kalah_rules.specs.declared.step.Step.TheVariants as step
-use Rattle.kalah_solve.specs.{Solver.{BestPlay.{Game, Policy, follow, Game.{is_at_end, moves_on, passes_turn}}, Verdict.{IsBestInRange, StatesBestMove, verdict_of}, Worth.{best_house, value_of_move, worth}}, declared.solver.Verdict.TheVariants.{Best, Over}}
-use Rattle.kalah_solve.proofs.{SolverLemmas.{best_is_strategy, best_plays, game_is_bounded, strategy_within, widened}, WorthLemmas.{final_swapped, value_moving_again, value_of_again, value_of_turn, value_passing, worth_of_over, again_fewer, over_at_end, over_ends, step_states, swapped_equal_sides, turn_fewer}}
+use Rattle.kalah_solve.specs.{Solver.{BestPlay.{Game, follow, Game.{is_at_end, moves_on, passes_turn}}, Verdict.{IsBestInRange, StatesBestMove, verdict_of}, Worth.{best_house, value_of_move, worth}}, declared.solver.Verdict.TheVariants.{Best, Over}}
+use Rattle.kalah_solve.proofs.{SolverLemmas.{a_game_is_played, best_is_strategy, best_plays, game_is_bounded, strategy_within, widened}, WorthLemmas.{final_swapped, value_moving_again, value_passing, again_fewer, over_at_end, swapped_equal_sides, turn_fewer}}
 use Rattle.kalah_cli.specs.{IsNextMove, PlaysBestGames, VariationsEndWithTheirValue, best_game, best_moves, game_played, game_text, move_text, printed_value, MoveForm, MayBegin}
 
 -- both players always move the lowest best house
@@ -15,9 +15,7 @@ BestGame p houses final = Game (follow best_house) (follow best_house) p houses 
 best_of_verdict : (p : Position) (margin : ℤ) (house : ℕ) → is_over p ≡ false → Best margin house ≡ verdict_of p
     → (margin ≡ worth p) × (house ≡ best_house p)
 best_of_verdict p margin house going verdict =
-    let both : Best margin house ≡ Best (worth p) (best_house p) =
-    verdict ∙ ap (λ b. if b then Over (final_margin p) else Best (worth p) (best_house p)) going in
-    (cc both, cc both)
+    let both : Best margin house ≡ Best (worth p) (best_house p) = verdict ∙ (rw going) in (cc both, cc both)
 
 -- the position after any move has as many houses on each side
 equal_after : (p : Position) (h : ℕ) → HasEqualSides (position_after (step_of p h))
@@ -46,70 +44,19 @@ fewer_left {p} {h} (step.Again q) equal legal step_is = again_fewer p h q equal 
 fewer_left {p} {h} (step.Turn q) equal legal step_is = turn_fewer p h q equal legal step_is
 fewer_left {p} {h} (step.Over q) equal legal step_is = omega (arith, none_after p h q step_is, some_left p (legal_going p h legal))
 
--- a game of a policy that both players share, with the move of h in front of another, which goes on at `next` and ends at `final`. If that
--- one ends with the worth of `next`, the longer one ends with the value of the move
-record LongerGame (policy : Policy) (p : Position) (h : ℕ) (houses : List ℕ) (next final : Position) : Type 0 where
-  end : Position
-  game : Game policy policy p (h ∷ houses) end
-  margin : final_margin final ≡ worth next → final_margin end ≡ value_of_move p h
-
--- a game from the position after a move can have that move in front
-game_before : {policy : Policy} {p : Position} {h : ℕ} {houses : List ℕ} {final : Position} (s : Step) → is_over p ≡ false
-    → Contains (policy p) h → s ≡ step_of p h → Game policy policy (position_after s) houses final
-    → LongerGame policy p h houses (position_after s) final
-game_before {policy} {p} {h} {houses} {final} (step.Again q) going allowed step_is game =
-    let states = step_states (is_over (after p h)) (moves_again p h) (after p h) (step.Again q) step_is in
-    record {
-      end = final;
-      game = moves_on going allowed states.1 (subst (λ r. Game policy policy r houses final) states.2 game);
-      margin = λ margin. margin ∙ value_of_again p h q step_is;
-    }
-game_before {policy} {p} {h} {houses} {final} (step.Turn q) going allowed step_is game =
-    let states = step_states (is_over (after p h)) (moves_again p h) (after p h) (step.Turn q) step_is in
-    record {
-      end = swapped final;
-      game = passes_turn going allowed states.1 (subst (λ r. Game policy policy r houses final) states.2 game);
-      margin = λ margin. omega (arith, ints, final_swapped final, margin, value_of_turn p h q step_is);
-    }
-game_before {p = p} {h = h} (step.Over q) going allowed step_is (is_at_end _) =
-    let over = (step_states (is_over (after p h)) (moves_again p h) (after p h) (step.Over q) step_is).0 in
-    let over_swapped = is_over-swapped (after p h) ∙ over in
-    elim (cases_Bool (moves_again p h)) [
-      | inl again ↦ record {
-        end = after p h;
-        game = moves_on going allowed again (is_at_end over);
-        margin = λ _. sym (value_moving_again p h again ∙ worth_of_over (after p h) over);
-      }
-      | inr turn ↦ record {
-        end = swapped (swapped (after p h));
-        game = passes_turn going allowed turn (is_at_end over_swapped);
-        margin = λ _. omega (
-          arith,
-          ints,
-          final_swapped (swapped (after p h)),
-          value_passing p h turn,
-          worth_of_over (swapped (after p h)) over_swapped,
-        );
-      }
-    ]
-game_before {p = p} {h = h} (step.Over q) going allowed step_is (moves_on goes_on chosen again rest) =
-    absurd (let over = over_ends p h q step_is in cc)
-game_before {p = p} {h = h} (step.Over q) going allowed step_is (passes_turn goes_on chosen turn rest) =
-    absurd (let over = over_ends p h q step_is in cc)
-
 -- ---- the moves of the game
 
 -- a game that is over has none
 no_best_moves : (n : ℕ) (p : Position) → is_over p ≡ true → best_moves n p ≡ []
 unfolding best_moves
 no_best_moves zero p over = refl
-no_best_moves (suc n) p over = ap (λ b. if b then [] else best_house p ∷ best_moves n (position_after (step_of p (best_house p)))) over
+no_best_moves (suc n) p over = rw over
 
 -- one that goes on has one, and those after it
 best_move_first : (n : ℕ) (p : Position) → is_over p ≡ false
     → best_moves (suc n) p ≡ best_house p ∷ best_moves n (position_after (step_of p (best_house p)))
 unfolding best_moves
-best_move_first n p going = ap (λ b. if b then [] else best_house p ∷ best_moves n (position_after (step_of p (best_house p)))) going
+best_move_first n p going = rw going
 
 -- fewer are left after its best move
 fewer_next : (p : Position) → HasEqualSides p → is_over p ≡ false → moves_left (position_after (step_of p (best_house p))) < moves_left p
@@ -118,12 +65,6 @@ fewer_next p equal going = fewer_left _ equal (best_is_strategy.moves p equal go
 -- more moves than are left make no difference
 same_moves : (n m : ℕ) (p : Position) → HasEqualSides p → moves_left p ≤ n → moves_left p ≤ m
     → best_moves n p ≡ best_moves m p
-same_moves zero m p equal low high =
-    let over = over_at_end p (omega (arith, low)) in
-    no_best_moves zero p over ∙ sym (no_best_moves m p over)
-same_moves (suc n) zero p equal low high =
-    let over = over_at_end p (omega (arith, high)) in
-    no_best_moves (suc n) p over ∙ sym (no_best_moves zero p over)
 same_moves (suc n) (suc m) p equal low high = elim (cases_Bool (is_over p)) [
   | inl over ↦ no_best_moves (suc n) p over ∙ sym (no_best_moves (suc m) p over)
   | inr going ↦
@@ -131,6 +72,9 @@ same_moves (suc n) (suc m) p equal low high = elim (cases_Bool (is_over p)) [
       let next = same_moves n m _ (equal_after p (best_house p)) (omega (arith, low, fewer)) (omega (arith, high, fewer)) in
       best_move_first n p going ∙ ap (λ moves. best_house p ∷ moves) next ∙ sym (best_move_first m p going)
 ]
+same_moves n m p equal low high =
+    let over = over_at_end p (omega (arith, low, high)) in
+    no_best_moves n p over ∙ sym (no_best_moves m p over)
 
 -- the moves of a game are its first one, and those from the position after it
 game_goes_on : (p : Position) → HasEqualSides p → is_over p ≡ false
@@ -144,7 +88,7 @@ game_goes_on p equal going =
 -- the moves of a game that may begin with a house that is asked for are its first one, and those of best play after it
 played_next : (first : Option ℕ) (p : Position) (h : ℕ) → HasEqualSides p → is_over p ≡ false
     → h ≡ unwrap_or first (best_house p) → game_played first p ≡ h ∷ best_game (position_after (step_of p h))
-played_next first p h equal going house_is = first_of first ∙ ap (λ k. k ∷ best_game (position_after (step_of p k))) (sym house_is)
+played_next first p h equal going house_is = rw house_is (first_of first)
   where
     first_of : (f : Option ℕ)
         → game_played f p ≡ unwrap_or f (best_house p) ∷ best_game (position_after (step_of p (unwrap_or f (best_house p))))
@@ -155,16 +99,14 @@ module _ {form : MoveForm} {first : Option ℕ} {p : Position} {value : Option �
     (step_is : s ≡ step_of p h) where
   -- its text has the value of best play, if values are shown
   pub next_text : move_text form value h s ≡ move_text form (printed_value form (worth p)) h (step_of p h)
-  next_text = ap (λ v. move_text form v h s) next.shown ∙ ap (move_text form (printed_value form (worth p)) h) step_is
+  next_text = rw (next.shown, step_is)
 
   -- the text of a game is that of its next move, and the text from the position after it on
   pub text_goes_on : {of_move of_rest : MoveForm} {q : Position} → HasEqualSides p → of_move ≡ form → of_rest ≡ form → q ≡ position_after s
       → game_text form p (game_played first p) ≡ move_text of_move value h s ++ game_text of_rest q (best_game q)
-  text_goes_on equal of_move_is of_rest_is after_move = rw (of_move_is, of_rest_is, after_move)
-      (ap (game_text form p) (played_next first p h equal (legal_going p h next.legal) next.house)
-      ∙ ap (λ s. move_text form (printed_value form (worth p)) h s ++ game_text form (position_after s) (best_game (position_after s)))
-      (sym step_is)
-      ∙ ap (λ v. move_text form v h s ++ game_text form (position_after s) (best_game (position_after s))) (sym next.shown))
+  text_goes_on equal of_move_is of_rest_is after_move =
+      let played = played_next first p h equal (legal_going p h next.legal) next.house in
+      rw (of_move_is, of_rest_is, after_move, next.shown, step_is, played)
 
 -- if it is over, it has none
 pub no_text : (form : MoveForm) (first : Option ℕ) (p : Position) → MayBegin first p → is_over p ≡ true
@@ -187,35 +129,77 @@ next_of_verdict form first p {margin} {house} may_begin small states verdict =
 
 -- ---- the law on it
 
--- if it is over, it has no moves
-none_played : (n : ℕ) (p : Position) → is_over p ≡ true → (final : Position) × BestGame p (best_moves n p) final
-none_played n p over = (p, subst (λ houses. BestGame p houses p) (sym (no_best_moves n p over)) (is_at_end over))
+-- the game after a move is that from the position which the move leaves: if the game is over, neither has a move
+rest_of : (p : Position) (h : ℕ) {again : Bool} → moves_again p h ≡ again
+    → best_game (if again then after p h else swapped (after p h)) ≡ best_game (position_after (step_of p h))
+rest_of p h again = rw (← again) (go (after p h) (moves_again p h) (is_over (after p h)) refl)
+  where
+    none_swept : (q : Position) → [] ≡ best_game (swept q)
+    none_swept q = sym (no_best_moves _ (swept q) (grind (arith, sum-zeros)))
 
--- they are the moves of a game
-is_game : (n : ℕ) (p : Position) → HasEqualSides p → moves_left p ≤ n → (final : Position) × BestGame p (best_moves n p) final
-is_game zero p equal low = none_played zero p (over_at_end p (omega (arith, low)))
-is_game (suc n) p equal low = elim (cases_Bool (is_over p)) [
-  | inl over ↦ none_played (suc n) p over
-  | inr going ↦
-      let next = is_game n _ (equal_after p (best_house p)) (omega (arith, low, fewer_next p equal going)) in
-      let game = game_before {policy = follow best_house} _ going (Contains-push [] (best_house p)) refl next.1 in
-      (game.end, subst (λ houses. BestGame p houses game.end) (sym (best_move_first n p going)) game.game)
-]
+    go : (q : Position) (again over : Bool) → is_over q ≡ over → best_game (if again then q else swapped q)
+        ≡ best_game (position_after (if over then step.Over (swept q) else (if again then step.Again q else step.Turn (swapped q))))
+    go q true true over = no_best_moves _ q over ∙ none_swept q
+    go q false true over = no_best_moves _ (swapped q) (is_over-swapped q ∙ over) ∙ none_swept q
+    go q true false going = refl
+    go q false false going = refl
 
--- of one that ends with the margin of best play
+-- the best move, and then the moves of the game after it, are those of the game
+best_then : (p : Position) {h : ℕ} {houses : List ℕ} {again : Bool} → HasEqualSides p → is_over p ≡ false → Contains (best_house p ∷ []) h
+    → moves_again p h ≡ again → houses ≡ best_game (if again then after p h else swapped (after p h)) → h ∷ houses ≡ best_game p
+best_then p {h} equal going chosen again rest =
+    let best : h ≡ best_house p = grind arith in
+    ap (λ houses. h ∷ houses) (rest ∙ rest_of p h again) ∙ ap (λ k. k ∷ best_game (position_after (step_of p k))) best
+    ∙ sym (game_goes_on p equal going)
+
+-- a game of the lowest best houses has these moves
+game_is_best : {p : Position} {houses : List ℕ} {final : Position} → HasEqualSides p → BestGame p houses final → houses ≡ best_game p
+game_is_best {p} equal (is_at_end over) = sym (no_best_moves _ p over)
+game_is_best {p} equal (moves_on {h = h} going chosen again rest) =
+    best_then p equal going chosen again (game_is_best (after_equal_sides p h) rest)
+game_is_best {p} equal (passes_turn {h = h} going chosen turn rest) =
+    best_then p equal going chosen turn (game_is_best (swapped_equal_sides _ (after_equal_sides p h)) rest)
+
+-- such a game is played, and ends with the margin of best play
 pub plays_best : PlaysBestGames
 plays_best p equal =
-    let game = is_game (moves_left p) p equal (omega arith) in
+    let game = a_game_is_played best_house best_house best_is_strategy best_is_strategy p equal in
     let keeps = strategy_within best_is_strategy in
-    let bounded = game_is_bounded keeps keeps equal game.1 in
-    (game.0, record { game = game.1; margin = omega (ints, arith, bounded.low best_plays, bounded.high best_plays) })
+    let bounded = game_is_bounded keeps keeps equal game.2 in (
+      game.1,
+      record {
+        game = subst (λ houses. BestGame p houses game.1) (game_is_best equal game.2) game.2;
+        margin = omega (ints, arith, bounded.low best_plays, bounded.high best_plays);
+      },
+    )
 
 -- ---- the law on variations
 
--- the game after a move, which is one by the rules, ends with the value of that move
+-- a game of the best houses is one by the rules
+by_rules : {p : Position} {houses : List ℕ} {final : Position} → HasEqualSides p → best_game p ≡ houses → BestGame p (best_game p) final
+    → Game legal_houses legal_houses p houses final
+by_rules {p} {final = final} equal same game = subst (λ houses. Game legal_houses legal_houses p houses final) same
+    (widened (strategy_within best_is_strategy) (strategy_within best_is_strategy) equal game)
+
+-- with a move in front it ends with the value of that move
 pub variations_end : VariationsEndWithTheirValue
-variations_end p h equal legal =
-    let best = plays_best (position_after (step_of p h)) (equal_after p h) in
-    let by_rules = widened (strategy_within best_is_strategy) (strategy_within best_is_strategy) (equal_after p h) best.1.game in
-    let game = game_before (step_of p h) (legal_going p h legal) legal refl by_rules in
-    (game.end, record { game = game.game; margin = game.margin best.1.margin })
+variations_end p h equal legal = elim (cases_Bool (moves_again p h)) [
+  | inl again ↦
+      let same_sides = after_equal_sides p h in
+      let best = plays_best (after p h) same_sides in (
+        best.0,
+        record {
+          game = moves_on (legal_going p h legal) legal again (by_rules same_sides (rest_of p h again) best.1.game);
+          margin = best.1.margin ∙ sym (value_moving_again p h again);
+        },
+      )
+  | inr turn ↦
+      let same_sides = swapped_equal_sides (after p h) (after_equal_sides p h) in
+      let best = plays_best (swapped (after p h)) same_sides in (
+        swapped best.0,
+        record {
+          game = passes_turn (legal_going p h legal) legal turn (by_rules same_sides (rest_of p h turn) best.1.game);
+          margin = omega (arith, ints, final_swapped best.0, best.1.margin, value_passing p h turn);
+        },
+      )
+]

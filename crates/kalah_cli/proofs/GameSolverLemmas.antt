@@ -12,20 +12,19 @@ module _ {O : Type 0} (state : O → SinkState) where
   pub first_is_reached : {game : GameStart O} {boards values : Bool} {p : Position} {old new : O}
       → game ≡ record { form = Lines boards values; first = p; sink = old } → WasGiven state old new (board_lines boards p)
       → IsReached state game new p
-  first_is_reached {p = p} {new = new} begun given = subst (λ game. IsReached state game new p) (sym begun) (reached_at_start (refl, given))
+  first_is_reached begun given = rw begun (reached_at_start (refl, given))
 
   -- the position after the first move of a variation is reached, once the line of that move began
   pub variation_is_reached : {game now : GameStart O} {p q : Position} {between new : O} (v : MoveValue) → ShowsValues state game p between
       → WasGiven state between new (variation_start v) → q ≡ position_after (step_of p v.house) → now ≡ game
       → IsReached state now new q
-  variation_is_reached {game} {now} {p} {q} {between} {new} v below given after_move same_game =
-      subst (λ game. IsReached state game new q) (sym same_game)
-      (reached_at_start (subst (λ f. BeginsGame state game f new q) (sym below.form) (record {
+  variation_is_reached {game} {q = q} {between = between} {new = new} v below given after_move same_game =
+      rw same_game (reached_at_start (subst (λ f. BeginsGame state game f new q) (sym below.form) (record {
         between = between;
         move = v;
         below = subst (λ r. ShowsValues state game r between) (sym below.first) below;
         line = given;
-        after = after_move ∙ ap (λ r. position_after (step_of r v.house)) (sym below.first);
+        after = rw below.first after_move;
       })))
 
   -- the picture and the line below it were given, and variations may follow
@@ -33,23 +32,22 @@ module _ {O : Type 0} (state : O → SinkState) where
       → game ≡ record { form = Houses; first = p; sink = old } → now ≡ game → WasGiven state old between (picture_of p)
       → WasGiven state between new (values_line p ++ line_feed ∷ []) → ShowsValues state now p new
   unfolding shown_of
-  variations_begin {p = p} {old = old} {between = between} {new = new} begun same_game picture values =
-      subst (λ game. ShowsValues state game p new) (sym (same_game ∙ begun)) (record {
+  variations_begin {p = p} begun same_game picture values =
+      rw (same_game, begun) (record {
         form = refl;
         first = refl;
         more = [];
-        shown = subst (WasGiven state old new) (sym (append-nil (shown_of p))) (given_then state picture values);
+        shown = rw (append-nil (shown_of p)) (given_then state picture values);
       })
 
   -- more of the variations was given
   pub variations_go_on : {game now : GameStart O} {p : Position} {between new : O} (text : List ℕ) → now ≡ game
       → ShowsValues state game p between → WasGiven state between new text → ShowsValues state now p new
-  variations_go_on {game} {now} {p} {between} {new} text same_game below given = rw same_game (record {
+  variations_go_on {p = p} text same_game below given = rw same_game (record {
     form = below.form;
     first = below.first;
     more = below.more ++ text;
-    shown = subst (WasGiven state game.sink new) (append_assoc (shown_of p) below.more text)
-        (given_then state below.shown given);
+    shown = rw (← append_assoc (shown_of p) below.more text) (given_then state below.shown given);
   })
 
   -- how a game began, after a flush

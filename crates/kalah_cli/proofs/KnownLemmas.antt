@@ -17,7 +17,7 @@ module _ {O : Type 0} (state : O → SinkState) (old new : O) (status : ExitStat
     (before : (state old).written ≡ Some []) (after : (state new).written ≡ Some output) where
   -- what was added is all that was written
   all_written : (text : List ℕ) → Appends (state old).written (state new).written text → output ≡ text
-  all_written text adds = subst (λ o. Appends o (Some output) text) before (subst (λ o. Appends (state old).written o text) after adds)
+  all_written text adds = rw (before, after) at adds
 
   -- the files that were answered are those of the disk
   files_known : (question : Question) (names : List Text) → status ≢ Failed
@@ -36,12 +36,9 @@ module _ {O : Type 0} (state : O → SinkState) (old new : O) (status : ExitStat
       → AnswersInput state old new status question unread → IsAnswerToLines status output question input
   lines_known question unread not_failed known answered =
       let asked = answered.asked not_failed in
-      let all : asked.0.read ≡ input = subst (λ u. IfSome u (λ bytes. asked.0.read ≡ bytes)) known asked.0.all in
-      let read = subst (λ bytes. answered.all_read ≡ are_all_read bytes) all asked.0.status in (
-        all_written (answers_to question input)
-            (subst (λ bytes. Appends (state old).written (state new).written (answers_to question bytes)) all asked.0.written),
-        subst (λ b. status ≡ Clean ↔ b ≡ true) read asked.1,
-      )
+      let all : asked.0.read ≡ input = rw known at asked.0.all in
+      let read = rw all at asked.0.status in
+      (all_written _ (rw all at asked.0.written), rw read at asked.1)
 
   -- what is promised of any run is pinned of one over what is known
   pub answers_what_is_known : (arguments : List Text) → DoesWhatIsAsked state old new status (known_bytes disk input) arguments

@@ -137,7 +137,7 @@ flag_read E f id r absent value = elim (cases_Option (one_of id (rows_of f))) [
 
 -- equal arguments ask for the same
 pub accepted_at : {arguments given : List Text} {a : Task} → arguments ≡ given → IsAcceptedAs given a → IsAcceptedAs arguments a
-accepted_at {a = a} same accepted = subst (λ ws. IsAcceptedAs ws a) (sym same) accepted
+accepted_at same accepted = rw same accepted
 
 -- arguments are accepted as one request
 pub accepted_once : (arguments : List Text) (a b : Task) → IsAcceptedAs arguments a → IsAcceptedAs arguments b → a ≡ b
@@ -192,9 +192,9 @@ pub read_is_no_flag : (line : List ℕ) (p : Position) → Reads line p → IsNo
 unfolding position_of_text side_at
 read_is_no_flag [] p reads = empty_is_no_line p reads.form
 read_is_no_flag (byte ∷ []) p reads = λ dash.
-    let none : None ≡ Some p = line_is_read (45 ∷ []) p (subst (λ b. Reads (b ∷ []) p) dash reads).form in
+    let none : None ≡ Some p = line_is_read (45 ∷ []) p (rw dash at reads).form in
     cc
 read_is_no_flag (byte ∷ more ∷ rest) p reads = λ dash.
     let none : None ≡ Some p =
-    line_is_read (45 ∷ without_cr (more ∷ rest)) p (subst (λ b. Reads (b ∷ more ∷ rest) p) dash reads).form in
+    line_is_read (45 ∷ without_cr (more ∷ rest)) p (rw dash at reads).form in
     cc

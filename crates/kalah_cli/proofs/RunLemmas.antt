@@ -15,7 +15,7 @@ module _ {O : Type 0} (state : O → SinkState) {old new : O} {status : ExitStat
   run_ends (about_line command line) _ does = does.0.ends
   run_ends (about_files question workers table_entries progress names) _ does = does.ends
   run_ends (about_input question table_entries) no_input does = absurd no_input
-  run_ends conflict _ does = subst (λ o. FailsOrFlushes state old o status) (sym does.1) (ends_unchanged state sound)
+  run_ends conflict _ does = rw does.1 (ends_unchanged state sound)
 
   -- if a write failed, it failed
   run_fails : (task : Task) → Does state old new status may_give task → (state new).has_failed ≡ true → status ≡ Failed
@@ -35,7 +35,7 @@ kind_not_asked_for : (k : ErrorKind) (arguments : List Text) (e : Error) → Out
 kind_not_asked_for k arguments e other has_kind unasked = λ asked.
     elim has_kind [
       | inl memory ↦ other (sym memory ∙ asked)
-      | inr among ↦ unasked (subst (λ x. IsAmong x (fault_of kalah_app arguments)) asked among)
+      | inr among ↦ unasked (rw asked at among)
     ]
 
 -- ---- what a run promises of its arguments
@@ -75,7 +75,7 @@ module _ {O : Type 0} {state : O → SinkState} {arguments : List Text} {may_giv
       → KeepsPromises state arguments may_give old new status
   run_of_request {b} sound accepted_as done =
       let does : (a : Task) → IsAcceptedAs arguments a → Does state old new status may_give a =
-      λ a also_as. subst (Does state old new status may_give) (accepted_once arguments b a accepted_as also_as) done in
+      λ a also_as. rw (accepted_once arguments b a accepted_as also_as) at done in
       record {
         accepted = λ a also_as. inl (does a also_as);
         no_request = record {
@@ -114,8 +114,6 @@ module _ {O : Type 0} {state : O → SinkState} {arguments : List Text} {may_giv
         failed = failed;
         unchanged = λ _. unchanged;
         stopped = λ question table_entries accepted_as _ _.
-            subst (λ o. StopsBetweenLines question (state old).written (state o).written)
-            (sym (fails (about_input question table_entries) accepted_as).1)
-            (stops_at_once question (state old).written);
+            rw (fails (about_input question table_entries) accepted_as).1 (stops_at_once question (state old).written);
         all_flushed = λ not_failed _. all_flushed not_failed;
       }

@@ -134,9 +134,10 @@ pub fn run_words<R: Sources + Clock + Terminal + Threads + Wait + Sync, O: Sink,
 {
     let on_terminal = rt.shows_errors(); // Tips go only to a terminal.
     let arguments = words.as_slice();
-    let ended = match parse(alloc, arguments) {
-        Ok(request) => run_request(rt, alloc, &request, on_terminal, out, err),
-        Err(error) => end_without_request(alloc, arguments, &error, on_terminal, out, err),
+    let parsed = parse(alloc, arguments);
+    let ended = match &parsed {
+        Ok(request) => run_request(rt, alloc, request, on_terminal, out, err),
+        Err(error) => end_without_request(alloc, arguments, error, on_terminal, out, err),
     };
     report_end(ended, on_terminal, err)
 }

@@ -20,7 +20,7 @@ use std::thread::Threads;
 
 // Returns whether one of the names has a line feed in it, so that its answers could be taken for more than one line.
 fn any_has_line_feed(names: &[&str]) -> bool
-    ensures { result ≡ list_any (λ name. has_line_feed name.now) names.now }
+    ensures { result ≡ list_any has_line_feed (map (λ name. name.now) names.now) }
 {
     for name in names {
         if name.as_bytes().contains(&b'\n') {
@@ -31,7 +31,6 @@ fn any_has_line_feed(names: &[&str]) -> bool
 }
 
 // Returns the files of these names, each read whole. Fails with `LineFeed` exactly if one of the names has a line feed in it.
-#[tactic(auto, using(crate::proofs::EndsLemmas::texts_have_line_feed))]
 fn read_named<'a, R: Sources>(
     rt: &R,
     alloc: Global,

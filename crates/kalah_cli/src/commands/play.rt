@@ -41,20 +41,17 @@ pub(crate) fn run_play<O: Sink>(
         (λ _. out.new ≡ out.old) }
     ensures begins { OnOk result (MayBegin command.first board.now) }
 {
-    let PlayCommand {
-        table_entries,
-        boards,
-        values,
-        first,
-    } = command;
-    if let Some(h) = illegal_house(board, first) {
+    if let Some(h) = illegal_house(board, command.first) {
         return Err(Failure::IllegalHouse(h));
     }
-    let form = MoveForm::Lines { boards, values };
-    let Ok(mut solver) = GameSolver::new(alloc, table_entries, board, form, out) else {
+    let form = MoveForm::Lines {
+        boards: command.boards,
+        values: command.values,
+    };
+    let Ok(mut solver) = GameSolver::new(alloc, command.table_entries, board, form, out) else {
         return Err(Failure::Run(RunFault::OutOfMemory));
     };
-    write_board(board, boards, out);
-    write_game(&mut solver, board, first, out);
+    write_board(board, command.boards, out);
+    write_game(&mut solver, board, command.first, out);
     Ok(())
 }

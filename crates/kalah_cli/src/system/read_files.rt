@@ -1,7 +1,7 @@
 //! Reads whole files.
-ghost use Rattle.std.specs.{Prelude.{◌≡◌, ◌≢◌, ◌<◌, ◌≤◌, All, IfErr, IfOk, IfSome, IsErrOf, OnOk, length, map, vec_len}, Io.KnownBytes.{Consumes, IsAtEnd}};
+ghost use Rattle.std.specs.{Prelude.{◌≡◌, ◌≢◌, ◌<◌, ◌≤◌, All, IfErr, IfOk, IfSome, IsErrOf, length, map, vec_len}, Io.KnownBytes.{Consumes, IsAtEnd}};
 ghost use Rattle.kalah_jobs.specs.Limits.{most_file_bytes};
-ghost use Rattle.kalah_cli.specs.{Exit.Failure.{FailsToRead, FailsToReadOneOf}, declared.exit.failure.Failure.TheVariants.{Unreadable}, System.Sources.{AreFilesOf, file_named}};
+ghost use Rattle.kalah_cli.specs.{Exit.Failure.{FailsToRead}, System.Sources.{AreFilesOf, file_named}};
 
 use crate::exit::failure::Failure;
 use crate::system::sources::Sources;
@@ -49,61 +49,51 @@ fn new_chunk(alloc: Global) -> Result<Vec<u8>, AllocError>
     vec![in alloc; 0; CHUNK]
 }
 
-/// Returns all that the reader of the file of this name has left, if that is at most `limit` bytes. It is read until it reports the end,
-/// an error, or more bytes than the limit. Any error counts as the file's, also one of an interrupted call.
-pub(crate) fn read_limited<'a, F: Read>(
+/// Returns all that the reader has left, if that is at most `limit` bytes, or why not. It is read until it reports the end, an error, or
+/// more bytes than the limit. Any error counts as the file's, also one of an interrupted call. Fails only if memory was refused.
+pub(crate) fn read_limited<F: Read>(
     alloc: Global,
-    name: &'a str,
     reader: &mut F,
     limit: usize,
-) -> Result<Vec<u8>, Failure<'a>>
-    ensures whole { IfOk result
-        (λ v. Consumes (F.remaining reader.old) (F.remaining reader.new) v.items) }
-    ensures end { OnOk result (IsAtEnd (F.remaining reader.new)) }
-    ensures within { IfOk result (λ v. length v.items ≤ limit) }
-    ensures failure { IfErr result (FailsToRead name.entry) }
-    ensures long { IsErrOf result (Unreadable name.entry ReadFault.TooLong)
-        → IfSome (F.remaining reader.old) (λ bytes. limit < length bytes) }
+) -> Result<Result<Vec<u8>, ReadFault>, AllocError>
+    ensures whole { IfOk result (λ read. IfOk read (λ v. Consumes (F.remaining reader.old) (F.remaining reader.new) v.items
+        × IsAtEnd (F.remaining reader.new) × (length v.items ≤ limit))) }
+    ensures long { IfOk result (λ read. IsErrOf read ReadFault.TooLong
+        → IfSome (F.remaining reader.old) (λ bytes. limit < length bytes)) }
 {
-    let Ok(mut memory) = new_chunk(alloc) else {
-        return Err(Failure::Run(RunFault::OutOfMemory));
-    };
+    let mut memory = new_chunk(alloc)?;
     let chunk = memory.as_mut_slice();
     let mut bytes = Vec::new(alloc);
     while bytes.len() <= limit {
         match reader.read(chunk) {
-            Ok(0) => return Ok(bytes),
-            Ok(n) => {
-                if bytes.extend_from_slice(&chunk[..n]).is_err() {
-                    return Err(Failure::Run(RunFault::OutOfMemory));
-                }
-            }
-            Err(error) => {
-                let fault = fault_of(&error);
-                return Err(Failure::Unreadable { name, fault });
-            }
+            Ok(0) => return Ok(Ok(bytes)),
+            Ok(n) => bytes.extend_from_slice(&chunk[..n])?,
+            Err(error) => return Ok(Err(fault_of(&error))),
         }
     }
-    Err(Failure::Unreadable {
-        name,
-        fault: ReadFault::TooLong,
-    })
+    Ok(Err(ReadFault::TooLong))
 }
 
-// Returns all bytes of the file of this name. A file of more than 67,108,864 bytes can't be read.
+// Returns the file of this name, read whole, or why it was not read. A file of more than 67,108,864 bytes can't be read.
 #[tactic(auto, using(crate::proofs::EndsLemmas::read_whole))]
-fn read_file<'a, R: Sources>(rt: &R, alloc: Global, name: &'a str) -> Result<Vec<u8>, Failure<'a>>
-    ensures within { IfOk result (λ bytes. length bytes.items ≤ most_file_bytes) }
-    ensures given { IfOk result (λ bytes. R.may_give rt.now (file_named name.now) bytes.items) }
-    ensures failure { IfErr result (FailsToRead name.entry) }
+fn read_file<R: Sources>(
+    rt: &R,
+    alloc: Global,
+    name: &str,
+) -> Result<Result<FileText, ReadFault>, AllocError>
+    ensures { IfOk result (λ read. IfOk read (λ file. (file.name ≡ name.now)
+        × R.may_give rt.now (file_named name.now) file.bytes × (length file.bytes ≤ most_file_bytes))) }
 {
-    match rt.open(name) {
-        Ok(mut file) => read_limited(alloc, name, &mut file, MOST_FILE_BYTES),
-        Err(error) => Err(Failure::Unreadable {
-            name,
-            fault: fault_of(&error),
-        }),
-    }
+    let mut file = match rt.open(name) {
+        Ok(file) => file,
+        Err(error) => return Ok(Err(fault_of(&error))),
+    };
+    let bytes = match read_limited(alloc, &mut file, MOST_FILE_BYTES)? {
+        Ok(bytes) => bytes,
+        Err(fault) => return Ok(Err(fault)),
+    };
+    let name = String::from_str(alloc, name)?;
+    Ok(Ok(FileText { name, bytes }))
 }
 
 /// Returns the files of these names, in order, each read whole. Fails at the first that can't be read, or with `OutOfMemory` if memory
@@ -115,19 +105,18 @@ pub(crate) fn read_files<'a, R: Sources>(
 ) -> Result<Vec<FileText>, Failure<'a>>
     ensures files { IfOk result (λ files. AreFilesOf (R.may_give rt.now) (map (λ name. name.now) names.now) files.items) }
     ensures within { IfOk result (λ files. All (λ file. length file.bytes ≤ most_file_bytes) files.items) }
-    ensures failure { IfErr result (FailsToReadOneOf names.now) }
+    ensures failure { IfErr result (FailsToRead names.now) }
 {
     let mut files = Vec::new(alloc);
     for name in names {
-        let bytes = match read_file(rt, alloc, *name) {
-            Ok(bytes) => bytes,
-            Err(failure) => return Err(failure),
-        };
-        let Ok(name) = String::from_str(alloc, *name) else {
-            return Err(Failure::Run(RunFault::OutOfMemory));
-        };
-        if files.push(FileText { name, bytes }).is_err() {
-            return Err(Failure::Run(RunFault::OutOfMemory));
+        match read_file(rt, alloc, *name) {
+            Ok(Ok(file)) => {
+                if files.push(file).is_err() {
+                    return Err(Failure::Run(RunFault::OutOfMemory));
+                }
+            }
+            Ok(Err(fault)) => return Err(Failure::Unreadable { name: *name, fault }),
+            Err(_) => return Err(Failure::Run(RunFault::OutOfMemory)),
         }
     }
     Ok(files)

@@ -1,5 +1,4 @@
-use Rattle.std.proofs.{lemmas.{Grind.{common_steps}, Bool.{false_from_ne_true}}, Common.{◌∙◌, arith, subst, sym}}
-use Rattle.kalah_cli.specs.{IsPrinted, version_line}
+use Rattle.std.proofs.{lemmas.{Grind.{common_steps}, Bool.{false_from_ne_true}}, Common.{◌∙◌, arith, sym}}
 use Rattle.kalah_cli.proofs.{EndsLemmas.{statuses_differ}, run.end_without_request.Goals.{in-DisplayHelp, in-DisplayVersion}}
 use Rattle.kalah_cli.proofs.run.end_without_request.Goals as goal
 
@@ -7,8 +6,7 @@ pub returns-clause-version : goal.returns-clause-version
 returns-clause-version g c = λ help clean. elim c.match-kind.branch [
   | in-DisplayHelp w ↦ absurd (help (sym w.in-DisplayHelp.ensures))
   | in-DisplayVersion w ↦
-      let printed = subst (λ o. IsPrinted g.O.Sink.state c.args.out.now o version_line)
-      (sym w.out-is) w.print_text-in-DisplayVersion.ensures in
+      let printed = rw (← w.out-is) at w.print_text-in-DisplayVersion.ensures in
       (printed.given.whole (false_from_ne_true _ (λ failed. statuses_differ.0 (sym clean ∙ c.status_of_sink.ensures.failed.0 failed)))).1
 ]
 

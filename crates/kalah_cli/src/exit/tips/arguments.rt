@@ -106,21 +106,16 @@ fn tip_for<'a>(arguments: &'a [String], text: &str) -> Option<Tip<'a>> {
         return None;
     };
     let name = name.as_str();
-    let tip = if text.contains("unrecognized subcommand") {
-        match rest {
-            [next, ..] if name == "help" => Some(("use `kalah {} --help`", next.as_str())),
-            _ => tip_for_name(name),
-        }
-    } else if WITH_LINE.contains(&name) && has_parts(rest) {
-        Some((QUOTES, name))
-    } else {
-        match rest {
-            [.., last] if text.contains("unexpected argument") => tip_for_excess(
-                name,
-                last.as_str(),
-            ),
-            _ => None,
-        }
+    let is_unknown = text.contains("unrecognized subcommand");
+    let tip = match rest {
+        [next, ..] if is_unknown && name == "help" => Some((
+            "use `kalah {} --help`",
+            next.as_str(),
+        )),
+        _ if is_unknown => tip_for_name(name),
+        _ if WITH_LINE.contains(&name) && has_parts(rest) => Some((QUOTES, name)),
+        [.., last] if text.contains("unexpected argument") => tip_for_excess(name, last.as_str()),
+        _ => None,
     };
     tip.or(tip_for_text(text, name))
 }

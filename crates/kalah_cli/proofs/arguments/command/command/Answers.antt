@@ -1,10 +1,7 @@
-use Rattle.std.proofs.{lemmas.Grind.{common_steps}, Common.{◌∙◌, ap, arith, fold, take_all}}
+use Rattle.std.proofs.Common.{◌∙◌, ap, arith, fold, take_all}
 use Rattle.kalah_cli.specs.{program_app, with_listed}
 use Rattle.kalah_cli.proofs.CommandLemmas.{subcommand_added}
 use Rattle.kalah_cli.proofs.arguments.command.command.Goals as goal
-
-pub loop-subcommand-init : goal.loop-subcommand-init
-loop-subcommand-init c = grind (arith, common_steps)
 
 pub loop-subcommand-preserved : goal.loop-subcommand-preserved
 loop-subcommand-preserved c =

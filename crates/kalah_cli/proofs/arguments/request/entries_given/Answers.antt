@@ -1,7 +1,6 @@
-use Rattle.std.proofs.Common.{IfSome, arith, codes, subst, sym}
+use Rattle.std.proofs.Common.{arith, codes}
 use Rattle.clap.specs.Words.{found_of, one_of}
 use Rattle.kalah_solve.specs.Table.Entries.{most_entries}
-use Rattle.kalah_run.specs.Limits.{IsTableSize}
 use Rattle.kalah_cli.specs.{rows_in}
 use Rattle.kalah_cli.proofs.RequestLemmas.{in_range, number_read}
 use Rattle.kalah_cli.proofs.arguments.request.entries_given.Goals as goal
@@ -11,5 +10,5 @@ returns-clause-given c = number_read 32 1 most_entries (found_of c.args.matches.
     c.get_one.ensures.none c.get_one.ensures.value (omega arith) c.requires
 
 pub returns-clause-range : goal.returns-clause-range
-returns-clause-range c = subst (λ o. IfSome o IsTableSize) (sym (returns-clause-given c))
+returns-clause-range c = rw (returns-clause-given c)
     (in_range 1 most_entries (one_of (codes "table") (rows_in c.args.matches.now)) c.requires)

@@ -1,5 +1,5 @@
 -- The rules of the subcommand of this name say what its rows have: LINE and DEPTH, once each, and numbers that are in range.
-use Rattle.std.proofs.Common.{◌≤◌, ◌∙◌, IfSome, Some, ap, arith, codes, is_some, option_map, refl, subst, sym}
+use Rattle.std.proofs.Common.{◌∙◌, ap, arith, codes, is_some, option_map, refl, sym}
 use Rattle.clap.specs.Words.{one_of}
 use Rattle.kalah_rules.specs.Limits.{most_depth}
 use Rattle.kalah_cli.proofs.{RequestLemmas.{byte_ranged, in_range, may_have_number, value_given}, arguments.request.requested.Goals.{in-count, in-moves, in-play, in-show}}
@@ -42,9 +42,8 @@ returns-clause-range c = elim c.match-name.branch [
   | in-play w ↦ rw w.command-is w.table_entries.ensures.range
   | in-show w ↦ rw w.command-is w.table_entries-in-show.ensures.range
   | in-count w ↦
-      let depth : IfSome (Some w.unwrap.result) (λ n. (0 ≤ n) × (n ≤ most_depth)) =
-      subst (λ o. IfSome o (λ n. (0 ≤ n) × (n ≤ most_depth))) (sym w.byte_given-in-count.ensures ∙ w.unwrap.ensures)
-      (in_range 0 most_depth (one_of (codes "depth") (rows_in c.args.matches.now))
+      let depth = rw (sym w.byte_given-in-count.ensures ∙ w.unwrap.ensures)
+      at (in_range 0 most_depth (one_of (codes "depth") (rows_in c.args.matches.now))
       (may_have_number (codes "depth") (rw w.in-count.is at c.requires) refl refl)) in
       rw w.command-is depth.1
 ]

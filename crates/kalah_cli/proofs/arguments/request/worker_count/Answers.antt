@@ -1,4 +1,4 @@
-use Rattle.std.proofs.Common.{◌∙◌, ap, arith, codes, subst, sym, unwrap_or}
+use Rattle.std.proofs.Common.{◌∙◌, ap, arith, codes, unwrap_or}
 use Rattle.clap.specs.Words.{found_of, one_of}
 use Rattle.kalah_run.specs.Limits.{IsWorkerCount, most_workers}
 use Rattle.kalah_cli.specs.{default_workers, number_given, rows_in}
@@ -13,6 +13,5 @@ returns-clause-number c = c.unwrap_or.ensures ∙ ap (λ o. unwrap_or o default_
 pub returns-clause-range : goal.returns-clause-range
 returns-clause-range c =
     let rows = rows_in c.args.matches.now in
-    subst IsWorkerCount (sym (returns-clause-number c))
-    (or_default IsWorkerCount (number_given (codes "workers") rows) default_workers
+    rw (returns-clause-number c) (or_default IsWorkerCount (number_given (codes "workers") rows) default_workers
     (in_range 1 most_workers (one_of (codes "workers") rows) c.requires) (omega arith, omega arith))

@@ -1,10 +1,9 @@
 -- After i moves their lines were given, and the total is the sum of their ways: at most 6 ^ 19 for each, so that no sum wraps.
-use Rattle.std.proofs.{Common.{◌≡◌, ◌<◌, ◌≤◌, ◌+◌, ◌-◌, ◌^◌, ◌∙◌, ℕ, List, add-one, ap, arith, get_or, length, subst, suc, sym, take, Contains, sum_by, take_all}, lemmas.List.{Elements.{Contains-get_or}, Sums.{sum_by_more}}, Math.Nat.{le_trans, pow-le-pow_right}}
+use Rattle.std.proofs.{Common.{◌≡◌, ◌<◌, ◌≤◌, ◌+◌, ◌-◌, ◌^◌, ◌∙◌, ℕ, List, add-one, ap, arith, length, suc, sym, take, sum_by, take_all}, lemmas.List.{Elements.{Contains-get_or}, Sums.{sum_by_more}}, Math.Nat.{le_trans, pow-le-pow_right}}
 use Rattle.kalah_rules.specs.{Limits.{most_depth, most_houses}, Play.{legal_houses}, Position.{Position}, Ways.{ways, ways_by}}
 use Rattle.kalah_rules.proofs.WaysLemmas.{legal_few, ways-suc}
 use Rattle.kalah_solve.proofs.SolverLemmas.{house_small}
-use Rattle.kalah_jobs.specs.Writing.{Counts.{ways_line}, Sink.{WasGiven}}
-use Rattle.kalah_cli.specs.{house_line, ways_lines}
+use Rattle.kalah_cli.specs.{house_line}
 use Rattle.kalah_jobs.proofs.SinkLemmas.{given_all, given_all_after_failure, given_then_flush, given_more}
 use Rattle.kalah_cli.proofs.commands.count.write_ways_by_house.Goals as goal
 
@@ -12,8 +11,7 @@ use Rattle.kalah_cli.proofs.commands.count.write_ways_by_house.Goals as goal
 all_counted : {depth total : ℕ} {moves : List ℕ} (p : Position) (n : ℕ) → depth ≡ n + 1 → moves ≡ legal_houses p → (i : ℕ)
     → length moves ≤ i → total ≡ sum_by (ways_by n p) (take i moves) → total ≡ ways depth p
 all_counted {moves = moves} p n more same i complete sum =
-    sum ∙ ap (sum_by (ways_by n p)) (take_all i moves complete ∙ same) ∙ sym (ways-suc n p)
-    ∙ ap (λ depth. ways depth p) (sym (more ∙ add-one n))
+    rw (sum, take_all i moves complete, same, more, add-one n, ways-suc n p)
 
 -- at most 6 ^ 19 ways begin with a house, so the sum of six fits sixty-four bits
 few_ways : (n depth : ℕ) → n ≤ most_houses ^ (depth - 1) → depth ≤ most_depth → n ≤ 6 ^ 19
@@ -27,24 +25,20 @@ loop-i-preserved g c =
     let i = c.loop-i.i in
     let house = c.get-house.result in
     let within : i < length moves = omega (arith, c.loop-i-test.true, c.len-i-end.ensures) in
-    let line = subst (λ n. WasGiven g.O.Sink.state c.loop-i.out c.flush_unless_failed.new.out (ways_line house n))
-    c.ways_by-ways.ensures.ways (given_then_flush _ c.write_ways.ensures c.flush_unless_failed.ensures.given) in
+    let line = rw c.ways_by-ways.ensures.ways at (given_then_flush _ c.write_ways.ensures c.flush_unless_failed.ensures.given) in
     let few = few_ways c.ways_by-ways.result c.args.depth c.ways_by-ways.ensures.small c.requires in
     record {
       same = c.loop-i.invariant.same;
-      sum = ap (λ n. c.loop-i.total + n) (c.ways_by-ways.ensures.ways ∙ ap ways_with c.get-house.ensures)
-          ∙ ap (λ n. n + ways_with (get_or moves i 0)) c.loop-i.invariant.sum ∙ sym (sum_by_more ways_with moves i 0 within);
+      sum = rw (c.ways_by-ways.ensures.ways, c.get-house.ensures, c.loop-i.invariant.sum) (sym (sum_by_more ways_with moves i 0 within));
       few = omega (arith, c.loop-i.invariant.few, few);
       given = given_more _ line_of c.loop-i.invariant.same i _ _ c.loop-i.invariant.given _ house within c.get-house.ensures line;
     }
 
 pub write_ways-requires : goal.write_ways-requires
 write_ways-requires g c =
-    let moves = c.legal-moves.result in
-    let contained : Contains moves c.get-house.result = subst (Contains moves) (sym c.get-house.ensures)
-    (Contains-get_or moves c.loop-i.i 0 (omega (arith, c.loop-i-test.true, c.len-i-end.ensures))) in
     house_small c.args.board.now c.get-house.result c.legal-moves.ensures.limits
-    (subst (λ xs. Contains xs c.get-house.result) c.loop-i.invariant.same contained)
+    (rw (← c.loop-i.invariant.same, c.get-house.ensures)
+    (Contains-get_or c.legal-moves.result c.loop-i.i 0 (omega (arith, c.loop-i-test.true, c.len-i-end.ensures))))
 
 pub overflow_add-total : goal.overflow_add-total
 overflow_add-total g c =
@@ -63,8 +57,7 @@ overflow_add-total g c =
 pub returns-then-failed-clause-given : goal.returns-then-failed-clause-given
 returns-then-failed-clause-given g c =
     let positive : c.args.depth ≡ suc (c.args.depth - 1) = omega arith in
-    subst (λ depth. WasGiven g.O.Sink.state c.args.out.now c.loop-i.out (ways_lines depth c.args.board.now)) (sym positive)
-    (given_all_after_failure _ (house_line (c.args.depth - 1) c.args.board.now) c.loop-i.invariant.same c.loop-i.i _ _
+    rw positive (given_all_after_failure _ (house_line (c.args.depth - 1) c.args.board.now) c.loop-i.invariant.same c.loop-i.i _ _
     c.loop-i.invariant.given (sym c.failed.ensures ∙ c.if-failed.true))
 
 pub returns-clause-total : goal.returns-clause-total
@@ -75,6 +68,5 @@ returns-clause-total g c sound =
 pub returns-clause-given : goal.returns-clause-given
 returns-clause-given g c =
     let positive : c.args.depth ≡ suc (c.args.depth - 1) = omega arith in
-    subst (λ depth. WasGiven g.O.Sink.state c.args.out.now c.loop-i.out (ways_lines depth c.args.board.now)) (sym positive)
-    (given_all _ (house_line (c.args.depth - 1) c.args.board.now) c.loop-i.invariant.same c.loop-i.i _ _ c.loop-i.invariant.given
+    rw positive (given_all _ (house_line (c.args.depth - 1) c.args.board.now) c.loop-i.invariant.same c.loop-i.i _ _ c.loop-i.invariant.given
     (omega (arith, c.loop-i-test.false, c.len-i-end.ensures)))

@@ -1,8 +1,6 @@
 -- The files are those of the names, so a batch answers their lines; its tally says whether one has a fault.
-use Rattle.std.proofs.{Common.{◌≡◌, false, map, refl}, lemmas.Bool.{false_from_ne_true}}
-use Rattle.std.specs.List.{list_any}
-use Rattle.kalah_cli.specs.{AreFilesOf, has_line_feed}
-use Rattle.kalah_cli.proofs.EndsLemmas.{files_answered, files_refused, statuses_differ}
+use Rattle.std.proofs.{Common.{refl}, lemmas.Bool.{false_from_ne_true}}
+use Rattle.kalah_cli.proofs.EndsLemmas.{files_answered, files_failed, files_refused, statuses_differ}
 use Rattle.kalah_cli.proofs.commands.files.run_files.Goals as goal
 
 pub returns-in-Err : goal.returns-in-Err
@@ -10,17 +8,19 @@ returns-in-Err g c = files_refused _ refl c.requires.sink
 
 pub returns-in-Ok-answered : goal.returns-in-Ok-answered
 returns-in-Ok-answered g c =
-    let read : AreFilesOf (g.R.Sources.may_give c.args.rt.now) (map (λ name. name.now) c.args.request.now.files.items)
-    c.as_slice-files.result.now = rw c.as_slice-files.ensures.value (rw c.as_slice.ensures.value at c.in-Ok.ensures.files) in
-    let none : list_any has_line_feed (map (λ name. name.now) c.args.request.now.files.items) ≡ false =
-    false_from_ne_true _ (λ found. cc ((rw c.as_slice.ensures.value at c.in-Ok.ensures.line_feed).1 found)) in
-    files_answered _ _ read c.in-Ok-answered.ensures.answers none statuses_differ.0 ((λ _. c.if-tally-eq0.true), (λ _. refl))
+    files_answered _ c.as_slice-files.result.now (rw c.as_slice-files.ensures.value (rw c.as_slice.ensures.value at c.in-Ok.ensures.files))
+    c.in-Ok-answered.ensures.answers
+    (false_from_ne_true _ (λ found. cc ((rw c.as_slice.ensures.value at c.in-Ok.ensures.line_feed).1 found)))
+    statuses_differ.0 ((λ _. c.if-tally-eq0.true), (λ _. refl))
 
 pub returns-in-Ok-2 : goal.returns-in-Ok-2
 returns-in-Ok-2 g c =
-    let read : AreFilesOf (g.R.Sources.may_give c.args.rt.now) (map (λ name. name.now) c.args.request.now.files.items)
-    c.as_slice-files.result.now = rw c.as_slice-files.ensures.value (rw c.as_slice.ensures.value at c.in-Ok.ensures.files) in
-    let none : list_any has_line_feed (map (λ name. name.now) c.args.request.now.files.items) ≡ false =
-    false_from_ne_true _ (λ found. cc ((rw c.as_slice.ensures.value at c.in-Ok.ensures.line_feed).1 found)) in
-    files_answered _ _ read c.in-Ok-answered.ensures.answers none
+    files_answered _ c.as_slice-files.result.now (rw c.as_slice-files.ensures.value (rw c.as_slice.ensures.value at c.in-Ok.ensures.files))
+    c.in-Ok-answered.ensures.answers
+    (false_from_ne_true _ (λ found. cc ((rw c.as_slice.ensures.value at c.in-Ok.ensures.line_feed).1 found)))
     statuses_differ.1 ((λ clean. absurd (statuses_differ.2 clean)), (λ none. absurd (c.if-tally-eq0.false none)))
+
+pub returns : goal.returns
+returns g c =
+    files_failed _ c.as_slice-files.result.now (rw c.as_slice-files.ensures.value (rw c.as_slice.ensures.value at c.in-Ok.ensures.files)) _
+    c.in-Err-answered.ensures.answers refl c.requires.sink

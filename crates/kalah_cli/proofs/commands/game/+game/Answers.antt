@@ -1,10 +1,8 @@
 -- A game's text is that of its next move, and then that of the game from the position after it, from which fewer moves are left.
-use Rattle.std.proofs.Common.{◌<◌, ◌∙◌, [], ap, arith, subst, sym}
+use Rattle.std.proofs.Common.{◌<◌, ◌∙◌, ap, arith}
 use Rattle.kalah_rules.specs.Measure.{moves_left}
 use Rattle.kalah_solve.proofs.WorthLemmas.{board_equal_sides}
-use Rattle.kalah_jobs.specs.Writing.Sink.{WasGiven}
 use Rattle.kalah_jobs.proofs.SinkLemmas.{given_then}
-use Rattle.kalah_cli.specs.{move_text}
 use Rattle.kalah_cli.proofs.{GameLemmas.{fewer_left, text_goes_on}, GameSolverLemmas.{reached_after_flush, next_is_reached}}
 use Rattle.kalah_cli.proofs.commands.game.+game.Goals as goal
 
@@ -17,8 +15,7 @@ write_game-requires g t c κs within =
     let step = c.apply-step.ensures.step in
     let equal = board_equal_sides c.args.board.now c.apply-step.ensures.limits in
     let fewer : moves_left c.board.result.now < moves_left c.args.board.now =
-    subst (λ q. moves_left q < moves_left c.args.board.now) (sym c.board.ensures)
-    (fewer_left c.apply-step.result equal next.legal step) in (
+    rw c.board.ensures (fewer_left c.apply-step.result equal next.legal step) in (
       omega (arith, fewer),
       (
         within,
@@ -41,9 +38,7 @@ returns-clause-printed g t c =
     let text = text_goes_on c.in-Some.ensures.some c.apply-step.ensures.step equal same_form same_form
     c.board.ensures in
     record {
-      given = subst (WasGiven g.O.Sink.state c.args.out.now c.write_game.new.out) (sym text)
-          (given_then _ c.next_move.ensures.flushed
-          (given_then _
-          c.write_in_form.ensures c.write_game.ensures.printed.given));
+      given = rw text
+          (given_then _ c.next_move.ensures.flushed (given_then _ c.write_in_form.ensures c.write_game.ensures.printed.given));
       all_flushed = c.write_game.ensures.printed.all_flushed;
     }

@@ -1,6 +1,5 @@
 -- A flush gives nothing, so the position is still reached and may be solved. The verdict has the next move, or no move is left.
-use Rattle.std.proofs.Common.{◌∙◌, [], sym, subst}
-use Rattle.kalah_jobs.specs.Writing.Sink.{WasGiven}
+use Rattle.std.proofs.Common.{◌∙◌, sym}
 use Rattle.kalah_jobs.proofs.SinkLemmas.{given_more_after_failure}
 use Rattle.kalah_cli.proofs.{GameLemmas.{next_of_verdict, no_text}, GameSolverLemmas.{reached_after_flush}}
 use Rattle.kalah_cli.proofs.commands.game.next_move.Goals as goal
@@ -16,8 +15,7 @@ returns-then-failed-clause-none g c = record {
 
 pub returns-in-Over-clause-none : goal.returns-in-Over-clause-none
 returns-in-Over-clause-none g c = record {
-  given = subst (WasGiven g.O.Sink.state c.args.out.now c.flush_unless_failed.new.out)
-      (sym (no_text _ c.args.first c.args.board.now c.requires.begins c.in-Over.ensures.best_play.over))
+  given = rw (no_text _ c.args.first c.args.board.now c.requires.begins c.in-Over.ensures.best_play.over)
       c.flush_unless_failed.ensures.given;
   all_flushed = c.flush_unless_failed.ensures.all_flushed;
 }

@@ -1,7 +1,6 @@
 -- After i moves their lines were given, in order.
-use Rattle.std.proofs.Common.{ℕ, List, None, arith, subst}
+use Rattle.std.proofs.Common.{ℕ, List, None, arith}
 use Rattle.kalah_rules.specs.Play.{step_of}
-use Rattle.kalah_jobs.specs.Writing.Sink.{WasGiven}
 use Rattle.kalah_jobs.proofs.SinkLemmas.{given_all, given_more}
 use Rattle.kalah_cli.specs.{move_lines}
 use Rattle.kalah_cli.proofs.EndsLemmas.{printed_flushed}
@@ -10,8 +9,7 @@ use Rattle.kalah_cli.proofs.commands.moves.write_moves.Goals as goal
 pub loop-i-preserved : goal.loop-i-preserved
 loop-i-preserved g c =
     let lines_of : ℕ → List ℕ = λ h. move_lines c.args.boards None h (step_of c.args.board.now h) in
-    let line = subst (λ s. WasGiven g.O.Sink.state c.loop-i.out c.write_move.new.out
-    (move_lines c.args.boards None c.get-house.result s)) c.apply.ensures.step c.write_move.ensures in
+    let line = rw c.apply.ensures.step at c.write_move.ensures in
     record {
       same = c.loop-i.invariant.same;
       given = given_more _ lines_of c.loop-i.invariant.same c.loop-i.i _ _ c.loop-i.invariant.given _ c.get-house.result

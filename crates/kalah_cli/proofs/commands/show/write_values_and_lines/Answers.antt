@@ -7,21 +7,15 @@ use Rattle.kalah_cli.specs.{IsPrinted, lines_asked, show_output}
 use Rattle.kalah_cli.proofs.{EndsLemmas.{printed_flushed}, GameSolverLemmas.{variations_begin}, commands.show.write_values_and_lines.Goals.{else-lines, then-lines}}
 use Rattle.kalah_cli.proofs.commands.show.write_values_and_lines.Goals as goal
 
--- the picture, and the line below it
-shown_parts : (p : Position) → shown_of p ≡ picture_of p ++ (values_line p ++ line_feed ∷ [])
-unfolding shown_of
-shown_parts p = refl
-
 -- the output is the picture, the line below it, and the lines after that
 output_parts : (lines : Bool) (p : Position)
     → show_output false lines p ≡ picture_of p ++ ((values_line p ++ line_feed ∷ []) ++ lines_asked lines p)
-output_parts lines p =
-    ap (λ text. text ++ lines_asked lines p) (shown_parts p)
-    ∙ append_assoc (picture_of p) (values_line p ++ line_feed ∷ []) (lines_asked lines p)
+unfolding shown_of
+output_parts lines p = append_assoc (picture_of p) (values_line p ++ line_feed ∷ []) (lines_asked lines p)
 
 pub returns-then-failed : goal.returns-then-failed
 returns-then-failed g c = record {
-  given = subst (WasGiven g.O.Sink.state c.args.out.now c.write_plain.new.out) (sym (output_parts c.args.lines c.args.board.now))
+  given = rw (output_parts c.args.lines c.args.board.now)
       (given_more_after_failure _ _ c.write_plain.ensures.given (sym c.failed.ensures ∙ c.if-failed.true));
   all_flushed = c.write_plain.ensures.all_flushed;
 }
@@ -33,17 +27,14 @@ returns g c =
       | then-lines w ↦ rw (w.out-is, w.if-lines.true) w.write_variations.ensures
       | else-lines w ↦ rw (w.out-is, w.if-lines.false) (given_none _ _)
     ] in
-    subst (IsPrinted g.O.Sink.state c.args.out.now c.flush_unless_failed.new.out)
-    (sym (output_parts c.args.lines c.args.board.now))
-    (printed_flushed _ (given_then _ c.write_plain.ensures.given
-    (given_then _ c.write_values.ensures lines))
+    rw (output_parts c.args.lines c.args.board.now)
+    (printed_flushed _ (given_then _ c.write_plain.ensures.given (given_then _ c.write_values.ensures lines))
     c.flush_unless_failed.ensures.given c.flush_unless_failed.ensures.all_flushed)
 
 -- the picture is drawn before the search
 pub values-values-requires-clause-shown : goal.values-values-requires-clause-shown
 values-values-requires-clause-shown g c =
-    subst (λ o. WasGiven g.O.Sink.state o c.write_plain.new.out (picture_of c.args.board.now))
-    (sym (ap (λ game. game.sink) c.requires)) c.write_plain.ensures.given
+    rw (ap (λ game. game.sink) c.requires) c.write_plain.ensures.given
 
 -- the variations are written below the line of values
 pub write_variations-requires-clause-shown : goal.write_variations-requires-clause-shown
