@@ -20,13 +20,12 @@ stays_plain app [] plain = plain
 stays_plain app (a ∷ rest) plain = stays_plain (with_argument app a) rest plain
 
 -- one subcommand more
-pub subcommand_added : {X : Type 0} (described : X → Subcommand) (start : App) (xs : List X) (i : ℕ) (x : X) {made old new : Command}
-    → i < length xs → app_of made ≡ subcommand_app (described (get_or xs i x))
-    → app_of old ≡ fold (λ app x. with_listed app (described x)) start (take i xs) → AddsSubcommand old made new
-    → app_of new ≡ fold (λ app x. with_listed app (described x)) start (take (i + 1) xs)
-subcommand_added described start xs i x {made} within made_is so_far adds =
-    let s = described (get_or xs i x) in
-    let plain = ap (λ a. a.top.is_plain) made_is ∙ stays_plain (new_app s.name.now) s.arguments.now refl in
+pub subcommand_added : (start : App) (subs : List Subcommand) (i : ℕ) (s : Subcommand) {made old new : Command} → i < length subs
+    → app_of made ≡ subcommand_app (get_or subs i s) → app_of old ≡ fold with_listed start (take i subs) → AddsSubcommand old made new
+    → app_of new ≡ fold with_listed start (take (i + 1) subs)
+subcommand_added start subs i s {made} within made_is so_far adds =
+    let sub = get_or subs i s in
+    let plain = ap (λ a. a.top.is_plain) made_is ∙ stays_plain (new_app sub.name.now) sub.arguments.now refl in
     adds.shape (plain_fields made plain).globals
     ∙ (λ j. with_subcommand (so_far j) (made_is j).top)
-    ∙ sym (fold_more (λ app x. with_listed app (described x)) start xs i x within)
+    ∙ sym (fold_more with_listed start subs i s within)

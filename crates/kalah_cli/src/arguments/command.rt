@@ -1,7 +1,7 @@
 //! The command line of the program.
-ghost use Rattle.std.specs.Prelude.{◌≡◌, IfOk};
+ghost use Rattle.std.specs.Prelude.{◌≡◌, IfOk, fold};
 ghost use Rattle.clap.specs.Words.{app_of};
-ghost use Rattle.kalah_cli.specs.Arguments.Command.{IsReadBy, argument_rule, kalah_app, program_app, subcommand_app};
+ghost use Rattle.kalah_cli.specs.Arguments.Command.{IsReadBy, argument_rule, kalah_app, program_app, subcommand_app, with_listed};
 
 use crate::arguments::help;
 use crate::arguments::subcommands::{Argument, ArgumentKind, SUBCOMMANDS, Subcommand};
@@ -50,19 +50,23 @@ fn clap_subcommand<'a>(alloc: Global, subcommand: &Subcommand) -> Result<Command
     Ok(command)
 }
 
-// Returns the program with no subcommand yet.
-fn program<'a>(alloc: Global) -> Command<'a>
-    ensures { app_of result ≡ program_app }
+// Returns the program with these subcommands.
+fn program_with<'a>(alloc: Global, subcommands: &[Subcommand]) -> Result<Command<'a>, AllocError>
+    ensures { IfOk result (λ c. app_of c ≡ fold with_listed program_app subcommands.now) }
 {
     // If the version is asked for, `end_without_request` writes it.
-    Command::new(alloc, "kalah")
+    let mut command = Command::new(alloc, "kalah")
         .about("Solve small positions of Kalah: the best house and the margin of best play")
         .long_about(help::ABOUT)
         .version(help::VERSION_LINE)
         .after_help(help::SHORT)
         .after_long_help(help::LONG)
         .subcommand_required(true)
-        .disable_help_subcommand(true)
+        .disable_help_subcommand(true);
+    for subcommand in subcommands {
+        command = command.subcommand(clap_subcommand(alloc, subcommand)?)?;
+    }
+    Ok(command)
 }
 
 /// Returns the command line of the program: it asks for one of `SUBCOMMANDS`, or for help or the version. It is complete: nothing is
@@ -70,9 +74,5 @@ fn program<'a>(alloc: Global) -> Command<'a>
 pub fn command<'a>(alloc: Global) -> Result<Command<'a>, AllocError>
     ensures { IfOk result (λ c. app_of c ≡ kalah_app) }
 {
-    let mut command = program(alloc);
-    for subcommand in SUBCOMMANDS {
-        command = command.subcommand(clap_subcommand(alloc, subcommand)?)?;
-    }
-    Ok(command)
+    program_with(alloc, SUBCOMMANDS)
 }

@@ -134,99 +134,90 @@ const LINE: Argument = positional_text!(
     "Position in quotes, such as '1,1/0 1,1/0'"
 );
 
-/// The subcommands, in the order of the program's help.
-pub(crate) const SUBCOMMANDS: &[&Subcommand] = &[
-    SOLVE, VALUES, SHOW, PLAY, MOVES, ASK, STEPS, COUNT,
-];
-
-const SOLVE: &Subcommand = &Subcommand {
-    name: "solve",
-    about: "Print the best house and the margin of best play of each position",
-    long_help: help::LONG_OF_SOLVE,
-    arguments: &[WORKERS, TABLE, PROGRESS, FILES],
-};
-
-const VALUES: &Subcommand = &Subcommand {
-    name: "values",
-    about: "Print what each move of each position is worth",
-    long_help: help::LONG_OF_VALUES,
-    arguments: &[WORKERS, TABLE, PROGRESS, FILES],
-};
-
-const SHOW: &Subcommand = &Subcommand {
-    name: "show",
-    about: "Draw a position, and below each house what its move is worth",
-    long_help: help::LONG_OF_SHOW,
-    arguments: &[
-        flag!("plain", "Draw the position alone, and search nothing"),
-        flag!(
-            "lines",
-            "Print the best play after each move, the best move first"
-        ),
-        TABLE,
-        LINE,
-    ],
-};
-
 const HELP_OF_FIRST: &str = "Begin with house H, 1 to 6, and go on with best play";
 
-const PLAY: &Subcommand = &Subcommand {
-    name: "play",
-    about: "Print the game that best play leads to from a position, move by move",
-    long_help: help::LONG_OF_PLAY,
-    arguments: &[
-        TABLE,
-        BOARDS,
-        flag!(
-            "values",
-            "Print with each move the value of the position it was made in"
-        ),
-        number_option!("first", "H", MOST_HOUSES, HELP_OF_FIRST, HELP_OF_FIRST),
-        LINE,
-    ],
-};
-
-const MOVES: &Subcommand = &Subcommand {
-    name: "moves",
-    about: "Print each legal move of a position, and the position after it",
-    long_help: help::LONG_OF_MOVES,
-    arguments: &[BOARDS, LINE],
-};
-
-const ASK: &Subcommand = &Subcommand {
-    name: "ask",
-    about: "Answer each line of standard input before reading the next",
-    long_help: help::LONG_OF_ASK,
-    arguments: &[
-        flag!("values", "Print what each move is worth, as `values`"),
-        flag!(
-            "steps",
-            "Print each legal move, as `steps`, with `; ` between any two"
-        ),
-        table_option!(""),
-    ],
-};
-
-const STEPS: &Subcommand = &Subcommand {
-    name: "steps",
-    about: "Print each legal move of each position, and what it leads to",
-    long_help: help::LONG_OF_STEPS,
-    arguments: &[WORKERS, PROGRESS, FILES],
-};
-
-const COUNT: &Subcommand = &Subcommand {
-    name: "count",
-    about: "Count the ways to play on from a position, for each first move",
-    long_help: help::LONG_OF_COUNT,
-    arguments: &[
-        Argument {
-            name: "depth",
-            help: "How many moves each way has, 0 to 20",
-            kind: ArgumentKind::PositionalNumber {
-                value_name: "DEPTH",
-                most: MOST_DEPTH as u64,
+/// The subcommands, in the order of the program's help.
+pub(crate) const SUBCOMMANDS: &[Subcommand] = &[
+    Subcommand {
+        name: "solve",
+        about: "Print the best house and the margin of best play of each position",
+        long_help: help::LONG_OF_SOLVE,
+        arguments: &[WORKERS, TABLE, PROGRESS, FILES],
+    },
+    Subcommand {
+        name: "values",
+        about: "Print what each move of each position is worth",
+        long_help: help::LONG_OF_VALUES,
+        arguments: &[WORKERS, TABLE, PROGRESS, FILES],
+    },
+    Subcommand {
+        name: "show",
+        about: "Draw a position, and below each house what its move is worth",
+        long_help: help::LONG_OF_SHOW,
+        arguments: &[
+            flag!("plain", "Draw the position alone, and search nothing"),
+            flag!(
+                "lines",
+                "Print the best play after each move, the best move first"
+            ),
+            TABLE,
+            LINE,
+        ],
+    },
+    Subcommand {
+        name: "play",
+        about: "Print the game that best play leads to from a position, move by move",
+        long_help: help::LONG_OF_PLAY,
+        arguments: &[
+            TABLE,
+            BOARDS,
+            flag!(
+                "values",
+                "Print with each move the value of the position it was made in"
+            ),
+            number_option!("first", "H", MOST_HOUSES, HELP_OF_FIRST, HELP_OF_FIRST),
+            LINE,
+        ],
+    },
+    Subcommand {
+        name: "moves",
+        about: "Print each legal move of a position, and the position after it",
+        long_help: help::LONG_OF_MOVES,
+        arguments: &[BOARDS, LINE],
+    },
+    Subcommand {
+        name: "ask",
+        about: "Answer each line of standard input before reading the next",
+        long_help: help::LONG_OF_ASK,
+        arguments: &[
+            flag!("values", "Print what each move is worth, as `values`"),
+            flag!(
+                "steps",
+                "Print each legal move, as `steps`, with `; ` between any two"
+            ),
+            table_option!(""),
+        ],
+    },
+    Subcommand {
+        name: "steps",
+        about: "Print each legal move of each position, and what it leads to",
+        long_help: help::LONG_OF_STEPS,
+        arguments: &[WORKERS, PROGRESS, FILES],
+    },
+    Subcommand {
+        name: "count",
+        about: "Count the ways to play on from a position, for each first move",
+        long_help: help::LONG_OF_COUNT,
+        arguments: &[
+            Argument {
+                name: "depth",
+                help: "How many moves each way has, 0 to 20",
+                kind: ArgumentKind::PositionalNumber {
+                    value_name: "DEPTH",
+                    most: MOST_DEPTH as u64,
+                },
             },
-        },
-        LINE,
-    ],
-};
+            LINE,
+        ],
+    },
+];

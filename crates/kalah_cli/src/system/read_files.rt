@@ -74,26 +74,20 @@ pub(crate) fn read_limited<F: Read>(
     Ok(Err(ReadFault::TooLong))
 }
 
-// Returns the file of this name, read whole, or why it was not read. A file of more than 67,108,864 bytes can't be read.
+// Returns all bytes of the file of this name, or why it was not read. A file of more than 67,108,864 bytes can't be read.
 #[tactic(auto, using(crate::proofs::EndsLemmas::read_whole))]
 fn read_file<R: Sources>(
     rt: &R,
     alloc: Global,
     name: &str,
-) -> Result<Result<FileText, ReadFault>, AllocError>
-    ensures { IfOk result (λ read. IfOk read (λ file. (file.name ≡ name.now)
-        × R.may_give rt.now (file_named name.now) file.bytes × (length file.bytes ≤ most_file_bytes))) }
+) -> Result<Result<Vec<u8>, ReadFault>, AllocError>
+    ensures { IfOk result (λ read. IfOk read (λ bytes.
+        R.may_give rt.now (file_named name.now) bytes.items × (length bytes.items ≤ most_file_bytes))) }
 {
-    let mut file = match rt.open(name) {
-        Ok(file) => file,
-        Err(error) => return Ok(Err(fault_of(&error))),
-    };
-    let bytes = match read_limited(alloc, &mut file, MOST_FILE_BYTES)? {
-        Ok(bytes) => bytes,
-        Err(fault) => return Ok(Err(fault)),
-    };
-    let name = String::from_str(alloc, name)?;
-    Ok(Ok(FileText { name, bytes }))
+    match rt.open(name) {
+        Ok(mut file) => read_limited(alloc, &mut file, MOST_FILE_BYTES),
+        Err(error) => Ok(Err(fault_of(&error))),
+    }
 }
 
 /// Returns the files of these names, in order, each read whole. Fails at the first that can't be read, or with `OutOfMemory` if memory
@@ -110,8 +104,11 @@ pub(crate) fn read_files<'a, R: Sources>(
     let mut files = Vec::new(alloc);
     for name in names {
         match read_file(rt, alloc, *name) {
-            Ok(Ok(file)) => {
-                if files.push(file).is_err() {
+            Ok(Ok(bytes)) => {
+                let Ok(name) = String::from_str(alloc, *name) else {
+                    return Err(Failure::Run(RunFault::OutOfMemory));
+                };
+                if files.push(FileText { name, bytes }).is_err() {
                     return Err(Failure::Run(RunFault::OutOfMemory));
                 }
             }

@@ -1,8 +1,0 @@
-use Rattle.std.proofs.Common.{◌≡◌, take, fold}
-use Rattle.clap.specs.Words.{app_of}
-use Rattle.kalah_cli.specs.{program_app, with_listed}
-use Rattle.kalah_cli.proofs.arguments.command.command.Given as goal
-
-abbrev pub invariant-loop-subcommand : goal.invariant-loop-subcommand
-invariant-loop-subcommand l = app_of l.command
-    ≡ fold (λ app s. with_listed app s.now) program_app (take l.subcommand-index l.subcommand-items)
