@@ -1,11 +1,10 @@
 -- Rows as numbers, and what a key determines of its houses.
-use Rattle.std.proofs.{Common.{zero, suc, ◌≡◌, ℕ, ◌+◌, ◌-◌, ◌*◌, ◌/◌, ◌%◌, ◌^◌, ◌<◌, ◌≤◌, inl, inr, List, [], ◌∷◌, ◌++◌, length, get_or, arith, ap, sym, ◌∙◌, refl, add-one, take, drop, replicate, rules, Option, Some, None, length-take-le, length-append, slice_set, sum, nat_lt, if◌then◌else◌, ◌==◌, nat_eq, All, IsSome, IfSome, ◌↔◌, length-set}, lemmas.{Nat.pow-add, Nat.mul-le, List.map_push, List.length-drop, List.length-replicate, List.get_or-replicate, List.take-append-drop, List.Sums.sum_by-cons, List.Sums.sum_by-append, Bool.cases_eq, Grind.same_number_lists, List.Folds.sum_by-replicate, List.Elements.All-replicate}, Math.{Nat.{pow-succ', mul_assoc, div-div-eq-div-mul}, Seq.{take-append_seam, drop-append_seam}}}
+use Rattle.std.proofs.{Common.{zero, suc, ◌≡◌, ℕ, ◌+◌, ◌-◌, ◌*◌, ◌/◌, ◌%◌, ◌^◌, ◌<◌, ◌≤◌, inl, inr, List, [], ◌∷◌, ◌++◌, length, get_or, arith, ap, sym, ◌∙◌, refl, add-one, take, drop, replicate, rules, Option, Some, None, length-take-le, length-append, slice_set, sum, nat_lt, min, if◌then◌else◌, ◌==◌, nat_eq, All, IsSome, IfSome, ◌↔◌, length-set}, lemmas.{Nat.pow-add, Nat.mul-le, List.map_push, List.length-drop, List.length-replicate, List.get_or-replicate, List.take-append-drop, List.Sums.sum_by-cons, List.Sums.sum_by-append, Bool.cases_eq, Grind.same_number_lists, List.Folds.sum_by-replicate, List.Elements.All-replicate}, Math.{Nat.{pow-succ', mul_assoc, div-div-eq-div-mul}, Seq.{take-append_seam, drop-append_seam}}}
 use Rattle.kalah_rules.specs.{seeds, HousesState, AreWithinLimits, seeds_in_houses, storeless, without_seeds, row_of, lap_length, gain, own_distance, other_distance, packed_row, cells, rule_bit, packed_rows, key_of, variant_of, side_in_key, houses_in_key, IsKey, ones, up_to, houses_of_fields, AreFieldsOf, AreFields, AreRowFields, own_gains, other_gains, store_gains, padded, houses_from, CanBeHouses, declared.{rule.Rule.{Rule, TheVariants.{Classic, EmptyCapture}}, houses.numbers.TheConstants.{MOST_LAPS, ONE_EACH}}}
 use Rattle.kalah_rules.proofs.PlayLemmas.{range-suc, length-row_of, same_as_row, row_of_same, seeds-set_same, seeds-set_other, sum-zeros}
 
 -- ==== Rows as numbers: houses read and written, and rows of seeds added
 
--- five bits are a power of 32
 pub pow_five : (k : ℕ) → 2 ^ (5 * k) ≡ 32 ^ k
 pow_five zero = refl
 pow_five (suc k) =
@@ -97,6 +96,10 @@ packed_row-up_to (suc n) x within = elim (cases_eq x (suc n)) [
       packed_row-suc n (up_to x) ∙ rw past (omega arith)
 ]
 
+-- the same by the lower of x and the number of houses
+pub ones_of_least : (x n : ℕ) → ones (min x n) ≡ packed_row (row_of n (up_to x))
+ones_of_least x n = grind (arith, packed_row-up_to, packed_row-all)
+
 -- a row whose house h is emptied
 lifted_row : (xs : List ℕ) (h : ℕ) → 1 ≤ h → h ≤ length xs
     → row_of (length xs) (λ i. if i == h then 0 else seeds xs i) ≡ slice_set xs (h - 1) 0
@@ -142,8 +145,7 @@ module _ (m h c : ℕ) (low : 1 ≤ h) (high : h ≤ m) where
       let gains : ℕ → ℕ = λ i. gain (lap_length m) c (own_distance m h i) in
       let past = up_to (h + c % lap_length m) in
       let round = up_to (h + c % lap_length m - lap_length m) in
-      let each = row_of_same m (λ i. q + past i + round i) (λ i. gains i + up_to h i)
-      (λ i i_low i_high. omega (arith, own_lap)) in
+      let each = row_of_same m (λ i. q + past i + round i) (λ i. gains i + up_to h i) (λ i i_low i_high. omega (arith, own_lap)) in
       let left = packed_row-plus m gains (up_to h) in
       let first = packed_row-plus m (λ i. q) past in
       let second = packed_row-plus m (λ i. q + past i) round in
@@ -168,7 +170,6 @@ module _ (m h c : ℕ) (low : 1 ≤ h) (high : h ≤ m) where
   pub store_gain : store_gains m h c ≡ c / lap_length m + (if nat_lt m (h + c % lap_length m) then 1 else 0)
   store_gain = grind arith
 
--- one seed in each of fewer houses is no larger number
 pub ones_le : (a b : ℕ) → a ≤ b → ones a ≤ ones b
 ones_le a zero fewer = grind arith
 ones_le a (suc b) fewer = elim (cases_eq a (suc b)) [
@@ -216,7 +217,6 @@ padded_from_zeros m cells long high zeros =
     zeros k 0 h ∙ sym (get_or-replicate _ k 0 0 within)) in
     rw (length-take-le m cells (omega arith), ← past) (take-append-drop m _)
 
--- empty houses have the number 0
 packed_row-zeros : (n : ℕ) → packed_row (replicate n 0) ≡ 0
 packed_row-zeros zero = refl
 packed_row-zeros (suc n) = omega (arith, packed_row-zeros n)
@@ -233,10 +233,11 @@ packed_row-shown m cells same = grind (arith, packed_row-append_zeros)
 packed_row-cells : (k : ℕ) → packed_row (cells 6 k) + 2 ^ 30 * (k / 2 ^ 30) ≡ k
 packed_row-cells k = omega arith
 
--- the number of cells that are read
 pub length-cells : (n k : ℕ) → length (cells n k) ≡ n
 length-cells zero k = refl
 length-cells (suc n) k = omega (arith, length-cells n (k / 32))
+
+pub ruleset cells_read = (length-cells)
 
 -- the cells of a row's number are the row, with anything above it
 cells-packed_row : (n : ℕ) (xs : List ℕ) (rest : ℕ) → length xs ≡ n → sum xs ≤ 31
@@ -253,15 +254,12 @@ cells-packed_row (suc n) (x ∷ xs) rest long few =
     let high : (x + 32 * packed_row xs + 32 ^ suc n * rest) / 32 ≡ packed_row xs + 32 ^ n * rest = omega arith in
     rw (low, high) (ap (λ ys. x ∷ ys) (cells-packed_row _ _ _ rest_long rest_few))
 
--- a padded row has six cells
 length-padded : (xs : List ℕ) → length xs ≤ 6 → length (padded xs) ≡ 6
 length-padded xs few = rw (length-append, length-replicate) (omega arith)
 
--- a padded row has the seeds of the row
 sum-padded : (xs : List ℕ) → sum (padded xs) ≡ sum xs
 sum-padded xs = rw (sum_by-append, sum_by-replicate) (omega arith)
 
--- its first cells are the row
 take-padded : (xs : List ℕ) → take (length xs) (padded xs) ≡ xs
 take-padded xs = take-append_seam xs _
 
@@ -286,10 +284,8 @@ packed_row-small (suc n) (x ∷ xs) long few =
     let here = packed_row-small n xs (omega arith) (omega arith) in
     omega arith
 
--- a rule has one bit
 pub rule_bit-small : (r : Rule) → rule_bit r ≤ 1
-rule_bit-small Classic = omega arith
-rule_bit-small EmptyCapture = omega arith
+rule_bit-small r = grind arith
 
 -- the key of houses holds them
 key_holds : {a : HousesState} {k : ℕ} → AreWithinLimits a → key_of a ≡ k → KeyHolds a k
@@ -324,12 +320,8 @@ key_is_key {a} limits key_is =
       few_seeds = omega (arith, sum-padded);
     })
 
--- rules with the same bit are equal
 rule_bit-injective : (r s : Rule) → rule_bit r ≡ rule_bit s → r ≡ s
-rule_bit-injective Classic Classic same = refl
-rule_bit-injective Classic EmptyCapture same = cc
-rule_bit-injective EmptyCapture Classic same = cc
-rule_bit-injective EmptyCapture EmptyCapture same = refl
+rule_bit-injective r s same = grind arith
 
 -- houses with the same parts are the same
 same_houses_in : {a b : HousesState} → a.own ≡ b.own → a.other ≡ b.other → a.rule ≡ b.rule → a ≡ b
@@ -358,9 +350,7 @@ key_of_houses {k} rule is_key bit = search (rules, key_from_parts, packed_row-ce
 
 -- the rule that a key names has the key's bit
 rule_in_key-bit : (bit : ℕ) → bit ≤ 1 → rule_bit (if bit == 0 then Classic else EmptyCapture) ≡ bit
-rule_in_key-bit zero small = refl
-rule_in_key-bit (suc zero) small = refl
-rule_in_key-bit (suc (suc n)) small = omega arith
+rule_in_key-bit bit small = grind arith
 
 -- the houses of a key are those whose key it is
 houses_in_key_of : {a : HousesState} → AreWithinLimits a → houses_in_key (key_of a) ≡ a
@@ -369,7 +359,6 @@ houses_in_key_of {a} limits =
     let bit : key_of a / 2 ^ 63 ≤ 1 = omega (arith, rule_bit-small) in
     houses_of_key limits refl (rule_in_key-bit _ bit)
 
--- a key fits sixty-four bits
 pub key_fits : (b : HousesState) → AreWithinLimits b → key_of b < 2 ^ 64
 key_fits b limits = grind (arith, packed_row-small)
 
@@ -400,12 +389,10 @@ rows_of_fields {a} fields =
     let other_small = packed_row-small 6 a.other (omega (arith, fields.limits.same_side)) (omega (arith, fields.limits.few_seeds)) in
     omega (arith, fields.rows_are)
 
--- a row with the number 0 has no seeds
 pub sum-zero : (xs : List ℕ) → packed_row xs ≡ 0 → sum xs ≡ 0
 sum-zero [] none = refl
 sum-zero (x ∷ xs) none = let rest = sum-zero xs (omega arith) in let cons = sum_by-cons (λ (y : ℕ). y) x xs in omega arith
 
--- a row without seeds has the number 0
 pub packed_row-zero : (xs : List ℕ) → sum xs ≡ 0 → packed_row xs ≡ 0
 packed_row-zero [] none = refl
 packed_row-zero (x ∷ xs) none = let cons = sum_by-cons (λ (y : ℕ). y) x xs in let rest = packed_row-zero xs (omega arith) in omega arith
@@ -443,10 +430,7 @@ pub fields_without_seeds : {a : HousesState} {rows seeds variant : ℕ} → AreF
 fields_without_seeds {a} fields =
     let side = length-replicate {A = ℕ} (length a.own) 0 in
     let none = sum-zeros (length a.own) in
-    are_fields (omega arith)
-    (omega (arith, packed_row-zeros))
-    (omega arith)
-    (omega (arith, fields.variant_is))
+    are_fields (omega arith) (omega (arith, packed_row-zeros)) (omega arith) (omega (arith, fields.variant_is))
 
 -- ==== The houses of one side in one number
 

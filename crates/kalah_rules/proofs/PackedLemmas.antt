@@ -2,7 +2,7 @@
 use Rattle.kalah_rules.specs.declared.step.Step.TheVariants as step
 use Rattle.kalah_rules.specs.Position as position
 use Rattle.std.proofs.{Common.{◌≡◌, ◌≢◌, ℕ, zero, suc, ◌+◌, ◌-◌, ◌*◌, ◌/◌, ◌%◌, ◌^◌, ◌<◌, ◌≤◌, inl, inr, length, arith, ap, sym, ◌∙◌, refl, subst, eq-eqb, List, Bool, true, false, sum, ◌==◌, ◌&&◌, Option, Some, None, MatchBool, Contains, slice_set, bit_and, length-set}, lemmas.{Nat.mod_below, Nat.div-add-mod', Nat.and_block, Nat.and_mask, Nat.and_le_r, Nat.pow_pos, Bool.cases_Bool, Bool.cases_eq, Bool.cases_lt, Bool.and_parts, Bool.cond_both, Bool.eqb-true, Bool.Decides.nat_tests, List.length-replicate, List.get_or-set_same, List.get_or-set_other}, Math.{Nat.{div-eq_of_lt, mod-eq_of_lt, div-div-eq-div-mul}, Bool.{or_comm}}}
-use Rattle.kalah_rules.specs.{Position.Position, HousesState, AreWithinLimits, side_length, seeds, opposite, seeds_in_houses, storeless, IsWithinLimits, is_over, swapped, houses_in, with_stores, without_seeds, HoldsSeeds, lifted, lap_length, own_distance, other_distance, store_distance, sow, sown, last_distance, moves_again, captures, can_capture, after_capture, after, packed_row, rule_bit, ShowsPosition, ones, houses_of_fields, AreFieldsOf, AreFields, own_gains, other_gains, store_gains, last_house, last_place, IsLastHouse, IsNoHouse, IsSowing, IsSowingCell, AreSowings, legal_houses, step_to, step_of, position_after, IsNearerEnd, houses_step_to, houses_step, HousesStep.HousesStep, Over, Again, Turn, declared.{houses.{play.RowNumbers.{RowNumbers}, sowing_table.Sowing.{Sowing}}, rule.Rule.{Rule}, step.Step.{Step}}}
+use Rattle.kalah_rules.specs.{Position.Position, HousesState, AreWithinLimits, side_length, seeds, opposite, seeds_in_houses, storeless, IsWithinLimits, is_over, swapped, houses_in, with_stores, without_seeds, HoldsSeeds, lifted, lap_length, own_distance, other_distance, store_distance, sow, sown, last_distance, moves_again, captures, can_capture, after_capture, after, packed_row, packed_rows, rule_bit, ShowsPosition, ones, houses_of_fields, AreFieldsOf, AreFields, own_gains, other_gains, store_gains, last_house, last_place, IsLastHouse, IsNoHouse, IsSowing, IsSowingCell, AreSowings, legal_houses, step_to, step_of, position_after, IsNearerEnd, houses_step_to, houses_step, HousesStep.HousesStep, Over, Again, Turn, declared.{houses.{play.RowNumbers.{RowNumbers}, sowing_table.Sowing.{Sowing}}, rule.Rule.{Rule}, step.Step.{Step}}}
 use Rattle.kalah_rules.proofs.{PlayLemmas.{IsLegal, sum-set_zero, sow_side, sow_keeps, own_distance_past, own_distance_back, last_house_own, last_house_store, last_house_other, after_at, legal_holds, after_nearer, sum-zeros, with_store_seeds, after_of_houses, legal_going}, KeyLemmas.{packed_row-small, pow_five, pow_other, own_house_of_rows, moved_across_fits, placed_small, packed_row-set, packed_row-all, packed_row-up_to, read_seeds, own_sown, other_sown, own_gain, other_gain, ones_le, fields_of, rows_of_fields, are_fields, sum-zero, packed_row-zero}}
 
 -- ==== A move on the numbers of two rows
@@ -50,8 +50,7 @@ house_bits rows k =
     let none : bit_and (rows % p) 0 ≡ 0 = omega (arith, and_le_r (rows % p) 0) in
     let both = and_block (5 * k) (rows / p) 31 (rows % p) 0 low (pow_pos (5 * k)) in
     let mask : 31 * p + 0 ≡ 31 * p = omega arith in
-    let all : bit_and rows (31 * p) ≡ rows / p % 32 * p =
-    rw (div-add-mod' rows p, mask, and_mask _ 5) at both ∙ omega arith in
+    let all : bit_and rows (31 * p) ≡ rows / p % 32 * p = rw (div-add-mod' rows p, mask, and_mask _ 5) at both ∙ omega arith in
     rw (pow_five k) at all
 
 -- x * p is p exactly if x is 1
@@ -110,7 +109,6 @@ module _ {a : HousesState} {h : ℕ} (can : CanSow a h) where
   unfolding sow
   packed_row-sown_other = rw can.limits.same_side at (other_sown a.other h (seeds a.own h))
 
-  -- what comes to the store
   sown_own_store : after_sowing.own_store ≡ store_gains (length a.own) h (seeds a.own h)
   unfolding sow
   sown_own_store = omega arith
@@ -119,38 +117,34 @@ module _ {a : HousesState} {h : ℕ} (can : CanSow a h) where
   packed_row-lifted : packed_row (lifted (storeless a) h).own + 32 ^ (h - 1) * seeds a.own h ≡ packed_row a.own
   packed_row-lifted = omega (arith, packed_row-set)
 
-  -- the sowing leaves few seeds
   few : sum after_sowing.own + sum after_sowing.other ≤ 31
   few = omega (arith, sown_keeps.play)
 
-  -- the own row has a small number
   own_small : packed_row after_sowing.own < 2 ^ 30
   own_small = packed_row-small 6 after_sowing.own (omega (arith, sown_keeps.side)) (omega (arith, few))
 
-  -- the other row has a small number
   other_small : packed_row after_sowing.other < 2 ^ 30
   other_small = packed_row-small 6 after_sowing.other (omega (arith, sown_keeps.other_side, can.limits.same_side)) (omega (arith, few))
 
   -- both rows without the house's seeds, and with what they gain
-  sown_rows : (rows house gains : ℕ) → rows ≡ packed_row a.own + 2 ^ 30 * packed_row a.other → house ≡ 32 ^ (h - 1) * seeds a.own h
+  sown_rows : (rows house gains : ℕ) → rows ≡ packed_rows a → house ≡ 32 ^ (h - 1) * seeds a.own h
       → gains ≡ own_gains (length a.own) h (seeds a.own h) + 2 ^ 30 * other_gains (length a.own) h (seeds a.own h)
-      → rows - house + gains ≡ packed_row after_sowing.own + 2 ^ 30 * packed_row after_sowing.other
+      → rows - house + gains ≡ packed_rows (houses_in after_sowing)
   sown_rows rows house gains rows_are house_is gains_are = omega (arith, packed_row-sown_own, packed_row-sown_other, packed_row-lifted)
 
   -- after a sowing the rows are both rows, less what they lose
-  sown_less : (rows loses : ℕ) → rows ≡ packed_row a.own + 2 ^ 30 * packed_row a.other → loses < 2 ^ 64
+  sown_less : (rows loses : ℕ) → rows ≡ packed_rows a → loses < 2 ^ 64
       → (loses + (own_gains (length a.own) h (seeds a.own h) + 2 ^ 30 * other_gains (length a.own) h (seeds a.own h))) % 2 ^ 64
-      ≡ 32 ^ (h - 1) * seeds a.own h → (rows + (2 ^ 64 - loses)) % 2 ^ 64 ≡ packed_row after_sowing.own + 2 ^ 30 * packed_row after_sowing.other
+      ≡ 32 ^ (h - 1) * seeds a.own h → (rows + (2 ^ 64 - loses)) % 2 ^ 64 ≡ packed_rows (houses_in after_sowing)
   sown_less rows loses rows_are loses_small loses_is = omega (arith, packed_row-sown_own, packed_row-sown_other, own_small, other_small)
 
   -- rows and a store with what a sowing adds show the position after it
-  rows_show : (rows store : ℕ) → rows ≡ packed_row after_sowing.own + 2 ^ 30 * packed_row after_sowing.other →
+  rows_show : (rows store : ℕ) → rows ≡ packed_rows (houses_in after_sowing) →
       store ≡ store_gains (length a.own) h (seeds a.own h) → ShowsPosition (record { rows = rows; store = store }) after_sowing
   rows_show rows store rows_are store_is' = omega (arith, own_small, sown_own_store)
 
   -- a house whose last seed falls into the store without a lap
-  pub into_store : (rows house own_more : ℕ) → seeds a.own h + h ≡ length a.own + 1
-      → rows ≡ packed_row a.own + 2 ^ 30 * packed_row a.other →
+  pub into_store : (rows house own_more : ℕ) → seeds a.own h + h ≡ length a.own + 1 → rows ≡ packed_rows a →
       house ≡ 32 ^ (h - 1) * seeds a.own h → own_more + ones h ≡ ones (length a.own)
       → ShowsPosition (record { rows = rows - house + own_more; store = 1 }) after_sowing
   into_store rows house own_more ends rows_are house_is own_more_is =
@@ -172,8 +166,7 @@ module _ {a : HousesState} {h : ℕ} (can : CanSow a h) where
       let side = sown_keeps.side in
       let other_side = sown_keeps.other_side in
       rw (bit_is, pow_other) (ap (λ n. n % 32) (sym (div-div-eq-div-mul _ (2 ^ 30) _))
-      ∙ ap (λ n. n / 32 ^ (opposite after_sowing i - 1) % 32) shows.other
-      ∙ read_seeds _ _ (omega arith) (omega (arith, few)))
+      ∙ ap (λ n. n / 32 ^ (opposite after_sowing i - 1) % 32) shows.other ∙ read_seeds _ _ (omega arith) (omega (arith, few)))
 
   -- what a capture does to the rows, read and written by bits: the last seed falls into own house i
   module _ (r : RowNumbers) (s : Sowing) (i taken count : ℕ) (shows : ShowsPosition r after_sowing) (first : 1 ≤ i)
@@ -183,14 +176,17 @@ module _ {a : HousesState} {h : ℕ} (can : CanSow a h) where
     abbrev across : ℕ
     across = opposite after_sowing i
 
+    -- its seeds
+    abbrev there : ℕ
+    there = seeds after_sowing.other across
+
     -- where it begins
     across_at : s.across_bit ≡ 30 + 5 * (across - 1)
     across_at = omega (arith, house.across, sown_keeps.side)
 
     -- the seeds are taken if and only if the rule lets the last seed capture
-    taken_by_rule : MatchBool (can_capture after_sowing i)
-        ((taken ≡ s.last_seed + seeds after_sowing.other across * 2 ^ s.across_bit % 2 ^ 64) ×
-        (count ≡ 1 + seeds after_sowing.other across)) ((taken ≡ 0) × (count ≡ 0))
+    taken_by_rule : MatchBool (can_capture after_sowing i) ((taken ≡ s.last_seed + there * 2 ^ s.across_bit % 2 ^ 64) ×
+        (count ≡ 1 + there)) ((taken ≡ 0) × (count ≡ 0))
     taken_by_rule =
         let single : (bit_and r.rows s.last_mask == s.last_seed) ≡ (seeds after_sowing.own i == 1) =
         rw (house.house, house.seed, ← read_own r i (5 * (i - 1)) shows first last refl, pow_five (i - 1)) (one_seed_at r.rows (i - 1)) in
@@ -212,13 +208,10 @@ module _ {a : HousesState} {h : ℕ} (can : CanSow a h) where
         let other_set = packed_row-set after_sowing.other (across - 1) 0
         (omega (arith, sown_keeps.side, sown_keeps.other_side, can.limits.same_side)) in
         let far : across - 1 ≤ 5 = omega (arith, sown_keeps.side, can.limits.at_most_six) in
-        let stands : seeds after_sowing.other across * 2 ^ s.across_bit % 2 ^ 64
-        ≡ 2 ^ 30 * (32 ^ (across - 1) * seeds after_sowing.other across) =
-        rw (across_at, pow_other (across - 1))
+        let stands : there * 2 ^ s.across_bit % 2 ^ 64 ≡ 2 ^ 30 * (32 ^ (across - 1) * there) = rw (across_at, pow_other (across - 1))
         (moved_across_fits _ _ far (omega (arith, read_across r i s.across_bit shows first last across_at))) in
-        let taken_are : taken ≡ 32 ^ (i - 1) + 2 ^ 30 * (32 ^ (across - 1) * seeds after_sowing.other across) =
-        both.0 ∙ omega (arith, stands, house.seed) in
-        let left : AreLeft r.rows (32 ^ (i - 1) + 2 ^ 30 * (32 ^ (across - 1) * seeds after_sowing.other across))
+        let taken_are : taken ≡ 32 ^ (i - 1) + 2 ^ 30 * (32 ^ (across - 1) * there) = both.0 ∙ omega (arith, stands, house.seed) in
+        let left : AreLeft r.rows (32 ^ (i - 1) + 2 ^ 30 * (32 ^ (across - 1) * there))
         (packed_row (slice_set after_sowing.own (i - 1) 0)) (packed_row (slice_set after_sowing.other (across - 1) 0)) =
         left_of_rows r.rows _ _ shows.own shows.other (omega arith) (omega arith) in
         record {
@@ -244,11 +237,13 @@ after_keeps a h limits holds = captured_keeps _ (sown_keeps (record { limits = l
 
 -- where the last seed falls, by its place
 module _ (p : Position) (h : ℕ) (holds : HoldsSeeds p h) where
-  -- the last seed leaves its house
+  -- its place
+  abbrev place : ℕ
+  place = last_place (side_length p) h (seeds p.own h)
+
   last_low : 1 ≤ last_distance p h
   last_low = omega arith
 
-  -- the last seed goes no farther than a lap
   last_high : last_distance p h ≤ lap_length (side_length p)
   last_high = omega arith
 
@@ -257,18 +252,15 @@ module _ (p : Position) (h : ℕ) (holds : HoldsSeeds p h) where
   short_distance few = omega (arith, mod-eq_of_lt)
 
   -- the place of a last seed that doesn't come round
-  place_near : h + last_distance p h ≤ lap_length (side_length p)
-      → last_place (side_length p) h (seeds p.own h) ≡ h + last_distance p h
+  place_near : h + last_distance p h ≤ lap_length (side_length p) → place ≡ h + last_distance p h
   place_near near = grind arith
 
   -- the place of a last seed that comes round
-  place_round : lap_length (side_length p) < h + last_distance p h
-      → last_place (side_length p) h (seeds p.own h) ≡ h + last_distance p h - lap_length (side_length p)
+  place_round : lap_length (side_length p) < h + last_distance p h → place ≡ h + last_distance p h - lap_length (side_length p)
   place_round round = grind arith
 
   -- an own house where it falls is as far as it goes
-  own_at : last_place (side_length p) h (seeds p.own h) ≤ side_length p
-      → own_distance (side_length p) h (last_place (side_length p) h (seeds p.own h)) ≡ last_distance p h
+  own_at : place ≤ side_length p → own_distance (side_length p) h (place) ≡ last_distance p h
   own_at own = grind (arith, cases_lt, place_round, own_distance_back, last_high, place_near, own_distance_past, last_low)
 
   -- what shows the position after the capture shows that after the move
@@ -277,18 +269,16 @@ module _ (p : Position) (h : ℕ) (holds : HoldsSeeds p h) where
   shows_after last_is shows = subst (ShowsPosition _) (after_at p h last_is) shows
 
   -- it falls into an own house, and may capture
-  after_own : (r : RowNumbers) → last_place (side_length p) h (seeds p.own h) ≤ side_length p
-      → ShowsPosition r (after_capture (sown p h) (Some (last_place (side_length p) h (seeds p.own h)))) → ShowsPosition r (after p h)
+  after_own : (r : RowNumbers) → place ≤ side_length p
+      → ShowsPosition r (after_capture (sown p h) (Some (place))) → ShowsPosition r (after p h)
   after_own r own shows = shows_after (last_house_own holds (omega arith) own (own_at own)) shows
 
   -- the place of any other cell is its distance past the house
-  place_past : side_length p < last_place (side_length p) h (seeds p.own h)
-      → (last_place (side_length p) h (seeds p.own h) ≡ h + last_distance p h) × (h + last_distance p h ≤ lap_length (side_length p))
+  place_past : side_length p < place → (place ≡ h + last_distance p h) × (h + last_distance p h ≤ lap_length (side_length p))
   place_past past = grind (arith, place_round)
 
   -- it falls into the store or beyond
-  after_past : (r : RowNumbers) → side_length p < last_place (side_length p) h (seeds p.own h) → ShowsPosition r (sown p h)
-      → ShowsPosition r (after p h)
+  after_past : (r : RowNumbers) → side_length p < place → ShowsPosition r (sown p h) → ShowsPosition r (after p h)
   after_past r past shows =
       let at = place_past past in
       elim (cases_eq (h + last_distance p h) (side_length p + 1)) [
@@ -304,7 +294,7 @@ module _ (p : Position) (h : ℕ) (holds : HoldsSeeds p h) where
       ]
 
   -- the mover moves again if it falls into the store
-  pub again_at : moves_again p h ≡ (last_place (side_length p) h (seeds p.own h) == side_length p + 1)
+  pub again_at : moves_again p h ≡ (place == side_length p + 1)
   again_at = grind (arith, cases_eq, place_past, eq-eqb, place_near)
 
 -- a last seed that falls into no own house captures nothing
@@ -358,26 +348,9 @@ captured_fits {m} h c x s sowing side small = elim (cases_lt m (last_place m h c
 
 -- ==== The result of a move on houses, as a board reports it
 
--- a step that ends the game sweeps the houses
-step_over : (q : Position) (again : Bool) → is_over q ≡ true
-    → houses_step_to q again ≡ Over (q.own_store + sum q.own) (q.other_store + sum q.other)
-step_over q again over = rw over refl
-
--- a game that goes on with the mover
-step_again : (q : Position) (again : Bool) → is_over q ≡ false → again ≡ true
-    → houses_step_to q again ≡ Again q.own_store (houses_in q)
-step_again q again going more = cc
-
--- a game that goes on with the opponent
-step_turn : (q : Position) (again : Bool) → is_over q ≡ false → again ≡ false
-    → houses_step_to q again ≡ Turn q.own_store (houses_in (swapped q))
-step_turn q again going more = cc
-
--- a game is over for both players or for none
 pub is_over-swapped : (q : Position) → is_over (swapped q) ≡ is_over q
 is_over-swapped q = or_comm (sum q.other == 0) (sum q.own == 0)
 
--- the houses of a board are within their limits
 pub houses_within : (p : Position) → IsWithinLimits p → AreWithinLimits (houses_in p)
 houses_within p limits = omega arith
 
@@ -432,7 +405,8 @@ module _ {a : HousesState} {h rows seeds variant : ℕ} {r : RowNumbers} (fields
       let mine : r.store ≡ moved.own_store + sum moved.own = omega (arith, shows.store) in
       let theirs : seeds - r.store ≡ moved.other_store + sum moved.other =
       omega (arith, shows.store, move_keeps.play, move_keeps.other_store, fields_are.seeds_are) in
-      cc (mine, theirs, step_over moved (moves_again (storeless a) h) (rw empty refl))
+      let over : is_over moved ≡ true = rw empty refl in
+      cc
 
   -- without seeds of the opponent it is over
   pub over_other : r.rows / 2 ^ 30 ≡ 0 → Over seeds 0 ≡ houses_step a h
@@ -440,7 +414,8 @@ module _ {a : HousesState} {h rows seeds variant : ℕ} {r : RowNumbers} (fields
       let empty = sum-zero moved.other (sym shows.other ∙ none) in
       let mine : seeds ≡ moved.own_store + sum moved.own = omega (arith, move_keeps.play, fields_are.seeds_are) in
       let theirs : 0 ≡ moved.other_store + sum moved.other = omega (arith, move_keeps.other_store) in
-      cc (mine, theirs, step_over moved (moves_again (storeless a) h) (grind (arith, nat_tests)))
+      let over : is_over moved ≡ true = grind (arith, nat_tests) in
+      cc
 
   module _ (own_some : r.rows % 2 ^ 30 ≢ 0) (other_some : r.rows / 2 ^ 30 ≢ 0) where
     -- with seeds on both sides it goes on
@@ -451,22 +426,21 @@ module _ {a : HousesState} {h rows seeds variant : ℕ} {r : RowNumbers} (fields
     pub again_fields : moves_again (storeless a) h ≡ true → IsStepOfFields a h r.rows (seeds - r.store) variant (Again r.store)
     again_fields more =
         let rule = ap rule_bit move_keeps.rule in
-        let there = are_fields {variant = variant} moved_within
-        (omega (arith, shows.own, shows.other))
-        (omega (arith, move_keeps.play, fields_are.seeds_are))
-        (omega (arith, fields_are.variant_is, move_keeps.side)) in
-        record { fields = there.0; step_is = rw (shows.store, there.1) (sym (step_again _ _ moved_going more)) }
+        let step : Again moved.own_store (houses_in moved) ≡ houses_step a h = cc moved_going in
+        let there = are_fields {variant = variant} moved_within (omega (arith, shows.own, shows.other))
+        (omega (arith, move_keeps.play, fields_are.seeds_are)) (omega (arith, fields_are.variant_is, move_keeps.side)) in
+        record { fields = there.0; step_is = rw (shows.store, there.1) step }
 
     -- if the turn passes, they change places
     pub turn_fields : moves_again (storeless a) h ≡ false
         → IsStepOfFields a h (r.rows / 2 ^ 30 + 2 ^ 30 * (r.rows % 2 ^ 30)) (seeds - r.store) variant (Turn r.store)
     turn_fields passed =
         let rule = ap rule_bit move_keeps.rule in
+        let step : Turn moved.own_store (houses_in (swapped moved)) ≡ houses_step a h = cc moved_going in
         let there = are_fields {seeds = seeds - r.store} {variant = variant} (swapped_within moved moved_within)
-        (omega (arith, shows.own, shows.other))
-        (omega (arith, move_keeps.play, fields_are.seeds_are))
+        (omega (arith, shows.own, shows.other)) (omega (arith, move_keeps.play, fields_are.seeds_are))
         (omega (arith, fields_are.variant_is, move_keeps.other_side, fields_are.limits.same_side)) in
-        record { fields = there.0; step_is = rw (shows.store, there.1) (sym (step_turn moved _ moved_going passed)) }
+        record { fields = there.0; step_is = rw (shows.store, there.1) step }
 
 -- ---- a step on houses, applied to a position
 -- the step of a position whose houses make this one
@@ -480,12 +454,9 @@ abbrev pub IsStepWithin : Position → HousesStep → Type 0
 IsStepWithin p s = IsWithinLimits (position_after (with_board_stores p s))
 
 -- the step with the stores is that of the position with the stores
-with_board_stores-step_to : (p q : Position) (over again : Bool) → side_length q ≡ side_length p → q.rule ≡ p.rule
-    → q.other_store ≡ 0 → is_over q ≡ over
+with_board_stores-step_to : (p q : Position) (again : Bool) → side_length q ≡ side_length p → q.rule ≡ p.rule → q.other_store ≡ 0
     → with_board_stores p (houses_step_to q again) ≡ step_to (with_store_seeds p.own_store p.other_store q) again
-with_board_stores-step_to p q true again side rule none over_is = grind arith
-with_board_stores-step_to p q false true side rule none over_is = grind arith
-with_board_stores-step_to p q false false side rule none over_is = grind arith
+with_board_stores-step_to p q again side rule none = grind (arith, cases_Bool)
 
 -- the step of a board is that of its houses
 step_of_houses : (p : Position) (h : ℕ) → AreWithinLimits (houses_in p) → HoldsSeeds (storeless (houses_in p)) h
@@ -493,7 +464,7 @@ step_of_houses : (p : Position) (h : ℕ) → AreWithinLimits (houses_in p) → 
 step_of_houses p h limits holds =
     let q = after _ h in
     let keeps = after_keeps _ _ limits holds in
-    with_board_stores-step_to p q (is_over q) _ keeps.side keeps.rule keeps.other_store refl
+    with_board_stores-step_to p q _ keeps.side keeps.rule keeps.other_store
     ∙ ap (λ x. step_to x (moves_again p h)) (sym (after_of_houses p h))
 
 -- the step of a board is within the limits
@@ -505,21 +476,8 @@ step_within {p} h limits holds =
     let limits_of_houses = houses_within p limits in
     let keeps = after_keeps a h limits_of_houses holds in
     let on = after_within a h limits_of_houses holds in
-    cond_both (is_over q) _ _ (IsStepWithin p)
-    (λ over.
-    let side = length-replicate {A = ℕ} (side_length p) 0 in
-    let none = sum-zeros (side_length p) in
-    record {
-      some_house = omega arith;
-      at_most_six = omega arith;
-      same_side = refl;
-      few_seeds = omega arith;
-      own_store_few = omega arith;
-      other_store_few = omega (arith, keeps.play);
-    })
-    (λ going. cond_both (moves_again (storeless a) h) _ _ (IsStepWithin p)
-    (omega arith)
-    (omega arith))
+    cond_both (is_over q) _ _ (IsStepWithin p) (λ over. omega (arith, keeps.play, sum-zeros, length-replicate {A = ℕ}))
+    (λ going. cond_both (moves_again (storeless a) h) _ _ (IsStepWithin p) (omega arith) (omega arith))
 
 -- all that a board needs of a step of its houses
 pub record IsStepOf (p : Position) (h : ℕ) (s : HousesStep) : Type 0 where
@@ -543,8 +501,7 @@ step_of_board {b} {own_store} {other_store} {h} limits view_is legal same step_i
 -- ==== Moves whose last seed falls into the store without a lap
 
 module _ {a : HousesState} {h rows seeds variant : ℕ} {r : RowNumbers} (fields : AreFields rows seeds variant) (view_is : houses_of_fields rows variant ≡ a)
-    (legal : IsLegal a h)
-    (ends : position.seeds a.own h + h ≡ length a.own + 1) (shows : ShowsPosition r (sown (storeless a) h)) where
+    (legal : IsLegal a h) (ends : position.seeds a.own h + h ≡ length a.own + 1) (shows : ShowsPosition r (sown (storeless a) h)) where
   -- the house can be sown
   can_sow : CanSow a h
   can_sow = record { limits = (fields_of fields view_is).limits; holds = legal_holds _ _ legal }
@@ -553,7 +510,6 @@ module _ {a : HousesState} {h rows seeds variant : ℕ} {r : RowNumbers} (fields
   distance_is_seeds : last_distance (storeless a) h ≡ position.seeds a.own h
   distance_is_seeds = short_distance _ h can_sow.holds (omega arith)
 
-  -- the mover moves again
   again_after : moves_again (storeless a) h ≡ true
   again_after = omega (arith, eq-eqb, distance_is_seeds)
 

@@ -1,5 +1,5 @@
 -- Moves, house by house: how seeds are sown and captured, which moves there are, and how each nears the end.
-use Rattle.std.proofs.{Common.{zero, suc, ◌≡◌, ◌≢◌, ℕ, ◌+◌, ◌-◌, ◌*◌, ◌<◌, ◌≤◌, inl, inr, List, [], ◌∷◌, zero-le, length, replicate, arith, ap, ◌∙◌, refl, ◌/◌, ◌%◌, ◌⊎◌, sym, add-one, ◌++◌, eq-eqb, lt-ltb, slice_set, slice_index, sum, sum_by, Bool, true, false, cond, Option, Some, None, find, filter, Contains, All, nat_lt, length-set, mod-eq_of_lt}, lemmas.{Nat.mul-le, Bool.cases_eq, Bool.cases_lt, Bool.cond_both, Bool.ltb-true, Bool.ne_eqb, List.get_or_past, List.set_past, List.get_or-set_same, List.get_or-set_other, List.Folds.sum_by-replicate, List.Sums.sum_by-set, List.Sums.sum_by-cons, List.Sums.length-filter, List.Sums.count_by-le-length, Grind.same_number_lists, List.FromFn.length-map-range_with_len, List.FromFn.get_or-map-range_with_len, List.FromFn.length-range_with_len, List.FromFn.get_or-range_with_len, List.Elements.filter-append, List.Elements.filter_passes, List.Elements.All-filter, List.Elements.All-contains, List.Elements.Contains-append_left, List.Elements.Contains-append_right, List.Elements.Contains-push}}
+use Rattle.std.proofs.{Common.{get_or, slice_get, zero, suc, ◌≡◌, ◌≢◌, ℕ, ◌+◌, ◌-◌, ◌*◌, ◌<◌, ◌≤◌, inl, inr, List, [], ◌∷◌, zero-le, length, replicate, arith, ap, ◌∙◌, refl, ◌/◌, ◌%◌, ◌⊎◌, sym, add-one, ◌++◌, eq-eqb, lt-ltb, slice_set, slice_index, sum, sum_by, Bool, true, false, cond, Option, Some, None, find, filter, Contains, All, nat_lt, length-set, mod-eq_of_lt}, lemmas.{Nat.mul-le, Bool.cases_eq, Bool.cases_lt, Bool.cond_both, Bool.ltb-true, Bool.ne_eqb, List.get_or_past, List.set_past, List.get_or-set_same, List.get_or-set_other, List.Folds.{find_at, sum_by-replicate}, Option.slice_get-get_or, List.Sums.position_or_len_is, List.Sums.sum_by-set, List.Sums.sum_by-cons, List.Sums.length-filter, List.Sums.count_by-le-length, Grind.same_number_lists, List.FromFn.length-map-range_with_len, List.FromFn.get_or-map-range_with_len, List.FromFn.length-range_with_len, List.FromFn.get_or-range_with_len, List.Elements.filter-append, List.Elements.filter_passes, List.Elements.All-filter, List.Elements.All-contains, List.Elements.Contains-append_left, List.Elements.Contains-append_right, List.Elements.Contains-push}}
 use Rattle.std.specs.List.{range_with_len}
 use Rattle.kalah_rules.specs.{own_distance, gain, row_of, lap_length, store_distance, other_distance, sow, last_distance, last_house, sown, after, after_capture, with_capture, Position.Position, HousesState, seeds, side_length, seeds_in_houses, is_over, houses_in, storeless, HasEqualSides, swapped, Cell, Own, Store, Other, distance, IsCellOf, with_seed, lifted, HoldsSeeds, legal_houses, row_distance, distance_to_stores, IsNearerEnd, moves_left, position_after, declared.step.Step.{Step, TheVariants.{Again, Turn, Over}}}
 
@@ -59,15 +59,13 @@ lower_by_seeds m w {s} {s'} fewer short =
     let whole = mul-le (s' + 1) _ s _ (omega arith) grow in
     omega arith
 
--- zeros add up to 0
 pub sum-zeros : (n : ℕ) → sum (replicate n 0) ≡ 0
 sum-zeros n = omega (arith, sum_by-replicate)
 
 -- ==== Distances on a lap, and what one more seed adds
 
 -- a count and its successor, in whole laps and the rest
-div-mod-suc : (n k : ℕ) → 0 < n
-    → ((k % n + 1 < n) × ((k + 1) % n ≡ k % n + 1) × ((k + 1) / n ≡ k / n)) ⊎
+div-mod-suc : (n k : ℕ) → 0 < n → ((k % n + 1 < n) × ((k + 1) % n ≡ k % n + 1) × ((k + 1) / n ≡ k / n)) ⊎
     ((k % n + 1 ≡ n) × ((k + 1) % n ≡ 0) × ((k + 1) / n ≡ k / n + 1))
 div-mod-suc n k pos = grind arith
 
@@ -98,7 +96,6 @@ pub same_position : {p q : Position} → p.own ≡ q.own → p.own_store ≡ q.o
     → p.other_store ≡ q.other_store → p.rule ≡ q.rule → p ≡ q
 same_position a b c d e = grind arith
 
--- a row has as many houses as it is made of
 pub length-row_of : (n : ℕ) (f : ℕ → ℕ) → length (row_of n f) ≡ n
 length-row_of n f = length-map-range_with_len f 1 n
 
@@ -142,13 +139,9 @@ row_of_more : (n : ℕ) (f g : ℕ → ℕ) (i : ℕ) → 1 ≤ i → i ≤ n �
     → row_of n g ≡ slice_set (row_of n f) (i - 1) (seeds (row_of n f) i + 1)
 row_of_more n f g i low high here others =
     let long : i ≤ length _ = omega (arith, length-row_of) in
-    sym (same_as_row _ n g
-    (length-set _ _ _ ∙ length-row_of n f)
-    (λ j j_low j_high. elim (cases_eq j i) [
-      | inl e ↦ rw e (seeds-set_same _ _ _ low long ∙ ap (λ x. x + 1) (seeds-row_of n f i low high)
-          ∙ sym here)
-      | inr ne ↦ seeds-set_other _ i j _ low j_low ne ∙ seeds-row_of n f j j_low j_high
-          ∙ sym (others j j_low j_high ne)
+    sym (same_as_row _ n g (length-set _ _ _ ∙ length-row_of n f) (λ j j_low j_high. elim (cases_eq j i) [
+      | inl e ↦ rw e (seeds-set_same _ _ _ low long ∙ ap (λ x. x + 1) (seeds-row_of n f i low high) ∙ sym here)
+      | inr ne ↦ seeds-set_other _ i j _ low j_low ne ∙ seeds-row_of n f j j_low j_high ∙ sym (others j j_low j_high ne)
     ]))
 
 -- ==== Sowing one seed more, and what it keeps
@@ -183,18 +176,14 @@ module _ (p : Position) (h : ℕ) (low : 1 ≤ h) (high : h ≤ side_length p) w
             grind arith
       ])))
       (omega (arith, gain_none))
-      (sym (same_as_row _ _ _ equal (λ j j_low j_high.
-      omega (arith, gain_none))))
+      (sym (same_as_row _ _ _ equal (λ j j_low j_high. omega (arith, gain_none))))
       refl refl
 
   -- a cell away from the next distance gets nothing
   gain_kept : (k d : ℕ) → d ≡ k % lap_length (side_length p) + 1 → (cell : Cell) → IsCellOf (side_length p) cell
-      → distance (side_length p) h cell ≢ d
-      → gain (lap_length (side_length p)) (k + 1) (distance (side_length p) h cell) ≡ gain (lap_length (side_length p)) k
-      (distance (side_length p) h cell)
-  gain_kept k d next (Own j) is_cell ne = grind (arith, gain_same)
-  gain_kept k d next Store is_cell ne = omega (arith, gain_same)
-  gain_kept k d next (Other j) is_cell ne = omega (arith, gain_same)
+      → distance (side_length p) h cell ≢ d → gain (lap_length (side_length p)) (k + 1) (distance (side_length p) h cell)
+      ≡ gain (lap_length (side_length p)) k (distance (side_length p) h cell)
+  gain_kept k d next cell is_cell ne = grind (arith, gain_same)
 
   -- one seed more goes to the cell at the next distance
   pub sow_suc : (k : ℕ) (cell : Cell) → IsCellOf (side_length p) cell
@@ -239,8 +228,7 @@ cell_at m h d low high d_low d_high = elim (cases_lt (m + 1 - h) d) [
     | inl far ↦ (
       Own (d - (2 * m + 1 - h)),
       omega arith,
-      own_distance_back _ _ _ (omega arith)
-          ∙ omega arith,
+      own_distance_back _ _ _ (omega arith) ∙ omega arith,
     )
   ]
 ]
@@ -258,9 +246,7 @@ pub record AddsOne (p q : Position) : Type 0 where
 -- one more seed in a cell is one more in the own store and the houses together
 with_seed_adds : (p : Position) (cell : Cell) → length p.other ≡ side_length p → IsCellOf (side_length p) cell
     → AddsOne p (with_seed p cell)
-with_seed_adds p (Own i) equal is_cell = omega (arith, sum-slice_set)
-with_seed_adds p Store equal is_cell = omega arith
-with_seed_adds p (Other j) equal is_cell = omega (arith, sum-slice_set)
+with_seed_adds p cell equal is_cell = grind (arith, sum-slice_set)
 
 -- the seeds of q, if k of the c lifted seeds of p were sown
 pub record HasSown (p : Position) (c k : ℕ) (q : Position) : Type 0 where
@@ -268,17 +254,12 @@ pub record HasSown (p : Position) (c k : ℕ) (q : Position) : Type 0 where
   pub play : q.own_store + seeds_in_houses q + c ≡ p.own_store + seeds_in_houses p + k
 
 -- one seed more sown is one more in the own store and the houses together
-sow_adds : (p : Position) (h : ℕ) → 1 ≤ h → h ≤ side_length p → (k : ℕ)
-    → (cell : Cell) × IsCellOf (side_length p) cell × (distance (side_length p) h cell ≡ k % lap_length (side_length p) + 1)
-    → AddsOne (sow p h k) (sow p h (k + 1))
-sow_adds p h low high k (cell, is_cell, next) =
+sow_adds : (p : Position) (h : ℕ) → 1 ≤ h → h ≤ side_length p → (k : ℕ) → AddsOne (sow p h k) (sow p h (k + 1))
+sow_adds p h low high k =
+    let near : k % lap_length (side_length p) + 1 ≤ lap_length (side_length p) = grind arith in
+    let next = cell_at (side_length p) h (k % lap_length (side_length p) + 1) low high (omega arith) near in
     let side = sow_side p h k in
-    rw (sow_suc p h low high k _ is_cell next) (with_seed_adds _ _ (omega arith) (rw side.0 is_cell))
-
--- the cell of the next seed
-next_cell : (p : Position) (h : ℕ) → 1 ≤ h → h ≤ side_length p → (k : ℕ)
-    → (cell : Cell) × IsCellOf (side_length p) cell × (distance (side_length p) h cell ≡ k % lap_length (side_length p) + 1)
-next_cell p h low high k = grind (arith, cell_at)
+    rw (sow_suc p h low high k next.0 next.1 next.2) (with_seed_adds _ _ (omega arith) (rw side.0 next.1))
 
 -- sowing loses no seed
 pub sow_keeps : (p : Position) (h : ℕ) → 1 ≤ h → h ≤ side_length p → length p.other ≡ side_length p → (k : ℕ)
@@ -286,7 +267,7 @@ pub sow_keeps : (p : Position) (h : ℕ) → 1 ≤ h → h ≤ side_length p →
 sow_keeps p h low high equal zero = grind (arith, sum-slice_set, sow_none)
 sow_keeps p h low high equal (suc k) =
     let before = sow_keeps p h low high equal k in
-    let adds = sow_adds p h low high k (next_cell p h low high k) in
+    let adds = sow_adds p h low high k in
     let step : HasSown p (seeds p.own h) (k + 1) (sow p h (k + 1)) = omega arith in
     rw add-one at step
 
@@ -298,17 +279,19 @@ range-suc a zero = grind arith
 range-suc a (suc n) = rw (add-one _)
     (ap (λ xs. a ∷ xs) (rw (add-one n) at (range-suc (a + 1) n) ∙ ap (λ x. range_with_len (a + 1) n ++ x ∷ []) (omega arith)))
 
+-- the first number that passes is found
+pub find_first : (f : ℕ → Bool) (xs : List ℕ) (i : ℕ) → i < length xs → ((k : ℕ) → k < i → f (get_or xs k 0) ≡ false)
+    → f (get_or xs i 0) ≡ true → find f xs ≡ Some (get_or xs i 0)
+find_first f xs i within fails here =
+    find_at f xs ∙ ap (slice_get xs) (position_or_len_is f xs i 0 (omega arith) fails (λ _. here)) ∙ slice_get-get_or xs i 0 within
+
 -- the first number of a range that passes
 find_in_range : (f : ℕ → Bool) (a n i : ℕ) → a ≤ i → i < a + n → f i ≡ true
     → ((j : ℕ) → a ≤ j → j < i → f j ≡ false) → find f (range_with_len a n) ≡ Some i
-find_in_range f a zero i low high here before = absurd (omega arith)
-find_in_range f a (suc n) i low high here before = elim (cases_eq a i) [
-  | inl e ↦ rw (e, here) refl
-  | inr ne ↦
-      let at : a ≤ a = omega arith in
-      rw (before a at (omega arith))
-      (find_in_range f (a + 1) n i (omega arith) (omega arith) here (λ j j_low j_high. before j (omega arith) j_high))
-]
+find_in_range f a n i low high here before =
+    let at : get_or (range_with_len a n) (i - a) 0 ≡ i = omega (arith, get_or-range_with_len a n (i - a) 0 (omega arith)) in
+    rw at at (find_first f (range_with_len a n) (i - a) (omega (arith, length-range_with_len))
+    (λ k below. rw (get_or-range_with_len a n k 0 (omega arith)) (before (a + k) (omega arith) (omega arith))) (rw at here))
 
 -- if none of a range passes, none is found
 find_none : (f : ℕ → Bool) (a n : ℕ) → ((j : ℕ) → a ≤ j → j < a + n → f j ≡ false)
@@ -320,9 +303,7 @@ find_none f a (suc n) fails =
 -- the house in which the last seed falls
 pub last_house_own : {p : Position} {h i : ℕ} → HoldsSeeds p h → 1 ≤ i → i ≤ side_length p
     → own_distance (side_length p) h i ≡ last_distance p h → last_house p h ≡ Some i
-last_house_own {p} {h} {i} holds low high distance_is = find_in_range _ 1 _ i low
-    (omega arith)
-    (eq-eqb _ _ distance_is)
+last_house_own {p} {h} {i} holds low high distance_is = find_in_range _ 1 _ i low (omega arith) (eq-eqb _ _ distance_is)
     (λ j j_low j_high. ne_eqb _ _ (λ e.
     own_distance_apart _ h holds.first holds.last j i j_low (omega arith) low high (omega arith) (e ∙ sym distance_is)))
 
@@ -376,9 +357,7 @@ legal_holds p h legal =
 
 -- a house that holds seeds is legal while the game goes on
 pub holds_legal : (p : Position) (h : ℕ) → HoldsSeeds p h → is_over p ≡ false → Contains (legal_houses p) h
-holds_legal p h holds going = rw going
-    (contains_range _ 1 (side_length p) h holds.first (omega arith)
-    (lt-ltb 0 _ holds.some))
+holds_legal p h holds going = rw going (contains_range _ 1 (side_length p) h holds.first (omega arith) (lt-ltb 0 _ holds.some))
 
 -- one house more
 pub filter_range-suc : (f : ℕ → Bool) (a n j : ℕ) → a + n ≡ j
@@ -423,8 +402,7 @@ row_distance-set : (row : List ℕ) (i v : ℕ) → 1 ≤ i → i ≤ length row
     → row_distance (slice_set row (i - 1) v) + seeds row i * (length row + 1 - i) ≡ row_distance row + v * (length row + 1 - i)
 unfolding row_distance
 row_distance-set row i v low high =
-    let change = sum_range_change _ _ 1 (length row) i low
-    (omega arith)
+    let change = sum_range_change _ _ 1 (length row) i low (omega arith)
     (λ j j_low ne. ap (λ x. x * (length row + 1 - j)) (seeds-set_other row i j v low j_low ne)) in
     rw (length-set _ _ v) (change ∙ ap (λ x. row_distance row + x) (ap (λ x. x * _) (seeds-set_same _ _ _ low high)))
 
@@ -459,8 +437,7 @@ module _ (p : Position) (h : ℕ) (holds : HoldsSeeds p h) (same : length p.othe
       let high : h + _ ≤ side_length p = omega arith in
       let high' : h + _ ≤ length (sow p h k).own = omega arith in
       ap distance_to_stores (sow_suc p h holds.first holds.last k (Own _) (low, high) (next_house _ h k near))
-      ∙ distance-with_seed (sow p h k) _ low high'
-      ∙ ap (λ x. distance_to_stores (sow p h k) + (x + 1 - (h + (k + 1)))) side
+      ∙ distance-with_seed (sow p h k) _ low high' ∙ ap (λ x. distance_to_stores (sow p h k) + (x + 1 - (h + (k + 1)))) side
 
   -- k seeds sown before the store bring each nearer by one or more
   distance_falls : (k : ℕ) → k + h ≤ side_length p
@@ -501,7 +478,6 @@ capture_side : (q : Position) (o : Option ℕ)
 capture_side q None = omega arith
 capture_side q (Some i) = grind (arith, length-set)
 
--- a move keeps the number of own houses
 after_side : (p : Position) (h : ℕ) → side_length (after p h) ≡ side_length p
 unfolding after
 after_side p h = omega (arith, capture_side, sow_side)
@@ -538,6 +514,4 @@ moves_left-swapped p equal = grind arith
 
 -- the position after a step, in each case
 pub after_step : (s : Step) (p : Position) → (s ≡ Again p) ⊎ ((s ≡ Turn p) ⊎ (s ≡ Over p)) → p ≡ position_after s
-after_step s p (inl again) = sym (ap position_after again)
-after_step s p (inr (inl turn)) = sym (ap position_after turn)
-after_step s p (inr (inr over)) = sym (ap position_after over)
+after_step s p led = grind arith

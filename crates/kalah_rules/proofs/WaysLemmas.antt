@@ -1,8 +1,7 @@
 -- The ways to play on: stores do not influence them, and how they are summed up.
-use Rattle.std.proofs.{Common.{zero, suc, ◌≡◌, ℕ, ◌+◌, ◌-◌, ◌*◌, ◌<◌, ◌≤◌, List, [], ◌∷◌, length, arith, ap, ◌∙◌, refl, sym, add-one, ◌++◌, lt-ltb, ◌^◌, append-nil, sum_by, Bool, true, false, filter, nat_lt, ◌==◌, if◌then◌else◌, le-ltb}, lemmas.List.Sums.{sum_by_push}, Math.Nat.{mul-le-mul_right, pow-succ', pow-le-pow_right}}
+use Rattle.std.proofs.{Common.{zero, suc, ◌≡◌, ℕ, ◌+◌, ◌-◌, ◌*◌, ◌<◌, ◌≤◌, List, [], ◌∷◌, length, arith, ap, ◌∙◌, refl, sym, add-one, ◌++◌, lt-ltb, ◌^◌, append-nil, sum_by, Bool, true, false, filter, nat_lt, ◌==◌, if◌then◌else◌, le-ltb}, lemmas.{List.Sums.{sum_by_push}, Bool.{cases_Bool}}, Math.Nat.{mul-le-mul_right, pow-succ', pow-le-pow_right}}
 use Rattle.std.specs.List.{range_with_len}
 use Rattle.kalah_rules.specs.{after, moves_again, Position.Position, seeds, side_length, is_over, houses_in, storeless, HousesState, swept, legal_houses, position_after, step_to, most_depth, most_houses, houses_step, houses_step_to, ways, ways_by, HousesStep.HousesStep, Over, Again, Turn}
-use mir.Val.{bool_byte}
 use Rattle.kalah_rules.proofs.PlayLemmas.{sum-zeros, same_position, filter_range-suc, length-filter_range, with_store_seeds, after-store_seeds, storeless-store_seeds}
 
 -- there is one way to play no move
@@ -39,11 +38,9 @@ step-store_seeds n a b q false false over_is same = rw over_is (same b a _)
 -- stores do not influence the ways
 ways-store_seeds : (n a b : ℕ) (p : Position) → ways n (with_store_seeds a b p) ≡ ways n p
 ways-store_seeds zero a b p = simp (ways_none)
-ways-store_seeds (suc n) a b p = ways-suc n _
-    ∙ sum_same _ _ (legal_houses p)
+ways-store_seeds (suc n) a b p = ways-suc n _ ∙ sum_same _ _ (legal_houses p)
     (λ h. ap (λ (q : Position). ways n (position_after (step_to q (moves_again p h)))) (after-store_seeds a b p h)
-    ∙ step-store_seeds n a b (after p h) _ _ refl (ways-store_seeds n))
-    ∙ sym (ways-suc n p)
+    ∙ step-store_seeds n a b (after p h) _ _ refl (ways-store_seeds n)) ∙ sym (ways-suc n p)
 
 -- the ways of a position are those of its houses
 pub ways_of_houses : (n : ℕ) (p : Position) → ways n p ≡ ways n (storeless (houses_in p))
@@ -56,22 +53,14 @@ ways_from n (Over own other) = if n == 0 then 1 else 0
 ways_from n (Again gained a) = ways n (storeless a)
 ways_from n (Turn gained a) = ways n (storeless a)
 
--- a truth value as a number
-pub one_if : (b : Bool) → bool_byte b ≡ (if b then 1 else 0)
-one_if true = refl
-one_if false = refl
-
 -- a swept position has one way of no move, and no other
 ways_swept : (n : ℕ) (q : Position) → ways n (swept q) ≡ (if n == 0 then 1 else 0)
 ways_swept zero q = ways_none _
 ways_swept (suc n) q = grind (arith, sum-zeros, ways-suc)
 
 -- the ways after a step are those after the step of the houses
-ways_step_to : (n : ℕ) (q : Position) (over again : Bool) → is_over q ≡ over
-    → ways n (position_after (step_to q again)) ≡ ways_from n (houses_step_to q again)
-ways_step_to n q true again over_is = rw over_is (ways_swept n q)
-ways_step_to n q false true over_is = rw over_is (ways_of_houses n q)
-ways_step_to n q false false over_is = rw over_is (ways_of_houses n _)
+ways_step_to : (n : ℕ) (q : Position) (again : Bool) → ways n (position_after (step_to q again)) ≡ ways_from n (houses_step_to q again)
+ways_step_to n q again = grind (arith, cases_Bool, ways_swept, ways_of_houses)
 
 -- the ways after a move are those after the step of the houses
 pub ways_by_step : (n : ℕ) (a : HousesState) (h : ℕ) {s t : HousesStep} → t ≡ houses_step a h → t ≡ s
@@ -92,10 +81,6 @@ ways_by_of_houses n p h =
 pub legal_few : (p : Position) → length (legal_houses p) ≤ side_length p
 legal_few p = grind (arith, length-filter_range)
 
--- a last move is one way
-pub one_way : {depth : ℕ} (p : Position) (h : ℕ) → depth ≡ 1 → (1 ≡ ways_by (depth - 1) p h) × (1 ≤ most_houses ^ (depth - 1))
-one_way p h depth_is = rw depth_is (sym (ways_none _), omega arith)
-
 -- ---- house by house
 -- the houses before house h that hold seeds
 abbrev pub seeded_before : List ℕ → ℕ → List ℕ
@@ -108,15 +93,11 @@ seeded_next row h low = grind arith
 
 -- a house that holds seeds is among them
 seeded_more : (row : List ℕ) (h : ℕ) → 1 ≤ h → 0 < seeds row h → seeded_before row (h + 1) ≡ seeded_before row h ++ h ∷ []
-seeded_more row h low some = seeded_next row h low
-    ∙ filter_range-suc _ 1 (h - 1) h (omega arith)
-    ∙ rw (lt-ltb _ _ some) refl
+seeded_more row h low some = seeded_next row h low ∙ filter_range-suc _ 1 (h - 1) h (omega arith) ∙ rw (lt-ltb _ _ some) refl
 
 -- an empty house is not
 seeded_same : (row : List ℕ) (h : ℕ) → 1 ≤ h → seeds row h ≤ 0 → seeded_before row (h + 1) ≡ seeded_before row h
-seeded_same row h low none = seeded_next row h low
-    ∙ filter_range-suc _ 1 (h - 1) h (omega arith)
-    ∙ rw (le-ltb _ _ none) (append-nil _)
+seeded_same row h low none = seeded_next row h low ∙ filter_range-suc _ 1 (h - 1) h (omega arith) ∙ rw (le-ltb _ _ none) (append-nil _)
 
 -- ---- one house more
 -- the ways after the moves of the houses before house h, for n moves more, at most 6 for each of these moves

@@ -10,63 +10,29 @@ fn board(rt: &impl Abort, m: u8, own: [u8; 3], other: [u8; 3], rule: Rule) -> Bo
     board.expect(rt, "beyond the limits")
 }
 
-// A board of one or two houses a side, seen by the mover: the number of houses, both sides, and the rule.
-type Given = (u8, [u8; 3], [u8; 3], Rule);
+// The number of houses a side, the rule, both sides, a house, both sides after its move, and how that ends.
+type Move = (u8, Rule, [u8; 3], [u8; 3], u8, [u8; 3], [u8; 3], &str);
 
-// Positions, each with a house and the position after its move, by how it ends.
-const MOVES: [(Given, u8, Given, &str); 7] = [
-    (
-        (2, [1, 1, 0], [1, 1, 0], Rule::Classic),
-        1,
-        (2, [1, 1, 0], [0, 2, 0], Rule::Classic),
-        "turn",
-    ),
-    (
-        (2, [1, 1, 0], [1, 1, 0], Rule::Classic),
-        2,
-        (2, [1, 0, 1], [1, 1, 0], Rule::Classic),
-        "again",
-    ),
+// Positions of each kind of move.
+#[rattlefmt::skip]
+const MOVES: [Move; 7] = [
+    (2, Rule::Classic, [1, 1, 0], [1, 1, 0], 1, [1, 1, 0], [0, 2, 0], "turn"),
+    (2, Rule::Classic, [1, 1, 0], [1, 1, 0], 2, [1, 0, 1], [1, 1, 0], "again"),
     // A lap ends in the lifted house and captures, by either rule.
-    (
-        (1, [3, 0, 0], [3, 0, 0], Rule::Classic),
-        1,
-        (1, [0, 0, 6], [0, 0, 0], Rule::Classic),
-        "over",
-    ),
-    (
-        (1, [3, 0, 0], [3, 0, 0], Rule::EmptyCapture),
-        1,
-        (1, [0, 0, 6], [0, 0, 0], Rule::EmptyCapture),
-        "over",
-    ),
+    (1, Rule::Classic, [3, 0, 0], [3, 0, 0], 1, [0, 0, 6], [0, 0, 0], "over"),
+    (1, Rule::EmptyCapture, [3, 0, 0], [3, 0, 0], 1, [0, 0, 6], [0, 0, 0], "over"),
     // Many laps.
-    (
-        (1, [8, 0, 0], [8, 0, 0], Rule::Classic),
-        1,
-        (1, [11, 0, 0], [2, 0, 3], Rule::Classic),
-        "turn",
-    ),
+    (1, Rule::Classic, [8, 0, 0], [8, 0, 0], 1, [11, 0, 0], [2, 0, 3], "turn"),
     // An empty house across is captured by one rule alone.
-    (
-        (2, [1, 0, 0], [0, 2, 0], Rule::Classic),
-        1,
-        (2, [0, 2, 0], [0, 1, 0], Rule::Classic),
-        "turn",
-    ),
-    (
-        (2, [1, 0, 0], [0, 2, 0], Rule::EmptyCapture),
-        1,
-        (2, [0, 0, 1], [0, 0, 2], Rule::EmptyCapture),
-        "over",
-    ),
+    (2, Rule::Classic, [1, 0, 0], [0, 2, 0], 1, [0, 2, 0], [0, 1, 0], "turn"),
+    (2, Rule::EmptyCapture, [1, 0, 0], [0, 2, 0], 1, [0, 0, 1], [0, 0, 2], "over"),
 ];
 
 #[test]
 fn moves_lead_to_positions(rt: HostRuntime) {
-    for ((m, own, other, rule), h, (next_m, next_own, next_other, next_rule), word) in MOVES {
+    for (m, rule, own, other, h, next_own, next_other, word) in MOVES {
         let start = board(&rt, m, own, other, rule);
-        let next = board(&rt, next_m, next_own, next_other, next_rule);
+        let next = board(&rt, m, next_own, next_other, rule);
         assert!(rt; start.is_legal(h), "{start:?} {h}");
         let step = match word {
             "over" => Step::Over(next),

@@ -117,12 +117,13 @@ pub(super) fn into_store(m: u8, house: House) -> u64
 }
 
 /// Returns a row of `m` houses with one seed in each house up to `x`.
+#[tactic(auto, using(crate::proofs::KeyLemmas::ones_of_least))]
 pub(super) fn ones_up_to(m: u8, x: u8) -> u64
     requires { m ≤ 6 }
     ensures value { result ≡ ones_up_to m x }
     ensures small { result ≤ ONE_EACH }
 {
-    one_each(if x < m { x } else { m })
+    one_each(x.min(m))
 }
 
 /// Returns a row of `m` houses with `seeds` seeds in each.
@@ -154,7 +155,7 @@ pub(super) fn own_gains(m: u8, h: u8, count: u8) -> u64
 }
 
 /// Returns what the opponent's houses gain by the same sowing.
-#[tactic(auto, using(crate::proofs::KeyLemmas::laps_few))]
+#[tactic(auto, using(crate::proofs::KeyLemmas::other_gain, crate::proofs::KeyLemmas::laps_few))]
 pub(super) fn other_gains(m: u8, h: u8, count: u8) -> u64
     requires first { 1 ≤ h }
     requires last { h ≤ m }
@@ -169,6 +170,7 @@ pub(super) fn other_gains(m: u8, h: u8, count: u8) -> u64
 }
 
 /// Returns what the mover's store gains by it.
+#[tactic(auto, using(crate::proofs::KeyLemmas::store_gain))]
 pub(super) fn store_gains(m: u8, h: u8, count: u8) -> u8
     requires first { 1 ≤ h }
     requires last { h ≤ m }
@@ -177,5 +179,5 @@ pub(super) fn store_gains(m: u8, h: u8, count: u8) -> u8
     ensures { result ≡ store_gains m h count }
 {
     let lap = 2 * m + 1;
-    count / lap + if h + count % lap > m { 1 } else { 0 }
+    count / lap + u8::from(h + count % lap > m)
 }

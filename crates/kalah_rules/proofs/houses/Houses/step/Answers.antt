@@ -32,8 +32,7 @@ pub returns-then-again : goal.returns-then-again
 returns-then-again c = (again c).step_is
 
 -- the step by which the turn passes
-turn : (c : Else-again)
-    → IsStepOfFields c.args.self.now c.args.house (c.args.rows.rows / 2 ^ 30 + 2 ^ 30 * (c.args.rows.rows % 2 ^ 30))
+turn : (c : Else-again) → IsStepOfFields c.args.self.now c.args.house (c.args.rows.rows / 2 ^ 30 + 2 ^ 30 * (c.args.rows.rows % 2 ^ 30))
     (c.self.inside.seeds - c.args.rows.store) c.self.inside.variant (Turn c.args.rows.store)
 turn c = turn_fields c.self.invariant c.self.view_is c.requires.legal c.requires.rows c.if-own-eq0.false c.if-other-eq0.false
     (sym c.requires.again ∙ c.if-again.false)

@@ -1,11 +1,7 @@
 -- The row holds the cells so far, so a push fails only where they hold too many seeds; the second loop has found each later cell empty.
-use Rattle.std.proofs.{Common.{ℕ, List, ◌≡◌, ◌≤◌, ◌<◌, ◌+◌, ◌-◌, ◌∙◌, ◌↔◌, All, arith, drop, get_or, length, length-take-le, refl, sum, take, get_or-drop, length-drop}, lemmas.{Bool.false≢true, List.Elements.All-from_get_or, List.Sums.sum_by-drop_more, List.Sums.sum_by-take-drop}}
+use Rattle.std.proofs.{Common.{ℕ, List, ◌≡◌, ◌≤◌, ◌<◌, ◌+◌, ◌-◌, ◌∙◌, ◌↔◌, All, arith, drop, get_or, length, length-take-le, refl, get_or-drop, length-drop}, lemmas.{Bool.false≢true, List.Elements.All-from_get_or, List.Sums.sum_by_more_le}}
 use Rattle.kalah_rules.proofs.KeyLemmas.{sum-shown}
 use Rattle.kalah_rules.proofs.houses.house_row.HouseRow.of_cells.Goals as goal
-
--- the cells up to one hold no more than all
-sum-up_to : (i : ℕ) (cells : List ℕ) → i < length cells → sum (take i cells) + get_or cells i 0 ≤ sum cells
-sum-up_to i cells inside = omega (arith, sum_by-take-drop (λ (y : ℕ). y) cells i, sum_by-drop_more (λ (y : ℕ). y) cells i 0 inside)
 
 -- the cells from m on hold nothing if each of them is 0, and only then
 none_past : (m : ℕ) (cells : List ℕ) → ((k : ℕ) → m ≤ k → k < length cells → get_or cells k 0 ≡ 0) ↔ All (λ x. x ≡ 0) (drop m cells)
@@ -21,7 +17,7 @@ returns-then-not-push-clause-valid c = (
   λ e. absurd (false≢true e),
   λ can.
       let short = length-take-le c.loop-i.i c.args.cells.now (omega arith) in
-      let few = sum-up_to c.loop-i.i c.args.cells.now (omega arith) in
+      let few = sum_by_more_le (λ (y : ℕ). y) c.args.cells.now c.loop-i.i 0 (omega arith) in
       c.if-not-push.ensures.room.1 (rw c.loop-i.invariant.houses (omega arith, omega arith)),
 )
 
