@@ -1,5 +1,5 @@
 -- How many seeds are won, and the margins and windows that they make.
-use Rattle.std.proofs.{Common.{◌≡◌, ℕ, ◌+◌, ◌≤◌, arith, zero, suc, ◌-◌, ◌/◌, ◌<◌, inl, inr, ◌∙◌, ap, max, min, ℤ, pos, ◌+ℤ◌, ◌≤ℤ◌, false, sum, ◌<ℤ◌}, lemmas.{Int.ints, Int.clamps, Bool.cases_Bool}}
+use Rattle.std.proofs.{Common.{◌≡◌, ◌↔◌, ℕ, ◌+◌, ◌≤◌, arith, zero, suc, ◌-◌, ◌/◌, ◌<◌, inl, inr, ◌∙◌, ap, max, min, ℤ, pos, ◌+ℤ◌, ◌≤ℤ◌, false, sum, ◌<ℤ◌}, lemmas.{Int.ints, Int.clamps, Bool.cases_Bool}}
 use Rattle.std.specs.Int.{int_max, int_min}
 use Rattle.kalah_rules.specs.{Limits.{most_seeds}, Position.{HousesState, AreWithinLimits, seeds_in_houses, is_over, storeless}, Measure.{moves_left}, HousesStep.{houses_step}, declared.step.HousesStep.{HousesStep, TheVariants.{Over, Again, Turn}}}
 use Rattle.kalah_solve.specs.{IsHalf, clamped, margin_of, least_margin, most_margin, Encloses, houses_worth, value_of_move, nat_or_zero, won, won_by_step, declared.bounds.{window.Window.{Window}, interval.Interval.{Interval}, seed_bounds.SeedBounds.{SeedBounds}}}
@@ -10,11 +10,9 @@ use Rattle.kalah_solve.proofs.WorthLemmas.{worth_of_step, LeadsTo, LeadsOn, wort
 
 module _ (window : Window) (n low high : ℕ) (is_low : IsHalf (window.lo +ℤ pos n) low)
     (is_high : IsHalf (window.hi +ℤ pos 1 +ℤ pos n) high) where
-  -- the bounds of a window's ends are in order
   pub bounds_ordered : low ≤ high
   bounds_ordered = omega (arith, ints, clamps)
 
-  -- the bounds of a window's ends are at most all seeds
   pub bounds_high : n ≤ most_seeds → high ≤ most_seeds
   bounds_high few = omega (arith, ints, clamps)
 
@@ -46,20 +44,20 @@ pub record IsWonOf (n : ℕ) (z : ℤ) (t : ℕ) : Type 0 where
 some_won_by_step : (a : HousesState) (s : HousesStep) → LeadsOn a s
     → ((b : HousesState) (gained : ℕ) → LeadsTo a gained b → (t : ℕ) × IsWonOf (seeds_in_houses (storeless b)) (houses_worth b)
     t) → (t : ℕ) × IsWonOf (seeds_in_houses (storeless a)) (worth_of_step s) t
-some_won_by_step a (Over own other) leads each = (own, record { few = omega arith; margin = omega (arith, ints) })
+some_won_by_step a (Over own other) leads each = (own, omega (arith, ints))
 some_won_by_step a (Again gained b) leads each =
     let on = each b _ leads in
-    (gained + on.0, record { few = omega arith; margin = omega (arith, ints) })
+    (gained + on.0, omega (arith, ints))
 some_won_by_step a (Turn gained b) leads each =
     let on = each b _ leads in
-    (gained + seeds_in_houses (storeless b) - on.0, record { few = omega arith; margin = omega (arith, ints) })
+    (gained + seeds_in_houses (storeless b) - on.0, omega (arith, ints))
 
 -- what houses are worth is the margin of some number of their seeds, by the moves left
 some_won : (n : ℕ) (a : HousesState) → AreWithinLimits a → moves_left (storeless a) < n
     → (t : ℕ) × IsWonOf (seeds_in_houses (storeless a)) (houses_worth a) t
 some_won zero a limits few = absurd (omega arith)
 some_won (suc n) a limits few = elim (cases_Bool _) [
-  | inl over ↦ (sum a.own, rw (worth_of_over _ over) (record { few = omega arith; margin = omega (arith, ints) }))
+  | inl over ↦ (sum a.own, rw (worth_of_over _ over) (omega (arith, ints)))
   | inr going ↦
       let at = (worth_is_most (storeless a) (omega arith) going).reached in
       rw (← at.2, value_is a at.0 limits at.1) (some_won_by_step a _ (leads_on a at.0 limits at.1)
@@ -78,8 +76,7 @@ won_of_houses {a} limits =
     rw (won_is_one _ _ _ bounds.1) bounds.1
 
 -- houses are worth what the mover wins less the others
-pub worth_of_won : (a : HousesState) → AreWithinLimits a
-    → houses_worth a ≡ margin_of (won a) (seeds_in_houses (storeless a))
+pub worth_of_won : (a : HousesState) → AreWithinLimits a → houses_worth a ≡ margin_of (won a) (seeds_in_houses (storeless a))
 worth_of_won a limits = omega (arith, ints, (won_of_houses limits).margin)
 
 -- the worth of houses is not below the widest window
@@ -101,10 +98,10 @@ won_of_step : (a : HousesState) (s : HousesStep) → LeadsOn a s
 won_of_step a (Over own other) leads = omega (arith, ints)
 won_of_step a (Again gained b) leads =
     let on = won_of_houses leads.limits in
-    record { few = omega arith; margin = omega (arith, ints) }
+    omega (arith, ints)
 won_of_step a (Turn gained b) leads =
     let on = won_of_houses leads.limits in
-    record { few = omega arith; margin = omega (arith, ints) }
+    omega (arith, ints)
 
 module _ (a : HousesState) (limits : AreWithinLimits a) where
   -- what is won by the move of house h
@@ -129,6 +126,16 @@ module _ (a : HousesState) (limits : AreWithinLimits a) where
 -- a margin that is clamped to a window is in it
 pub clamped_within : (lo hi z : ℤ) → lo <ℤ hi → (lo ≤ℤ clamped lo hi z) × (clamped lo hi z ≤ℤ hi)
 clamped_within lo hi z ordered = omega (arith, ints, clamps)
+
+-- from the greater first number of two intervals to the lower last one stands what is in both
+pub in_both : (i j : Interval) {lo hi : ℤ} → lo ≡ int_max i.lo j.lo → hi ≡ int_min i.hi j.hi → (z : ℤ)
+    → Encloses (record { lo = lo; hi = hi }) z ↔ (Encloses i z × Encloses j z)
+in_both i j lo_is hi_is z = (λ within. omega (arith, ints, clamps), λ both. omega (arith, ints, clamps))
+
+-- an interval that leaves some of it open leaves the answers
+pub narrowed_answers : (lo hi z : ℤ) (k : Interval) {new_lo new_hi : ℤ} → Encloses k z → new_lo ≡ int_max lo k.lo → new_hi ≡ int_min hi k.hi
+    → new_lo <ℤ new_hi → clamped new_lo new_hi z ≡ clamped lo hi z
+narrowed_answers lo hi z k holds lo_is hi_is ordered = omega (arith, ints, clamps)
 
 -- an interval that leaves nothing of it open answers
 pub known_answers : (lo hi z : ℤ) (k : Interval) → lo <ℤ hi → Encloses k z → int_min hi k.hi ≤ℤ int_max lo k.lo

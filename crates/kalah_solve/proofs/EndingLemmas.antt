@@ -36,8 +36,7 @@ same_digits_before j k n d before =
     let past = k - suc j in
     let exponent : 4 * k ≡ 4 * suc past + 4 * j = omega arith in
     let worth : 2 ^ (4 * k) ≡ 16 * 2 ^ (4 * past) * 2 ^ (4 * j) = rw (exponent, pow-add 2 (4 * suc past) (4 * j), power_of_next_place past) refl in
-    let all : d * 2 ^ (4 * k) ≡ d * (16 * 2 ^ (4 * past)) * 2 ^ (4 * j) =
-    rw worth (omega arith) in
+    let all : d * 2 ^ (4 * k) ≡ d * (16 * 2 ^ (4 * past)) * 2 ^ (4 * j) = rw worth (omega arith) in
     rw (all, add-mul-div_right n (d * (16 * 2 ^ (4 * past))) (pow_pos (4 * j))) (omega arith)
 
 -- a digit put at an empty place leaves each other digit

@@ -36,14 +36,12 @@ module _ (c : LruCache ℕ Interval) (a : HousesState) (k : ℕ) (i : Interval) 
   -- both outcomes of a put
   pub true_after_put : {X E : Type 0} (r : Result X E) (new : LruCache ℕ Interval)
       → OnOk r (new ≡ lru_cache (put_entries nat_eq c k i) c.cap) → OnErr r (new ≡ c) → AreTrueEntries new.entries
-  true_after_put (Ok x) new ok err = grind (arith, put_keeps_true)
-  true_after_put (Err x) new ok err = grind arith
+  true_after_put r new ok err = grind (arith, put_keeps_true)
 
 -- a put leaves the room for entries
 pub put_leaves : {X E : Type 0} (r : Result X E) (c new : LruCache ℕ Interval) (es : List (ℕ × Interval))
     → OnOk r (new ≡ lru_cache es c.cap) → OnErr r (new ≡ c) → new.cap ≡ c.cap
-put_leaves (Ok x) c new es ok err = ap (λ now. now.cap) ok
-put_leaves (Err x) c new es ok err = ap (λ now. now.cap) err
+put_leaves r c new es ok err = grind arith
 
 -- a cache as its table is known
 abbrev pub state_of : LruCache ℕ Interval → TableState

@@ -1,5 +1,5 @@
 -- Sets of houses, read off the cells of their masks, and the moves of their houses.
-use Rattle.std.proofs.{Common.{◌≡◌, ◌≢◌, ℕ, zero, suc, ◌+◌, ◌*◌, ◌/◌, ◌%◌, ◌^◌, ◌-◌, ◌<◌, ◌≤◌, inl, inr, List, [], ◌∷◌, get_or, arith, sym, refl, ap, ◌∙◌, length, subst, min, sum, ◌↔◌, slice_index, false, Contains, pow_mono}, lemmas.{Nat.leading_top, Nat.xor_lt, Nat.and_block, Nat.or_block, Nat.and_mask, Nat.and_le_l, Nat.and_le_r, Nat.or_lt, Nat.le_or_l, Nat.le_or_r, Nat.xor_mod, Nat.xor_shr, List.Sums.sum_by-cons, Bool.cases_lt, Bool.cases_eq, List.FromFn.get_or-map-range_with_len, List.get_or_past}}
+use Rattle.std.proofs.{Common.{◌≡◌, ◌≢◌, ℕ, zero, suc, ◌+◌, ◌*◌, ◌/◌, ◌%◌, ◌^◌, ◌-◌, ◌<◌, ◌≤◌, inl, inr, List, [], ◌∷◌, get_or, arith, sym, refl, ap, ◌∙◌, length, subst, min, sum, ◌↔◌, slice_index, false, Contains, pow_mono}, lemmas.{Nat.leading_top, Nat.xor_lt, Nat.and_block, Nat.or_block, Nat.and_mask, Nat.and_le_l, Nat.and_le_r, Nat.or_lt, Nat.le_or_l, Nat.le_or_r, Nat.xor_mod, Nat.xor_shr, List.Sums.get_or-le-sum_by, Bool.cases_lt, Bool.cases_eq, List.FromFn.get_or-map-range_with_len, List.get_or_past}}
 use Rattle.std.specs.Int.{Bits.{bit_and, bit_or, bit_xor, xor_add_and, xor_self}, Count.{count_leading_zeros}}
 use Rattle.kalah_rules.specs.{Position.{HousesState, AreWithinLimits, is_over, storeless}, Sowing.{row_of, EndsInStore}, Key.{packed_row}, Fields.{BeginsHouse, ones}}
 use Rattle.kalah_rules.proofs.{KeyLemmas.{pow_five, ones_le}, PlayLemmas.{IsLegal, holds_legal, legal_holds, length-row_of}}
@@ -7,7 +7,6 @@ use Rattle.kalah_solve.specs.{cell, IsMask, IsLastIn, IsMaskOfFilled, IsMaskOfEn
 
 -- ==== Cells of a number
 
--- 0 has empty cells
 pub cell_of_zero : (i : ℕ) → cell 0 i ≡ 0
 cell_of_zero zero = refl
 cell_of_zero (suc i) = cell_of_zero i
@@ -26,11 +25,8 @@ cell_of_row (x ∷ xs) (suc i) few =
     let rest : packed_row (x ∷ xs) / 32 ≡ packed_row xs = omega (arith, few 0) in
     ap (λ n. cell n i) rest ∙ cell_of_row xs i (λ k. few (suc k))
 
--- no house of a row holds more than all
 house_le_sum : (xs : List ℕ) (k : ℕ) → get_or xs k 0 ≤ sum xs
-house_le_sum [] k = omega arith
-house_le_sum (x ∷ xs) zero = omega (arith, sum_by-cons)
-house_le_sum (x ∷ xs) (suc k) = omega (arith, sum_by-cons, house_le_sum xs k)
+house_le_sum xs k = grind (arith, cases_lt, get_or-le-sum_by (λ (y : ℕ). y), get_or_past)
 
 -- a row of m houses, given house by house, holds few seeds in each
 module _ (m : ℕ) (f : ℕ → ℕ) (few : (h : ℕ) → f h < 32) where
@@ -103,8 +99,8 @@ module _ (mask h : ℕ) (last : IsLastIn mask h) where
   outside_before i other none = omega (arith, other_cells_kept)
 
 -- without the last house the mask is lower
-pub without_last_less : {mask h : ℕ} → IsLastIn mask h → without_house mask h < mask
-without_last_less {mask} {h} last = omega arith
+pub without_last_less : {mask h rest : ℕ} → IsLastIn mask h × (rest ≡ without_house mask h) → rest < mask
+without_last_less popped = omega (arith, popped.0, popped.1)
 
 -- the last house is found by the leading zeros
 last_by_zeros : {mask : ℕ} (leading : ℕ) → 0 < mask → mask < 2 ^ 30 → leading ≡ count_leading_zeros 64 mask
@@ -335,8 +331,7 @@ module _ {a : HousesState} {row : ℕ} (limits : AreWithinLimits a) (row_is : ro
           omega (
             arith,
             cell_xor i filled ending,
-            xor_lt 1 (cell filled i) (cell ending i) (omega (arith, with_seeds.are.single i))
-                (omega (arith, mask.are.single i)),
+            xor_lt 1 (cell filled i) (cell ending i) (omega (arith, with_seeds.are.single i)) (omega (arith, mask.are.single i)),
           ))
 
 -- ==== The moves of the houses of a set

@@ -1,5 +1,5 @@
 -- Values of moves in one number, a digit each.
-use Rattle.std.proofs.{Common.{zero, suc, negsuc, ◌≡◌, ℕ, ◌<◌, ◌≤◌, inl, inr, ◌∷◌, length, arith, ap, refl, ◌+◌, ℤ, ◌≤ℤ◌, pos, ◌+ℤ◌, ◌-ℤ◌, ◌*◌, ◌/◌, ◌%◌, ◌^◌, ◌-◌}, lemmas.{Bool.cases_eq, Int.ints}, Math.Nat.{pow-succ'}}
+use Rattle.std.proofs.{Common.{List, zero, suc, negsuc, ◌≡◌, ℕ, ◌<◌, ◌≤◌, inl, inr, ◌∷◌, length, arith, ap, refl, ◌+◌, ℤ, ◌≤ℤ◌, pos, ◌+ℤ◌, ◌-ℤ◌, ◌*◌, ◌/◌, ◌%◌, ◌^◌, ◌-◌}, lemmas.{Bool.cases_eq, Int.ints}, Math.Nat.{pow-succ'}}
 use Rattle.kalah_rules.specs.Limits.{most_in_play}
 use Rattle.kalah_solve.specs.{nat_or_zero, IsMoveValue, digit_of, value_at, packed_values, values_in, ArePackedValues, declared.solver.move_values.{MoveValue.{MoveValue}, TheConstants.{VALUE_COUNT, DIGIT_BASE}}}
 
@@ -108,19 +108,22 @@ packed_le_power (suc m) (suc n) k packed few = elim (cases_eq k 0) [
 -- ==== A value in front of the others
 
 -- one value more, in front of fewer than six
-module _ (v : MoveValue) (k : ℕ) (small : IsMoveValue v) (packed : ArePackedValues 6 k) (room : length (values_in 6 k) < 6) where
-  pub values_prepended : values_in 6 (digit_of v + DIGIT_BASE * k) ≡ v ∷ values_in 6 k
+module _ {v : MoveValue} (k : ℕ) {vs : List MoveValue} (small : IsMoveValue v) (packed : ArePackedValues 6 k) (values_are : values_in 6 k ≡ vs)
+    (room : length vs < 6) where
+  pub values_prepended : values_in 6 (digit_of v + DIGIT_BASE * k) ≡ v ∷ vs
   values_prepended =
       let again = value_of_its_digit v small in
+      let few : length (values_in 6 k) < 6 = rw values_are room in
       let low : (digit_of v + DIGIT_BASE * k) % DIGIT_BASE ≡ digit_of v = omega arith in
       let high : (digit_of v + DIGIT_BASE * k) / DIGIT_BASE ≡ k = omega arith in
-      rw (values_in-positive 5 (digit_of v + DIGIT_BASE * k) (omega arith), low, high, again.value, values_in-fewer_digits 5 k (omega arith)) refl
+      let fewer = values_in-fewer_digits 5 k (omega arith) in
+      rw (values_in-positive 5 (digit_of v + DIGIT_BASE * k) (omega arith), low, high, again.value, fewer, values_are) refl
 
   pub packed_prepended : ArePackedValues 6 (digit_of v + DIGIT_BASE * k)
-  packed_prepended = rw values_prepended (omega arith)
+  packed_prepended = let number_is = rw values_are at packed in rw values_prepended (omega arith)
 
   pub fits_prepended : digit_of v + DIGIT_BASE * k < 2 ^ 64
   fits_prepended =
       let again = value_of_its_digit v small in
-      let few = packed_le_power 5 6 k packed (omega arith) in
+      let few = packed_le_power 5 6 k packed (rw values_are (omega arith)) in
       omega arith

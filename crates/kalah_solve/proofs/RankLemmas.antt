@@ -34,13 +34,11 @@ choose_le_power (suc n) (suc k) = omega (arith, choose_le_power n k, choose_le_p
 choose_small : (n b k : ℕ) → n ≤ b → choose n k ≤ 2 ^ b
 choose_small n b k few = omega (arith, choose_rises n b k few, choose_le_power b k)
 
--- there are as many ways to choose one as there are things
 choose_one : (n : ℕ) → choose n 1 ≡ n
 unfolding choose
 choose_one zero = refl
 choose_one (suc n) = omega (arith, choose_one n)
 
--- there is no way to choose more than there are
 pub choose_none : (n k : ℕ) → n < k → choose n k ≡ 0
 unfolding choose
 choose_none n zero more = omega arith
@@ -70,8 +68,7 @@ rank_apart xs (y ∷ ys) long less =
     omega (
       arith,
       rw cells at (rank_below xs),
-      choose_rises (sum xs + suc (length ys)) (y + sum ys + length ys) (suc (length ys))
-          (omega arith),
+      choose_rises (sum xs + suc (length ys)) (y + sum ys + length ys) (suc (length ys)) (omega arith),
     )
 
 -- rows with one rank have as many seeds
@@ -103,8 +100,7 @@ houses_by_rank a b limits_a limits_b variant rank =
     let cells : length (a.own ++ a.other) ≡ length (b.own ++ b.other) =
     omega (arith, length-append a.own a.other, length-append b.own b.other) in
     let row = row_rank-injective _ _ cells rank in
-    let own = rw (take-append_seam a.own a.other, side, take-append_seam b.own b.other) at
-    (ap (take (length a.own)) row) in
+    let own = rw (take-append_seam a.own a.other, side, take-append_seam b.own b.other) at (ap (take (length a.own)) row) in
     let other = append_cancel_left a.own a.other b.other (rw (← own) at row) in
     key-injective a b limits_a limits_b (omega (arith, ap packed_row own, ap packed_row other))
 
@@ -182,15 +178,13 @@ module _ (row : List ℕ) (few : sum row ≤ most_ending_seeds) (m passed sums a
   two_are = rw (ranked.left, two_more) (two_sums _ _ _ two_less)
 
   -- the rank of two cells more
-  pub rank_next : (c : ℕ)
-      → c ≡ choose (sums % 1024 % 32 + 2 * (m - passed - 1) + 1) (2 * (m - passed - 1) + 2) + choose
-      (sums % 1024 / 32 + 2 * (m - passed - 1)) (2 * (m - passed - 1) + 1) → IsRanked row (passed + 1) (sums / 1024) (added + c)
-  rank_next c is_c =
-      let past = m - passed - 1 in
+  pub rank_next : (past c : ℕ) → past + passed + 1 ≡ m
+      → c ≡ choose (sums % 1024 % 32 + 2 * past + 1) (2 * past + 2) + choose (sums % 1024 / 32 + 2 * past) (2 * past + 1)
+      → IsRanked row (passed + 1) (sums / 1024) (added + c)
+  rank_next past c past_is is_c =
       let rest = two_second ∷ two_past in
       let cells : length two_past ≡ 2 * past = omega (arith, length-drop (2 * (passed + 1)) row) in
-      let first : two_first + sum rest + length rest ≡ sums % 1024 % 32 + 2 * past + 1 =
-      omega (arith, two_are.first, sum_by-cons) in
+      let first : two_first + sum rest + length rest ≡ sums % 1024 % 32 + 2 * past + 1 = omega (arith, two_are.first, sum_by-cons) in
       let first_cells : suc (length rest) ≡ 2 * past + 2 = omega arith in
       let second : two_second + sum two_past + length two_past ≡ sums % 1024 / 32 + 2 * past = omega (arith, two_are.second) in
       let second_cells : suc (length two_past) ≡ 2 * past + 1 = omega arith in
@@ -215,7 +209,6 @@ pub ranked_small : (row : List ℕ) {passed sums added : ℕ} → sum row ≤ mo
 ranked_small row few long ranked =
     omega (arith, rank_below row, choose_small (sum row + length row) 21 (length row) (omega arith))
 
--- a row without cells has the rank 0
 rank_none : (xs : List ℕ) → length xs ≡ 0 → row_rank xs ≡ 0
 rank_none [] none = refl
 rank_none (x ∷ xs) none = omega arith

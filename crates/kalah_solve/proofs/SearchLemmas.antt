@@ -4,10 +4,10 @@
 -- in the set, it does not, and `try_remaining` is still to play it: each of those outside waits or was tried (`ArePlayed`);
 -- waiting: its turn must be searched (`AreTurns`; `AreWaiting` once all were played);
 -- tried: it wins at most `most`. `bound_by_moves` tries those that wait, and all others were tried (`AreUntried`).
-use Rattle.std.proofs.{Common.{◌≡◌, ℕ, ◌+◌, ◌*◌, ◌-◌, ◌<◌, ◌≤◌, inl, inr, List, get_or, arith, refl, sym, ap, ◌∙◌, length, subst, ◌↔◌, Bool, false, IsTrue, max, slice_set, sum}, lemmas.{Bool.cases_lt, Bool.cases_eq, List.get_or-set_same, List.get_or-set_other, List.get_or_past, List.set_past}}
+use Rattle.std.proofs.{Common.{◌≡◌, ℕ, ◌+◌, ◌*◌, ◌-◌, ◌<◌, ◌≤◌, inl, inr, List, get_or, arith, refl, sym, ap, ◌∙◌, length, subst, ◌↔◌, Bool, false, IsTrue, Contains, ◌%◌, max, slice_set, sum}, lemmas.{Bool.cases_lt, Bool.cases_eq, List.get_or-set_same, List.get_or-set_other, List.get_or_default, List.get_or_past, List.set_past}}
 use Rattle.kalah_solve.specs.{cell, IsLastIn, without_house, IsSoftBound, WinsAtMost, IsTurnOf, AreTurns, AreWaiting, ArePlaced, IsEmpty, IsTaken, won, won_by_step}
 use Rattle.kalah_solve.proofs.{HouseSetLemmas.{AreMovable, EachOutside, cell_of_zero, into_store_legal, seeded_is_legal, movable_before_last, each_before_last, each_outside_without_last}, WorthLemmas.{LeadsTo, leads_by}, BoundsLemmas.{won_at_most, won_of_houses, won_reached}}
-use Rattle.kalah_rules.specs.{Position.{HousesState, AreWithinLimits, seeds, seeds_in_houses, is_over, storeless}, Sowing.{EndsInStore}, HousesStep.{houses_step}, declared.step.HousesStep.TheVariants.{Turn}}
+use Rattle.kalah_rules.specs.{Limits.{most_seeds}, Position.{HousesState, AreWithinLimits, seeds, seeds_in_houses, is_over, storeless}, Sowing.{EndsInStore}, HousesStep.{houses_step}, declared.step.HousesStep.TheVariants.{Turn}}
 use Rattle.kalah_rules.proofs.PlayLemmas.{IsLegal, legal_holds, sum-set_zero}
 
 -- ==== The measure of a call (`Invariants.antt` of the search)
@@ -93,7 +93,18 @@ step_is_turn {a} {b} {h} {gained} limits legal step_is =
     let brought : gained ≡ seeds_in_houses (storeless a) - seeds_in_houses (storeless b) = omega arith in
     record { legal = legal; step = sym step_is ∙ ap (λ g. Turn g b) brought }
 
+-- a turn brings few seeds to the store
+pub gained_few : {a b : HousesState} {h gained : ℕ} → AreWithinLimits a → IsLegal a h → Turn gained b ≡ houses_step a h → gained ≤ most_seeds
+gained_few limits legal step_is = let leads = leads_by limits legal step_is in omega (arith, leads.kept)
+
 -- ==== Turns that wait
+
+-- the place that a priority names is one of those of the turns
+pub place_inside : {priorities : List ℕ} {turns : List HousesState} {priority : ℕ} → ArePlaced priorities turns
+    → Contains priorities priority → 0 < priority → priority % 8 < 6
+place_inside {priority = priority} placed found some =
+    let at = get_or_default _ found.0 0 priority found.1 ∙ found.2 in
+    omega (arith, at, placed.inside found.0 (omega (arith, at)), placed.named found.0 (omega (arith, at)))
 
 -- a place that was set to 0 has nothing
 none_at : (xs : List ℕ) (at : ℕ) → get_or (slice_set xs at 0) at 0 ≡ 0
@@ -155,51 +166,51 @@ played_at_start {a} limits going empty members = record {
       omega arith);
 }
 
--- the last house of the set was played
-module _ {a : HousesState} {beta most mask h rest : ℕ} {priorities : List ℕ} {turns : List HousesState}
-    (played : ArePlayed a beta most mask priorities turns) (last : IsLastIn mask h) (rest_is : rest ≡ without_house mask h) where
-  -- it waits at its place
-  pub played_and_waits : (at v : ℕ) {b : HousesState} → ArePlaced priorities turns → at + 1 ≡ h → 0 < v → IsTurnOf a h b
-      → ArePlayed a beta most rest (slice_set priorities at v) (slice_set turns at b)
-  played_and_waits at v {b} placed place some turn =
-      let at_is : h - 1 ≡ at = omega arith in
-      let low : at < 6 = omega (arith, last.last) in
-      let inside : at < length priorities = omega (arith, placed.cells) in
-      rw rest_is (record {
-        short_or_zero = played.short_or_zero;
-        movable = movable_before_last played.movable last;
-        waiting = turns_with_one_more at v played.waiting placed low (rw (sym place) at turn);
-        others = each_outside_without_last a
-            (λ i. get_or (slice_set priorities at v) (i - 1) 0 ≡ 0 → ¬ EndsInStore a i → WinsAtMost a most i) last
-            (λ none apart. absurd (omega (arith, rw at_is at none, get_or-set_same priorities at v 0 inside)))
-            (λ i legal other outside none apart. played.others i legal outside
-            (rw (get_or-set_other priorities at _ v 0 (rw at_is at other)) at none) apart);
-      })
+module _ {a : HousesState} {beta most mask : ℕ} {priorities : List ℕ} {turns : List HousesState}
+    (played : ArePlayed a beta most mask priorities turns) where
+  -- the last house of the set was played
+  module _ {h rest : ℕ} (popped : IsLastIn mask h × (rest ≡ without_house mask h)) where
+    -- it waits at its place
+    pub played_and_waits : (at v : ℕ) {b : HousesState} {new_priorities : List ℕ} {new_turns : List HousesState}
+        → ArePlaced priorities turns → at + 1 ≡ h → 0 < v → IsTurnOf a h b → new_priorities ≡ slice_set priorities at v
+        → new_turns ≡ slice_set turns at b → ArePlayed a beta most rest new_priorities new_turns
+    played_and_waits at v {b} placed place some turn priorities_are turns_are =
+        let at_is : h - 1 ≡ at = omega arith in
+        let low : at < 6 = omega (arith, popped.0.last) in
+        let inside : at < length priorities = omega (arith, placed.cells) in
+        rw (popped.1, priorities_are, turns_are) (record {
+          short_or_zero = played.short_or_zero;
+          movable = movable_before_last played.movable popped.0;
+          waiting = turns_with_one_more at v played.waiting placed low (rw (sym place) at turn);
+          others = each_outside_without_last a
+              (λ i. get_or (slice_set priorities at v) (i - 1) 0 ≡ 0 → ¬ EndsInStore a i → WinsAtMost a most i) popped.0
+              (λ none apart. absurd (omega (arith, rw at_is at none, get_or-set_same priorities at v 0 inside)))
+              (λ i legal other outside none apart. played.others i legal outside
+              (rw (get_or-set_other priorities at _ v 0 (rw at_is at other)) at none) apart);
+        })
 
-  -- it wins at most `bound`, which falls short
-  pub played_and_bounded : (bound new : ℕ) → WinsAtMost a bound h → bound < beta → new ≡ max most bound
-      → ArePlayed a beta new rest priorities turns
-  played_and_bounded bound new at_most short new_is = rw rest_is (record {
-    short_or_zero = short_stays played.short_or_zero short new_is;
-    movable = movable_before_last played.movable last;
+    -- it wins at most `bound`, which falls short
+    pub played_and_bounded : (bound new : ℕ) → WinsAtMost a bound h → bound < beta → new ≡ max most bound
+        → ArePlayed a beta new rest priorities turns
+    played_and_bounded bound new at_most short new_is = rw popped.1 (record {
+      short_or_zero = short_stays played.short_or_zero short new_is;
+      movable = movable_before_last played.movable popped.0;
+      waiting = played.waiting;
+      others = each_outside_without_last a (λ i. get_or priorities (i - 1) 0 ≡ 0 → ¬ EndsInStore a i → WinsAtMost a new i) popped.0
+          (λ none apart. omega arith) (λ i legal place outside none apart. omega (arith, played.others i legal outside none apart));
+    })
+
+  -- a move that wins enough makes the others needless
+  pub played_enough : {bound : ℕ} → beta ≤ bound → bound ≤ won a → AreWaiting a beta bound priorities turns
+  played_enough enough low = record { lower = λ e. low; waiting = played.waiting; others = λ short. absurd (omega arith) }
+
+  -- once the set is empty, all were played
+  pub all_played : mask ≡ 0 → AreWaiting a beta most priorities turns
+  all_played none = record {
+    lower = λ enough. omega (arith, played.short_or_zero enough);
     waiting = played.waiting;
-    others = each_outside_without_last a (λ i. get_or priorities (i - 1) 0 ≡ 0 → ¬ EndsInStore a i → WinsAtMost a new i) last
-        (λ none apart. omega arith) (λ i legal place outside none apart. omega (arith, played.others i legal outside none apart));
-  })
-
--- a move that wins enough makes the others needless
-pub played_enough : {a : HousesState} {beta most mask : ℕ} {priorities : List ℕ} {turns : List HousesState} (bound : ℕ)
-    → ArePlayed a beta most mask priorities turns → beta ≤ bound → bound ≤ won a → AreWaiting a beta bound priorities turns
-played_enough bound played enough low = record { lower = λ e. low; waiting = played.waiting; others = λ short. absurd (omega arith) }
-
--- once the set is empty, all were played
-pub all_played : {a : HousesState} {beta most mask : ℕ} {priorities : List ℕ} {turns : List HousesState}
-    → ArePlayed a beta most mask priorities turns → mask ≡ 0 → AreWaiting a beta most priorities turns
-all_played played none = record {
-  lower = λ enough. omega (arith, played.short_or_zero enough);
-  waiting = played.waiting;
-  others = λ short h legal. played.others h legal (rw none (cell_of_zero (h - 1)));
-}
+    others = λ short h legal. played.others h legal (rw none (cell_of_zero (h - 1)));
+  }
 
 -- ==== The moves that end in the store, tried one by one
 
@@ -226,13 +237,13 @@ tried_at_start {a} limits going members = record {
 
 -- the last one of the set was tried, and falls short
 pub tried_without_last : {a : HousesState} {beta most mask h rest : ℕ} (bound new : ℕ) → AreTriedIntoStore a beta most mask
-    → IsLastIn mask h → rest ≡ without_house mask h → WinsAtMost a bound h → bound < beta → new ≡ max most bound
+    → IsLastIn mask h × (rest ≡ without_house mask h) → WinsAtMost a bound h → bound < beta → new ≡ max most bound
     → AreTriedIntoStore a beta new rest
-tried_without_last {a} bound new before last rest_is at_most short new_is = rw rest_is (record {
+tried_without_last {a} bound new before popped at_most short new_is = rw popped.1 (record {
   short_or_zero = short_stays before.short_or_zero short new_is;
-  movable = movable_before_last before.movable last;
-  ends = each_before_last (EndsInStore a) last before.ends;
-  tried = each_outside_without_last a (λ i. EndsInStore a i → WinsAtMost a new i) last (λ ends. omega arith)
+  movable = movable_before_last before.movable popped.0;
+  ends = each_before_last (EndsInStore a) popped.0 before.ends;
+  tried = each_outside_without_last a (λ i. EndsInStore a i → WinsAtMost a new i) popped.0 (λ ends. omega arith)
       (λ i legal place outside ends. omega (arith, before.tried i legal outside ends));
 })
 
@@ -256,20 +267,21 @@ pub untried_at_start : {a : HousesState} {beta others new : ℕ} {priorities : L
 untried_at_start into_store waiting ends into_short short new_is = grind arith
 
 -- one was taken out and tried, and falls short
-pub untried_fewer : {a b : HousesState} {beta most new : ℕ} {priorities rest : List ℕ} {turns : List HousesState} (bound : ℕ)
-    → AreUntried a beta most priorities turns → (taken : IsTaken priorities turns b rest) → WinsAtMost a bound (taken.at + 1)
-    → bound < beta → new ≡ max most bound → AreUntried a beta new rest turns
-untried_fewer {a} {priorities = priorities} {turns = turns} bound untried taken at_most short new_is = rw taken.rest_is (record {
-  short = omega (arith, untried.short);
-  waiting = turns_without_one a priorities turns taken.at untried.waiting;
-  tried = λ h legal none. elim (cases_eq (h - 1) taken.at) [
-    | inl same ↦
-        let first = (legal_holds (storeless a) h legal).first in
-        let house : taken.at + 1 ≡ h = omega arith in
-        omega (arith, subst (WinsAtMost a bound) house at_most)
-    | inr other ↦ omega (arith, untried.tried h legal (rw (get_or-set_other priorities taken.at _ 0 0 other) at none))
-  ];
-})
+pub untried_fewer : {a b : HousesState} {beta most new : ℕ} {priorities rest : List ℕ} {turns left : List HousesState} (bound : ℕ)
+    → AreUntried a beta most priorities turns → (taken : IsTaken priorities turns b rest) → left ≡ turns
+    → WinsAtMost a bound (taken.at + 1) → bound < beta → new ≡ max most bound → AreUntried a beta new rest left
+untried_fewer {a} {priorities = priorities} {turns = turns} bound untried taken left_are at_most short new_is =
+    rw (taken.rest_is, left_are) (record {
+      short = omega (arith, untried.short);
+      waiting = turns_without_one a priorities turns taken.at untried.waiting;
+      tried = λ h legal none. elim (cases_eq (h - 1) taken.at) [
+        | inl same ↦
+            let first = (legal_holds (storeless a) h legal).first in
+            let house : taken.at + 1 ≡ h = omega arith in
+            omega (arith, subst (WinsAtMost a bound) house at_most)
+        | inr other ↦ omega (arith, untried.tried h legal (rw (get_or-set_other priorities taken.at _ 0 0 other) at none))
+      ];
+    })
 
 -- once none waits, `most` is a bound of what best play wins
 pub none_untried : {a : HousesState} {beta most : ℕ} {priorities : List ℕ} {turns : List HousesState} → AreWithinLimits a

@@ -1,7 +1,7 @@
 -- Games, best play, and what a solver says of it.
-use Rattle.std.proofs.{Common.{zero, suc, ◌≡◌, ℕ, ◌<◌, ◌≤◌, inl, inr, List, [], ◌∷◌, length, get_or, arith, ap, sym, subst, ◌∙◌, refl, ◌+◌, w32, to_z, of_z, FitsSigned, false, Contains, ℤ, ◌≤ℤ◌, Bool, nat_lt, neg_ℤ, true, map, pos, ◌<ℤ◌, find, option_map, Some, ◌+ℤ◌, ◌-ℤ◌, int_eq}, lemmas.{Bool.both_ways, Bool.cases_Bool, Bool.cases_eq, Bool.cond_both, Int.ints, Int.clamps, List.get_or_default, List.map-id, Simd.map-map, List.Elements.All-map, List.Elements.All-from_get_or, List.Elements.Contains-get_or}}
+use Rattle.std.proofs.{Common.{zero, suc, ◌≡◌, ℕ, ◌<◌, ◌≤◌, inl, inr, List, [], ◌∷◌, length, get_or, arith, ap, sym, subst, ◌∙◌, refl, ◌+◌, w32, to_z, of_z, FitsSigned, false, Contains, ℤ, ◌≤ℤ◌, nat_lt, neg_ℤ, true, map, pos, ◌<ℤ◌, find, option_map, ◌+ℤ◌, ◌-ℤ◌, int_eq}, lemmas.{Bool.both_ways, Bool.cases_Bool, Bool.cases_eq, Bool.cond_both, Int.ints, Int.clamps, List.get_or_default, List.map-id, Simd.map-map, List.Elements.All-map, List.Elements.All-from_get_or, List.Elements.Contains-get_or}}
 use Rattle.kalah_rules.specs.{Limits.{most_houses}, Position.{Position, HasEqualSides, is_over, swapped, final_margin, side_length, seeds, IsWithinLimits, IsMarginInRange, HousesState, AreWithinLimits, houses_in, storeless}, Play.{legal_houses}, Measure.{moves_left}, HousesStep.{houses_step}}
-use Rattle.kalah_rules.proofs.{PlayLemmas.{IsLegal, legal_holds, after_equal_sides, after_fewer, moves_left-swapped}, PackedLemmas.{houses_within, is_over-swapped}}
+use Rattle.kalah_rules.proofs.{PlayLemmas.{IsLegal, legal_holds, after_equal_sides, after_fewer, find_first, moves_left-swapped}, PackedLemmas.{houses_within, is_over-swapped}}
 use Rattle.kalah_solve.specs.{Strategy, IsStrategy, Policy, follow, Game, Secures, HoldsTo, IsBestPlay, IsBestMove, IsWorthOfMove, EndsInTime, StrategiesPlayAGame, StrategiesPlayOneGame, GamesEnd, WorthIsBestPlay, BestPlayIsOne, BestHouseIsBestPlay, EndsWithAtLeast, EndsWithAtMost, BestPlayAgainstStrategies, BestHouseIsLowest, BestMovesAttain, BestVerdictIsOne, worth, value_of_move, best_house, houses_worth, verdict_of, IsBestInRange, StatesBestPlay, AreValuesByBestPlay, ValueIsWorthOfMove, WorthOfMoveIsOne, ValuesTellVerdict, move_value, values_of, IsMoveValue, least_margin, most_margin, clamped, won, won_by_step, Solver.BestPlay.Game.{is_at_end, moves_on, passes_turn}, declared.solver.{Verdict.{Verdict, TheVariants.{Best, Over}}, move_values.MoveValue.{MoveValue}}}
 use Rattle.kalah_solve.proofs.{WorthLemmas.{swapped_equal_sides, over_at_end, worth_of_over, final_swapped, value_moving_again, value_passing, best_found, best_attains, value_most, int_eq-same, find_lowest, worth_of_going, int_eq-lower, greatest_reached, worth_of_houses, value_of_houses}, BoundsLemmas.{worth_low, worth_high, won_of_houses, won_of_move, won_at_most}}
 use Rattle.lru.proofs.Splits.{Contains-head}
@@ -10,7 +10,7 @@ use Rattle.lru.proofs.Splits.{Contains-head}
 
 -- a policy whose houses are all of a wider policy
 pub record IsWithin (policy wider : Policy) : Type 0 where
-  pub widens : (p : Position) (h : ℕ) → HasEqualSides p → is_over p ≡ false → Contains (policy p) h → Contains (wider p) h
+  pub widens : {p : Position} {h : ℕ} → HasEqualSides p → is_over p ≡ false → Contains (policy p) h → Contains (wider p) h
 
 -- a policy is as wide as itself
 same_policy : (policy : Policy) → IsWithin policy policy
@@ -35,8 +35,7 @@ ends_within (suc n) mine theirs mine_lawful theirs_lawful p equal few = elim (ca
             (mine p ∷ rest.0, rest.1, moves_on going (Contains-head _ []) again rest.2)
         | inr turn ↦
             let turned = moves_left-swapped _ next_even in
-            let rest = ends_within n theirs mine theirs_lawful mine_lawful _ (omega arith)
-            (omega arith) in
+            let rest = ends_within n theirs mine theirs_lawful mine_lawful _ (omega arith) (omega arith) in
             (mine p ∷ rest.0, swapped rest.1, passes_turn going (Contains-head _ []) turn rest.2)
       ]
 ]
@@ -49,12 +48,12 @@ a_game_is_played mine theirs mine_lawful theirs_lawful p equal = ends_within (mo
 ends_in_time : {mine theirs : Policy} {p : Position} {houses : List ℕ} {final : Position} → IsWithin mine legal_houses
     → IsWithin theirs legal_houses → HasEqualSides p → Game mine theirs p houses final → EndsInTime p houses final
 ends_in_time mine_lawful theirs_lawful equal (is_at_end over) = grind arith
-ends_in_time {mine} {theirs} {p} mine_lawful theirs_lawful equal (moves_on {h = h} going chosen again rest) =
-    let fewer = after_fewer p h (legal_holds p h (mine_lawful.widens p h equal going chosen)) equal in
+ends_in_time {p = p} mine_lawful theirs_lawful equal (moves_on {h = h} going chosen again rest) =
+    let fewer = after_fewer p h (legal_holds p h (mine_lawful.widens equal going chosen)) equal in
     let inner = ends_in_time mine_lawful theirs_lawful (after_equal_sides p h) rest in
     record { over = inner.over; short = omega arith }
-ends_in_time {mine} {theirs} {p} mine_lawful theirs_lawful equal (passes_turn {h = h} {final = final} going chosen turn rest) =
-    let fewer = after_fewer p h (legal_holds p h (mine_lawful.widens p h equal going chosen)) equal in
+ends_in_time {p = p} mine_lawful theirs_lawful equal (passes_turn {h = h} {final = final} going chosen turn rest) =
+    let fewer = after_fewer p h (legal_holds p h (mine_lawful.widens equal going chosen)) equal in
     let turned = moves_left-swapped _ (after_equal_sides p h) in
     let inner = ends_in_time theirs_lawful mine_lawful (swapped_equal_sides _ (after_equal_sides p h)) rest in
     record { over = is_over-swapped final ∙ inner.over; short = omega arith }
@@ -65,7 +64,7 @@ games_end p houses final equal game = ends_in_time (same_policy _) (same_policy 
 
 -- a policy that has one house at most
 pub record HasNoChoice (policy : Policy) : Type 0 where
-  pub one : (p : Position) (h k : ℕ) → Contains (policy p) h → Contains (policy p) k → h ≡ k
+  pub one : (p : Position) {h k : ℕ} → Contains (policy p) h → Contains (policy p) k → h ≡ k
 
 -- who follows a strategy has no choice
 follow_one : (s : Strategy) → HasNoChoice (follow s)
@@ -75,25 +74,21 @@ follow_one s = grind arith
 game_is_one : {mine theirs : Policy} {p : Position} {houses others : List ℕ} {final other : Position} → HasNoChoice mine
     → HasNoChoice theirs → Game mine theirs p houses final → Game mine theirs p others other
     → (houses ≡ others) × (final ≡ other)
-game_is_one mine_forced theirs_forced (is_at_end over) (is_at_end over') = (refl, refl)
-game_is_one mine_forced theirs_forced (is_at_end over) (moves_on going chosen again rest) = cc
-game_is_one mine_forced theirs_forced (is_at_end over) (passes_turn going chosen turn rest) = cc
-game_is_one mine_forced theirs_forced (moves_on going chosen again rest) (is_at_end over) = cc
-game_is_one {mine} {theirs} {p} mine_forced theirs_forced (moves_on {h = h} going chosen again rest)
-    (moves_on {h = k} {houses = houses} {final = final} going' chosen' again' rest') =
-    let e = mine_forced.one p k h chosen' chosen in
+game_is_one mine_forced theirs_forced (is_at_end _) (is_at_end _) = (refl, refl)
+game_is_one mine_forced theirs_forced (is_at_end over) (moves_on going _ _ _) = cc
+game_is_one mine_forced theirs_forced (is_at_end over) (passes_turn going _ _ _) = cc
+game_is_one mine_forced theirs_forced (moves_on going _ _ _) (is_at_end over) = cc
+game_is_one mine_forced theirs_forced (passes_turn going _ _ _) (is_at_end over) = cc
+game_is_one mine_forced theirs_forced (moves_on _ chosen again rest) (moves_on _ chosen' again' rest') =
+    let e = mine_forced.one _ chosen' chosen in
     let same = game_is_one mine_forced theirs_forced rest (rw e at rest') in
     (cc same.0, same.1)
-game_is_one {mine} {theirs} {p} mine_forced theirs_forced (moves_on {h = h} going chosen again rest) (passes_turn {h = k} going' chosen' turn rest') =
-    let e = mine_forced.one p k h chosen' chosen in
-    absurd cc
-game_is_one mine_forced theirs_forced (passes_turn going chosen turn rest) (is_at_end over) = cc
-game_is_one {mine} {theirs} {p} mine_forced theirs_forced (passes_turn {h = h} going chosen turn rest) (moves_on {h = k} going' chosen' again rest') =
-    let e = mine_forced.one p k h chosen' chosen in
-    absurd (let differs = rw e at again in cc)
-game_is_one {mine} {theirs} {p} mine_forced theirs_forced (passes_turn {h = h} going chosen turn rest)
-    (passes_turn {h = k} {houses = houses} {final = final} going' chosen' turn' rest') =
-    let e = mine_forced.one p k h chosen' chosen in
+game_is_one mine_forced theirs_forced (moves_on _ chosen again _) (passes_turn _ chosen' turn _) =
+    absurd (let e = mine_forced.one _ chosen' chosen in cc)
+game_is_one mine_forced theirs_forced (passes_turn _ chosen turn _) (moves_on _ chosen' again _) =
+    absurd (let e = mine_forced.one _ chosen' chosen in cc)
+game_is_one mine_forced theirs_forced (passes_turn _ chosen turn rest) (passes_turn _ chosen' turn' rest') =
+    let e = mine_forced.one _ chosen' chosen in
     let same = game_is_one theirs_forced mine_forced rest (rw e at rest') in
     (cc same.0, ap swapped same.1)
 
@@ -105,16 +100,16 @@ one_game_is_played mine theirs p houses others final other one two = game_is_one
 pub widened : {mine theirs mine' theirs' : Policy} {p : Position} {houses : List ℕ} {final : Position} → IsWithin mine mine'
     → IsWithin theirs theirs' → HasEqualSides p → Game mine theirs p houses final → Game mine' theirs' p houses final
 widened mine_wider theirs_wider equal (is_at_end over) = is_at_end over
-widened {mine} {theirs} {mine'} {theirs'} {p} mine_wider theirs_wider equal (moves_on {h = h} going chosen again rest) =
-    moves_on going (mine_wider.widens p h equal going chosen) again (widened mine_wider theirs_wider (after_equal_sides p h) rest)
-widened {mine} {theirs} {mine'} {theirs'} {p} mine_wider theirs_wider equal (passes_turn {h = h} going chosen turn rest) =
-    passes_turn going (mine_wider.widens p h equal going chosen) turn (widened theirs_wider mine_wider (swapped_equal_sides _ (after_equal_sides p h)) rest)
+widened {p = p} mine_wider theirs_wider equal (moves_on {h = h} going chosen again rest) =
+    moves_on going (mine_wider.widens equal going chosen) again (widened mine_wider theirs_wider (after_equal_sides p h) rest)
+widened {p = p} mine_wider theirs_wider equal (passes_turn {h = h} going chosen turn rest) =
+    passes_turn going (mine_wider.widens equal going chosen) turn (widened theirs_wider mine_wider (swapped_equal_sides _ (after_equal_sides p h)) rest)
 
 -- ==== What players who play best secure
 
 -- a policy that moves only houses of the greatest value
 pub record PlaysBest (policy : Policy) : Type 0 where
-  pub attains : (p : Position) (h : ℕ) → HasEqualSides p → is_over p ≡ false → Contains (policy p) h
+  pub attains : {p : Position} {h : ℕ} → HasEqualSides p → is_over p ≡ false → Contains (policy p) h
       → value_of_move p h ≡ worth p
 
 -- the player who plays best gets at least the worth, and the opponent of one who does at most that
@@ -129,17 +124,17 @@ game_is_bounded {p = p} mine_lawful theirs_lawful equal (is_at_end over) = grind
 game_is_bounded {p = p} {final = final} mine_lawful theirs_lawful equal (moves_on {h = h} going chosen again rest) =
     let inner = game_is_bounded mine_lawful theirs_lawful (after_equal_sides p h) rest in
     let value = value_moving_again p h again in
-    let most = value_most p h equal going (mine_lawful.widens p h equal going chosen) in
+    let most = value_most p h equal going (mine_lawful.widens equal going chosen) in
     record {
-      low = λ best. omega (arith, ints, best.attains p h equal going chosen);
+      low = λ best. omega (arith, ints, best.attains equal going chosen);
       high = λ best. omega (arith, ints);
     }
 game_is_bounded {p = p} mine_lawful theirs_lawful equal (passes_turn {h = h} {final = final} going chosen turn rest) =
     let inner = game_is_bounded theirs_lawful mine_lawful (swapped_equal_sides _ (after_equal_sides p h)) rest in
     let value = value_passing p h turn in
-    let most = value_most p h equal going (mine_lawful.widens p h equal going chosen) in
+    let most = value_most p h equal going (mine_lawful.widens equal going chosen) in
     rw (← final_swapped _) (record {
-      low = λ best. omega (arith, ints, best.attains p h equal going chosen);
+      low = λ best. omega (arith, ints, best.attains equal going chosen);
       high = λ best. omega (arith, ints);
     })
 
@@ -184,18 +179,9 @@ module _ (mine theirs : Strategy) (mine_lawful : IsStrategy mine) (theirs_lawful
 -- either player has a strategy that gets the worth against each strategy of the other
 pub best_against_strategies : BestPlayAgainstStrategies
 best_against_strategies = record {
-  secured = λ p equal. (
-    best_house,
-    best_is_strategy,
-    λ theirs theirs_lawful. ends_at_least _ theirs best_is_strategy theirs_lawful p equal _
-        (best_secures _ equal),
-  );
-  held = λ p equal. (
-    best_house,
-    best_is_strategy,
-    λ mine mine_lawful. ends_at_most mine _ mine_lawful best_is_strategy p equal _
-        (best_holds _ equal),
-  );
+  secured = λ p equal.
+      (best_house, best_is_strategy, λ theirs lawful. ends_at_least _ theirs best_is_strategy lawful p equal _ (best_secures _ equal));
+  held = λ p equal. (best_house, best_is_strategy, λ mine lawful. ends_at_most mine _ lawful best_is_strategy p equal _ (best_holds _ equal));
 }
 
 -- of two margins of best play neither is above the other
@@ -227,8 +213,7 @@ move_worth_is_one : {p : Position} {h : ℕ} {v w : ℤ} → IsWorthOfMove p h v
 move_worth_is_one {p} {h} {v} {w} a b = elim (cases_Bool _) [
   | inl more ↦ best_play_is_one _ v w (after_equal_sides p h) (a.again more) (b.again more)
   | inr passed ↦
-      let same = best_play_is_one _ (neg_ℤ v) _
-      (swapped_equal_sides _ (after_equal_sides p h)) (a.turn passed) (b.turn passed) in
+      let same = best_play_is_one _ (neg_ℤ v) _ (swapped_equal_sides _ (after_equal_sides p h)) (a.turn passed) (b.turn passed) in
       omega (arith, ints)
 ]
 
@@ -349,14 +334,6 @@ values_tell_verdict p equal going = grind (arith, map-map, worth_of_going, first
 
 -- ==== The first house that attains the margin of best play, and the margin with the stores
 
--- the first number that passes is found
-find_first : (p : ℕ → Bool) (xs : List ℕ) (i : ℕ) → i < length xs → ((k : ℕ) → k < i → p (get_or xs k 0) ≡ false)
-    → p (get_or xs i 0) ≡ true → find p xs ≡ Some (get_or xs i 0)
-find_first p [] i within fails here = absurd (omega arith)
-find_first p (x ∷ xs) zero within fails here = rw here refl
-find_first p (x ∷ xs) (suc i) within fails here =
-    rw (fails 0 (omega arith)) (find_first p xs i (omega arith) (λ k low. fails (suc k) (omega arith)) here)
-
 -- in the whole window the answer is the worth
 pub whole_window : {a : HousesState} {found lo hi : ℤ} → AreWithinLimits a → lo ≡ least_margin → hi ≡ most_margin
     → found ≡ clamped lo hi (houses_worth a) → found ≡ houses_worth a
@@ -400,8 +377,7 @@ module _ (a : HousesState) (limits : AreWithinLimits a) where
   last_is_best n going many short =
       let one = greatest_reached (value_of_move _) _ (omega arith) in
       let inside = one.1.1 in
-      let place = get_or_default (legal_houses (storeless a)) one.1.0 0 one.0 inside
-      ∙ one.1.2 in
+      let place = get_or_default (legal_houses (storeless a)) one.1.0 0 one.0 inside ∙ one.1.2 in
       let attains = ap (value_of_move (storeless a)) place ∙ one.2 ∙ sym (worth_of_going _ (record { same = limits.same_side }) going) in
       elim (cases_eq one.1.0 n) [
         | inl same ↦ first_is_best n (omega arith) short (rw same at attains)
@@ -435,7 +411,7 @@ module _ (p : Position) {best : ℤ} {own other : ℕ} (limits : IsWithinLimits 
   pub margin_is_small : IsMarginInRange (margin_in_bits best own other)
   margin_is_small =
       let of_houses = won_of_houses (houses_within p limits) in
-      record { low = omega (arith, ints, margin_is); high = omega (arith, ints, margin_is) }
+      omega (arith, ints, margin_is)
 
 -- ==== The value of a move, and its house, are numbers that a game can have
 
@@ -443,10 +419,7 @@ module _ (p : Position) {best : ℤ} {own other : ℕ} (limits : IsWithinLimits 
 value_small : (p : Position) (h : ℕ) → IsWithinLimits p → Contains (legal_houses p) h → IsMarginInRange (value_of_move p h)
 value_small p h limits legal =
     let bounds = won_of_move (houses_in p) (houses_within p limits) h legal in
-    record {
-      low = omega (arith, ints, value_of_houses p h, bounds.margin);
-      high = omega (arith, ints, value_of_houses p h, bounds.few, bounds.margin);
-    }
+    omega (arith, ints, value_of_houses p h, bounds.few, bounds.margin)
 
 -- a legal house
 pub house_small : (p : Position) (h : ℕ) → IsWithinLimits p → Contains (legal_houses p) h → h ≤ most_houses

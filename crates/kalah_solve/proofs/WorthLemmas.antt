@@ -1,6 +1,6 @@
 -- What positions, moves and steps are worth.
 use Rattle.kalah_rules.specs.declared.step.Step.TheVariants as board
-use Rattle.std.proofs.{Common.{zero, suc, ◌≡◌, ℕ, ◌+◌, ◌<◌, ◌≤◌, inl, inr, List, [], ◌∷◌, length, get_or, arith, sym, ◌∙◌, refl, ap, IsTrue, ◌-◌, Bool, true, false, Contains, map, filter, find, unwrap_or, ℤ, if◌then◌else◌, pos, ◌≤ℤ◌, ◌<ℤ◌, sum, neg_ℤ, ◌+ℤ◌, ◌-ℤ◌, fold, int_eq}, lemmas.{Bool.cases_Bool, Bool.cases_lt, Bool.cond_both, Int.fold-int_max_reached, Int.ints, Int.fold-int_max_bounds, List.length-map, List.get_or-map, List.get_or_default, List.Elements.All-contains, List.Elements.All-filter, List.Elements.Contains-get_or, List.Elements.Contains-append_right, List.Elements.Contains-append_left, List.Elements.Contains-push, List.Elements.All-from_get_or, Bool.Decides.Decides-int_eq, List.Sums.sum_by-le}}
+use Rattle.std.proofs.{Common.{zero, suc, ◌≡◌, ℕ, ◌+◌, ◌<◌, ◌≤◌, inl, inr, List, [], ◌∷◌, length, get_or, arith, sym, ◌∙◌, refl, ap, IsTrue, ◌-◌, Bool, true, false, Contains, map, filter, find, unwrap_or, ℤ, if◌then◌else◌, pos, ◌≤ℤ◌, ◌<ℤ◌, sum, neg_ℤ, ◌+ℤ◌, ◌-ℤ◌, fold, int_eq}, lemmas.{Bool.cases_Bool, Bool.cases_lt, Bool.cond_both, Int.fold-int_max_reached, Int.ints, Int.fold-int_max_bounds, List.length-map, List.get_or-map, List.get_or_default, List.Elements.All-contains, List.Elements.All-filter, List.Elements.Contains-get_or, List.Elements.All-from_get_or, Bool.Decides.Decides-int_eq, List.Sums.sum_by-le}}
 use Rattle.std.specs.{List.{range_with_len}, Int.{int_max}}
 use Rattle.lru.proofs.Splits.{Contains-head, Contains-tail, Contains-cons}
 use Rattle.kalah_solve.specs.{greatest, worth, best_house, value_by, worth_within, value_of_move, houses_worth, CountPlaysNoPart, WorthIsMostOfMoves, GoesOn, GoesOnAt}
@@ -18,8 +18,7 @@ greatest_reached f (x ∷ xs) some = elim (fold-int_max_reached (f x) (map f xs)
       let within : later.0 < length xs = omega (arith, length-map xs f) in (
         get_or xs _ 0,
         Contains-tail x xs _ (Contains-get_or xs _ 0 within),
-        sym (get_or-map f xs _ 0 _ within)
-            ∙ later.2,
+        sym (get_or-map f xs _ 0 _ within) ∙ later.2,
       )
 ]
 
@@ -67,20 +66,16 @@ greatest_is_most : (f : ℕ → ℤ) (xs : List ℕ) (k : ℕ) → k < length xs
 greatest_is_most f [] k within = absurd (omega arith)
 greatest_is_most f (x ∷ xs) zero within = (fold-int_max_bounds (f x) (map f xs) _ refl).0
 greatest_is_most f (x ∷ xs) (suc k) within =
-    rw (get_or-map f xs k 0 _ (omega arith)) at ((fold-int_max_bounds (f x) (map f xs) _ refl).1 k (pos 0)
-    (omega (arith, length-map xs f)))
+    rw (get_or-map f xs k 0 _ (omega arith)) at ((fold-int_max_bounds (f x) (map f xs) _ refl).1 k (pos 0) (omega (arith, length-map xs f)))
 
--- equal numbers pass the test
 pub int_eq-same : (a b : ℤ) → a ≡ b → int_eq a b ≡ true
 int_eq-same a b same = (Decides-int_eq a b).1 same
 
--- a lower number fails the test
 pub int_eq-lower : (a b : ℤ) → a <ℤ b → int_eq a b ≡ false
 int_eq-lower a b less = grind arith
 
 -- ==== Best play does not depend on the count of moves, once it is high enough
 
--- a position with no moves left is over
 pub over_at_end : (p : Position) → moves_left p ≡ 0 → is_over p ≡ true
 over_at_end p none = grind arith
 
@@ -96,8 +91,8 @@ swapped_equal_sides p equal = omega arith
 map_same : (f g : ℕ → ℤ) (xs : List ℕ) → ((h : ℕ) → Contains xs h → f h ≡ g h) → map f xs ≡ map g xs
 map_same f g [] same = refl
 map_same f g (x ∷ xs) same =
-    let first = same x (Contains-append_left (x ∷ []) xs x (Contains-push [] x)) in
-    let rest = map_same f g xs (λ h member. same h (Contains-append_right (x ∷ []) xs h member)) in
+    let first = same x (Contains-head x xs) in
+    let rest = map_same f g xs (λ h member. same h (Contains-tail x xs h member)) in
     cc rest
 
 -- a value depends only on the worth of what follows
@@ -153,8 +148,7 @@ pub worth_of_going : (p : Position) → HasEqualSides p → is_over p ≡ false
     → worth p ≡ greatest (map (value_of_move p) (legal_houses p))
 unfolding worth
 worth_of_going p equal going =
-    worth_same (moves_left p) (suc (moves_left p)) p equal (omega arith) (omega arith)
-    ∙ worth_within-going _ _ going
+    worth_same (moves_left p) (suc (moves_left p)) p equal (omega arith) (omega arith) ∙ worth_within-going _ _ going
     ∙ ap greatest (values_same (worth_within (moves_left p)) worth p equal (λ q even fewer. worth_same _ _ q even (omega arith) (omega arith)))
 
 -- a sweep keeps the margin
@@ -173,9 +167,7 @@ StatesStep over again q (board.Turn e) = (over ≡ false) × (again ≡ false) �
 
 -- each step states what it is
 pub step_states : (over again : Bool) (q : Position) (s : Step) → s ≡ step_by over again q → StatesStep over again q s
-step_states true again q s step_is = rw step_is (refl, refl)
-step_states false true q s step_is = rw step_is (refl, refl, refl)
-step_states false false q s step_is = rw step_is (refl, refl, refl)
+step_states over again q s step_is = grind arith
 
 -- a move that ends the game leaves it over
 pub over_ends : (p : Position) (h : ℕ) (e : Position) → board.Over e ≡ step_of p h → IsTrue (is_over e)
@@ -196,17 +188,15 @@ value_of_turn p h e step_is = grind arith
 -- how many moves a move leaves, if the mover moves again
 pub again_fewer : (p : Position) (h : ℕ) (e : Position) → HasEqualSides p → Contains (legal_houses p) h
     → board.Again e ≡ step_of p h → moves_left e < moves_left p
-again_fewer p h e equal legal step_is =
-    let to = step_states (is_over (after p h)) (moves_again p h) (after p h) (board.Again e) step_is in
-    rw to.2 (after_fewer p h (legal_holds p h legal) equal)
+again_fewer p h e equal legal step_is = let fewer = after_fewer p h (legal_holds p h legal) equal in grind arith
 
 -- if the turn passes
 pub turn_fewer : (p : Position) (h : ℕ) (e : Position) → HasEqualSides p → Contains (legal_houses p) h
     → board.Turn e ≡ step_of p h → moves_left e < moves_left p
 turn_fewer p h e equal legal step_is =
-    let to = step_states (is_over (after p h)) (moves_again p h) (after p h) (board.Turn e) step_is in
     let fewer = after_fewer p h (legal_holds p h legal) equal in
-    rw to.2 (omega (arith, moves_left-swapped (after p h) (after_equal_sides p h)))
+    let swapped_fewer = moves_left-swapped (after p h) (after_equal_sides p h) in
+    grind arith
 
 -- without a legal house the own row of a game that goes on would be empty
 row_empty : (p : Position) → is_over p ≡ false → length (legal_houses p) ≤ 0 → sum p.own ≡ 0
@@ -226,7 +216,6 @@ legal_some p going = grind (arith, row_empty)
 
 -- ==== The value of a move and the worth of what follows
 
--- the final margin is the opposite for the opponent
 pub final_swapped : (q : Position) → neg_ℤ (final_margin (swapped q)) ≡ final_margin q
 final_swapped q = omega (arith, ints)
 
@@ -244,8 +233,7 @@ pub best_found : (p : Position) → HasEqualSides p → is_over p ≡ false
 best_found p equal going =
     let best = greatest_reached _ (legal_houses p) (legal_some p going) in
     let attains = best.2 ∙ sym (worth_of_going p equal going) in
-    find_passes _ (legal_houses p) _ best.1
-    (int_eq-same _ (worth p) attains)
+    find_passes _ (legal_houses p) _ best.1 (int_eq-same _ (worth p) attains)
 
 -- the value of the best house is the worth
 pub best_attains : {p : Position} → HasEqualSides p → is_over p ≡ false → value_of_move p (best_house p) ≡ worth p
@@ -276,21 +264,16 @@ max_shift : (d x y : ℤ) → int_max (x +ℤ d) (y +ℤ d) ≡ int_max x y +ℤ
 max_shift d x y = grind (arith, ints)
 
 -- the greatest of shifted numbers
-fold_shift : (d x : ℤ) (xs : List ℤ) → fold int_max (x +ℤ d) (map (λ y. y +ℤ d) xs) ≡ fold int_max x xs +ℤ d
-fold_shift d x [] = refl
-fold_shift d x (y ∷ ys) = ap (λ z. fold int_max z (map (λ t. t +ℤ d) ys)) (max_shift d x y) ∙ fold_shift d (int_max x y) ys
+fold_shift : (f g : ℕ → ℤ) (d x : ℤ) (xs : List ℕ) → ((h : ℕ) → f h ≡ g h +ℤ d)
+    → fold int_max (x +ℤ d) (map f xs) ≡ fold int_max x (map g xs) +ℤ d
+fold_shift f g d x [] same = refl
+fold_shift f g d x (h ∷ hs) same = rw (same h, max_shift d x (g h)) (fold_shift f g d (int_max x (g h)) hs same)
 
--- values that are all shifted
-map_shift : (f g : ℕ → ℤ) (d : ℤ) (xs : List ℕ) → ((h : ℕ) → f h ≡ g h +ℤ d)
-    → map f xs ≡ map (λ y. y +ℤ d) (map g xs)
-map_shift f g d [] same = refl
-map_shift f g d (x ∷ xs) same = cc (same x, map_shift f g d xs same)
-
--- the greatest of them is shifted
+-- the same for the values of some houses
 greatest_shift : (f g : ℕ → ℤ) (d : ℤ) (xs : List ℕ) → 0 < length xs → ((h : ℕ) → f h ≡ g h +ℤ d)
     → greatest (map f xs) ≡ greatest (map g xs) +ℤ d
 greatest_shift f g d [] some same = absurd (omega arith)
-greatest_shift f g d (x ∷ xs) some same = rw (same x, map_shift f g d xs same) (fold_shift d (g x) (map g xs))
+greatest_shift f g d (x ∷ xs) some same = rw (same x) (fold_shift f g d (g x) xs same)
 
 -- one of two shifted numbers
 shift_either : (first : Bool) (d : ℤ) {x y : ℤ} (x' y' : ℤ) → x ≡ x' +ℤ d → y ≡ y' +ℤ d
@@ -321,11 +304,8 @@ worth-store_seeds (suc n) a b p = elim (cases_Bool _) [
   | inl over ↦ worth_within-over (suc n) _ over ∙ final-store_seeds a b p
       ∙ ap (λ z. z +ℤ (pos a -ℤ pos b)) (sym (worth_within-over _ p over))
   | inr going ↦
-      worth_within-going n _ going
-      ∙ greatest_shift _ (value_by (worth_within n) p) _ (legal_houses p)
-      (legal_some p going)
-      (λ h. value-store_seeds (worth_within n) (worth_within n) a b p h (worth-store_seeds n a b _)
-      (worth-store_seeds n b a _))
+      worth_within-going n _ going ∙ greatest_shift _ (value_by (worth_within n) p) _ (legal_houses p) (legal_some p going)
+      (λ h. value-store_seeds (worth_within n) (worth_within n) a b p h (worth-store_seeds n a b _) (worth-store_seeds n b a _))
       ∙ ap (λ z. z +ℤ (pos a -ℤ pos b)) (sym (worth_within-going n p going))
 ]
 
@@ -439,8 +419,7 @@ leads_on a h limits legal =
       going = going;
       limits = within;
       same = omega arith;
-    })
-    (λ turn. record {
+    }) (λ turn. record {
       kept = omega arith;
       fewer = omega (arith, moves_left-swapped q (omega arith));
       going = is_over-swapped q ∙ going;
@@ -465,25 +444,17 @@ goes_on_to limits variant_is leads = record {
 -- the same for a step
 goes_on_of : {a : HousesState} {variant : ℕ} (s : HousesStep) → AreWithinLimits a → variant_of a ≡ variant → LeadsOn a s
     → GoesOn variant s
-goes_on_of (Over own other) limits variant_is leads = omega arith
-goes_on_of (Again gained b) limits variant_is leads = goes_on_to limits variant_is leads
-goes_on_of (Turn gained b) limits variant_is leads = goes_on_to limits variant_is leads
+goes_on_of s limits variant_is leads = grind arith
 
 -- the step of a legal move goes on in the variant
 pub goes_on : {a : HousesState} {variant h : ℕ} {s : HousesStep} → variant_of a ≡ variant → AreWithinLimits a → IsLegal a h
     → s ≡ houses_step a h → GoesOn variant s
 goes_on {s = s} variant_is limits legal step_is = goes_on_of s limits variant_is (leads_by limits legal step_is)
 
--- a step that leads on leaves fewer moves
-falls_if_leads_on : (a : HousesState) (s : HousesStep) → 0 < moves_left (storeless a) → LeadsOn a s
-    → moves_after s < moves_left (storeless a)
-falls_if_leads_on a (Over own other) some leads = some
-falls_if_leads_on a (Again gained b) some leads = leads.fewer
-falls_if_leads_on a (Turn gained b) some leads = leads.fewer
-
 -- the step of a legal move leaves fewer moves
 pub step_falls : {a : HousesState} {h : ℕ} {s : HousesStep} → AreWithinLimits a → IsLegal a h → s ≡ houses_step a h
     → moves_after s < moves_left (storeless a)
 step_falls {a} {h} {s} limits legal step_is =
     let fewer = after_fewer (storeless a) h (legal_holds (storeless a) h legal) (record { same = limits.same_side }) in
-    falls_if_leads_on a s (omega (arith, fewer)) (leads_by limits legal step_is)
+    let leads = leads_by limits legal step_is in
+    grind arith

@@ -109,7 +109,7 @@ impl<A: Allocator + Clone> Search<A> {
         in_its_variant!(self.clamped_in_variant(houses, window))
     }
 
-    // Returns the worth of houses of this variant, raised to the window's lower end and lowered to its upper one.
+    // Does so for houses of this variant.
     fn clamped_in_variant<const VARIANT: u8>(&mut self, houses: &Houses, window: Window) -> i32
         requires { IsOngoing VARIANT houses.now }
         ensures { result ≡ clamped window.lo window.hi (houses_worth houses.now) }
@@ -182,7 +182,7 @@ impl<A: Allocator + Clone> Search<A> {
         in_its_variant!(self.move_reaches_in_variant(houses, house, beta))
     }
 
-    // Returns whether the move of this house wins at least `beta` seeds, for houses of this variant.
+    // Does so for houses of this variant.
     #[tactic(auto, using(crate::proofs::WorthLemmas::goes_on))]
     fn move_reaches_in_variant<const VARIANT: u8>(
         &mut self,

@@ -15,6 +15,7 @@ use crate::search::Search;
 use crate::table::Table;
 use kalah_rules::{Board, House, Houses};
 use std::alloc::{AllocError, Allocator, Global};
+use std::sync::Arc;
 
 /// The worth of a position to the player to move, and the house that attains it.
 #[derive(Clone, Copy, Debug, PartialEq, Eq)]
@@ -61,7 +62,8 @@ impl<A: Allocator + Clone> Solver<A> {
         requires high { capacity ≤ most_entries }
         ensures { IfOk result (λ s. s.search.table ≡ empty_table capacity) }
     {
-        let table = self.search.table.sharing_endings(alloc, capacity)?;
+        let endings = Arc::try_clone(&self.search.table.endings)?;
+        let table = Table::with_endings(alloc, capacity, endings)?;
         Ok(Solver::new(table))
     }
 

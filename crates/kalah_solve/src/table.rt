@@ -68,17 +68,8 @@ impl<A: Allocator + Clone> Table<A> {
         Table::with_endings(alloc, capacity, endings)
     }
 
-    /// Makes an empty table that shares with this one what is known of endings. It fails only if memory was refused.
-    pub(crate) fn sharing_endings(&self, alloc: A, capacity: u32) -> Result<Table<A>, AllocError>
-        requires low { 1 ≤ capacity }
-        requires high { capacity ≤ most_entries }
-        ensures { IfOk result (λ t. t ≡ empty_table capacity) }
-    {
-        Table::with_endings(alloc, capacity, Arc::try_clone(&self.endings)?)
-    }
-
-    // Makes an empty table with these endings. Fails only if memory was refused.
-    fn with_endings(
+    /// Makes an empty table with these endings, which tables may share. Fails only if memory was refused.
+    pub(crate) fn with_endings(
         alloc: A,
         capacity: u32,
         endings: Arc<EndingTable<A>, A>,

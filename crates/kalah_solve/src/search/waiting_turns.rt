@@ -44,7 +44,7 @@ impl WaitingTurns {
             (λ next. IsTaken self.old.priorities self.old.turns next self.new.priorities) }
         ensures turns { self.new.turns ≡ self.old.turns }
     {
-        let priority = highest(&self.priorities);
+        let priority = self.highest();
         if priority == 0 {
             return None;
         }
@@ -52,16 +52,17 @@ impl WaitingTurns {
         self.priorities[at] = 0;
         Some(self.turns[at])
     }
-}
 
-// Returns the highest priority.
-fn highest(priorities: &[u16; 8]) -> u16
-    ensures found { Contains priorities.now result }
-    ensures highest { (k : ℕ) → slice_index priorities.now k ≤ result }
-{
-    let mut most = priorities[0];
-    for i in 1..8usize {
-        most = most.max(priorities[i]);
+    // Returns the highest priority. Unless it is 0, it names the place of a turn.
+    fn highest(&self) -> u16
+        ensures found { Contains self.now.priorities result }
+        ensures highest { (k : ℕ) → slice_index self.now.priorities k ≤ result }
+        ensures inside { 0 < result → result % 8 < 6 }
+    {
+        let mut most = self.priorities[0];
+        for i in 1..8usize {
+            most = most.max(self.priorities[i]);
+        }
+        most
     }
-    most
 }

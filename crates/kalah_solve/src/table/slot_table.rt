@@ -81,6 +81,7 @@ impl<A: Allocator> Model for SlotTable<A> {
 }
 
 // Returns the mixed key of the houses.
+#[tactic(auto, unfolding(crate::specs::Table::SlotTable::mixed))]
 fn mixed_key(houses: &Houses) -> u64
     ensures mixed { result ≡ mixed (key_of houses.now) }
     ensures small { result < 2 ^ 64 }

@@ -3,7 +3,7 @@
 use Rattle.std.proofs.Common.{ℕ, arith, rules, sym, subst, lit≤, ◌+◌}
 use Rattle.kalah_rules.specs.{Sowing.{EndsInStore}, HousesStep.{houses_step}}
 use Rattle.kalah_solve.specs.{GoesOn, IsSoftBound, won_by_step}
-use Rattle.kalah_solve.proofs.{HouseSetLemmas.{without_last_less, last_is_legal, each_at_last}, SearchLemmas.{lower_measure, enough_is_won, soft_if_enough, turn_enough, reply_left, step_is_turn, taken_is_turn, taken_falls, reply_fits, bound_le_max, bound_of_rest, played_at_start, played_and_waits, played_and_bounded, played_enough, all_played, tried_at_start, tried_without_last, all_tried, untried_at_start, untried_fewer, none_untried}, WorthLemmas.{goes_on, leads_by, step_falls}, BoundsLemmas.{won_of_houses}}
+use Rattle.kalah_solve.proofs.{HouseSetLemmas.{without_last_less, last_is_legal, each_at_last}, SearchLemmas.{lower_measure, enough_is_won, soft_if_enough, turn_enough, reply_left, step_is_turn, taken_is_turn, taken_falls, reply_fits, bound_le_max, bound_of_rest, played_at_start, played_and_waits, played_and_bounded, played_enough, all_played, gained_few, tried_at_start, tried_without_last, all_tried, untried_at_start, untried_fewer, none_untried}, WorthLemmas.{goes_on, step_falls}, BoundsLemmas.{won_of_houses}}
 use Rattle.kalah_solve.proofs.search.Search.+bound.Given.{Over}
 use Rattle.kalah_solve.proofs.search.Search.+bound.Goals as goal
 use Rattle.kalah_solve.proofs.search.Search.+bound.Goals.{try_remaining-Joined-step, try_remaining-in-Turn+else-gained-beta, try_remaining-in_default-step}
@@ -56,8 +56,8 @@ bound_by_moves-loop-next-preserved g t c =
     let turn = taken_is_turn c.loop-next.invariant.waiting c.in-Some.ensures.taken in
     let left = reply_left c.args.beta c.seeds-seeds.ensures.limits turn c.seeds-seeds.ensures.seeds c.saturating_sub-reply_beta.ensures
     c.bound_by_search.ensures in
-    rw c.in-Some.ensures.turns (untried_fewer _ c.loop-next.invariant c.in-Some.ensures.taken (left.upper c.if-beta-bound.false)
-    c.if-beta-bound.false c.max-most-in-Some.ensures)
+    untried_fewer _ c.loop-next.invariant c.in-Some.ensures.taken c.in-Some.ensures.turns (left.upper c.if-beta-bound.false)
+    c.if-beta-bound.false c.max-most-in-Some.ensures
 
 pub bound_by_moves-loop-next-smaller : goal.bound_by_moves-loop-next-smaller
 bound_by_moves-loop-next-smaller g t c = taken_falls c.in-Some.ensures.taken
@@ -72,12 +72,11 @@ bound_into_store-loop-house-init g t c =
     let set = c.ending_in_store-untried.ensures in
     tried_at_start set.limits c.requires.going set.members
 
-pub bound_into_store-play_into_store-requires-clause-legal : goal.bound_into_store-play_into_store-requires-clause-legal
-bound_into_store-play_into_store-requires-clause-legal g t c = last_is_legal c.loop-house.invariant.movable c.in-Some.ensures.0
-
-pub bound_into_store-play_into_store-requires-clause-ends : goal.bound_into_store-play_into_store-requires-clause-ends
-bound_into_store-play_into_store-requires-clause-ends g t c =
-    each_at_last (EndsInStore c.args.houses.now) c.in-Some.ensures.0 c.loop-house.invariant.ends
+pub bound_into_store-play_into_store-requires : goal.bound_into_store-play_into_store-requires
+bound_into_store-play_into_store-requires g t c = record {
+  legal = last_is_legal c.loop-house.invariant.movable c.in-Some.ensures.0;
+  ends = each_at_last (EndsInStore c.args.houses.now) c.in-Some.ensures.0 c.loop-house.invariant.ends;
+}
 
 pub bound_into_store-bound_step-bound-requires : goal.bound_into_store-bound_step-bound-requires
 bound_into_store-bound_step-bound-requires g t c κs within =
@@ -96,11 +95,11 @@ bound_into_store-returns-then-beta-bound-clause-lower g t c =
 pub bound_into_store-loop-house-preserved : goal.bound_into_store-loop-house-preserved
 bound_into_store-loop-house-preserved g t c =
     let bounded = rw c.play_into_store.ensures at c.bound_step-bound.ensures in
-    tried_without_last _ _ c.loop-house.invariant c.in-Some.ensures.0 c.in-Some.ensures.1 (bounded.upper c.if-beta-bound.false)
+    tried_without_last _ _ c.loop-house.invariant c.in-Some.ensures (bounded.upper c.if-beta-bound.false)
     c.if-beta-bound.false c.max-most.ensures
 
 pub bound_into_store-loop-house-smaller : goal.bound_into_store-loop-house-smaller
-bound_into_store-loop-house-smaller g t c = rw c.in-Some.ensures.1 (without_last_less c.in-Some.ensures.0)
+bound_into_store-loop-house-smaller g t c = without_last_less c.in-Some.ensures
 
 pub bound_into_store-returns-clause-upper : goal.bound_into_store-returns-clause-upper
 bound_into_store-returns-clause-upper g t c = λ short. all_tried c.loop-house.invariant c.in_default.ensures
@@ -114,17 +113,13 @@ try_remaining-loop-house-init g t c =
 pub try_remaining-play_with-step-requires : goal.try_remaining-play_with-step-requires
 try_remaining-play_with-step-requires g t c = last_is_legal c.loop-house.invariant.movable c.in-Some.ensures.0
 
-pub try_remaining-priority-priority-requires-clause-first : goal.try_remaining-priority-priority-requires-clause-first
-try_remaining-priority-priority-requires-clause-first g t c = omega (arith, c.remaining-untried.ensures.limits.some_house)
-
-pub try_remaining-priority-priority-requires-clause-last : goal.try_remaining-priority-priority-requires-clause-last
-try_remaining-priority-priority-requires-clause-last g t c = omega (arith, c.remaining-untried.ensures.limits.at_most_six)
-
-pub try_remaining-priority-priority-requires-clause-few : goal.try_remaining-priority-priority-requires-clause-few
-try_remaining-priority-priority-requires-clause-few g t c =
-    let leads = leads_by c.remaining-untried.ensures.limits (last_is_legal c.loop-house.invariant.movable c.in-Some.ensures.0)
-    (rw c.in-Turn.is at c.play_with-step.ensures.step) in
-    omega arith
+pub try_remaining-priority-priority-requires : goal.try_remaining-priority-priority-requires
+try_remaining-priority-priority-requires g t c = record {
+  first = rw c.m.ensures.side c.m.ensures.limits.some_house;
+  last = rw c.m.ensures.side c.m.ensures.limits.at_most_six;
+  few = gained_few c.m.ensures.limits (last_is_legal c.loop-house.invariant.movable c.in-Some.ensures.0)
+      (rw c.in-Turn.is at c.play_with-step.ensures.step);
+}
 
 pub try_remaining-bound_step-bound-requires : goal.try_remaining-bound_step-bound-requires
 try_remaining-bound_step-bound-requires g t c κs within =
@@ -157,13 +152,12 @@ try_remaining-returns-then-beta-bound g t c =
     let played = c.loop-house.invariant in
     let legal = last_is_legal played.movable c.in-Some.ensures.0 in
     let bounded = played_bound g t (goal.at.try_remaining-returns-then-beta-bound g t c).Joined-step in
-    played_enough _ played c.if-beta-bound.true
-    (enough_is_won c.remaining-untried.ensures.limits legal bounded c.if-beta-bound.true)
+    played_enough played c.if-beta-bound.true (enough_is_won c.remaining-untried.ensures.limits legal bounded c.if-beta-bound.true)
 
 pub try_remaining-loop-house-preserved : goal.try_remaining-loop-house-preserved
 try_remaining-loop-house-preserved g t c =
     let bounded = played_bound g t (goal.at.try_remaining-loop-house-preserved g t c).Joined-step in
-    played_and_bounded c.loop-house.invariant c.in-Some.ensures.0 c.in-Some.ensures.1 _ _ (bounded.upper c.if-beta-bound.false)
+    played_and_bounded c.loop-house.invariant c.in-Some.ensures _ _ (bounded.upper c.if-beta-bound.false)
     c.if-beta-bound.false c.max-most.ensures
 
 pub try_remaining-loop-house-preserved-then-seeds-self : goal.try_remaining-loop-house-preserved-then-seeds-self
@@ -172,17 +166,17 @@ try_remaining-loop-house-preserved-then-seeds-self g t c =
     let priority = c.priority-priority.ensures in
     let turn = step_is_turn c.remaining-untried.ensures.limits (last_is_legal played.movable c.in-Some.ensures.0)
     (rw c.in-Turn.is at c.play_with-step.ensures.step) in
-    rw (c.add.ensures.priorities, c.add.ensures.turns) (played_and_waits played c.in-Some.ensures.0 c.in-Some.ensures.1
-    _ _ c.loop-house.waiting.placed priority.house priority.some turn)
+    played_and_waits played c.in-Some.ensures _ _ c.loop-house.waiting.placed priority.house priority.some turn
+    c.add.ensures.priorities c.add.ensures.turns
 
 pub try_remaining-add-requires : goal.try_remaining-add-requires
 try_remaining-add-requires g t c = omega (arith, c.in-Some.ensures.0.last, c.priority-priority.ensures.house)
 
 pub try_remaining-loop-house-smaller : goal.try_remaining-loop-house-smaller
-try_remaining-loop-house-smaller g t c = rw c.in-Some.ensures.1 (without_last_less c.in-Some.ensures.0)
+try_remaining-loop-house-smaller g t c = without_last_less c.in-Some.ensures
 
 pub try_remaining-loop-house-smaller-then-seeds-self : goal.try_remaining-loop-house-smaller-then-seeds-self
-try_remaining-loop-house-smaller-then-seeds-self g t c = rw c.in-Some.ensures.1 (without_last_less c.in-Some.ensures.0)
+try_remaining-loop-house-smaller-then-seeds-self g t c = without_last_less c.in-Some.ensures
 
 pub try_remaining-returns : goal.try_remaining-returns
 try_remaining-returns g t c = all_played c.loop-house.invariant c.in_default.ensures

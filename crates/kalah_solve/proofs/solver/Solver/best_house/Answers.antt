@@ -1,6 +1,6 @@
 -- The houses so far win less than best play, so the first that wins as much is the best one, and the last is if all others win less.
 use Rattle.std.proofs.{Common.{arith, refl, ap, ◌∙◌, ◌≡◌, ◌<◌, ◌-◌, ℕ, List, length, get_or}, lemmas.List.Elements.{Contains-get_or}}
-use Rattle.kalah_rules.specs.{Position.{storeless}, Lap.{HoldsSeeds}, Play.{legal_houses}}
+use Rattle.kalah_rules.specs.{Position.{storeless}, Lap.{HoldsSeeds}}
 use Rattle.kalah_rules.proofs.PlayLemmas.{legal_holds}
 use Rattle.kalah_solve.proofs.{WorthLemmas.{legal_some}, SolverLemmas.{first_enough_is_best, one_more_falls_short, last_is_best}, SearchLemmas.{below_if_test_fails}, solver.Solver.best_house.{Given.{Over}, Goals.{After-get-h}}}
 use Rattle.kalah_solve.proofs.solver.Solver.best_house.Goals as goal
@@ -50,5 +50,4 @@ returns g c =
     let some = legal_some (storeless a) c.requires.going in
     let last = c.len-last.result - 1 in
     let place = c.get.ensures ∙ ap (λ xs. get_or xs last 0) c.legal-moves.ensures.moves in
-    place ∙ last_is_best a c.legal-moves.ensures.limits last c.requires.going (omega arith)
-    (λ k low. c.loop-i.invariant k (omega arith))
+    place ∙ last_is_best a c.legal-moves.ensures.limits last c.requires.going (omega arith) (λ k low. c.loop-i.invariant k (omega arith))

@@ -1,6 +1,7 @@
 -- After i places the greatest so far is one of the priorities, and none of those is greater.
 use Rattle.std.proofs.{Common.{arith, ◌≡◌, ◌≤◌, ◌<◌, ◌+◌, ℕ, List, length, get_or, inl, inr, Contains, max}, lemmas.{Bool.cases_lt, List.Elements.Contains-get_or}}
-use Rattle.kalah_solve.proofs.search.waiting_turns.highest.Goals as goal
+use Rattle.kalah_solve.proofs.SearchLemmas.{place_inside}
+use Rattle.kalah_solve.proofs.search.waiting_turns.WaitingTurns.highest.Goals as goal
 
 -- the greater of a priority and the next one is a priority
 found_more : (xs : List ℕ) (most i new : ℕ) → Contains xs most → i < length xs → new ≡ max most (get_or xs i 0)
@@ -17,7 +18,9 @@ highest_more xs most i new highest new_is k below = grind arith
 
 pub loop-i-preserved : goal.loop-i-preserved
 loop-i-preserved c = record {
-  found = found_more _ c.loop-i.most c.loop-i.i _ c.loop-i.invariant.found
-      (omega arith) c.max-most.ensures;
+  found = found_more _ c.loop-i.most c.loop-i.i _ c.loop-i.invariant.found (omega arith) c.max-most.ensures;
   highest = highest_more _ c.loop-i.most c.loop-i.i _ c.loop-i.invariant.highest c.max-most.ensures;
 }
+
+pub returns-clause-inside : goal.returns-clause-inside
+returns-clause-inside c = place_inside c.args.self.now.placed c.loop-i.invariant.found

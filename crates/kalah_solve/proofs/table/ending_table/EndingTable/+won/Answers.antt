@@ -35,7 +35,7 @@ most_won-loop-house-preserved g t c =
     })
 
 pub most_won-loop-house-smaller : goal.most_won-loop-house-smaller
-most_won-loop-house-smaller g t c = rw c.in-Some.ensures.1 (without_last_less c.in-Some.ensures.0)
+most_won-loop-house-smaller g t c = without_last_less c.in-Some.ensures
 
 pub most_won-returns : goal.most_won-returns
 most_won-returns g t c =

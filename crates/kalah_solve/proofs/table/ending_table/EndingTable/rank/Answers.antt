@@ -27,11 +27,9 @@ module _ {a : HousesState} {step sums rank : ℕ} (limits : AreWithinLimits a) (
       → r ≡ choose (sums % 1024 % 32 + 2 * (5 - step) + 1) (2 * (5 - step) + 2) + choose (sums % 1024 / 32 + 2 * (5 - step))
       (2 * (5 - step) + 1) → IsRanked (a.own ++ a.other) (step + 1 + length a.own - 6) (sums / 1024) (rank + r)
   ranked_here r r_is =
-      let past : length a.own - (step + length a.own - 6) - 1 ≡ 5 - step = omega arith in
       let next : step + 1 + length a.own - 6 ≡ step + length a.own - 6 + 1 = omega arith in
-      rw next (rank_next (a.own ++ a.other) (few a ending) (length a.own) (step + length a.own - 6) sums rank
-      (long a limits) limits.at_most_six
-      (omega arith) ranked r (rw past r_is))
+      rw next (rank_next (a.own ++ a.other) (few a ending) (length a.own) (step + length a.own - 6) sums rank (long a limits)
+      limits.at_most_six (omega arith) ranked (5 - step) r (omega arith) r_is)
 
 pub loop-step-init : goal.loop-step-init
 loop-step-init g c =

@@ -8,8 +8,7 @@ whole c = omega (arith, digit_fits c.args.at c.args.stored c.requires.place c.re
 
 pub overflow_add-result : goal.overflow_add-result
 overflow_add-result c =
-    let fits = word_with_digit_fits _ _ _ c.requires.place c.requires.nothing c.requires.small
-    (omega arith) in
+    let fits = word_with_digit_fits _ _ _ c.requires.place c.requires.nothing c.requires.small (omega arith) in
     omega (arith, whole c)
 
 pub returns : goal.returns
