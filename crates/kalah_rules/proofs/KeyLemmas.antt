@@ -11,7 +11,6 @@ pow_five (suc k) =
     let e : 5 * suc k ≡ 5 + 5 * k = omega arith in
     rw (e, pow-add, pow_five k) (omega arith)
 
--- past the own row, too, five bits are a power of 32
 pub pow_other : (k : ℕ) → 2 ^ (30 + 5 * k) ≡ 2 ^ 30 * 32 ^ k
 pow_other k = simp (pow-add, pow_five)
 
@@ -30,7 +29,6 @@ pub own_house_of_rows : (rows k : ℕ) → k ≤ 5 → rows / 32 ^ k % 32 ≡ ro
 own_house_of_rows rows k few = cases_to_five (λ k. rows / 32 ^ k % 32 ≡ rows % 2 ^ 30 / 32 ^ k % 32) k few
     (omega arith) (omega arith) (omega arith) (omega arith) (omega arith) (omega arith)
 
--- a power more is thirty-two times as much
 times_power : (k n : ℕ) → 32 ^ suc k * n ≡ 32 * (32 ^ k * n)
 times_power k n = simp (pow-succ', mul_assoc)
 
@@ -44,11 +42,10 @@ pub read_seeds : (xs : List ℕ) (k : ℕ) → k < length xs → sum xs ≤ 31 �
 read_seeds [] k inside few = omega arith
 read_seeds (x ∷ xs) zero inside few = omega (arith, sum_by-cons)
 read_seeds (x ∷ xs) (suc k) inside few =
-    let cons = sum_by-cons (λ (y : ℕ). y) x xs in
-    let high : (x + 32 * packed_row xs) / 32 ≡ packed_row xs = omega arith in
+    let high : (x + 32 * packed_row xs) / 32 ≡ packed_row xs = omega (arith, sum_by-cons) in
     let past : (x + 32 * packed_row xs) / 32 ^ suc k ≡ packed_row xs / 32 ^ k =
     rw (pow-succ', ← div-div-eq-div-mul _ 32 _, high) refl in
-    rw past (read_seeds xs k (omega arith) (omega arith))
+    rw past (read_seeds xs k (omega arith) (omega (arith, sum_by-cons)))
 
 -- a house is written into a row's number
 pub packed_row-set : (xs : List ℕ) (k v : ℕ) → k < length xs
@@ -74,7 +71,6 @@ packed_row-plus (suc n) f g =
     let before = packed_row-plus n f g in
     packed_row-suc n (λ i. f i + g i) ∙ omega (arith, packed_row-suc)
 
--- a row with the same number of seeds in each house
 packed_row-same : (n q : ℕ) → packed_row (row_of n (λ i. q)) ≡ q * ones n
 packed_row-same zero q = omega arith
 packed_row-same (suc n) q =
@@ -229,7 +225,6 @@ packed_row-append_zeros xs n = rw (packed_row-append, packed_row-zeros) (omega a
 packed_row-shown : (m : ℕ) (cells : List ℕ) → padded (take m cells) ≡ cells → packed_row (take m cells) ≡ packed_row cells
 packed_row-shown m cells same = grind (arith, packed_row-append_zeros)
 
--- thirty bits are six cells
 packed_row-cells : (k : ℕ) → packed_row (cells 6 k) + 2 ^ 30 * (k / 2 ^ 30) ≡ k
 packed_row-cells k = omega arith
 
@@ -246,12 +241,11 @@ cells-packed_row zero [] rest long few = refl
 cells-packed_row zero (x ∷ xs) rest long few = cc
 cells-packed_row (suc n) [] rest long few = cc
 cells-packed_row (suc n) (x ∷ xs) rest long few =
-    let cons = sum_by-cons (λ (y : ℕ). y) x xs in
-    let rest_few : sum xs ≤ 31 = omega arith in
+    let rest_few : sum xs ≤ 31 = omega (arith, sum_by-cons) in
     let rest_long : length xs ≡ n = omega arith in
     let power = times_power n rest in
-    let low : (x + 32 * packed_row xs + 32 ^ suc n * rest) % 32 ≡ x = omega arith in
-    let high : (x + 32 * packed_row xs + 32 ^ suc n * rest) / 32 ≡ packed_row xs + 32 ^ n * rest = omega arith in
+    let low : (x + 32 * packed_row xs + 32 ^ suc n * rest) % 32 ≡ x = omega (arith, sum_by-cons) in
+    let high : (x + 32 * packed_row xs + 32 ^ suc n * rest) / 32 ≡ packed_row xs + 32 ^ n * rest = omega (arith, sum_by-cons) in
     rw (low, high) (ap (λ ys. x ∷ ys) (cells-packed_row _ _ _ rest_long rest_few))
 
 length-padded : (xs : List ℕ) → length xs ≤ 6 → length (padded xs) ≡ 6
@@ -263,7 +257,6 @@ sum-padded xs = rw (sum_by-append, sum_by-replicate) (omega arith)
 take-padded : (xs : List ℕ) → take (length xs) (padded xs) ≡ xs
 take-padded xs = take-append_seam xs _
 
--- past the row its cells are empty
 drop-padded : (xs : List ℕ) → All (λ x. x ≡ 0) (drop (length xs) (padded xs))
 drop-padded xs = rw (drop-append_seam xs _) (All-replicate (λ x. x ≡ 0) _ 0 refl)
 
@@ -280,14 +273,12 @@ packed_row-small zero [] long few = omega arith
 packed_row-small zero (x ∷ xs) long few = omega arith
 packed_row-small (suc n) [] long few = omega (arith, packed_row-small n [] (omega arith) few)
 packed_row-small (suc n) (x ∷ xs) long few =
-    let cons = sum_by-cons (λ (y : ℕ). y) x xs in
-    let here = packed_row-small n xs (omega arith) (omega arith) in
-    omega arith
+    let here = packed_row-small n xs (omega arith) (omega (arith, sum_by-cons)) in
+    omega (arith, sum_by-cons)
 
 pub rule_bit-small : (r : Rule) → rule_bit r ≤ 1
 rule_bit-small r = grind arith
 
--- the key of houses holds them
 key_holds : {a : HousesState} {k : ℕ} → AreWithinLimits a → key_of a ≡ k → KeyHolds a k
 key_holds {a} {k} limits key_is =
     let other_long : length a.other ≤ 6 = omega arith in
@@ -308,7 +299,6 @@ key_holds {a} {k} limits key_is =
       rule = omega arith;
     }
 
--- the key of houses within the limits is a key
 key_is_key : {a : HousesState} {k : ℕ} → AreWithinLimits a → key_of a ≡ k → IsKey k
 key_is_key {a} limits key_is =
     let held = key_holds limits key_is in
@@ -352,7 +342,6 @@ key_of_houses {k} rule is_key bit = search (rules, key_from_parts, packed_row-ce
 rule_in_key-bit : (bit : ℕ) → bit ≤ 1 → rule_bit (if bit == 0 then Classic else EmptyCapture) ≡ bit
 rule_in_key-bit bit small = grind arith
 
--- the houses of a key are those whose key it is
 houses_in_key_of : {a : HousesState} → AreWithinLimits a → houses_in_key (key_of a) ≡ a
 houses_in_key_of {a} limits =
     let held = key_holds limits refl in
@@ -391,13 +380,12 @@ rows_of_fields {a} fields =
 
 pub sum-zero : (xs : List ℕ) → packed_row xs ≡ 0 → sum xs ≡ 0
 sum-zero [] none = refl
-sum-zero (x ∷ xs) none = let rest = sum-zero xs (omega arith) in let cons = sum_by-cons (λ (y : ℕ). y) x xs in omega arith
+sum-zero (x ∷ xs) none = omega (arith, sum_by-cons, sum-zero xs (omega arith))
 
 pub packed_row-zero : (xs : List ℕ) → sum xs ≡ 0 → packed_row xs ≡ 0
 packed_row-zero [] none = refl
-packed_row-zero (x ∷ xs) none = let cons = sum_by-cons (λ (y : ℕ). y) x xs in let rest = packed_row-zero xs (omega arith) in omega arith
+packed_row-zero (x ∷ xs) none = omega (arith, sum_by-cons, packed_row-zero xs (omega (arith, sum_by-cons)))
 
--- a row's number is 0 exactly when it has no seeds
 pub packed_row-is_zero : (xs : List ℕ) → nat_eq (packed_row xs) 0 ≡ nat_eq (sum xs) 0
 packed_row-is_zero xs = grind (arith, packed_row-zero, sum-zero)
 
@@ -445,7 +433,6 @@ module _ {count number seeds : ℕ} (x : ℕ) (row : AreRowFields count number s
   abbrev pub houses : List ℕ
   houses = cells count number
 
-  -- its seeds are added
   sum_more : sum (houses ++ x ∷ []) ≡ seeds + x
   sum_more = omega (arith, sum_by-append)
 

@@ -53,7 +53,6 @@ house_bits rows k =
     let all : bit_and rows (31 * p) ≡ rows / p % 32 * p = rw (div-add-mod' rows p, mask, and_mask _ 5) at both ∙ omega arith in
     rw (pow_five k) at all
 
--- x * p is p exactly if x is 1
 one_of : (x p : ℕ) → 0 < p → (x * p == p) ≡ (x == 1)
 one_of zero p some = grind arith
 one_of (suc zero) p some = grind arith
@@ -85,7 +84,6 @@ module _ {a : HousesState} {h : ℕ} (can : CanSow a h) where
   abbrev after_sowing : Position
   after_sowing = sown (storeless a) h
 
-  -- a sowing loses no seed
   sown_keeps : KeepsSeeds (storeless a) after_sowing
   unfolding sow
   sown_keeps =
@@ -180,7 +178,6 @@ module _ {a : HousesState} {h : ℕ} (can : CanSow a h) where
     abbrev there : ℕ
     there = seeds after_sowing.other across
 
-    -- where it begins
     across_at : s.across_bit ≡ 30 + 5 * (across - 1)
     across_at = omega (arith, house.across, sown_keeps.side)
 
@@ -378,7 +375,6 @@ store_small {a} {h} {r} limits legal shows =
 
 module _ {a : HousesState} {h rows seeds variant : ℕ} {r : RowNumbers} (fields : AreFields rows seeds variant) (view_is : houses_of_fields rows variant ≡ a)
     (legal : IsLegal a h) (shows : ShowsPosition r (after (storeless a) h)) where
-  -- the meaning of the fields
   fields_are : AreFieldsOf a rows seeds variant
   fields_are = fields_of fields view_is
 
@@ -386,11 +382,9 @@ module _ {a : HousesState} {h rows seeds variant : ℕ} {r : RowNumbers} (fields
   abbrev moved : Position
   moved = after (storeless a) h
 
-  -- the move loses no seed
   move_keeps : KeepsSeeds (storeless a) moved
   move_keeps = after_keeps _ _ fields_are.limits (legal_holds _ _ legal)
 
-  -- the position after the move keeps the limits
   moved_within : AreWithinLimits (houses_in moved)
   moved_within = after_within _ _ fields_are.limits (legal_holds _ _ legal)
 
@@ -418,7 +412,6 @@ module _ {a : HousesState} {h rows seeds variant : ℕ} {r : RowNumbers} (fields
       cc
 
   module _ (own_some : r.rows % 2 ^ 30 ≢ 0) (other_some : r.rows / 2 ^ 30 ≢ 0) where
-    -- with seeds on both sides it goes on
     moved_going : is_over moved ≡ false
     moved_going = grind (arith, packed_row-zero)
 
@@ -502,7 +495,6 @@ step_of_board {b} {own_store} {other_store} {h} limits view_is legal same step_i
 
 module _ {a : HousesState} {h rows seeds variant : ℕ} {r : RowNumbers} (fields : AreFields rows seeds variant) (view_is : houses_of_fields rows variant ≡ a)
     (legal : IsLegal a h) (ends : position.seeds a.own h + h ≡ length a.own + 1) (shows : ShowsPosition r (sown (storeless a) h)) where
-  -- the house can be sown
   can_sow : CanSow a h
   can_sow = record { limits = (fields_of fields view_is).limits; holds = legal_holds _ _ legal }
 
@@ -541,7 +533,7 @@ pub moves_into_store : {a : HousesState} {h rows seeds variant : ℕ} (more : �
     → MovesIntoStore a h seeds variant ((rows + more) % 2 ^ 64)
 moves_into_store {a} {h} {rows} {seeds} {variant} more fields view_is legal ends more_is =
     let are = fields_of fields view_is in
-    let can : CanSow a h = record { limits = are.limits; holds = legal_holds (storeless a) h legal } in
+    let can : CanSow a h = record { limits = are.limits; holds = legal_holds _ _ legal } in
     let house = 32 ^ (h - 1) * position.seeds a.own h in
     let later = ones (length a.own) - ones h in
     let few : length a.own + 1 - h ≡ position.seeds a.own h = omega arith in

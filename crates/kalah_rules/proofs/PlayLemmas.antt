@@ -77,7 +77,6 @@ gain_more n k d low high here = grind arith
 gain_same : (n k d : ℕ) → 1 ≤ d → d ≤ n → d ≢ k % n + 1 → gain n (k + 1) d ≡ gain n k d
 gain_same n k d low high elsewhere = grind (arith, div-mod-suc)
 
--- of no seeds no cell gets any
 gain_none : (n d : ℕ) → 0 < n → 1 ≤ d → gain n 0 d ≡ 0
 gain_none n d pos low = grind arith
 
@@ -99,7 +98,6 @@ same_position a b c d e = grind arith
 pub length-row_of : (n : ℕ) (f : ℕ → ℕ) → length (row_of n f) ≡ n
 length-row_of n f = length-map-range_with_len f 1 n
 
--- a house of a row holds what the row is made of
 seeds-row_of : (n : ℕ) (f : ℕ → ℕ) (i : ℕ) → 1 ≤ i → i ≤ n → seeds (row_of n f) i ≡ f i
 seeds-row_of n f i low high = grind (arith, get_or-map-range_with_len)
 
@@ -332,7 +330,6 @@ contains_range f a (suc n) i low high here = elim (cases_eq a i) [
       cond_both (f a) _ _ (λ l. Contains l i) (λ kept. Contains-append_right (a ∷ []) _ i later) (λ dropped. later)
 ]
 
--- each number of a range is within it
 pub all_range : (a n : ℕ) → All (λ i. (a ≤ i) × (i < a + n)) (range_with_len a n)
 all_range a n = omega (arith, length-range_with_len, get_or-range_with_len)
 
@@ -344,7 +341,6 @@ IsLegal a h = Contains (legal_houses (storeless a)) h
 pub legal_going : (p : Position) (h : ℕ) → Contains (legal_houses p) h → is_over p ≡ false
 legal_going p h legal = grind arith
 
--- a legal house holds seeds
 pub legal_holds : (p : Position) (h : ℕ) → Contains (legal_houses p) h → HoldsSeeds p h
 legal_holds p h legal =
     let kept = rw (legal_going p h legal) at legal in
@@ -482,7 +478,6 @@ after_side : (p : Position) (h : ℕ) → side_length (after p h) ≡ side_lengt
 unfolding after
 after_side p h = omega (arith, capture_side, sow_side)
 
--- after a move both sides have equally many houses
 pub after_equal_sides : (p : Position) (h : ℕ) → HasEqualSides (after p h)
 unfolding after
 after_equal_sides p h = omega (arith, capture_side, sow_side)

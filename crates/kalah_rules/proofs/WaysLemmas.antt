@@ -4,7 +4,6 @@ use Rattle.std.specs.List.{range_with_len}
 use Rattle.kalah_rules.specs.{after, moves_again, Position.Position, seeds, side_length, is_over, houses_in, storeless, HousesState, swept, legal_houses, position_after, step_to, most_depth, most_houses, houses_step, houses_step_to, ways, ways_by, HousesStep.HousesStep, Over, Again, Turn}
 use Rattle.kalah_rules.proofs.PlayLemmas.{sum-zeros, same_position, filter_range-suc, length-filter_range, with_store_seeds, after-store_seeds, storeless-store_seeds}
 
--- there is one way to play no move
 pub ways_none : (p : Position) → ways 0 p ≡ 1
 unfolding ways
 ways_none p = refl
@@ -14,7 +13,6 @@ pub ways-suc : (n : ℕ) (p : Position) → ways (suc n) p ≡ sum_by (ways_by n
 unfolding ways
 ways-suc n p = refl
 
--- a game that is over has no further way
 pub ways_over : (n : ℕ) (p : Position) → is_over p ≡ true → ways (n + 1) p ≡ 0
 ways_over n p over = rw (add-one n) (ways-suc n p ∙ rw over refl)
 
@@ -77,7 +75,6 @@ ways_by_of_houses n p h =
     ∙ ap (λ (o : Position). ways n (position_after (step_to o (moves_again q h)))) (after-store_seeds a b q h)
     ∙ step-store_seeds n a b (after q h) _ _ refl (ways-store_seeds n))
 
--- a position has at most one legal move for each house
 pub legal_few : (p : Position) → length (legal_houses p) ≤ side_length p
 legal_few p = grind (arith, length-filter_range)
 
@@ -111,7 +108,6 @@ six_more n h low =
     let suc_of : h + 1 - 1 ≡ suc (h - 1) = omega arith in
     rw suc_of omega arith
 
--- before the first house there are none
 pub before_none : (n : ℕ) (p : Position) → AreWaysBefore n p 1 0
 before_none n p = omega arith
 

@@ -79,11 +79,9 @@ won_of_houses {a} limits =
 pub worth_of_won : (a : HousesState) → AreWithinLimits a → houses_worth a ≡ margin_of (won a) (seeds_in_houses (storeless a))
 worth_of_won a limits = omega (arith, ints, (won_of_houses limits).margin)
 
--- the worth of houses is not below the widest window
 pub worth_low : (a : HousesState) → AreWithinLimits a → least_margin ≤ℤ houses_worth a
 worth_low a limits = omega (arith, ints, (won_of_houses limits).few, (won_of_houses limits).margin)
 
--- and not above it
 pub worth_high : (a : HousesState) → AreWithinLimits a → houses_worth a ≤ℤ most_margin
 worth_high a limits = omega (arith, ints, (won_of_houses limits).few, (won_of_houses limits).margin)
 
@@ -109,7 +107,6 @@ module _ (a : HousesState) (limits : AreWithinLimits a) where
       → IsWonOf (seeds_in_houses (storeless a)) (value_of_move (storeless a) h) (won_by_step (houses_step a h))
   won_of_move h legal = rw (value_is a h limits legal) (won_of_step a _ (leads_on a h limits legal))
 
-  -- no move wins more than best play
   pub won_at_most : (h : ℕ) → IsLegal a h → won_by_step (houses_step a h) ≤ won a
   won_at_most h legal =
       let most = (worth_is_most (storeless a) (omega arith) (legal_going (storeless a) h legal)).most h legal in

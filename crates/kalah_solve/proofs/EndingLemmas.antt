@@ -8,7 +8,6 @@ use Rattle.kalah_solve.proofs.{HouseSetLemmas.{EachOutside, cell_of_zero, each_o
 
 -- ==== The digits of a number, of four bits each
 
--- a place more is worth sixteen times as much
 power_of_next_place : (k : ℕ) → 2 ^ (4 * suc k) ≡ 16 * 2 ^ (4 * k)
 power_of_next_place k = let more : 4 * suc k ≡ 4 + 4 * k = omega arith in rw (more, pow-add) refl
 
@@ -72,7 +71,6 @@ length-next_binomials : (before : ℕ) (ws : List ℕ) → length (next_binomial
 length-next_binomials before [] = refl
 length-next_binomials before (w ∷ ws) = ap suc (length-next_binomials w ws)
 
--- there are thirteen of each number
 length-binomials : (n : ℕ) → length (binomials n) ≡ 13
 length-binomials zero = refl
 length-binomials (suc n) = length-next_binomials 0 _ ∙ length-binomials n
@@ -85,7 +83,6 @@ next_binomials-suc before (w ∷ []) k inside = omega arith
 next_binomials-suc before (w ∷ v ∷ ws) zero inside = refl
 next_binomials-suc before (w ∷ v ∷ ws) (suc k) inside = next_binomials-suc w (v ∷ ws) k (omega arith)
 
--- there is no way to choose any of none
 binomials-none : (k : ℕ) → get_or (binomials zero) (suc k) 0 ≡ 0
 binomials-none k = grind arith
 
@@ -121,7 +118,6 @@ enough_words (suc (suc (suc (suc (suc zero))))) some most = omega (arith, binomi
 enough_words (suc (suc (suc (suc (suc (suc zero)))))) some most = omega (arith, binomials_are 21 12 (lit< tt))
 enough_words (suc (suc (suc (suc (suc (suc (suc m))))))) some most = omega arith
 
--- variants with more houses have later words
 first_word_rises : (m n : ℕ) → m ≤ n → n ≤ 7 → first_word m ≤ first_word n
 first_word_rises m n below most = grind arith
 
@@ -150,7 +146,6 @@ word_and_place-injective a b limits_a limits_b ending ending_b word place =
 
 -- ---- what the words state
 
--- an empty word states nothing
 states_nothing : (i : ℕ) → HoldsWon i 0
 unfolding HoldsWon
 states_nothing i a limits ending word_is stored = omega arith
@@ -171,7 +166,6 @@ stored_is_won word a states limits ending some = states a limits ending refl som
 
 -- ---- the steps on them
 
--- words that are all empty are true
 pub zeros_are_true : (n : ℕ) → AreTrueWords (replicate n 0)
 zeros_are_true n i = grind (arith, cases_lt, get_or-replicate, states_nothing, get_or_past, length-replicate)
 

@@ -19,11 +19,9 @@ found_encloses_worth es a k entries limits key (Some i) found =
 
 module _ (c : LruCache ℕ Interval) (a : HousesState) (k : ℕ) (i : Interval) (entries : AreTrueEntries c.entries) (limits : AreWithinLimits a)
     (key : k ≡ key_of a) (holds : Encloses i (houses_worth a)) where
-  -- the new entry is true
   put_entry : (e : ℕ × Interval) → e.1 ≡ i → e.0 ≡ k → IsTrueEntry e
   put_entry e value key_is = grind arith
 
-  -- all entries after a put are true
   put_keeps_true : AreTrueEntries (put_entries nat_eq c k i)
   put_keeps_true = λ e h. elim (Contains-put_entries nat_eq c k i e h) [
     | inl was ↦ entries e was

@@ -11,7 +11,6 @@ pub cell_of_zero : (i : ℕ) → cell 0 i ≡ 0
 cell_of_zero zero = refl
 cell_of_zero (suc i) = cell_of_zero i
 
--- past a small number the cells are empty
 cell_past : (k i number : ℕ) → number < 32 ^ k → k ≤ i → cell number i ≡ 0
 cell_past zero i number small past = let none : number ≡ 0 = omega arith in ap (λ n. cell n i) none ∙ cell_of_zero i
 cell_past (suc k) zero number small past = omega arith
@@ -42,7 +41,6 @@ module _ (m : ℕ) (f : ℕ → ℕ) (few : (h : ℕ) → f h < 32) where
   cell_outside : (i : ℕ) → m ≤ i → cell (packed_row (row_of m f)) i ≡ 0
   cell_outside i past = grind (arith, cell_of_row, row_of-few, get_or_past, length-row_of)
 
--- each cell of an exclusive or is that of the two cells
 cell_xor : (i a b : ℕ) → cell (bit_xor a b) i ≡ bit_xor (cell a i) (cell b i)
 cell_xor zero a b = xor_mod a b 5
 cell_xor (suc i) a b = ap (λ n. cell n i) (xor_shr a b 5) ∙ cell_xor i (a / 32) _
@@ -56,7 +54,6 @@ mask_of_six {mask} small single = record {
 
 -- ==== The last house of a set
 
--- the highest cell holds something
 highest_cell_some : (q n : ℕ) → 32 ^ q ≤ n → n < 32 ^ suc q → 0 < cell n q
 highest_cell_some zero n low high = omega arith
 highest_cell_some (suc q) n low high = highest_cell_some q _ (omega arith) (omega arith)
@@ -86,7 +83,6 @@ below_twice_highest (suc q) n high single =
 
 -- without the last house all others stay, and none is new
 module _ (mask h : ℕ) (last : IsLastIn mask h) where
-  -- the last house is in the set
   last_is_in : 0 < cell mask (h - 1)
   last_is_in = highest_cell_some _ _ last.low last.high
 
@@ -231,7 +227,6 @@ mask_of_filled row =
 
 -- ==== Cells that hold the distance to the store
 
--- equal numbers are apart by nothing
 apart_or_equal : (x y : ℕ) → (0 < bit_xor (min 1 (bit_xor x y)) 1) ↔ (x ≡ y)
 apart_or_equal x y = grind (arith, cases_eq, bit_xor, xor_self, min, xor_add_and, and_le_l, and_le_r)
 
@@ -276,7 +271,6 @@ module _ {a : HousesState} {row : ℕ} (limits : AreWithinLimits a) (row_is : ro
   own_cell : (i : ℕ) → cell row i ≡ slice_index a.own i
   own_cell i = rw row_is (cell_of_row a.own i (λ k. omega (arith, house_le_sum a.own k)))
 
-  -- past the last house there is none
   own_past : (i : ℕ) → length a.own ≤ i → slice_index a.own i ≡ 0
   own_past i past = simp (get_or_past)
 
@@ -325,7 +319,6 @@ module _ {a : HousesState} {row : ℕ} (limits : AreWithinLimits a) (row_is : ro
           let is_house : 0 < slice_index a.own i → i < length a.own = grind (arith, cases_lt, own_past) in
           unless_both (rw (cell_xor i filled ending) one) seeds ends is_house
 
-      -- they are a set
       pub mask_of_remaining : IsMask (bit_xor filled ending)
       mask_of_remaining = mask_of_six (xor_lt 30 filled ending with_seeds.are.small mask.are.small) (λ i inside.
           omega (

@@ -5,7 +5,6 @@ use Rattle.kalah_solve.specs.{nat_or_zero, IsMoveValue, digit_of, value_at, pack
 
 -- ==== A value and its digit
 
--- an integer from 1 on is a natural number
 nat_or_zero_again : (z : ℤ) → pos 1 ≤ℤ z → pos (nat_or_zero z) ≡ z
 nat_or_zero_again (pos n) some = refl
 nat_or_zero_again (negsuc n) some = grind (arith, ints)
@@ -16,7 +15,6 @@ record Finds (v : MoveValue) (digit : ℕ) : Type 0 where
   small : digit < DIGIT_BASE
   value : value_at digit ≡ v
 
--- a value is found by its digit
 value_of_its_digit : (v : MoveValue) → IsMoveValue v → Finds v (digit_of v)
 value_of_its_digit v small =
     let again : pos (nat_or_zero (v.value +ℤ pos (most_in_play + 1))) ≡ v.value +ℤ pos (most_in_play + 1) =
@@ -28,7 +26,6 @@ value_of_its_digit v small =
     let value : pos ((digit_of v - 1) % VALUE_COUNT) -ℤ pos most_in_play ≡ v.value = omega (arith, ints) in
     record { some = omega arith; small = omega (arith, small.last); value = rw (house, value) refl }
 
--- a digit is that of the value that it finds
 digit_of_its_value : (d : ℕ) → 1 ≤ d → d < DIGIT_BASE → digit_of (value_at d) ≡ d
 digit_of_its_value d some few =
     let up : (pos ((d - 1) % VALUE_COUNT) -ℤ pos most_in_play) +ℤ pos (most_in_play + 1) ≡ pos ((d - 1) % VALUE_COUNT + 1) = omega (arith, ints) in
@@ -36,7 +33,6 @@ digit_of_its_value d some few =
 
 -- ==== The values in a number, digit by digit
 
--- there is at most one for each digit
 length-values_in : (n k : ℕ) → length (values_in n k) ≤ n
 length-values_in zero k = omega arith
 length-values_in (suc n) k = grind (arith, length-values_in n (k / DIGIT_BASE))

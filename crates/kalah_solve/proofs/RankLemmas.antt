@@ -6,20 +6,17 @@ use Rattle.kalah_solve.specs.{choose, row_rank, packed_sums, rank_of_houses, mos
 
 -- ==== The numbers of choices
 
--- out of more things there are no fewer ways to choose
 choose_le_suc : (n k : ℕ) → choose n k ≤ choose (suc n) k
 unfolding choose
 choose_le_suc n zero = omega arith
 choose_le_suc n (suc k) = omega arith
 
--- of more things there are no fewer choices
 choose_le_plus : (n d k : ℕ) → choose n k ≤ choose (n + d) k
 choose_le_plus n zero k = grind arith
 choose_le_plus n (suc d) k =
     let next : n + suc d ≡ suc (n + d) = omega arith in
     rw next (omega (arith, choose_le_plus n d k, choose_le_suc))
 
--- the same, by the number of things
 pub choose_rises : (n m k : ℕ) → n ≤ m → choose n k ≤ choose m k
 choose_rises n m k few = let all : n + (m - n) ≡ m = omega arith in rw all at (choose_le_plus n (m - n) k)
 
@@ -30,7 +27,6 @@ choose_le_power n zero = omega (arith, pow_pos n)
 choose_le_power zero (suc k) = omega arith
 choose_le_power (suc n) (suc k) = omega (arith, choose_le_power n k, choose_le_power n (suc k))
 
--- of few things there are few choices
 choose_small : (n b k : ℕ) → n ≤ b → choose n k ≤ 2 ^ b
 choose_small n b k few = omega (arith, choose_rises n b k few, choose_le_power b k)
 
@@ -104,7 +100,6 @@ houses_by_rank a b limits_a limits_b variant rank =
     let other = append_cancel_left a.own a.other b.other (rw (← own) at row) in
     key-injective a b limits_a limits_b (omega (arith, ap packed_row own, ap packed_row other))
 
--- a row's number determines its sums
 sums_by_number : (xs : List ℕ) → 31 * packed_sums xs + sum xs ≡ 32 * packed_row xs
 sums_by_number [] = refl
 sums_by_number (x ∷ xs) = omega (arith, sums_by_number xs, sum_by-cons)
@@ -167,7 +162,6 @@ module _ (row : List ℕ) (few : sum row ≤ most_ending_seeds) (m passed sums a
   two_more : drop (2 * passed) row ≡ two_first ∷ two_second ∷ two_past
   two_more = grind (arith, drop_more)
 
-  -- they hold few seeds
   two_less : sum (two_first ∷ two_second ∷ two_past) ≤ most_ending_seeds
   two_less =
       let less : sum (drop (2 * passed) row) ≤ most_ending_seeds = omega (arith, sum_by-take-drop (λ (y : ℕ). y) row (2 * passed)) in
@@ -238,7 +232,6 @@ choice_next i past some =
     let up_cells : suc ((i - 1) / 10) ≡ suc _ = omega arith in
     rw (here, left, left_cells, up, up_cells) (choose_next n _)
 
--- all are small
 pub choice_small : (i : ℕ) → i < CHOICES → choice_at i ≤ 2 ^ 20
 choice_small i few = choose_small _ 20 _ (omega arith)
 

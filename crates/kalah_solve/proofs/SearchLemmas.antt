@@ -30,10 +30,6 @@ bound_le_max {beta} {number} {bound} bounded = grind arith
 pub soft_if_enough : {beta number bound : ℕ} → beta ≤ bound → bound ≤ number → IsSoftBound beta number bound
 soft_if_enough enough low = record { lower = λ e. low; upper = λ short. absurd (omega arith) }
 
--- one that falls short, and is no less, too
-pub soft_if_short : {beta number bound : ℕ} → bound < beta → number ≤ bound → IsSoftBound beta number bound
-soft_if_short short high = record { lower = λ enough. absurd (omega arith); upper = λ s. high }
-
 -- the most of some bounds that fall short falls short too, unless it is 0
 short_stays : {beta most bound new : ℕ} → (beta ≤ most → most ≡ 0) → bound < beta → new ≡ max most bound → beta ≤ new → new ≡ 0
 short_stays low short new_is enough = omega arith
@@ -75,7 +71,6 @@ module _ {a b : HousesState} {h bound seeds left : ℕ} (beta : ℕ) (limits : A
   reply_left = rw (turn.step, seeds_are)
       (bound_of_rest _ (omega (arith, (turn_leads limits turn).kept)) reply_few (rw (left_is, seeds_are) at bounded))
 
-  -- the bound is at most all seeds
   pub reply_fits : bound ≤ seeds
   reply_fits = elim (cases_lt bound (left + 1)) [
     | inl short ↦ omega arith
@@ -287,4 +282,5 @@ untried_fewer {a} {priorities = priorities} {turns = turns} bound untried taken 
 pub none_untried : {a : HousesState} {beta most : ℕ} {priorities : List ℕ} {turns : List HousesState} → AreWithinLimits a
     → is_over (storeless a) ≡ false → AreUntried a beta most priorities turns → IsEmpty priorities → IsSoftBound beta (won a) most
 none_untried {a} limits going untried none =
-    soft_if_short untried.short (won_at_most_of_all a _ limits going (λ h legal. untried.tried h legal (none (h - 1))))
+    let high = won_at_most_of_all a _ limits going (λ h legal. untried.tried h legal (none (h - 1))) in
+    record { lower = λ enough. absurd (omega (arith, untried.short)); upper = λ short. high }

@@ -9,12 +9,10 @@ use Rattle.kalah_solve.proofs.BoundsLemmas.{won_of_houses}
 abbrev inverse_of_mix : ℕ
 inverse_of_mix = 17428512612931826493
 
--- a mixed key determines the key
 unmixed : (k : ℕ) → k < 2 ^ 64 → (mixed k * inverse_of_mix) % 2 ^ 64 ≡ k
 unfolding mixed
 unmixed k small = omega arith
 
--- different keys stay different when mixed
 mixed-injective : (k l : ℕ) → k < 2 ^ 64 → l < 2 ^ 64 → mixed k ≡ mixed l → k ≡ l
 mixed-injective k l hk hl same = sym (unmixed _ hk) ∙ ap (λ x. (x * inverse_of_mix) % 2 ^ 64) same ∙ unmixed _ hl
 
@@ -29,7 +27,6 @@ bits_among s n few =
 slot_and_tag-injective : (s x y : ℕ) → s ≤ 54 → tag_of x ≡ tag_of y → slot_index s x ≡ slot_index s y → x ≡ y
 slot_and_tag-injective s x y few rest same = omega (arith, bits_among s x few, bits_among s y few, ap (λ slot. slot / 2 ^ (54 - s)) same)
 
--- a number has a slot
 pub slot_inside : (s n : ℕ) → s < 64 → n < 2 ^ 64 → slot_index s n < 2 ^ (64 - s)
 slot_inside s n few small =
     let all : 64 - s + s ≡ 64 = omega arith in

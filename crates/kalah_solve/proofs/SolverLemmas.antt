@@ -12,11 +12,9 @@ use Rattle.lru.proofs.Splits.{Contains-head}
 pub record IsWithin (policy wider : Policy) : Type 0 where
   pub widens : {p : Position} {h : ℕ} → HasEqualSides p → is_over p ≡ false → Contains (policy p) h → Contains (wider p) h
 
--- a policy is as wide as itself
 same_policy : (policy : Policy) → IsWithin policy policy
 same_policy policy = grind arith
 
--- who follows a strategy keeps to the rules
 pub strategy_within : {s : Strategy} → IsStrategy s → IsWithin (follow s) legal_houses
 strategy_within {s} lawful = grind arith
 
@@ -40,7 +38,6 @@ ends_within (suc n) mine theirs mine_lawful theirs_lawful p equal few = elim (ca
       ]
 ]
 
--- so they play one from each position
 pub a_game_is_played : StrategiesPlayAGame
 a_game_is_played mine theirs mine_lawful theirs_lawful p equal = ends_within (moves_left p) mine theirs mine_lawful theirs_lawful p equal (omega arith)
 
@@ -58,7 +55,6 @@ ends_in_time {p = p} mine_lawful theirs_lawful equal (passes_turn {h = h} {final
     let inner = ends_in_time theirs_lawful mine_lawful (swapped_equal_sides _ (after_equal_sides p h)) rest in
     record { over = is_over-swapped final ∙ inner.over; short = omega arith }
 
--- a game by the rules ends, after no more moves than are left
 pub games_end : GamesEnd
 games_end p houses final equal game = ends_in_time (same_policy _) (same_policy _) equal game
 
@@ -66,7 +62,6 @@ games_end p houses final equal game = ends_in_time (same_policy _) (same_policy 
 pub record HasNoChoice (policy : Policy) : Type 0 where
   pub one : (p : Position) {h k : ℕ} → Contains (policy p) h → Contains (policy p) k → h ≡ k
 
--- who follows a strategy has no choice
 follow_one : (s : Strategy) → HasNoChoice (follow s)
 follow_one s = grind arith
 
@@ -92,7 +87,6 @@ game_is_one mine_forced theirs_forced (passes_turn _ chosen turn rest) (passes_t
     let same = game_is_one theirs_forced mine_forced rest (rw e at rest') in
     (cc same.0, ap swapped same.1)
 
--- so two strategies play only one game
 pub one_game_is_played : StrategiesPlayOneGame
 one_game_is_played mine theirs p houses others final other one two = game_is_one (follow_one mine) (follow_one theirs) one two
 
@@ -138,11 +132,9 @@ game_is_bounded {p = p} mine_lawful theirs_lawful equal (passes_turn {h = h} {fi
       high = λ best. omega (arith, ints);
     })
 
--- always moving the lowest-numbered best house is a strategy
 pub best_is_strategy : IsStrategy best_house
 best_is_strategy = record { moves = λ p equal going. (best_found _ equal going).0 }
 
--- the best house has the greatest value
 pub best_plays : PlaysBest (follow best_house)
 best_plays = grind (arith, best_attains)
 
@@ -154,11 +146,9 @@ best_secures p equal = λ houses final game. (game_is_bounded (strategy_within b
 best_holds : (p : Position) → HasEqualSides p → HoldsTo best_house p (worth p)
 best_holds p equal = λ houses final game. (game_is_bounded (same_policy _) (strategy_within best_is_strategy) equal game).high best_plays
 
--- so it is best play for either side
 pub best_house_is_best_play : BestHouseIsBestPlay
 best_house_is_best_play = grind (arith, best_is_strategy, best_secures, best_holds)
 
--- and the worth is the margin of best play
 pub worth_is_best_play : WorthIsBestPlay
 worth_is_best_play p equal = grind (arith, best_is_strategy, best_secures, best_holds)
 
@@ -176,7 +166,6 @@ module _ (mine theirs : Strategy) (mine_lawful : IsStrategy mine) (theirs_lawful
       let game = a_game_is_played mine _ mine_lawful theirs_lawful p equal in
       (game.0, game.1, game.2, holds _ game.1 (widened (strategy_within mine_lawful) (same_policy _) equal game.2))
 
--- either player has a strategy that gets the worth against each strategy of the other
 pub best_against_strategies : BestPlayAgainstStrategies
 best_against_strategies = record {
   secured = λ p equal.
@@ -192,7 +181,6 @@ secured_at_most p v w equal a b =
     let same = ap final_margin (one_game_is_played _ b.held.0 p low.0 _ low.1 _ low.2 high.2).1 in
     omega (arith, ints, low.3)
 
--- so they are equal
 pub best_play_is_one : BestPlayIsOne
 best_play_is_one p v w equal a b = omega (arith, ints, secured_at_most p v w equal a b, secured_at_most p w v equal b a)
 
@@ -238,7 +226,6 @@ best_lowest p h going legal attains =
     (rw going at legal) (int_eq-same _ _ attains) in
     rw going lowest
 
--- the best house is legal, attains the worth, and is the lowest that does
 pub best_is_lowest : BestHouseIsLowest
 best_is_lowest p equal going = record {
   is_legal = (best_found _ equal going).0;
@@ -250,7 +237,6 @@ best_is_lowest p equal going = record {
 best_house_lowest : (p : Position) (h : ℕ) → is_over p ≡ false → IsBestMove p h (worth p) → best_house p ≤ h
 best_house_lowest p h going best = best_lowest _ _ going best.legal (attains_if_best _ _ best)
 
--- the best moves are the legal houses that attain the worth
 pub best_moves_attain : BestMovesAttain
 best_moves_attain p h equal going = (λ best. (best.legal, attains_if_best _ _ best), λ legal. attaining_is_best _ _ equal legal.0 legal.1)
 
@@ -290,17 +276,14 @@ stated_is_verdict p (Best margin house) equal states =
     cc (margin_is, house_is)
 stated_is_verdict p (Over margin) equal states = cc
 
--- so there is only one
 pub best_verdict_is_one : BestVerdictIsOne
 best_verdict_is_one p v w equal one other = grind (arith, stated_is_verdict)
 
 -- ==== What a move secures, and that the values of the moves determine the verdict
 
--- the value of a move is what it gets in best play
 pub value_is_worth : ValueIsWorthOfMove
 value_is_worth p h equal going is_legal = move_worth p h
 
--- no other number is
 pub worth_of_move_is_one : WorthOfMoveIsOne
 worth_of_move_is_one p h v w equal going a b = move_worth_is_one a b
 
@@ -328,7 +311,6 @@ first_with p m (x ∷ xs) = elim (cases_Bool (int_eq (value_of_move p x) m)) [
   | inr later ↦ rw later (first_with p m xs)
 ]
 
--- the greatest value and the first house that has it are the verdict
 pub values_tell_verdict : ValuesTellVerdict
 values_tell_verdict p equal going = grind (arith, map-map, worth_of_going, first_with)
 
@@ -339,9 +321,13 @@ pub whole_window : {a : HousesState} {found lo hi : ℤ} → AreWithinLimits a �
     → found ≡ clamped lo hi (houses_worth a) → found ≡ houses_worth a
 whole_window {a} limits lo_is hi_is found_is = omega (arith, ints, clamps, worth_low a limits, worth_high a limits)
 
+-- the legal house with index i
+abbrev legal_at : HousesState → ℕ → ℕ
+legal_at a i = get_or (legal_houses (storeless a)) i 0
+
 -- the first i houses are worth less than the margin of best play
 abbrev pub FallShort : HousesState → ℕ → Type 0
-FallShort a i = (k : ℕ) → k < i → int_eq (value_of_move (storeless a) (get_or (legal_houses (storeless a)) k 0)) (houses_worth a) ≡ false
+FallShort a i = (k : ℕ) → k < i → int_eq (value_of_move (storeless a) (legal_at a k)) (houses_worth a) ≡ false
 
 module _ (a : HousesState) (limits : AreWithinLimits a) where
   -- a house that wins as many seeds as best play is worth as much
@@ -356,24 +342,24 @@ module _ (a : HousesState) (limits : AreWithinLimits a) where
 
   -- the first house worth the margin is the best house
   first_is_best : (i : ℕ) → i < length (legal_houses (storeless a)) → FallShort a i
-      → value_of_move (storeless a) (get_or (legal_houses (storeless a)) i 0) ≡ houses_worth a
-      → get_or (legal_houses (storeless a)) i 0 ≡ best_house (storeless a)
+      → value_of_move (storeless a) (legal_at a i) ≡ houses_worth a
+      → legal_at a i ≡ best_house (storeless a)
   first_is_best i inside short attains = grind (arith, find_first)
 
   -- a house that wins enough, if those before it fall short
   pub first_enough_is_best : (i : ℕ) → i < length (legal_houses (storeless a)) → FallShort a i
-      → won a ≤ won_by_step (houses_step a (get_or (legal_houses (storeless a)) i 0))
-      → get_or (legal_houses (storeless a)) i 0 ≡ best_house (storeless a)
+      → won a ≤ won_by_step (houses_step a (legal_at a i))
+      → legal_at a i ≡ best_house (storeless a)
   first_enough_is_best i inside short enough = first_is_best i inside short (worth_if_enough _ (Contains-get_or _ i 0 inside) enough)
 
   -- if a house wins fewer, the first i + 1 fall short
   pub one_more_falls_short : (i : ℕ) → i < length (legal_houses (storeless a)) → FallShort a i
-      → won_by_step (houses_step a (get_or (legal_houses (storeless a)) i 0)) < won a → FallShort a (i + 1)
+      → won_by_step (houses_step a (legal_at a i)) < won a → FallShort a (i + 1)
   one_more_falls_short i inside short less k low = grind (arith, cases_eq, int_eq-lower, worth_less_if_short, Contains-get_or)
 
   -- if all but the last fall short, it is the last
   pub last_is_best : (n : ℕ) → is_over (storeless a) ≡ false → length (legal_houses (storeless a)) ≡ n + 1 → FallShort a n
-      → get_or (legal_houses (storeless a)) n 0 ≡ best_house (storeless a)
+      → legal_at a n ≡ best_house (storeless a)
   last_is_best n going many short =
       let one = greatest_reached (value_of_move _) _ (omega arith) in
       let inside = one.1.1 in
@@ -403,7 +389,6 @@ module _ (p : Position) {best : ℤ} {own other : ℕ} (limits : IsWithinLimits 
       let within = houses_within p limits in
       omega (arith, ints, worth_low _ within, worth_high _ within)
 
-  -- the sum is the worth of the position
   pub margin_is_worth : margin_in_bits best own other ≡ worth p
   margin_is_worth = margin_is ∙ rw best_is (sym (worth_of_houses p))
 

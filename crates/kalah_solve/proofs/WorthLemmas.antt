@@ -79,11 +79,9 @@ int_eq-lower a b less = grind arith
 pub over_at_end : (p : Position) → moves_left p ≡ 0 → is_over p ≡ true
 over_at_end p none = grind arith
 
--- both sides of a board have as many houses
 pub board_equal_sides : (p : Position) → IsWithinLimits p → HasEqualSides p
 board_equal_sides p limits = omega arith
 
--- seen from the other side, too, both sides have as many houses
 pub swapped_equal_sides : (p : Position) → HasEqualSides p → HasEqualSides (swapped p)
 swapped_equal_sides p equal = omega arith
 
@@ -117,7 +115,7 @@ values_same : (v w : Position → ℤ) (p : Position) → HasEqualSides p
     → ((q : Position) → HasEqualSides q → moves_left q < moves_left p → v q ≡ w q)
     → map (value_by v p) (legal_houses p) ≡ map (value_by w p) (legal_houses p)
 values_same v w p equal agree = map_same _ _ (legal_houses p) (λ h legal.
-    let fewer = after_fewer p h (legal_holds p h legal) equal in
+    let fewer = after_fewer p h (legal_holds _ _ legal) equal in
     let next_equal = after_equal_sides p h in
     value_same v w p h (agree _ next_equal fewer) (agree _ (swapped_equal_sides _ next_equal) (omega (arith, fewer, moves_left-swapped _ next_equal))))
 
@@ -133,12 +131,10 @@ worth_same (suc n) (suc k) p equal n_high k_high = elim (cases_Bool _) [
       ∙ sym (worth_within-going k p going)
 ]
 
--- the worth is the same for each count that is high enough
 pub worth_count : CountPlaysNoPart
 unfolding worth
 worth_count p n equal high = worth_same _ _ _ equal high (omega arith)
 
--- the margin of a position that is over
 pub worth_of_over : (p : Position) → is_over p ≡ true → worth p ≡ final_margin p
 unfolding worth
 worth_of_over p over = worth_within-over _ _ over
@@ -151,7 +147,6 @@ worth_of_going p equal going =
     worth_same (moves_left p) (suc (moves_left p)) p equal (omega arith) (omega arith) ∙ worth_within-going _ _ going
     ∙ ap greatest (values_same (worth_within (moves_left p)) worth p equal (λ q even fewer. worth_same _ _ q even (omega arith) (omega arith)))
 
--- a sweep keeps the margin
 final_margin-swept : (q : Position) → final_margin (swept q) ≡ final_margin q
 final_margin-swept q = omega (arith, ints)
 
@@ -188,13 +183,13 @@ value_of_turn p h e step_is = grind arith
 -- how many moves a move leaves, if the mover moves again
 pub again_fewer : (p : Position) (h : ℕ) (e : Position) → HasEqualSides p → Contains (legal_houses p) h
     → board.Again e ≡ step_of p h → moves_left e < moves_left p
-again_fewer p h e equal legal step_is = let fewer = after_fewer p h (legal_holds p h legal) equal in grind arith
+again_fewer p h e equal legal step_is = let fewer = after_fewer p h (legal_holds _ _ legal) equal in grind arith
 
 -- if the turn passes
 pub turn_fewer : (p : Position) (h : ℕ) (e : Position) → HasEqualSides p → Contains (legal_houses p) h
     → board.Turn e ≡ step_of p h → moves_left e < moves_left p
 turn_fewer p h e equal legal step_is =
-    let fewer = after_fewer p h (legal_holds p h legal) equal in
+    let fewer = after_fewer p h (legal_holds _ _ legal) equal in
     let swapped_fewer = moves_left-swapped (after p h) (after_equal_sides p h) in
     grind arith
 
@@ -210,7 +205,6 @@ row_empty p going none =
     ]) in
     omega (arith, sum_by-le (λ x. x) 0 _ each)
 
--- a game that goes on has a legal house
 pub legal_some : (p : Position) → is_over p ≡ false → 0 < length (legal_houses p)
 legal_some p going = grind (arith, row_empty)
 
@@ -246,7 +240,6 @@ value_most p h equal going legal =
     let at = get_or_default _ legal.0 0 h legal.1 ∙ legal.2 in
     rw (worth_of_going p equal going) (rw at at (greatest_is_most (value_of_move p) _ legal.0 legal.1))
 
--- some legal move gets the worth, and none gets more
 pub worth_is_most : WorthIsMostOfMoves
 worth_is_most p equal going = record {
   reached = (best_house p, (best_found _ equal going).0, best_attains equal going);
@@ -259,7 +252,6 @@ worth_is_most p equal going = record {
 final-store_seeds : (a b : ℕ) (p : Position) → final_margin (with_store_seeds a b p) ≡ final_margin p +ℤ (pos a -ℤ pos b)
 final-store_seeds a b p = omega (arith, ints)
 
--- the greater of two shifted numbers
 max_shift : (d x y : ℤ) → int_max (x +ℤ d) (y +ℤ d) ≡ int_max x y +ℤ d
 max_shift d x y = grind (arith, ints)
 
@@ -326,7 +318,6 @@ worth_by_stores p = omega (arith, ints, worth_of_houses p)
 find_same : (p q : ℕ → Bool) (xs : List ℕ) → ((h : ℕ) → p h ≡ q h) → find p xs ≡ find q xs
 find_same p q xs same = λ i. find (λ h. same h i) xs
 
--- two shifted numbers are equal if the two were
 int_eq_shift : (x y d : ℤ) → int_eq (x +ℤ d) (y +ℤ d) ≡ int_eq x y
 int_eq_shift x y d = grind (arith, ints)
 

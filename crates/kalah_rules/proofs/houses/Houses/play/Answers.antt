@@ -4,11 +4,10 @@ use Rattle.kalah_rules.specs.{storeless}
 use Rattle.kalah_rules.proofs.PlayLemmas.{legal_holds}
 use Rattle.kalah_rules.proofs.houses.Houses.play.Goals as goal
 
-pub own-requires-clause-low : goal.own-requires-clause-low
-own-requires-clause-low c = (legal_holds (storeless c.args.self.now) c.args.h c.requires).first
-
-pub own-requires-clause-high : goal.own-requires-clause-high
-own-requires-clause-high c = (legal_holds (storeless c.args.self.now) c.args.h c.requires).last
+pub own-requires : goal.own-requires
+own-requires c =
+    let holds = legal_holds (storeless c.args.self.now) c.args.h c.requires in
+    record { low = holds.first; high = holds.last }
 
 pub new-sowing-requires-clause-first : goal.new-sowing-requires-clause-first
 new-sowing-requires-clause-first c = (legal_holds (storeless c.args.self.now) c.args.h c.requires).first
