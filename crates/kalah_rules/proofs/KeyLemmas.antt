@@ -479,5 +479,5 @@ can_be_houses {m} {own} {other} rule few own_long other_long own_past other_past
     let own_sum = sum-shown m _ own_long few own_past in
     let other_sum = sum-shown m _ other_long few other_past in (
       λ h. record { some_house = omega arith; at_most_six = few; own_past = own_past; other_past = other_past; few_seeds = omega arith },
-      λ h. record { some_house = omega arith; at_most_six = omega arith; same_side = omega arith; few_seeds = omega arith },
+      λ h. omega arith,
     )

@@ -18,15 +18,13 @@ sum_range_change : (f g : ℕ → ℕ) (a n i : ℕ) → a ≤ i → i < a + n �
     → sum_by f (range_with_len a n) + g i ≡ sum_by g (range_with_len a n) + f i
 sum_range_change f g a zero i low high same = omega arith
 sum_range_change f g a (suc n) i low high same =
-    let f_cons = sum_by-cons f a (range_with_len (a + 1) n) in
-    let g_cons = sum_by-cons g a (range_with_len (a + 1) n) in
     elim (cases_eq a i) [
       | inl e ↦
           let rest = sum_range_same f g (a + 1) n (omega arith) in
-          rw (← e) (omega arith)
+          rw (← e) (omega (arith, sum_by-cons))
       | inr ne ↦
           let rest = sum_range_change f g (a + 1) n i (omega arith) (omega arith) (omega arith) in
-          omega arith
+          omega (arith, sum_by-cons)
     ]
 
 -- a list with one number set to 0 has that much less

@@ -135,7 +135,7 @@ last_begins_house {mask} leading some marked leading_are =
           omega (arith, pow_five q))
       | inr same ↦ omega arith
     ] in
-    record { whole = omega arith; last = omega arith }
+    omega arith
 
 -- the last house is worth a power of 32
 last_is_power : {mask bit : ℕ} → mask < 2 ^ 30 → IsLastIn mask (bit / 5 + 1) → BeginsHouse bit
@@ -343,7 +343,7 @@ seeded_is_legal {a} i limits going some = elim (cases_lt i (length a.own)) [
 pub into_store_legal : {a : HousesState} (i : ℕ) → AreWithinLimits a → is_over (storeless a) ≡ false → i < length a.own
     → EndsInStore a (i + 1) → IsLegal a (i + 1)
 into_store_legal {a} i limits going inside ends =
-    holds_legal (storeless a) (i + 1) (record { first = omega arith; last = omega arith; some = omega arith }) going
+    holds_legal (storeless a) (i + 1) (omega arith) going
 
 -- what holds of each house of a set holds of those before the last
 pub each_before_last : (P : ℕ → Type 0) {mask h : ℕ} → IsLastIn mask h → ((i : ℕ) → 0 < cell mask i → P (i + 1))

@@ -49,10 +49,10 @@ rest_packed n k some packed =
     elim (cases_eq (k % DIGIT_BASE) 0) [
       | inl none ↦
           let one : digit_of (value_at (k % DIGIT_BASE)) ≡ 1 = rw none refl in
-          (omega arith, omega arith)
+          omega arith
       | inr other ↦
           let same : digit_of (value_at (k % DIGIT_BASE)) ≡ k % DIGIT_BASE = digit_of_its_value _ (omega arith) (omega arith) in
-          (omega arith, omega arith)
+          omega arith
     ]
 
 -- the digits past the last value are 0

@@ -51,21 +51,16 @@ pub rank_below : (xs : List ℕ) → row_rank xs < choose (sum xs + length xs) (
 unfolding choose
 rank_below [] = omega arith
 rank_below (x ∷ xs) =
-    let cons = sum_by-cons (λ (y : ℕ). y) x xs in
-    let all : sum (x ∷ xs) + suc (length xs) ≡ suc (x + sum xs + length xs) = omega arith in
+    let all : sum (x ∷ xs) + suc (length xs) ≡ suc (x + sum xs + length xs) = omega (arith, sum_by-cons) in
     rw all (omega (arith, rank_below xs, choose_rises (sum xs + length xs) (x + sum xs + length xs) (length xs) (omega arith)))
 
 -- of two rows of the same length the one with fewer seeds has the lower rank
 rank_apart : (xs ys : List ℕ) → length xs ≡ length ys → sum xs < sum ys → row_rank xs < row_rank ys
 rank_apart xs [] long less = omega arith
 rank_apart xs (y ∷ ys) long less =
-    let cons = sum_by-cons (λ (z : ℕ). z) y ys in
     let cells : length xs ≡ suc (length ys) = omega arith in
-    omega (
-      arith,
-      rw cells at (rank_below xs),
-      choose_rises (sum xs + suc (length ys)) (y + sum ys + length ys) (suc (length ys)) (omega arith),
-    )
+    let fewer = choose_rises (sum xs + suc (length ys)) (y + sum ys + length ys) (suc (length ys)) (omega (arith, sum_by-cons)) in
+    omega (arith, rw cells at (rank_below xs))
 
 -- rows with one rank have as many seeds
 rank_seeds : (xs ys : List ℕ) → length xs ≡ length ys → row_rank xs ≡ row_rank ys → sum xs ≡ sum ys
@@ -78,14 +73,12 @@ row_rank-injective [] (y ∷ ys) long same = absurd (omega arith)
 row_rank-injective (x ∷ xs) [] long same = absurd (omega arith)
 row_rank-injective (x ∷ xs) (y ∷ ys) long same =
     let seeds = rank_seeds (x ∷ xs) (y ∷ ys) long same in
-    let cons = sum_by-cons (λ (z : ℕ). z) x xs in
-    let cons' = sum_by-cons (λ (z : ℕ). z) y ys in
     let cells : length xs ≡ length ys = omega arith in
-    let total : x + sum xs + length xs ≡ y + sum ys + length ys = omega arith in
+    let total : x + sum xs + length xs ≡ y + sum ys + length ys = omega (arith, sum_by-cons) in
     let first : choose (x + sum xs + length xs) (suc (length xs)) ≡ choose (y + sum ys + length ys) (suc (length ys)) =
     rw (total, cells) refl in
     let rest = row_rank-injective xs ys cells (omega arith) in
-    let here : x ≡ y = omega (arith, ap sum rest) in
+    let here : x ≡ y = omega (arith, sum_by-cons, ap sum rest) in
     rw (here, rest) refl
 
 -- houses of one variant with one rank are the same
@@ -116,11 +109,7 @@ pub sums_are : (row : List ℕ) (number seeds : ℕ) → 1 ≤ length row → nu
 sums_are [] number seeds some number_is all below = omega arith
 sums_are (x ∷ xs) number seeds some number_is all below =
     let whole : number ≡ seeds + 31 * packed_sums xs = omega (arith, sums_by_number, sum_by-cons) in
-    record {
-      few = omega arith;
-      small = omega arith;
-      sums = omega (arith, sum_by-cons);
-    }
+    omega (arith, sum_by-cons)
 
 -- both rows of houses in one number, the other one moved up by 5 * m bits: it ends below bit 60, so nothing wraps
 pub both_rows : {a : HousesState} {own other m : ℕ} → AreWithinLimits a → own ≡ packed_row a.own → other ≡ packed_row a.other
@@ -192,10 +181,7 @@ module _ (row : List ℕ) (few : sum row ≤ most_ending_seeds) (m passed sums a
 
   -- both sums are numbers of seeds of an ending
   pub two_few : (sums % 1024 % 32 < COUNTS) × (sums % 1024 / 32 < COUNTS)
-  two_few =
-      let cons = sum_by-cons (λ (z : ℕ). z) two_first (two_second ∷ two_past) in
-      let cons' = sum_by-cons (λ (z : ℕ). z) two_second two_past in
-      (omega (arith, two_are.first, two_less), omega (arith, two_are.second, two_less))
+  two_few = omega (arith, sum_by-cons, two_are.first, two_are.second, two_less)
 
 -- what is added so far is small
 pub ranked_small : (row : List ℕ) {passed sums added : ℕ} → sum row ≤ most_ending_seeds → length row ≤ 12

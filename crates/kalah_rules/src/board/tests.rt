@@ -1,5 +1,6 @@
 //! Boards: moves, ends, margins and limits.
-use crate::{Board, Houses, Rule, Step};
+use crate::Rule::{self, Classic, EmptyCapture};
+use crate::{Board, Houses, Step};
 use std::process::Abort;
 
 // Returns a board of one or two houses a side. The last number of each side is its store.
@@ -11,21 +12,30 @@ fn board(rt: &impl Abort, m: u8, own: [u8; 3], other: [u8; 3], rule: Rule) -> Bo
 }
 
 // The number of houses a side, the rule, both sides, a house, both sides after its move, and how that ends.
-type Move = (u8, Rule, [u8; 3], [u8; 3], u8, [u8; 3], [u8; 3], &str);
+type Move = (
+    u8,
+    Rule,
+    [u8; 3],
+    [u8; 3],
+    u8,
+    [u8; 3],
+    [u8; 3],
+    &'static str,
+);
 
 // Positions of each kind of move.
 #[rattlefmt::skip]
 const MOVES: [Move; 7] = [
-    (2, Rule::Classic, [1, 1, 0], [1, 1, 0], 1, [1, 1, 0], [0, 2, 0], "turn"),
-    (2, Rule::Classic, [1, 1, 0], [1, 1, 0], 2, [1, 0, 1], [1, 1, 0], "again"),
+    (2, Classic, [1, 1, 0], [1, 1, 0], 1, [1, 1, 0], [0, 2, 0], "turn"),
+    (2, Classic, [1, 1, 0], [1, 1, 0], 2, [1, 0, 1], [1, 1, 0], "again"),
     // A lap ends in the lifted house and captures, by either rule.
-    (1, Rule::Classic, [3, 0, 0], [3, 0, 0], 1, [0, 0, 6], [0, 0, 0], "over"),
-    (1, Rule::EmptyCapture, [3, 0, 0], [3, 0, 0], 1, [0, 0, 6], [0, 0, 0], "over"),
+    (1, Classic, [3, 0, 0], [3, 0, 0], 1, [0, 0, 6], [0, 0, 0], "over"),
+    (1, EmptyCapture, [3, 0, 0], [3, 0, 0], 1, [0, 0, 6], [0, 0, 0], "over"),
     // Many laps.
-    (1, Rule::Classic, [8, 0, 0], [8, 0, 0], 1, [11, 0, 0], [2, 0, 3], "turn"),
+    (1, Classic, [8, 0, 0], [8, 0, 0], 1, [11, 0, 0], [2, 0, 3], "turn"),
     // An empty house across is captured by one rule alone.
-    (2, Rule::Classic, [1, 0, 0], [0, 2, 0], 1, [0, 2, 0], [0, 1, 0], "turn"),
-    (2, Rule::EmptyCapture, [1, 0, 0], [0, 2, 0], 1, [0, 0, 1], [0, 0, 2], "over"),
+    (2, Classic, [1, 0, 0], [0, 2, 0], 1, [0, 2, 0], [0, 1, 0], "turn"),
+    (2, EmptyCapture, [1, 0, 0], [0, 2, 0], 1, [0, 0, 1], [0, 0, 2], "over"),
 ];
 
 #[test]
@@ -45,7 +55,7 @@ fn moves_lead_to_positions(rt: HostRuntime) {
 
 #[test]
 fn another_move_with_no_seeds_left_ends_the_game(rt: HostRuntime) {
-    let end = board(&rt, 1, [1, 0, 99], [1, 0, 99], Rule::Classic);
+    let end = board(&rt, 1, [1, 0, 99], [1, 0, 99], Classic);
     assert!(rt; end.is_legal(1));
     match end.apply(1) {
         Step::Over(swept) => {
@@ -61,7 +71,7 @@ fn another_move_with_no_seeds_left_ends_the_game(rt: HostRuntime) {
 fn legal_houses_are_ascending(rt: HostRuntime) {
     let own = [1, 0, 2, 0, 0, 3];
     let other = [0, 0, 0, 0, 0, 1];
-    let board = Board::new(6, own, 0, other, 0, Rule::Classic).expect(&rt, "beyond the limits");
+    let board = Board::new(6, own, 0, other, 0, Classic).expect(&rt, "beyond the limits");
     let moves = board.legal();
     assert!(rt; moves.len() == 3);
     assert!(rt; (moves.get(0), moves.get(1), moves.get(2)) == (1, 3, 6));
@@ -74,7 +84,7 @@ fn margins_count_houses_and_stores(rt: HostRuntime) {
         (2, [0, 0, 3], [1, 2, 4], -4),
         (1, [31, 0, 99], [0, 0, 0], 130),
     ] {
-        let end = board(&rt, m, own, other, Rule::Classic);
+        let end = board(&rt, m, own, other, Classic);
         assert!(rt; end.is_over(), "{end:?}");
         assert!(rt; end.returns() == margin, "{end:?}");
     }
@@ -94,7 +104,7 @@ fn limits_are_kept(rt: HostRuntime) {
         (1, none, 0, none, 100, false),
         (1, none, 99, none, 99, true),
     ] {
-        let board = Board::new(m, own, own_store, other, other_store, Rule::Classic);
+        let board = Board::new(m, own, own_store, other, other_store, Classic);
         assert!(rt;
             board.is_some() == is_kept,
             "{m} {own:?} {own_store} {other:?} {other_store}"
@@ -104,7 +114,7 @@ fn limits_are_kept(rt: HostRuntime) {
 
 #[test]
 fn houses_are_those_of_the_board(rt: HostRuntime) {
-    let rule = Rule::EmptyCapture;
+    let rule = EmptyCapture;
     let board = board(&rt, 2, [1, 2, 9], [3, 4, 5], rule);
     let houses = Houses::new(2, [1, 2, 0, 0, 0, 0], [3, 4, 0, 0, 0, 0], rule);
     assert!(rt; Some(board.houses()) == houses);

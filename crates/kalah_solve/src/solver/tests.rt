@@ -3,7 +3,7 @@ use super::*;
 use crate::search::Search;
 use crate::table::MOST_ENTRIES;
 use crate::tests::plain;
-use kalah_rules::Rule;
+use kalah_rules::Rule::{self, Classic, EmptyCapture};
 use std::process::Abort;
 
 /// A solver with this table, into which the search puts every answer if it `keeps_all`.
@@ -47,34 +47,34 @@ type Worked = (u8, [u8; 4], [u8; 4], Rule, i32, u8);
 // The two that stand twice are solved again after positions with the same houses and another store or rule. The last ones take so much
 // work that an answer is kept, and differ in their rule or stores alone.
 const WORKED: [Worked; 28] = [
-    (1, [1, 0, 0, 0], [1, 0, 0, 0], Rule::Classic, 0, 1),
-    (1, [2, 0, 0, 0], [2, 0, 0, 0], Rule::Classic, -2, 1),
-    (1, [3, 0, 0, 0], [3, 0, 0, 0], Rule::Classic, 6, 1),
-    (1, [4, 0, 0, 0], [4, 0, 0, 0], Rule::Classic, -2, 1),
-    (1, [5, 0, 0, 0], [5, 0, 0, 0], Rule::Classic, 2, 1),
-    (1, [6, 0, 0, 0], [6, 0, 0, 0], Rule::Classic, 0, 1),
-    (2, [1, 1, 0, 0], [1, 1, 0, 0], Rule::Classic, 2, 2),
-    (2, [5, 0, 0, 0], [1, 0, 0, 0], Rule::Classic, 2, 1),
-    (2, [1, 1, 0, 0], [0, 1, 0, 0], Rule::Classic, 1, 1),
-    (2, [1, 0, 0, 0], [0, 2, 0, 0], Rule::Classic, 1, 1),
-    (2, [0, 0, 0, 3], [1, 2, 0, 4], Rule::Classic, -4, 0),
-    (1, [0, 0, 0, 0], [0, 0, 0, 0], Rule::Classic, 0, 0),
-    (1, [15, 0, 0, 99], [0, 0, 0, 0], Rule::Classic, 114, 0),
-    (1, [31, 0, 0, 99], [0, 0, 0, 0], Rule::Classic, 130, 0),
-    (1, [8, 0, 0, 0], [7, 0, 0, 0], Rule::Classic, -9, 1),
-    (1, [8, 0, 0, 0], [8, 0, 0, 0], Rule::Classic, 0, 1),
-    (1, [16, 0, 0, 0], [15, 0, 0, 0], Rule::Classic, 7, 1),
-    (2, [1, 1, 0, 9], [1, 1, 0, 4], Rule::Classic, 7, 2),
-    (2, [1, 1, 0, 0], [1, 1, 0, 0], Rule::Classic, 2, 2),
-    (2, [1, 0, 0, 0], [0, 2, 0, 0], Rule::EmptyCapture, -1, 1),
-    (2, [1, 0, 0, 0], [0, 2, 0, 0], Rule::Classic, 1, 1),
-    (2, [1, 1, 0, 0], [0, 1, 0, 0], Rule::EmptyCapture, 1, 1),
-    (1, [3, 0, 0, 0], [3, 0, 0, 0], Rule::EmptyCapture, 6, 1),
-    (1, [0, 0, 0, 0], [0, 0, 0, 0], Rule::EmptyCapture, 0, 0),
-    (3, [4, 1, 4, 0], [3, 3, 2, 0], Rule::Classic, 3, 1),
-    (3, [4, 1, 4, 0], [3, 3, 2, 0], Rule::EmptyCapture, 9, 1),
-    (3, [4, 1, 4, 9], [3, 3, 2, 4], Rule::Classic, 8, 1),
-    (3, [4, 1, 4, 9], [3, 3, 2, 4], Rule::EmptyCapture, 14, 1),
+    (1, [1, 0, 0, 0], [1, 0, 0, 0], Classic, 0, 1),
+    (1, [2, 0, 0, 0], [2, 0, 0, 0], Classic, -2, 1),
+    (1, [3, 0, 0, 0], [3, 0, 0, 0], Classic, 6, 1),
+    (1, [4, 0, 0, 0], [4, 0, 0, 0], Classic, -2, 1),
+    (1, [5, 0, 0, 0], [5, 0, 0, 0], Classic, 2, 1),
+    (1, [6, 0, 0, 0], [6, 0, 0, 0], Classic, 0, 1),
+    (2, [1, 1, 0, 0], [1, 1, 0, 0], Classic, 2, 2),
+    (2, [5, 0, 0, 0], [1, 0, 0, 0], Classic, 2, 1),
+    (2, [1, 1, 0, 0], [0, 1, 0, 0], Classic, 1, 1),
+    (2, [1, 0, 0, 0], [0, 2, 0, 0], Classic, 1, 1),
+    (2, [0, 0, 0, 3], [1, 2, 0, 4], Classic, -4, 0),
+    (1, [0, 0, 0, 0], [0, 0, 0, 0], Classic, 0, 0),
+    (1, [15, 0, 0, 99], [0, 0, 0, 0], Classic, 114, 0),
+    (1, [31, 0, 0, 99], [0, 0, 0, 0], Classic, 130, 0),
+    (1, [8, 0, 0, 0], [7, 0, 0, 0], Classic, -9, 1),
+    (1, [8, 0, 0, 0], [8, 0, 0, 0], Classic, 0, 1),
+    (1, [16, 0, 0, 0], [15, 0, 0, 0], Classic, 7, 1),
+    (2, [1, 1, 0, 9], [1, 1, 0, 4], Classic, 7, 2),
+    (2, [1, 1, 0, 0], [1, 1, 0, 0], Classic, 2, 2),
+    (2, [1, 0, 0, 0], [0, 2, 0, 0], EmptyCapture, -1, 1),
+    (2, [1, 0, 0, 0], [0, 2, 0, 0], Classic, 1, 1),
+    (2, [1, 1, 0, 0], [0, 1, 0, 0], EmptyCapture, 1, 1),
+    (1, [3, 0, 0, 0], [3, 0, 0, 0], EmptyCapture, 6, 1),
+    (1, [0, 0, 0, 0], [0, 0, 0, 0], EmptyCapture, 0, 0),
+    (3, [4, 1, 4, 0], [3, 3, 2, 0], Classic, 3, 1),
+    (3, [4, 1, 4, 0], [3, 3, 2, 0], EmptyCapture, 9, 1),
+    (3, [4, 1, 4, 9], [3, 3, 2, 4], Classic, 8, 1),
+    (3, [4, 1, 4, 9], [3, 3, 2, 4], EmptyCapture, 14, 1),
 ];
 
 /// The verdicts, in order.
@@ -129,14 +129,14 @@ fn agrees_with_plain(rt: &impl Abort, solver: &mut Solver, rule: Rule) {
 fn agrees_with_plain_with_each_table(rt: HostRuntime) {
     for (entries, keeps_all) in [(1, false), (65_536, false), (65_536, true)] {
         let mut solver = solver_of(&rt, rt.alloc(), entries, keeps_all);
-        agrees_with_plain(&rt, &mut solver, Rule::Classic);
-        agrees_with_plain(&rt, &mut solver, Rule::EmptyCapture);
+        agrees_with_plain(&rt, &mut solver, Classic);
+        agrees_with_plain(&rt, &mut solver, EmptyCapture);
     }
 }
 
 #[test]
 fn windows_leave_intervals(rt: HostRuntime) {
-    let houses = board(&rt, 1, [3, 0, 0, 0], [3, 0, 0, 0], Rule::Classic).houses();
+    let houses = board(&rt, 1, [3, 0, 0, 0], [3, 0, 0, 0], Classic).houses();
     assert!(rt; !houses.is_over());
     let search = &mut solver_of(&rt, rt.alloc(), 100, true).search;
     for (window, answer, lo, hi) in [
@@ -155,12 +155,12 @@ fn windows_leave_intervals(rt: HostRuntime) {
 
 // Positions, and the values of their houses from the first on.
 const VALUES: [(u8, [u8; 4], [u8; 4], Rule, &[i16]); 6] = [
-    (2, [1, 1, 0, 0], [1, 1, 0, 0], Rule::Classic, &[-2, 2]),
-    (2, [1, 1, 0, 9], [1, 1, 0, 4], Rule::Classic, &[3, 7]),
-    (1, [2, 0, 0, 0], [2, 0, 0, 0], Rule::Classic, &[-2]),
-    (2, [0, 0, 0, 3], [1, 2, 0, 4], Rule::Classic, &[]),
-    (2, [1, 0, 0, 0], [0, 2, 0, 0], Rule::Classic, &[1]),
-    (2, [1, 0, 0, 0], [0, 2, 0, 0], Rule::EmptyCapture, &[-1]),
+    (2, [1, 1, 0, 0], [1, 1, 0, 0], Classic, &[-2, 2]),
+    (2, [1, 1, 0, 9], [1, 1, 0, 4], Classic, &[3, 7]),
+    (1, [2, 0, 0, 0], [2, 0, 0, 0], Classic, &[-2]),
+    (2, [0, 0, 0, 3], [1, 2, 0, 4], Classic, &[]),
+    (2, [1, 0, 0, 0], [0, 2, 0, 0], Classic, &[1]),
+    (2, [1, 0, 0, 0], [0, 2, 0, 0], EmptyCapture, &[-1]),
 ];
 
 #[test]

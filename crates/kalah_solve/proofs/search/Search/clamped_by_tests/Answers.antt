@@ -4,13 +4,10 @@ use Rattle.kalah_solve.specs.{clamped, houses_worth}
 use Rattle.kalah_solve.proofs.{BoundsLemmas.{worth_low, worth_high, clamped_within, worth_by_bounds}, search.Search.clamped_by_tests.Given.{Over}}
 use Rattle.kalah_solve.proofs.search.Search.clamped_by_tests.Goals as goal
 
-pub interval_of-requires-clause-least : goal.interval_of-requires-clause-least
-interval_of-requires-clause-least g c =
-    rw (to_z-of_z w32 c.clamp-answer.result (search rules), c.clamp-answer.ensures) ((clamped_within _ _ _ c.in-Some.narrow.ordered).0)
-
-pub interval_of-requires-clause-most : goal.interval_of-requires-clause-most
-interval_of-requires-clause-most g c =
-    rw (to_z-of_z w32 c.clamp-answer.result (search rules), c.clamp-answer.ensures) ((clamped_within _ _ _ c.in-Some.narrow.ordered).1)
+pub interval_of-requires : goal.interval_of-requires
+interval_of-requires g c =
+    let within = clamped_within _ _ _ c.in-Some.narrow.ordered in
+    rw (to_z-of_z w32 c.clamp-answer.result (search rules), c.clamp-answer.ensures) (record { least = within.0; most = within.1 })
 
 -- the answer is the worth in the window
 found : (g : Over) (c : goal.After-intersection g)
