@@ -49,11 +49,8 @@ answers_to_more : (question : Question) (lines more line : List ℕ) → EndsWit
 answers_to_more question lines more line ends one =
     answers_split question lines more ends ∙ ap (answers_to question lines ++◌) (answers_to_one question more line one)
 
--- two lines are read if neither is faulty
 both_read : (a b : Bool) → not (a || (b || false)) ≡ (not a && not b)
-both_read true b = refl
-both_read false true = refl
-both_read false false = refl
+both_read a b = grind arith
 
 -- all are read if one more is, and those before
 all_read_more : (lines more line : List ℕ) → EndsWithItsLine lines → lines_of more ≡ line ∷ []
@@ -62,7 +59,6 @@ all_read_more lines more line ends one = simp ((files_split_between_lines.parts 
 
 -- ---- as many bytes as are kept
 
--- a line is at most one byte longer than without its CR
 cr_is_one : (line : List ℕ) → length line ≤ length (without_cr line) + 1
 cr_is_one [] = omega arith
 cr_is_one (byte ∷ []) = omega arith
@@ -86,11 +82,9 @@ kept_bytes_have_the_entry question line = elim (cases_lt kept_bytes (length line
 kept_reply : (question : Question) (line : List ℕ) → reply question (take kept_bytes line) ≡ reply question line
 kept_reply question line = ap (λ entry. joined_text (answer_of entry) ++ line_feed ∷ []) (kept_bytes_have_the_entry question line)
 
--- they are answered by a fault if and only if the line is
 kept_faulty : (line : List ℕ) → is_faulty (take kept_bytes line) ≡ is_faulty line
 kept_faulty line = ap is_faulty_entry (kept_bytes_have_the_entry BestMove line)
 
--- of the first n bytes and one more the first n are those of all and one more
 take_more_kept : (n : ℕ) (line : List ℕ) (byte : ℕ) → take n (take n line ++ byte ∷ []) ≡ take n (line ++ byte ∷ [])
 take_more_kept zero line byte = refl
 take_more_kept (suc n) [] byte = refl
@@ -132,7 +126,6 @@ line_output_parts question other name number line =
     ap (◌++ (line_feed ∷ [])) (one_line_parts name number answer (answer_is_of_one_line question other (reading_of line)))
     ∙ append_assoc (place_text name number) (joined_text answer) (line_feed ∷ [])
 
--- a stream is answered as a file with its bytes is
 pub answers_are_those_of_a_file : AnswersAreThoseOfAFile
 answers_are_those_of_a_file = record {
   lines = line_output_parts;
@@ -196,11 +189,9 @@ module _ {question : Question} {before now old new : Option (List ℕ)} {line : 
   all_taken : (next : Option (List ℕ)) → Consumes now next [] → Consumes before next (so_far.lines ++ so_far.part)
   all_taken next end = subst (λ l. Consumes before next (so_far.lines ++ l)) (append-nil so_far.part) (more_taken _ _ end)
 
-  -- what was kept of the line is answered as the whole of it
   reply_whole : reply question line ≡ reply question so_far.part
   reply_whole = ap (reply question) so_far.kept ∙ kept_reply question so_far.part
 
-  -- what was kept of what stands after the last line feed is answered as its lines
   reply_part : last_reply question line ≡ answers_to question so_far.part
   reply_part = ap (last_reply question) so_far.kept ∙ sym (last_reply_is question so_far.part so_far.unended)
 

@@ -1,16 +1,14 @@
 -- The collector: how far each file has come, and what any list of offers and takes makes of it.
-use Rattle.std.proofs.{Common.{◌≡◌, ℕ, zero, suc, ◌+◌, ◌<◌, ◌≤◌, List, [], ◌∷◌, length, set, get_or, replicate, true, false, refl, arith, ap, eq-eqb, ◌≢◌, inl, inr, cond, ◌++◌, map, ◌∙◌, sym, ne_eqb, length-set, get_or-set_other, get_or-set_same, take, Option, Some, None, is_some, IsSome, Contains, Result, Ok, Err, IsOk}, lemmas.{Bool.{cases_eq, Decides.{nat_tests}}, List.{length-map, get_or_default, length-replicate, get_or-replicate, get_or_past, append-nil, append_assoc, take_all, take_more, get_or-map, Elements.{Contains-append_left, Contains-push, Contains-push_cases}, FromFn.{length-enumerate_from, get_or-enumerate_from}, Sums.{sum_by-append}}, Option.{slice_get_within, get_or_from_slice_get, slice_get-get_or}}}
+use Rattle.std.proofs.{Common.{◌≡◌, ℕ, zero, suc, ◌+◌, ◌<◌, ◌≤◌, List, [], ◌∷◌, length, set, get_or, replicate, true, false, refl, arith, ap, eq-eqb, ◌≢◌, inl, inr, cond, ◌++◌, map, ◌∙◌, sym, ne_eqb, length-set, get_or-set_other, get_or-set_same, take, Option, Some, None, is_some, IsSome, Contains, Result, Ok, Err}, lemmas.{Bool.{cases_eq, Decides.{nat_tests}}, List.{length-map, get_or_default, length-replicate, get_or-replicate, get_or_past, append-nil, append_assoc, take_all, take_more, get_or-map, Elements.{Contains-append_left, Contains-push, Contains-push_cases}, FromFn.{length-enumerate_from, get_or-enumerate_from}, Sums.{sum_by-append}}, Option.{slice_get_within, get_or_from_slice_get, slice_get-get_or}}}
 use Rattle.std.specs.List.{enumerate_from}
 use Rattle.kalah_jobs.specs.{IsPermutationOfJobs, AcceptsEachJob, MakesEveryLineReady, Event, Offers, Gives, offered_in, taken_in, with_taken, HasArrived, answered_line, answered_lines, IsAfterEvents, KeepsItsLaw, front_of, ArrivalsState, no_file, state_of, line_count, arrived_for, HasLinesOf, with_answer, with_one_taken, after_offer, after_take, new_files, front, IsNext, HasEnded, IsOffered, HoldsOffered, AgreeWithOffers, IsWanted, IsRefusedFor, AnswersInOneWay, entries_of, entry_at, line_job, no_job, Answer, Job, Entry, Refusal, Taken, answer_of, Collecting.CollectorEvents.{Offered, Took}}
 use Rattle.kalah_jobs.proofs.{CountingLemmas.{same_job, same_entry_itself, times_offered, contains_from_times, times_from_contains, hits, hit, times_in_jobs}, ListLemmas.{count_by-cons, some_value}}
 
 -- ==== How many of the first lines of a file have come without a gap
 
--- the front is at most past the last line
 pub front_within : (xs : List (Option Answer)) → front_of xs ≤ length xs
-front_within [] = omega arith
-front_within (None ∷ xs) = omega arith
 front_within (Some a ∷ xs) = omega (arith, front_within xs)
+front_within xs = omega arith
 
 -- each line below the front has come
 pub front_arrived : (xs : List (Option Answer)) (k : ℕ) (d : Option Answer) → k < front_of xs → is_some (get_or xs k d) ≡ true
@@ -20,27 +18,22 @@ front_arrived xs k d low = absurd (omega arith)
 
 -- the front does not pass a gap
 pub front_stops : (xs : List (Option Answer)) (k : ℕ) → is_some (get_or xs k None) ≡ false → front_of xs ≤ k
-front_stops [] k gap = omega arith
-front_stops (None ∷ xs) k gap = omega arith
 front_stops (Some a ∷ xs) zero gap = cc
 front_stops (Some a ∷ xs) (suc k) gap = omega (arith, front_stops xs k gap)
+front_stops xs k gap = omega arith
 
 -- a line that has come at the front moves it on
 pub front_more : (xs : List (Option Answer)) (k : ℕ) → k ≤ front_of xs → is_some (get_or xs k None) ≡ true → k + 1 ≤ front_of xs
-front_more [] k low here = cc
-front_more (None ∷ xs) zero low here = cc
-front_more (None ∷ xs) (suc k) low here = absurd (omega arith)
 front_more (Some a ∷ xs) zero low here = omega arith
 front_more (Some a ∷ xs) (suc k) low here = omega (arith, front_more xs k (omega arith) here)
+front_more (None ∷ xs) (suc k) low here = absurd (omega arith)
+front_more xs k low here = cc
 
 -- an answer more does not move the front back
 pub front_set : (xs : List (Option Answer)) (k : ℕ) (a : Answer) → front_of xs ≤ front_of (set xs k (Some a))
-front_set [] k a = omega arith
-front_set (None ∷ xs) k a = omega arith
-front_set (Some b ∷ xs) zero a = omega arith
 front_set (Some b ∷ xs) (suc k) a = omega (arith, front_set xs k a)
+front_set xs k a = omega arith
 
--- if nothing has arrived, the front is at the first line
 pub front_none : (n : ℕ) → front_of (replicate n None) ≡ 0
 front_none zero = refl
 front_none (suc n) = refl
@@ -56,20 +49,12 @@ pub ruleset fronts = (front_within, front_arrived, front_more, front_set)
 
 -- ---- one file is changed
 
--- a file of a list after a change of one
-pub state_same : (files : List ArrivalsState) (f : ℕ) (s : ArrivalsState) → f < length files → state_of (set files f s) f ≡ s
-state_same files f s low = get_or-set_same files f s no_file low
-
--- after a change of one file any other is as it was
-pub state_other : (files : List ArrivalsState) (f g : ℕ) (s : ArrivalsState) → g ≢ f → state_of (set files f s) g ≡ state_of files g
-state_other files f g s ne = get_or-set_other files f g s no_file ne
-
 -- what holds of the changed file, and of each other as it was, holds of each
 each_file : (files : List ArrivalsState) (f : ℕ) (s : ArrivalsState) → f < length files → (P : ℕ → ArrivalsState → Type 0)
     → P f s → ((g : ℕ) → g ≢ f → P g (state_of files g)) → (g : ℕ) → P g (state_of (set files f s) g)
 each_file files f s low P here others g = elim (cases_eq g f) [
-  | inl same ↦ rw (same, state_same files f s low) here
-  | inr other ↦ rw (state_other files f g s other) (others g other)
+  | inl same ↦ rw (same, get_or-set_same files f s no_file low) here
+  | inr other ↦ rw (get_or-set_other files f g s no_file other) (others g other)
 ]
 
 -- after an answer for one line, what holds of that line, and of each other as it was, holds of each
@@ -191,7 +176,6 @@ pub ruleset counts = (counts_set, get_or_default, length-set, lines_are)
 
 -- ==== An offer is accepted or meets one refusal, and never both
 
--- none of the refusals holds together with another, or of an offer that is wanted
 pub answers_in_one_way : AnswersInOneWay
 answers_in_one_way = record { wanted = λ jobs files o r wanted refused. grind arith; one = λ jobs files o q r first second. grind arith }
 
@@ -329,7 +313,6 @@ offers_held : (jobs : List (List Entry)) (events : List Event) (files : List Arr
     → HoldsOffered jobs (offered_in events) files
 offers_held jobs events files run = (runs_keep jobs [] events (new_files jobs) files run (new_files_agree jobs)).0.offered
 
--- any list of offers and takes leads to the state that it determines
 pub keeps_its_law : KeepsItsLaw
 keeps_its_law jobs events files run =
     let all = runs_keep jobs [] events (new_files jobs) files run (new_files_agree jobs) in
@@ -358,12 +341,10 @@ pub ruleset new_counts = (new_lines, take_all)
 
 -- ==== Offers of each job once, in any order
 
--- ---- each job once, in any order
-
 -- each line was offered with its entry
-each_arrived : (jobs : List (List Entry)) (got : List Job) → IsPermutationOfJobs jobs got → (f k : ℕ) (e : Entry)
+each_arrived : {jobs : List (List Entry)} {got : List Job} → IsPermutationOfJobs jobs got → (f k : ℕ) (e : Entry)
     → entry_at jobs f k ≡ Some e → Contains got (line_job f k e)
-each_arrived jobs got each_once f k e entry_is =
+each_arrived {jobs} {got} each_once f k e entry_is =
     let o : Job = line_job f k e in
     contains_from_times o got (grind (arith, each_once.same_counts (same_job o), times_in_jobs o jobs, same_entry_itself e, entry_is))
 
@@ -390,31 +371,25 @@ module _ {jobs : List (List Entry)} {past : List Job} {files : List ArrivalsStat
       let same : offer.entry ≡ o.entry = cc (offer.entry_is, is_hit.0) in
       omega (arith, once, is_hit.1, times_from_contains o past (rw same at offer.offered))
 
-  -- so it is accepted
-  each_accepted : (after : List ArrivalsState) (result : Result ℕ Refusal) → Offers jobs files o result after → IsOk result
-  each_accepted after (Ok ready) step = refl
-  each_accepted after (Err r) step = absurd (not_refused r step.cause)
-
 -- if each job was offered, each file has ended
-pub fronts_full : (jobs : List (List Entry)) (past : List Job) (files : List ArrivalsState) → IsPermutationOfJobs jobs past
+pub fronts_full : {jobs : List (List Entry)} {past : List Job} {files : List ArrivalsState} → IsPermutationOfJobs jobs past
     → HoldsOffered jobs past files → (f : ℕ) → HasEnded (state_of files f)
-fronts_full jobs past files each_once holds f =
+fronts_full {jobs} {files = files} each_once holds f =
     let arrived = (state_of files f).arrived in
     let all = front_least arrived (length arrived) (λ k low.
     let e : Entry = get_or (entries_of jobs f) k no_job.entry in
     let entry_is : entry_at jobs f k ≡ Some e =
     slice_get-get_or (entries_of jobs f) k no_job.entry (omega (arith, lines_are jobs files holds.counts f)) in
-    ap is_some (holds.arrived f k e entry_is (each_arrived jobs past each_once f k e entry_is))) in
+    ap is_some (holds.arrived f k e entry_is (each_arrived each_once f k e entry_is))) in
     omega (arith, all, front_within arrived)
 
 -- ---- the two laws
 
--- each offer is accepted
 pub accepts_each_job : AcceptsEachJob
-accepts_each_job jobs past o rest files after result each_once run step =
-    each_accepted o rest each_once (offers_held jobs past files run) after result step
+accepts_each_job jobs past o rest files after (Ok ready) each_once run step = refl
+accepts_each_job jobs past o rest files after (Err r) each_once run step =
+    absurd (not_refused o rest each_once (offers_held jobs past files run) r step.cause)
 
--- in the end every line is ready
 pub makes_every_line_ready : MakesEveryLineReady
 makes_every_line_ready jobs events files each_once run =
-    fronts_full jobs (offered_in events) files each_once (offers_held jobs events files run)
+    fronts_full each_once (offers_held jobs events files run)

@@ -1,5 +1,5 @@
 -- Jobs counted by tests: what is got of jobs that were shared out, and how often a job stands in a list.
-use Rattle.std.proofs.{Common.{◌≡◌, ℕ, ◌+◌, ◌<◌, List, [], ◌∷◌, length, set, get_or, true, refl, arith, Bool, ◌&&◌, ◌==◌, ap, eq-eqb, if◌then◌else◌, cond, ◌++◌, map, slice_index_or, ◌∙◌, sym, subst, length-set, get_or-set_other, get_or-set_same, lt-ltb, sum_by, count_by, nat_lt, sum, ◌⊎◌, suc, ◌-◌, ◌≤◌, false, ◌≢◌, inl, inr, Option, Some, None, Contains, not, slice_get}, lemmas.{Bool.{cases_eq, cases_Bool, Decides.{nat_tests}}, List.{length-map, length-append, nil_from_length, get_or_default, append-nil, get_or-map, Elements.{All-head, All-tail, Contains-append_right}, FromFn.{fill_by_all, length-range_with_len, length-map-range_with_len, get_or-map-range_with_len}, Sums.{get_or-le-sum_by, sum_by-le, sum_by-set, sum-map, sum_by-append}}}}
+use Rattle.std.proofs.{Common.{◌≡◌, ℕ, ◌+◌, ◌<◌, List, [], ◌∷◌, length, set, get_or, true, refl, arith, Bool, ◌&&◌, ◌==◌, ap, eq-eqb, if◌then◌else◌, cond, ◌++◌, map, slice_index_or, ◌∙◌, sym, subst, length-set, get_or-set_other, get_or-set_same, lt-ltb, sum_by, count_by, nat_lt, sum, ◌⊎◌, zero, suc, ◌≤◌, false, ◌≢◌, inl, inr, Option, Some, None, Contains, slice_get}, lemmas.{Bool.{cases_eq, cases_Bool, Decides.{nat_tests}}, List.{length-map, length-append, nil_from_length, get_or_default, append-nil, get_or-map, Elements.{All-head, All-tail, Contains-append_right}, FromFn.{fill_by_all, length-range_with_len, length-map-range_with_len, get_or-map-range_with_len}, Sums.{get_or-le-sum_by, sum_by-le, sum_by-set, sum-map, sum_by-append}}}}
 use Rattle.std.specs.{Coded.{Coded, codes}, List.{All, flat_map, range_with_len}}
 use base.Stored.{Gv, gnil, gnum, gcons}
 use Rattle.kalah_jobs.specs.{job, GetsEachJobOnce, times_in, sent_by_worker, AreShared, line_job, no_job, job_list, entry_at, file_jobs, jobs_from, Job, Entry}
@@ -71,9 +71,9 @@ rows_count n rows q once =
     sym (count_flat q rows) ∙ by_class (λ y. y) q flat counts below own ∙ sum-map passes (range_with_len 0 n)
 
 -- for each test, the number of received results that pass it equals that of the results of all numbers
-got_all_once : {X : Type 0} (p : X → Bool) (n : ℕ) (f : ℕ → X) (rows : List (List ℕ)) (got : List (ℕ × X))
+got_all_once : {X : Type 0} (p : X → Bool) {n : ℕ} {f : ℕ → X} {rows : List (List ℕ)} {got : List (ℕ × X)}
     → AreShared n f rows got → count_by p (map (λ t. t.1) got) ≡ count_by (λ x. p (f x)) (range_with_len 0 n)
-got_all_once {X} p n f rows got shared =
+got_all_once {X} p {n} {f} {rows} {got} shared =
     let q : ℕ → Bool = λ x. p (f x) in
     let counts : List ℕ = map (count_by q) rows in
     let many : length counts ≡ length rows = length-map rows (count_by q) in
@@ -91,25 +91,24 @@ count_true [] = refl
 count_true {X} (x ∷ xs) = omega (arith, count_true xs, count_by-cons (λ (y : X). true) x xs)
 
 -- as many were received as there are numbers
-pub as_many_as_numbers : {X : Type 0} (n : ℕ) (f : ℕ → X) (rows : List (List ℕ)) (got : List (ℕ × X)) → AreShared n f rows got
+pub as_many_as_numbers : {X : Type 0} {n : ℕ} {f : ℕ → X} {rows : List (List ℕ)} {got : List (ℕ × X)} → AreShared n f rows got
     → length got ≡ n
-as_many_as_numbers {X} n f rows got shared =
+as_many_as_numbers {X} {n} {got = got} shared =
     sym (length-map got (λ (t : ℕ × X). t.1))
     ∙ sym (count_true (map (λ (t : ℕ × X). t.1) got))
-    ∙ got_all_once (λ (x : X). true) n f rows got shared
+    ∙ got_all_once (λ (x : X). true) shared
     ∙ count_true (range_with_len 0 n) ∙ length-range_with_len 0 n
 
--- if each job was drawn once and all results were received, each job's was received once
 pub gets_each_job_once : GetsEachJobOnce
 gets_each_job_once jobs rows got rest shared whole =
     let n : ℕ = length (job_list jobs) in
     let none : rest ≡ [] =
-    nil_from_length rest (omega (arith, as_many_as_numbers n (job jobs) rows (got ++ rest) shared, length-append got rest, whole)) in
+    nil_from_length rest (omega (arith, as_many_as_numbers shared, length-append got rest, whole)) in
     let mine : AreShared n (job jobs) rows got =
     subst (AreShared n (job jobs) rows) (ap (got ++◌) none ∙ append-nil got) shared in
     record {
       same_counts = λ p.
-          got_all_once p n (job jobs) rows got mine
+          got_all_once p mine
           ∙ sym (ap (count_by p) (fill_by_all (job jobs) (job_list jobs) n no_job refl (λ k low. refl))
           ∙ count_map p (job jobs) (range_with_len 0 n));
     }
@@ -121,7 +120,6 @@ gets_each_job_once jobs rows got rest shared whole =
 coded_entry : Coded Entry
 coded_entry = hlevel codes
 
--- two codes are the same, or not
 same_or_not : (x y : Gv) → (x ≡ y) ⊎ (x ≢ y)
 same_or_not gnil gnil = inl refl
 same_or_not (gnum m) (gnum n) = grind (arith, cases_eq m n)
@@ -136,17 +134,14 @@ same_entry a b = elim (same_or_not (coded_entry.code a) (coded_entry.code b)) [ 
 abbrev pub same_job : Job → Job → Bool
 same_job a b = a.file == b.file && (a.line == b.line && same_entry a.entry b.entry)
 
--- an entry passes its own test
 pub same_entry_itself : (e : Entry) → same_entry e e ≡ true
 unfolding same_entry
 same_entry_itself e = grind arith
 
--- no other entry passes the test of an entry
 same_entry_means : (a b : Entry) → same_entry a b ≡ true → a ≡ b
 unfolding same_entry
 same_entry_means a b same = coded_entry.inj a b (grind arith)
 
--- a job passes the test of no other
 same_job_means : (a b : Job) → same_job a b ≡ true → b ≡ a
 same_job_means a b same =
     let file : b.file ≡ a.file = grind (arith, nat_tests) in
@@ -186,21 +181,48 @@ pub hit : (e : Entry) (r : Option Entry) → 0 < hits e r → (r ≡ Some e) × 
 hit e None some = absurd (omega arith)
 hit e (Some other) some = grind (arith, same_entry_means e other)
 
--- at its place in a file's lines, and nowhere else
-times_in_file : (o : Job) (f k : ℕ) (entries : List Entry) → times_offered o (file_jobs f k entries)
-    ≡ (if o.file == f && not (nat_lt o.line k) then hits o.entry (slice_get entries (o.line - k)) else 0)
-times_in_file o f k [] = grind arith
-times_in_file o f k (e ∷ entries) =
-    grind (arith, nat_tests, times_in_file o f (suc k) entries, count_by-cons (same_job o) (line_job f k e) (file_jobs f (suc k) entries))
+-- not among the lines of another file, or among later lines
+times_elsewhere : (o : Job) (f k : ℕ) (entries : List Entry) → (o.file ≡ f → k ≤ o.line → ⊥)
+    → times_offered o (file_jobs f k entries) ≡ 0
+times_elsewhere o f k [] none = refl
+times_elsewhere o f k (e ∷ entries) none =
+    let one = count_by-cons (same_job o) (line_job f k e) (file_jobs f (suc k) entries) in
+    grind (arith, nat_tests, one, none, times_elsewhere o f (suc k) entries (λ file low. none file (omega arith)))
+
+-- at its place among the lines of its file
+times_in_file : (o : Job) (f k i : ℕ) (entries : List Entry) → o.file ≡ f → o.line ≡ k + i
+    → times_offered o (file_jobs f k entries) ≡ hits o.entry (slice_get entries i)
+times_in_file o f k i [] file line = refl
+times_in_file o f k zero (e ∷ entries) file line =
+    let one = count_by-cons (same_job o) (line_job f k e) (file_jobs f (suc k) entries) in
+    grind (arith, nat_tests, one, times_elsewhere o f (suc k) entries (λ same low. omega arith))
+times_in_file o f k (suc i) (e ∷ entries) file line =
+    let one = count_by-cons (same_job o) (line_job f k e) (file_jobs f (suc k) entries) in
+    grind (arith, nat_tests, one, times_in_file o f (suc k) i entries file (omega arith))
+
+-- in the first file, and in those after it
+times_in_both : (o : Job) (f : ℕ) (entries : List Entry) (jobs : List (List Entry)) → times_offered o (jobs_from f (entries ∷ jobs))
+    ≡ times_offered o (file_jobs f 0 entries) + times_offered o (jobs_from (suc f) jobs)
+times_in_both o f entries jobs = sum_by-append (λ x. cond (same_job o x) 1 0) (file_jobs f 0 entries) (jobs_from (suc f) jobs)
+
+-- not in later files
+times_later : (o : Job) (f : ℕ) (jobs : List (List Entry)) → o.file < f → times_offered o (jobs_from f jobs) ≡ 0
+times_later o f [] low = refl
+times_later o f (entries ∷ jobs) low =
+    let first = times_elsewhere o f 0 entries (λ same _. omega arith) in
+    omega (arith, first, times_in_both o f entries jobs, times_later o (suc f) jobs (omega arith))
 
 -- at its place in the files' lines
-times_from_file : (o : Job) (f : ℕ) (jobs : List (List Entry))
-    → times_offered o (jobs_from f jobs) ≡ (if not (nat_lt o.file f) then hits o.entry (entry_at jobs (o.file - f) o.line) else 0)
-times_from_file o f [] = grind arith
-times_from_file o f (entries ∷ jobs) =
-    let all = sum_by-append (λ x. cond (same_job o x) 1 0) (file_jobs f 0 entries) (jobs_from (suc f) jobs) in
-    grind (arith, nat_tests, all, times_in_file o f 0 entries, times_from_file o (suc f) jobs)
+times_from_file : (o : Job) (f g : ℕ) (jobs : List (List Entry)) → o.file ≡ f + g
+    → times_offered o (jobs_from f jobs) ≡ hits o.entry (entry_at jobs g o.line)
+times_from_file o f g [] file = refl
+times_from_file o f zero (entries ∷ jobs) file =
+    let first = times_in_file o f 0 o.line entries (omega arith) (omega arith) in
+    omega (arith, first, times_in_both o f entries jobs, times_later o (suc f) jobs (omega arith))
+times_from_file o f (suc g) (entries ∷ jobs) file =
+    let first = times_elsewhere o f 0 entries (λ same _. omega arith) in
+    omega (arith, first, times_in_both o f entries jobs, times_from_file o (suc f) g jobs (omega arith))
 
 -- an offer stands among the jobs once if it is one of them, and else never
 pub times_in_jobs : (o : Job) (jobs : List (List Entry)) → times_offered o (job_list jobs) ≡ hits o.entry (entry_at jobs o.file o.line)
-times_in_jobs o jobs = grind (arith, nat_tests, times_from_file o 0 jobs)
+times_in_jobs o jobs = times_from_file o 0 o.file jobs (omega arith)

@@ -15,7 +15,6 @@ pub lines_of-byte : (byte : ℕ) (bytes : List ℕ) → byte ≢ line_feed → l
 unfolding lines_of
 lines_of-byte byte bytes no_feed = grind arith
 
--- the byte is no line feed
 abbrev pub IsNoFeed : ℕ → Type 0
 IsNoFeed byte = byte ≢ line_feed
 
@@ -129,7 +128,6 @@ parts_after_feed bytes lines (inl closed) = inl (ap (line_feed ∷◌) closed)
 parts_after_feed bytes lines (inr unended) =
     open_lines ([] ∷ unended.before) unended.last unended.some_bytes (ap ([] ∷◌) unended.pieces_are) (ap (line_feed ∷◌) unended.bytes_are)
 
--- the lines of the bytes are lines of them
 are_lines_of : (bytes : List ℕ) → AreLines bytes (lines_of bytes)
 unfolding lines_of
 are_lines_of [] = record { whole = All-nil HasNoLineFeed; parts = inl refl }
@@ -172,6 +170,5 @@ no_others bytes pieces are = elim are.parts [
       grind (arith, lines_of-feeds unended.before unended.last whole.0, lines_of-open unended.last whole.1 unended.some_bytes)
 ]
 
--- the bytes have lines, and only one list of them
 pub lines_are_one : LinesAreOne
 lines_are_one = record { some = are_lines_of; one = no_others }

@@ -16,7 +16,6 @@ reads_once line (Position p) said = ap (entry_of_reading BestMove) (sym (only_re
 reads_once line (Bad fault) said = ap (entry_of_reading BestMove) (sym (only_reading line (Err fault) said))
 reads_once line entry said = absurd said
 
--- each line has an entry, and only one
 pub entries_are_one : EntriesAreOne
 unfolding entry_to
 entries_are_one = record { some = λ line. grind (arith, is_reading line); one = reads_once }
@@ -25,7 +24,6 @@ entries_are_one = record { some = λ line. grind (arith, is_reading line); one =
 
 -- ---- counts
 
--- the entry of a job
 abbrev entry_in : Job → Entry
 entry_in job = job.entry
 
@@ -44,14 +42,10 @@ entries_from f [] = refl
 entries_from f (entries ∷ jobs) =
     grind (arith, map-append entry_in (file_jobs f 0 entries), entries_of_file f 0 entries, entries_from (suc f) jobs)
 
--- they are those of the jobs, in order
-entries_of_jobs : (jobs : List (List Entry)) → map entry_in (job_list jobs) ≡ all_entries jobs
-entries_of_jobs jobs = entries_from 0 jobs
-
 -- there are as many jobs as lines
 pub length-job_list : (jobs : List (List Entry)) → length (job_list jobs) ≡ job_count jobs
 length-job_list jobs =
-    sym (length-map (job_list jobs) entry_in) ∙ ap length (entries_of_jobs jobs)
+    sym (length-map (job_list jobs) entry_in) ∙ ap length (entries_from 0 jobs)
     ∙ length-flat_map (λ (entries : List Entry). entries) jobs
 
 -- ---- the place of a line in the list of jobs
@@ -193,7 +187,7 @@ asked_fault question line =
 
 -- as many jobs are answered by a fault as entries
 pub faulty_jobs : (jobs : List (List Entry)) → count_by is_faulty_job (job_list jobs) ≡ count_by is_faulty_entry (all_entries jobs)
-faulty_jobs jobs = sym (count_map is_faulty_entry entry_in (job_list jobs)) ∙ ap (count_by is_faulty_entry) (entries_of_jobs jobs)
+faulty_jobs jobs = sym (count_map is_faulty_entry entry_in (job_list jobs)) ∙ ap (count_by is_faulty_entry) (entries_from 0 jobs)
 
 -- counted file by file
 pub faults_by_file : (jobs : List (List Entry)) → count_by is_faulty_job (job_list jobs) ≡ sum_by (count_by is_faulty_entry) jobs
@@ -214,7 +208,6 @@ same_board_means p q p_limits q_limits same =
     let other_store : p.other_store ≡ q.other_store = grind (arith, nat_tests) in
     λ i. record { own = (rows i).own; own_store = own_store i; other = (rows i).other; other_store = other_store i; rule = (rows i).rule }
 
--- boards that show the same position are equal
 pub same_board_itself : (p : position.Position) → same_board p p ≡ true
 same_board_itself p = laws-law.refl p
 

@@ -8,7 +8,6 @@ use Rattle.kalah_jobs.proofs.SideLemmas.{both_succeed, passes_and_succeeds, side
 
 -- ---- the suffix that names the rule
 
--- the suffix of a rule is read as that rule
 suffix_is_read : (rule : Rule) → rule_of_suffix (suffix_of rule) ≡ Some rule
 suffix_is_read rule = grind arith
 
@@ -71,19 +70,18 @@ line_is_read text p line =
     line.parts ∙ append_assoc line.own_text (space ∷ line.other_text) (suffix_of p.rule) in
     rw (
       parts,
-      side_is_read line.own_text p.own p.own_store (space ∷ rest) line.own_side (λ digit. omega (arith, digit)),
-      side_is_read line.other_text p.other p.other_store (suffix_of p.rule) line.other_side (grind arith),
+      side_is_read (space ∷ rest) line.own_side (λ digit. omega (arith, digit)),
+      side_is_read (suffix_of p.rule) line.other_side (grind arith),
       suffix_is_read p.rule,
     ) refl
 
--- the empty line writes no position
 pub empty_is_no_line : (p : Position) → ¬ IsLineOf [] p
 unfolding position_of_text side_at
 empty_is_no_line p line = absurd (cc (line_is_read [] p line))
 
 -- a line writes one position only
-one_position : (text : List ℕ) (p q : Position) → IsLineOf text p → IsLineOf text q → p ≡ q
-one_position text p q first second =
+one_position : {text : List ℕ} {p q : Position} → IsLineOf text p → IsLineOf text q → p ≡ q
+one_position {text} {p} {q} first second =
     let same : ◌≡◌ {A = Option Position} (Some p) (Some q) = sym (line_is_read text p first) ∙ line_is_read text q second in
     cc same
 
@@ -96,7 +94,6 @@ IsReading line (Err fault) = HasFault line fault
 
 -- ---- every line is read, or has a fault
 
--- no two faults have the same place
 same_order : (a b : LineFault) → order_of a ≡ order_of b → a ≡ b
 same_order a b same = grind arith
 
@@ -104,7 +101,6 @@ same_order a b same = grind arith
 abbrev NoneBefore : List ℕ → ℕ → Type 0
 NoneBefore text n = (earlier : LineFault) → order_of earlier < n → ¬ Holds earlier text
 
--- no fault has a place before the first
 none_at_first : (text : List ℕ) → NoneBefore text 1
 none_at_first text earlier low = grind arith
 
@@ -117,12 +113,12 @@ nor_this {text} fault before not earlier low holds = elim (cases_lt (order_of ea
 ]
 
 -- a line that writes a position isn't empty
-not_empty : (text : List ℕ) (p : Position) → IsLineOf text p → ¬ Holds Empty text
-not_empty text p form empty = empty_is_no_line p (rw empty at form)
+not_empty : {text : List ℕ} {p : Position} → IsLineOf text p → ¬ Holds Empty text
+not_empty {p = p} form empty = empty_is_no_line p (rw empty at form)
 
 -- if the sides of the position are within the limits, those of the line are
-not_houses : (text : List ℕ) (p : Position) → IsLineOf text p → HasSidesInLimits p → ¬ Holds Houses text
-not_houses text p form sides (q, (other, wrong)) = wrong (subst HasSidesInLimits (one_position text p q form other) sides)
+not_houses : {text : List ℕ} {p : Position} → IsLineOf text p → HasSidesInLimits p → ¬ Holds Houses text
+not_houses form sides (q, (other, wrong)) = wrong (subst HasSidesInLimits (one_position form other) sides)
 
 -- a line of few bytes that writes the position is read as it, or has a fault of houses or seeds
 position_is_read : (line : List ℕ) (p : Position) → length (without_cr line) ≤ most_line_bytes → NoneBefore (without_cr line) 4
@@ -135,7 +131,7 @@ position_is_read line p few none form = elim (eqb_tells (length p.other) (side_l
         let sides : HasSidesInLimits p = record { same_side = same.1; at_most_six = six } in
         elim (cases_lt most_seeds (seeds_in_houses p)) [
           | inl many ↦
-              let fit = not_houses (without_cr line) p form sides in
+              let fit = not_houses form sides in
               rw (same.0, le-ltb _ _ six, lt-ltb _ _ many) (record { holds = (p, (form, many)); first = nor_this Houses none fit })
           | inr few_seeds ↦
               rw (same.0, le-ltb _ _ six, le-ltb _ _ few_seeds)
@@ -169,7 +165,7 @@ few_are_read line few r read_as =
       | None ↦ λ read_as. nothing_is_read line text refl none read_as
       | Some p ↦ λ read_as.
           let form = line_is_written text p read_as in
-          position_is_read line p few (nor_this Shape (nor_this Empty none (not_empty text p form)) (λ shape. shape p form)) form
+          position_is_read line p few (nor_this Shape (nor_this Empty none (not_empty form)) (λ shape. shape p form)) form
     ]) read_as
 
 -- a line of too many bytes is read as too long
@@ -177,7 +173,6 @@ pub long_is_read : (line : List ℕ) → most_line_bytes < length (without_cr li
 unfolding reading_of
 long_is_read line long = rw (lt-ltb _ _ long) refl
 
--- each line is read, or has its first fault
 pub is_reading : (line : List ℕ) → IsReading line (reading_of line)
 unfolding reading_of
 is_reading line = elim (cases_lt most_line_bytes (length (without_cr line))) [
@@ -187,18 +182,17 @@ is_reading line = elim (cases_lt most_line_bytes (length (without_cr line))) [
 
 -- ---- in one way only
 
--- no line is read as two positions
 pub no_line_reads_twice : NoLineReadsTwice
-no_line_reads_twice line p q first second = one_position (without_cr line) p q first.form second.form
+no_line_reads_twice line p q first second = one_position first.form second.form
 
 -- a line that is read has no fault
 no_fault : (line : List ℕ) (p : Position) → Reads line p → (fault : LineFault) → ¬ Holds fault (without_cr line)
 no_fault line p reads Long long = omega (arith, reads.few_bytes, long)
-no_fault line p reads Empty empty = not_empty (without_cr line) p reads.form empty
+no_fault line p reads Empty empty = not_empty reads.form empty
 no_fault line p reads Shape none = none p reads.form
-no_fault line p reads Houses other = not_houses (without_cr line) p reads.form reads.sides other
+no_fault line p reads Houses other = not_houses reads.form reads.sides other
 no_fault line p reads Seeds (q, (form, many)) =
-    omega (arith, ap seeds_in_houses (one_position (without_cr line) q p form reads.form), many, reads.few_seeds)
+    omega (arith, ap seeds_in_houses (one_position form reads.form), many, reads.few_seeds)
 
 -- no line has two first faults
 one_fault : (line : List ℕ) (a b : LineFault) → HasFault line a → HasFault line b → a ≡ b
@@ -253,8 +247,8 @@ number_ends_in_digit : (byte : ℕ) (text : List ℕ) (n : ℕ) → IsNumber tex
 number_ends_in_digit byte text n written = grind arith
 
 -- a side ends in a digit
-side_ends_in_digit : (byte : ℕ) (text houses : List ℕ) (store : ℕ) → IsSide text houses store → last_or byte text ≤ zero_digit + 9
-side_ends_in_digit byte text houses store side =
+side_ends_in_digit : (byte : ℕ) {text houses : List ℕ} {store : ℕ} → IsSide text houses store → last_or byte text ≤ zero_digit + 9
+side_ends_in_digit byte {text} {store = store} side =
     let last : last_or byte text ≡ last_or slash side.store_text =
     ap (last_or byte) side.parts ∙ last_or-append byte side.houses_text slash side.store_text in
     omega (arith, last, number_ends_in_digit slash side.store_text store side.store_written)
@@ -269,7 +263,6 @@ rule_of_end Classic text own other front parts digit ends =
     ∙ last_or-append 0 own space other in
     absurd (omega (arith, last, digit))
 
--- a line is under the empty-capture rule if and only if it ends in ` e`
 pub only_the_suffix_names_the_rule : OnlyTheSuffixNamesTheRule
 only_the_suffix_names_the_rule line p reads =
     let form = reads.form in (
@@ -279,5 +272,5 @@ only_the_suffix_names_the_rule line p reads =
             ∙ ap (λ (rule : Rule). form.own_text ++ space ∷ form.other_text ++ suffix_of rule) rule_is,
       ),
       λ ends. rule_of_end p.rule (without_cr line) form.own_text form.other_text ends.0 form.parts
-          (side_ends_in_digit space form.other_text p.other p.other_store form.other_side) ends.1,
+          (side_ends_in_digit space form.other_side) ends.1,
     )

@@ -15,20 +15,18 @@ houses_have_one_text text (n ∷ m ∷ houses) written =
     (houses_have_one_text written.others_text (m ∷ houses) written.others_written)
 
 -- a text that writes a side is its text
-side_has_one_text : (text houses : List ℕ) (store : ℕ) → IsSide text houses store → text ≡ side_text houses store
-side_has_one_text text houses store side =
+side_has_one_text : {text houses : List ℕ} {store : ℕ} → IsSide text houses store → text ≡ side_text houses store
+side_has_one_text {houses = houses} {store} side =
     side.parts ∙ ap₂ (λ (a b : List ℕ). a ++ slash ∷ b) (houses_have_one_text side.houses_text houses side.houses_written)
     (number_has_one_text side.store_text store side.store_written)
 
--- a line that is read is the text of its position, but for a CR at its end
 pub every_line_is_its_text : EveryLineIsItsText
 unfolding line_text_of
 every_line_is_its_text line p reads =
     let form = reads.form in
     form.parts
     ∙ ap₂ (λ (own other : List ℕ). own ++ space ∷ other ++ suffix_of p.rule)
-    (side_has_one_text form.own_text p.own p.own_store form.own_side)
-    (side_has_one_text form.other_text p.other p.other_store form.other_side)
+    (side_has_one_text form.own_side) (side_has_one_text form.other_side)
 
 -- what holds of the result of a reading
 pub record IsResult (line : List ℕ) (r : Result Position LineFault) : Type 0 where
@@ -77,7 +75,6 @@ text_writes_side houses store some short low = record {
 
 -- ==== How long a text is
 
--- a number of a line has at most two digits
 small_number_length : (n : ℕ) → n ≤ 99 → length (decimal n) ≤ 2
 small_number_length n low = length-decimal-le 2 n (lit< tt) (omega (arith, low)) (omega (arith, low))
 
@@ -135,7 +132,6 @@ text_without_cr front houses store Classic low =
     ∙ sym (append-nil (front ++ space ∷ side_text houses store))
 text_without_cr front houses store EmptyCapture low = without_cr-append (front ++ space ∷ side_text houses store) space (codes "e")
 
--- the line of a position is read as it
 pub every_text_is_read_back : EveryTextIsReadBack
 unfolding line_text_of
 every_text_is_read_back p limits own_low other_low =

@@ -22,9 +22,8 @@ count_flat {X} q (r ∷ rs) = omega (
 
 -- an index within the first list finds its item
 pub slice_get-append_left : {X : Type 0} (xs ys : List X) (i : ℕ) → i < length xs → slice_get (xs ++ ys) i ≡ slice_get xs i
-slice_get-append_left [] ys i low = absurd (omega arith)
-slice_get-append_left (x ∷ xs) ys zero low = refl
 slice_get-append_left (x ∷ xs) ys (suc i) low = slice_get-append_left xs ys i (omega arith)
+slice_get-append_left xs ys i low = grind arith
 
 -- an index past the first list finds an item of the second
 pub slice_get-append_right : {X : Type 0} (xs ys : List X) (n i : ℕ) → n ≡ length xs + i → slice_get (xs ++ ys) n ≡ slice_get ys i

@@ -53,7 +53,6 @@ rest_is_shorter bytes found read =
 
 -- ---- the text of a number
 
--- a text that writes a number is its decimal digits
 pub number_has_one_text : (text : List ℕ) (n : ℕ) → IsNumber text n → text ≡ decimal n
 number_has_one_text text n written = grind (arith, decimal_digit, decimal_step)
 
@@ -61,7 +60,6 @@ number_has_one_text text n written = grind (arith, decimal_digit, decimal_step)
 pub number_at_most_99 : (text : List ℕ) (n : ℕ) → IsNumber text n → n ≤ 99
 number_at_most_99 text n written = grind arith
 
--- the decimal digits of a number of at most two write it
 pub decimal_writes_number : (n : ℕ) → n ≤ 99 → IsNumber (decimal n) n
 decimal_writes_number n low = grind (arith, decimal_digit, decimal_step)
 
@@ -191,7 +189,6 @@ side_is_written bytes found side_read = side_from_written (length bytes) [] byte
 
 module _ (store_text : List ℕ) (store : ℕ) (following : List ℕ) (stored : IsNumber store_text store) (ends : EndsNumber following)
   where
-    -- the bytes after the houses
     abbrev ending : List ℕ
     ending = slash ∷ (store_text ++ following)
 
@@ -223,10 +220,10 @@ module _ (store_text : List ℕ) (store : ℕ) (following : List ℕ) (stored : 
         ∙ ap (λ (all : List ℕ). Some (record { houses = all; store = store; rest = following })) (append_assoc houses (n ∷ []) (m ∷ more)))
 
 -- a side that is written is read, if no digit follows
-pub side_is_read : (text houses : List ℕ) (store : ℕ) (following : List ℕ) → IsSide text houses store → EndsNumber following →
+pub side_is_read : {text houses : List ℕ} {store : ℕ} (following : List ℕ) → IsSide text houses store → EndsNumber following →
     side_at (text ++ following) ≡ Some (record { houses = houses; store = store; rest = following })
 unfolding side_at
-side_is_read text houses store following side ends =
+side_is_read {text} {houses} {store} following side ends =
     let parts : text ++ following ≡ side.houses_text ++ slash ∷ (side.store_text ++ following) =
     ap (◌++ following) side.parts ∙ append_assoc side.houses_text (slash ∷ side.store_text) following in
     rw parts (houses_are_read side.store_text store following side.store_written ends side.houses_text houses side.houses_written

@@ -68,7 +68,6 @@ pub ruleset parts_written = (left_all, left_whole, left_part)
 -- ==== Texts that are given to a sink in sequence
 
 module _ {O : Type 0} (state : O → SinkState) where
-  -- no text is given by no call
   pub given_none : (out : O) → WasGiven state out out []
   given_none out = record {
     start = prefix_none (state out).written [];

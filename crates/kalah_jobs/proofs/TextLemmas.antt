@@ -9,15 +9,12 @@ use Rattle.kalah_jobs.proofs.ListLemmas.{items_from}
 
 -- ==== How long the parts of lines are at most
 
--- a number of 64 bits has at most 20 digits
 pub u64_length : (n : ℕ) → n < 2 ^ 64 → length (decimal n) ≤ 20
 u64_length n low = length-decimal-le 20 n (omega arith) (omega arith) low
 
--- one of 32 bits has at most 10
 pub u32_length : (n : ℕ) → n < 2 ^ 32 → length (decimal n) ≤ 10
 u32_length n low = length-decimal-le 10 n (omega arith) (omega arith) (omega arith)
 
--- one of 8 bits has at most 3
 pub u8_length : (n : ℕ) → n < 2 ^ 8 → length (decimal n) ≤ 3
 u8_length n low = length-decimal-le 3 n (omega arith) (omega arith) (omega arith)
 
@@ -59,7 +56,6 @@ pub legal_at : {legal moves : List ℕ} (i : ℕ) {h : ℕ} → moves ≡ legal 
 legal_at {legal} {moves} i moves_are within h_is =
     rw h_is (subst (λ houses. Contains houses (get_or moves i 0)) moves_are (Contains-get_or moves i 0 within))
 
--- a place after the first isn't the first
 suc_is_not_zero : (i : ℕ) → (suc i == 0) ≡ false
 suc_is_not_zero i = ne_eqb (suc i) 0 (λ e. omega (arith, e))
 
@@ -178,17 +174,15 @@ line_before name taken after words text one words_are text_is =
 
 -- ==== Values below the houses of a picture
 
--- the absolute value of a margin of a game is small
 small_mag : (z : ℤ) → IsMarginInRange z → mag z < 2 ^ 63
 small_mag (pos n) small = omega (arith, ints, small.high)
 small_mag (negsuc n) small = omega (arith, ints, small.low)
 
--- a value of a game has at most four bytes
 value_length : (v : ℤ) → IsMarginInRange v → length (signed_decimal v) ≤ 4
 value_length (pos n) small = length_signed_le 3 (pos n) (omega (arith, ints, small.high)) (small_mag (pos n) small)
 value_length (negsuc n) small = length_signed_le 3 (negsuc n) (omega (arith, ints, small.low)) (small_mag (negsuc n) small)
 
--- it is put in front of a text, from its bits, and then blanks
+-- a value is put in front of a text, from its bits, and then blanks
 module _ {v z : ℤ} {end len : ℕ} (old : List ℕ) {text : List ℕ} (small : IsMarginInRange v) (z_is : z ≡ to_z w16 (of_z w16 v))
     (text_is : text ≡ signed_decimal (to_z w32 (of_z w32 z)) ++ old) (end_is : end ≡ length old) (len_is : len ≡ length text) where
   -- the value is read back from its bits
@@ -256,12 +250,11 @@ kept_ascend f p from (suc n) =
     cond_both (f from) _ _ (λ houses. AscendFrom from (map (move_value p) houses)) (λ kept. (omega arith, later))
     (λ left_out. ascend_later from (from + 1) _ (omega arith) later)
 
--- the values of a position ascend from house 1
 values_ascend : (p : Position) → AscendFrom 1 (values_of p)
 values_ascend p = cond_both (is_over p) _ _ (λ houses. AscendFrom 1 (map (move_value p) houses)) (λ over. tt)
     (λ going. kept_ascend _ p 1 (side_length p))
 
--- they have columns
+-- the values of a position have columns
 pub have_columns : (p : Position) (values : List MoveValue) → values ≡ values_of p → AscendFrom 0 values
 have_columns p values values_are = subst (AscendFrom 0) (sym values_are) (ascend_later 0 1 (values_of p) (omega arith) (values_ascend p))
 

@@ -51,7 +51,6 @@ faults_of_files question (file ∷ files) =
       sum_by-append (λ entry. cond (is_faulty_entry entry) 1 0) (entries_to question file.bytes) (all_entries (jobs_to question files)),
     )
 
--- output and counts are the same by files and by jobs
 pub files_are_their_jobs : FilesAreTheirJobs
 unfolding output_to tally_of
 files_are_their_jobs = record {
@@ -65,13 +64,11 @@ files_are_their_jobs = record {
 
 -- ==== Files and parts of files in sequence
 
--- the counts, from their two numbers
 abbrev counts : ℕ → ℕ → Tally
 counts lines faults = record { lines = lines; faults = faults }
 
 -- ---- files
 
--- a list of files can be cut anywhere
 pub output_splits_by_files : OutputSplitsByFiles
 unfolding output_to tally_of
 output_splits_by_files = record {
@@ -101,7 +98,6 @@ unfolding lines_of
 lines_split first second (inl none) = rw none refl
 lines_split first second (inr ends) = rw ends.1 (lines_of_both ends.0 second)
 
--- a file can be cut between any two lines
 pub files_split_between_lines : FilesSplitBetweenLines
 unfolding output_to tally_of
 files_split_between_lines = record {

@@ -17,7 +17,6 @@ pub as_many_jobs : (question : Question) (files : List NamedBytes) (jobs : List 
     → job_count jobs ≡ lines_in_all files
 as_many_jobs question files jobs value = ap job_count value ∙ job_count-jobs_to question files
 
--- the lines and the faults of the jobs of the files are the tally of the files
 counted_tally : (question : Question) (files : List NamedBytes) → counts_of (jobs_to question files) ≡ tally_of files
 counted_tally question files = λ i. record {
   lines = sym (files_are_their_jobs.lines question files) i;
@@ -31,10 +30,6 @@ appends_none : (old new : Option (List ℕ)) (bytes : List ℕ) → bytes ≡ []
 appends_none None new bytes none appends = tt
 appends_none (Some xs) None bytes none appends = absurd appends
 appends_none (Some xs) (Some ys) bytes none appends = appends ∙ (ap (xs ++◌) none ∙ append-nil xs)
-
--- a prefix of nothing is nothing
-starts_none : (old new : Option (List ℕ)) (bytes : List ℕ) → bytes ≡ [] → AppendsPrefix old new bytes → Keeps old new
-starts_none old new bytes none start = appends_none old new (take start.0 bytes) (ap (take start.0) none ∙ take-nil start.0) start.1
 
 -- what a batch promises
 module _ {W : Type 0} (state : W → SinkState) (question : Question) (files : List NamedBytes) (old : W) where
@@ -84,7 +79,7 @@ module _ (question : Question) (files : List NamedBytes) (none : lines_in_all fi
   nothing_answered state old new (Err OutOfMemory) answers = record { unwritten = left_same state answers.1.0; uncounted = tt; fault = inr (inl refl) }
   nothing_answered state old new (Err NoWorker) answers = absurd (omega (arith, answers.1))
   nothing_answered state old new (Err Write) answers = record {
-    unwritten = starts_none _ _ _ no_output answers.1;
+    unwritten = appends_none _ _ _ (ap (take answers.1.0) no_output ∙ take-nil answers.1.0) answers.1.1;
     uncounted = tt;
     fault = inr (inr refl);
   }

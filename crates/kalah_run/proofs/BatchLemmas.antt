@@ -71,7 +71,7 @@ module _ {G : Type 0} {knows : G → ℕ → Bool} {shared : SharedWork G} {befo
 
     -- each of them is of the desk
     pub own_back : IsPassAt shared.desk p → All (IsPassAt shared.desk) back
-    own_back own = rw back_is (All-push (IsPassAt shared.desk) (passes_of after) p (run_passes shared before after run) own)
+    own_back own = rw back_is (All-push (IsPassAt shared.desk) (passes_of after) p (run_passes run) own)
 
   -- all passes to put are back, each in its place
   pub puts_back : {len count : ℕ} {puts : List PutPassState} → len ≡ length puts → puts ≡ puts_of after → count ≡ length before

@@ -15,14 +15,12 @@ use Rattle.kalah_jobs.specs.contracts.collecting.outcome.Outcome as Outcome
 use Rattle.kalah_run.specs.contracts.batch.crew.Crew as Crew
 use Rattle.kalah_run.specs.contracts.batch.worker.Worker as Worker
 
--- a seat at a table may be handed over
 seat_send : (S V : RattleType) → IsSend S → IsSend (Seat.the_row S V)
 seat_send S V s = record {
   owned = λ d vs. ((λ vss. (tt, ((λ uss. (tt, tt)), tt))), seat_keyless S s V.coded.code d.table_id d.id d.me);
   leaving = λ k f vs. tt;
 }
 
--- outcomes may be handed over
 outcome_send : IsSend Outcome.the_row
 outcome_send = search (sendable, crosses) depth 60
 
@@ -40,7 +38,6 @@ queue_sync = search (sendable, crosses, shared_sync, lease_sync, outcome_send) d
 shared_work_sync : (κ : NamedLft) (G : RattleType) → IsSync G → IsSync (SharedWork.the_row κ G)
 shared_work_sync κ G s = search (sendable, crosses, jobs_sync, desk_sync, queue_sync) depth 60
 
--- workers may be handed over
 pub worker_send : IsSend Worker.the_row
 worker_send = search (sendable, crosses, seat_send, outcome_send, Solver-send) depth 60
 

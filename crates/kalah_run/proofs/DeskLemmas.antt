@@ -15,7 +15,7 @@ FollowsPlan plan seat view = HasTotal plan.total view × All Ascends (rows_in vi
 
 -- the views of a lawful desk are so
 following : {S : Type 0} {plan : DeskPlan} {s : State S DeskView} → IsLawful plan s → Each (FollowsPlan plan) s.views
-following {s = s} kept seat view has_view = (kept.totals seat view has_view, all_at Ascends s.views seat view has_view kept.deals.ascending)
+following {s = s} kept seat view has_view = (kept.totals seat view has_view, all_at Ascends s.views seat has_view kept.deals.ascending)
 
 -- ==== A draw keeps the protocol, and returns what it must
 
@@ -57,16 +57,15 @@ module _ {S : Type 0} {plan : DeskPlan} {s : State S DeskView} (seat : ℕ) {tot
       let x : ℕ = get_or numbers k d in
       let here : cond (x == x) 1 0 ≤ count_by (λ y. y == x) numbers = get_or-le-sum_by (λ y. cond (y == x) 1 0) numbers k d within in
       let mine : sum_by (times_in_row x) (drawn_row numbers false ∷ []) ≤ sum_by (times_in_row x) (all_rows s.views) =
-      rows_at (times_in_row x) s.views seat (unspent_view total number numbers) has_view in
+      rows_at (times_in_row x) s.views seat has_view in
       below x kept.drawn (count_by (λ y. y == x) numbers) here
       (omega (arith, mine, times_rows x (all_rows s.views), kept.deals.each_once x))
     where
       below : (x c n : ℕ) → cond (x == x) 1 0 ≤ n → n ≤ (if nat_lt x c then 1 else 0) → x < c
       below x c n here few = grind (arith, nat_tests)
 
-  -- the row of the pass ascends
   ascends : Ascends (drawn_row numbers false)
-  ascends = All-head Ascends (drawn_row numbers false) [] (following kept seat (unspent_view total number numbers) has_view).1
+  ascends = All-head Ascends (drawn_row numbers false) [] (following kept seat _ has_view).1
 
   -- all rows ascend after a change of it to one that does
   stays_ascending : (view : DeskView) → All Ascends (rows_in view) → All Ascends (all_rows (set s.views seat view))
@@ -83,12 +82,12 @@ module _ {S : Type 0} {plan : DeskPlan} {s : State S DeskView} (seat : ℕ) {tot
     word = ap (◌∷ []) counts;
     passes = omega (
       arith,
-      sum_set passes_in s.views seat (unspent_view total number numbers) (Drawing total number row) has_view,
+      sum_set passes_in s.views seat (Drawing total number row) has_view,
       kept.passes,
     );
     deals = deals;
     totals = each_set (λ k view. HasTotal plan.total view) s.views seat (Drawing total number row)
-        (kept.totals seat (unspent_view total number numbers) has_view) (λ j u apart has_view. kept.totals j u has_view);
+        (kept.totals seat _ has_view) (λ j u apart has_view. kept.totals j u has_view);
   }
 
   -- it finds a number below the total: the protocol stays with that at the end of the pass's row, where it is above all others
@@ -96,18 +95,17 @@ module _ {S : Type 0} {plan : DeskPlan} {s : State S DeskView} (seat : ℕ) {tot
       → IsLawful plan (after_step s ((word_of kept + 1) ∷ []) seat (drawn_view total number numbers (word_of kept))) × All
       (λ x. x < word_of kept) numbers
   draws_some low =
-      let before : DeskView = unspent_view total number numbers in
       let n : ℕ = kept.drawn in
       let after : DeskView = drawn_view total number numbers n in
       let rows : List DrawnRow = all_rows (set s.views seat after) in
-      let same : total ≡ plan.total = kept.totals seat before has_view in
+      let same : total ≡ plan.total = kept.totals seat _ has_view in
       let none_spent : spent_in (all_rows s.views) ≡ 0 =
       elim (none_or_all kept.deals) [ inl unspent ↦ unspent | inr full ↦ omega (arith, full, same, low) ] in
       let word_is : word_of kept ≡ n = omega (arith, none_spent) in
       let drawn : drawn_in rows ≡ drawn_in (all_rows s.views) + 1 =
-      omega (arith, rows_set (λ r. length r.numbers) s.views seat before after has_view, length-append numbers (n ∷ [])) in
+      omega (arith, rows_set (λ r. length r.numbers) s.views seat after has_view, length-append numbers (n ∷ [])) in
       let spent : spent_in rows ≡ spent_in (all_rows s.views) =
-      omega (arith, rows_set (λ r. cond r.spent 1 0) s.views seat before after has_view) in
+      omega (arith, rows_set (λ r. cond r.spent 1 0) s.views seat after has_view) in
       let rises : Ascends (drawn_row (numbers ++ n ∷ []) false) = all_pairs_push (λ x y. x < y) numbers n ascends stands_below in
       rw word_is (
         kept_after (drawn_row (numbers ++ n ∷ []) false) (record {
@@ -115,7 +113,7 @@ module _ {S : Type 0} {plan : DeskPlan} {s : State S DeskView} (seat : ℕ) {tot
           count = omega (arith, drawn, kept.deals.count);
           each_once = λ x.
               let more : sum_by (times_in_row x) rows ≡ sum_by (times_in_row x) (all_rows s.views) + cond (n == x) 1 0 =
-              omega (arith, rows_set (times_in_row x) s.views seat before after has_view, sum_by_push (λ y. cond (y == x) 1 0) numbers n) in
+              omega (arith, rows_set (times_in_row x) s.views seat after has_view, sum_by_push (λ y. cond (y == x) 1 0) numbers n) in
               times_rows x rows ∙ more
               ∙ ap (λ k. k + cond (n == x) 1 0) (sym (times_rows x (all_rows s.views)) ∙ kept.deals.each_once x)
               ∙ once_more x n;
@@ -128,17 +126,16 @@ module _ {S : Type 0} {plan : DeskPlan} {s : State S DeskView} (seat : ℕ) {tot
   -- it finds none: the protocol stays, and the pass is spent
   draws_none : total ≤ word_of kept → IsLawful plan (after_step s ((word_of kept + 1) ∷ []) seat (spent_view total number numbers))
   draws_none high =
-      let before : DeskView = unspent_view total number numbers in
       let after : DeskView = spent_view total number numbers in
-      let same : total ≡ plan.total = kept.totals seat before has_view in
+      let same : total ≡ plan.total = kept.totals seat _ has_view in
       let full : kept.drawn ≡ plan.total =
       elim (none_or_all kept.deals) [ inl unspent ↦ omega (arith, unspent, kept.deals.within, same, high) | inr full ↦ full ] in
       let drawn : drawn_in (all_rows (set s.views seat after)) ≡ drawn_in (all_rows s.views) =
-      omega (arith, rows_set (λ r. length r.numbers) s.views seat before after has_view) in
+      omega (arith, rows_set (λ r. length r.numbers) s.views seat after has_view) in
       let spent : spent_in (all_rows (set s.views seat after)) ≡ spent_in (all_rows s.views) + 1 =
-      omega (arith, rows_set (λ r. cond r.spent 1 0) s.views seat before after has_view) in
+      omega (arith, rows_set (λ r. cond r.spent 1 0) s.views seat after has_view) in
       kept_after (drawn_row numbers true)
-      (deals_alike kept.deals drawn (λ x. omega (arith, rows_set (times_in_row x) s.views seat before after has_view))
+      (deals_alike kept.deals drawn (λ x. omega (arith, rows_set (times_in_row x) s.views seat after has_view))
       (stays_ascending after (All-cons Ascends (drawn_row numbers true) [] ascends (All-nil Ascends))) (λ _. full))
       (omega (arith, spent))
 
@@ -285,17 +282,17 @@ hand_out_is_lawful {S} {plan} seat {v} {total} {handed_out} {left} opening some_
     let opener : DeskView = Opening total (handed_out + 1) (left - 1) in
     let pass : DeskView = Drawing total handed_out (drawn_row [] false) in
     let views : List DeskView = set s.views seat opener in
-    let mine : HasTotal plan.total pass = kept.totals seat (Opening total handed_out left) has_view in
+    let mine : HasTotal plan.total pass = kept.totals seat _ has_view in
     let none : Ascends (drawn_row [] false) = λ i j d under within. absurd (omega arith) in
     kept_alike _ kept refl
     (λ f nothing. omega (
       arith,
       rows_push f views pass,
-      rows_set f s.views seat (Opening total handed_out left) opener has_view,
+      rows_set f s.views seat opener has_view,
       sum_by-cons f (drawn_row [] false) [],
       nothing,
     ))
-    (omega (arith, sum_by_push passes_in views pass, sum_set passes_in s.views seat (Opening total handed_out left) opener has_view))
+    (omega (arith, sum_by_push passes_in views pass, sum_set passes_in s.views seat opener has_view))
     (each_more (FollowsPlan plan) views pass
     (each_set (FollowsPlan plan) s.views seat opener (mine, All-nil Ascends) (λ j u apart has_view. following kept j u has_view))
     (mine, All-cons Ascends (drawn_row [] false) [] none (All-nil Ascends))))
@@ -319,17 +316,17 @@ reclaims_at {S} plan seat rows other total number r s kept has_view apart has_pa
     let closing : DeskView = Closing (r ∷ rows) in
     let pass : DeskView = Drawing total number r in
     let between : List DeskView = set s.views seat closing in
-    let own : All Ascends rows = all_at Ascends s.views seat (Closing rows) has_view kept.deals.ascending in
+    let own : All Ascends rows = all_at Ascends s.views seat has_view kept.deals.ascending in
     let theirs : All Ascends (r ∷ []) =
-    all_at Ascends s.views other pass (was_there s.views seat other closing pass apart has_pass) kept.deals.ascending in
+    all_at Ascends s.views other (was_there s.views seat other closing apart has_pass) kept.deals.ascending in
     kept_alike _ kept refl
     (λ f nothing. omega (
       arith,
-      rows_set f s.views seat (Closing rows) closing has_view,
-      rows_set f between other pass Reclaimed has_pass,
+      rows_set f s.views seat closing has_view,
+      rows_set f between other Reclaimed has_pass,
       sum_by-cons f r rows,
     ))
-    (omega (arith, sum_set passes_in s.views seat (Closing rows) closing has_view, sum_set passes_in between other pass Reclaimed has_pass))
+    (omega (arith, sum_set passes_in s.views seat closing has_view, sum_set passes_in between other Reclaimed has_pass))
     (each_set (FollowsPlan plan) between other Reclaimed (tt, All-nil Ascends) (λ i view away has_view.
     each_set (FollowsPlan plan) s.views seat closing (tt, All-append Ascends (r ∷ []) rows theirs own)
     (λ j u apart has_view. following kept j u has_view) i view has_view))

@@ -1,8 +1,8 @@
 -- The output of a batch: the loop that writes each line once it is ready.
-use Rattle.std.proofs.{Common.{[], add-one, ◌≡◌, ◌≤◌, ◌<◌, ◌+◌, ◌-◌, ℕ, suc, List, ◌∷◌, ◌++◌, arith, sym, ap, ◌∙◌, true, refl, ⊎_elim, length, get_or, take, drop, subst, Some, slice_get, None, Result, sum_by}, lemmas.{List.{take-append-drop, take_all, take_more, flat_map_more, get_or-map}, Option.{get_or_from_slice_get, slice_get_within}, Bool.{cases_eq, cases_lt}, Grind.{flat_map-append}}}
+use Rattle.std.proofs.{Common.{[], add-one, ◌≡◌, ◌≤◌, ◌<◌, ◌+◌, ◌-◌, ℕ, suc, List, ◌∷◌, ◌++◌, arith, sym, ap, ◌∙◌, true, refl, ⊎_elim, length, get_or, get_or-set_other, get_or-set_same, take, drop, subst, Some, slice_get, None, Result, sum_by}, lemmas.{List.{take-append-drop, take_all, take_more, flat_map_more, get_or-map}, Option.{get_or_from_slice_get, slice_get_within}, Bool.{cases_eq, cases_lt}, Grind.{flat_map-append}}}
 use Rattle.kalah_run.specs.{Entry, Job, Taken, Refusal, text_of_job, written_up_to, CollectingState, taken_of, written_so_far, IsUnderWay, IsNew, HasBeenOffered, HasWritten, WritesOn, declared.batch.ordered_output.OrderedOutput.{OrderedOutput}}
-use Rattle.kalah_jobs.specs.{Files.{JobList.{job_list, jobs_from, file_jobs, line_job, entries_of, entry_at}, Lines.{line_feed}, NamedBytes.{NamedBytes}, Jobs.{job_count}}, Collecting.{AnyOrder.{IsPermutationOfJobs}, CollectorState.{ArrivalsState, state_of, front, HasEnded, HasNoNext, with_one_taken, new_files, after_take}, CollectorEvents.{Offers, Takes, answered_line}, Held.{AgreeWithOffers}}, Writing.{Sink.{SinkState, WasGiven}, Answer.{answer_line}, Output.{text_of_line, text_of_file, text_of_jobs, taken_output, names_of}}}
-use Rattle.kalah_jobs.proofs.{SinkLemmas.{given_none, given_then, given_then_flush, given_more_after_failure}, CollectingLemmas.{state_same, state_other, files_many, lines_are, new_files_agree, taken_is, new_taken, fronts_full, kept_by_offer, kept_by_take}, FilesLemmas.{length-job_list, lines_between, slice_get-job_list}}
+use Rattle.kalah_jobs.specs.{Files.{JobList.{job_list, jobs_from, file_jobs, line_job, entries_of, entry_at}, Lines.{line_feed}, NamedBytes.{NamedBytes}, Jobs.{job_count}}, Collecting.{AnyOrder.{IsPermutationOfJobs}, CollectorState.{ArrivalsState, no_file, state_of, front, HasEnded, HasNoNext, with_one_taken, new_files, after_take}, CollectorEvents.{Offers, Takes, answered_line}, Held.{AgreeWithOffers}}, Writing.{Sink.{SinkState, WasGiven}, Answer.{answer_line}, Output.{text_of_line, text_of_file, text_of_jobs, taken_output, names_of}}}
+use Rattle.kalah_jobs.proofs.{SinkLemmas.{given_none, given_then, given_then_flush, given_more_after_failure}, CollectingLemmas.{files_many, lines_are, new_files_agree, taken_is, new_taken, fronts_full, kept_by_offer, kept_by_take}, FilesLemmas.{length-job_list, lines_between, slice_get-job_list}}
 use Rattle.std.specs.List.{flat_map, enumerate_from}
 
 -- ==== The loop that writes each line once it is ready and all before it were written
@@ -89,12 +89,12 @@ module _ {W : Type 0} {state : W → SinkState} {text : ℕ → Taken → List �
       let n : ℕ = taken_of p current in
       let now : CollectingState = record p { files = after_take files current } in
       let same_taken : (g : ℕ) → (g ≡ current → ⊥) → taken_of now g ≡ taken_of p g =
-      λ g other. ap (λ (s : ArrivalsState). s.taken) (state_other files current g (with_one_taken (state_of files current)) other) in
+      λ g other. ap (λ (s : ArrivalsState). s.taken) (get_or-set_other files current g (with_one_taken (state_of files current)) no_file other) in
       let offer = under_way.kept.offered.only current t.line t.answer step.next_line.came in
       let line : t.line ≡ n = step.next_line.first in
       let entry_is : entry_at jobs current n ≡ Some offer.entry = ap (entry_at jobs current) (sym line) ∙ offer.entry_is in
       let taken : taken_of now current ≡ n + 1 =
-      ap (λ (s : ArrivalsState). s.taken) (state_same files current (with_one_taken (state_of files current)) step.file_there) in
+      ap (λ (s : ArrivalsState). s.taken) (get_or-set_same files current (with_one_taken (state_of files current)) no_file step.file_there) in
       let text_is : written_so_far text p ++ text current t ≡ written_so_far text now =
       ap (λ x. written_so_far text p ++ text current x) (taken_is t n offer.entry line offer.answer_is)
       ∙ written_with_next_line text jobs current n offer.entry entry_is
@@ -170,7 +170,7 @@ module _ {W : Type 0} {state : W → SinkState} {text : ℕ → Taken → List �
       → WasGiven state begun out (text_of_jobs text jobs)
   sink_was_given_all each waits =
       let past_last : length files ≤ current = ⊎_elim
-      (λ low. absurd (waits low (fronts_full jobs past files each under_way.kept.offered current)))
+      (λ low. absurd (waits low (fronts_full each under_way.kept.offered current)))
       (λ high. high)
       (cases_lt current (length files)) in
       let many : length files ≡ length jobs = files_many jobs files under_way.kept.offered.counts in

@@ -13,13 +13,7 @@ use Rattle.crossbeam_queue.specs.Fifo.{Pushes, Pops, Forks, Held, Merges, Learns
 -- what a worker sent by two lists of pairs is what it sent by the first, and then by the second
 sent_by_worker-append : (w : ℕ) (xs ys : List (ℕ × Job)) → sent_by_worker w (xs ++ ys) ≡ sent_by_worker w xs ++ sent_by_worker w ys
 sent_by_worker-append w [] ys = refl
-sent_by_worker-append w (t ∷ ts) ys =
-    ap (λ (l : List Job). if t.0 == w then t.1 ∷ l else l) (sent_by_worker-append w ts ys)
-    ∙ joined (t.0 == w) t.1 (sent_by_worker w ts) (sent_by_worker w ys)
-  where
-    joined : (own : Bool) (x : Job) (xs ys : List Job) → (if own then x ∷ (xs ++ ys) else (xs ++ ys)) ≡ (if own then x ∷ xs else xs) ++ ys
-    joined true x xs ys = refl
-    joined false x xs ys = refl
+sent_by_worker-append w (t ∷ ts) ys = grind (arith, sent_by_worker-append w ts ys)
 
 -- a first pair of another worker is left out
 other_pair : (w : ℕ) (t : ℕ × Job) (l : List Job) → t.0 ≢ w → (if t.0 == w then t.1 ∷ l else l) ≡ l
@@ -64,36 +58,6 @@ next_goes_last ended s given same next k lt = elim (cases_lt k (length ended)) [
       ap given k_is ∙ next ∙ sym (get_or_push ended s [] k (sym k_is))
 ]
 
--- ---- what the pairs account for
-
--- there are no workers and no pairs
-accounts_none : Accounts 0 [] []
-accounts_none = record { below = λ k d lt. absurd (omega arith); whole = λ w lt. absurd (omega arith) }
-
--- a pair more, of a worker that hasn't ended
-accounts_pair : (workers : ℕ) (ended : List (List Job)) (pairs : List (ℕ × Job)) (x : ℕ × Job) → x.0 < workers
-    → length ended ≤ x.0 → Accounts workers ended pairs → Accounts workers ended (pairs ++ x ∷ [])
-accounts_pair workers ended pairs x lt le accounts =
-    record {
-      below = All-push (λ (t : ℕ × Job). t.0 < workers) pairs x accounts.below lt;
-      whole = λ w b. let ne : x.0 ≢ w = (λ q. omega arith) in other_pair_changes_nothing w pairs x ne ∙ accounts.whole w b;
-    }
-
--- a worker more
-accounts_worker : (workers : ℕ) (ended : List (List Job)) (pairs : List (ℕ × Job)) → Accounts workers ended pairs
-    → Accounts (workers + 1) ended pairs
-accounts_worker workers ended pairs accounts =
-    record {
-      below = λ k d lt. omega (arith, accounts.below k d lt);
-      whole = accounts.whole;
-    }
-
--- one worker more has ended, the next one: its list is what it sent
-accounts_ended : (workers : ℕ) (ended : List (List Job)) (pairs : List (ℕ × Job)) (sent : List Job)
-    → sent ≡ sent_by_worker (length ended) pairs → Accounts workers ended pairs → Accounts workers (ended ++ sent ∷ []) pairs
-accounts_ended workers ended pairs sent sent_is accounts =
-    record { below = accounts.below; whole = next_goes_last ended sent (λ w. sent_by_worker w pairs) accounts.whole (sym sent_is) }
-
 -- ==== What the pass to get knows
 
 -- what the workers sent whose passes were reclaimed
@@ -113,7 +77,7 @@ opening_is_lawful = record {
   getter = refl;
   count = refl;
   held = refl;
-  accounts = accounts_none;
+  accounts = record { below = λ k d lt. absurd (omega arith); whole = λ w lt. absurd (omega arith) };
   fits = each_more (FitsPairs [] []) [] opening_view (λ j u e. absurd (some-ne-none u (sym e))) refl;
 }
 
@@ -182,8 +146,11 @@ module _ {items : List Job} {views : List QueueView} (kept : IsLawful items view
         getter = set_else views place 0 after (λ q. omega (arith, q, fit.place_is)) ∙ kept.getter;
         count = length-set views place after ∙ kept.count;
         held = map-append (λ (p : ℕ × Job). p.1) kept.inside (pair ∷ []) ∙ ap (◌++ (x ∷ [])) kept.held;
-        accounts = rw (← append_assoc kept.got kept.inside (pair ∷ [])) (accounts_pair kept.workers kept.ended pairs pair
-            (omega (arith, fit.place_is, kept.count, in_views views place has_view)) fit.running kept.accounts);
+        accounts = rw (← append_assoc kept.got kept.inside (pair ∷ [])) (record {
+          below = All-push (λ (t : ℕ × Job). t.0 < kept.workers) pairs pair kept.accounts.below
+              (omega (arith, fit.place_is, kept.count, in_views views place has_view));
+          whole = λ w low. other_pair_changes_nothing w pairs pair (λ q. omega (arith, q, low, fit.running)) ∙ kept.accounts.whole w low;
+        });
         fits = rw (← append_assoc kept.got kept.inside (pair ∷ []))
             (each_set (FitsPairs (pairs ++ pair ∷ []) kept.ended) views place after fits (fits_more pair fit.place_is));
       }
@@ -208,7 +175,7 @@ module _ {items : List Job} {views : List QueueView} (kept : IsLawful items view
         getter = at_longer after (Putting kept.workers [] ∷ []) 0 _ (set_here views 0 getter (in_views views 0 kept.getter));
         count = omega (arith, length_push after (Putting kept.workers []), same, kept.count);
         held = kept.held;
-        accounts = accounts_worker kept.workers kept.ended pairs kept.accounts;
+        accounts = record { below = λ k d lt. omega (arith, kept.accounts.below k d lt); whole = kept.accounts.whole };
         fits = each_more (FitsPairs pairs kept.ended) after (Putting kept.workers [])
             (each_set (FitsPairs pairs kept.ended) views 0 getter refl (λ j u apart has_view. kept.fits j u has_view)) fresh;
       }
@@ -231,7 +198,10 @@ module _ {items : List Job} {views : List QueueView} (kept : IsLawful items view
         getter = set_else between other 0 Reclaimed (λ q. apart (sym q)) ∙ set_here views 0 getter (in_views views 0 kept.getter);
         count = length-set between other Reclaimed ∙ length-set views 0 getter ∙ kept.count;
         held = kept.held;
-        accounts = accounts_ended kept.workers kept.ended pairs sent fit.all_sent kept.accounts;
+        accounts = record {
+          below = kept.accounts.below;
+          whole = next_goes_last kept.ended sent (λ w. sent_by_worker w pairs) kept.accounts.whole (sym fit.all_sent);
+        };
         fits = each_set F between other Reclaimed tt (λ j u elsewhere has_view. others j u has_view elsewhere);
       }
 
@@ -288,7 +258,7 @@ pub reclaim_is_lawful : (place other : ℕ) {v u : QueueView} {workers : ℕ} {g
 reclaim_is_lawful place other {sent = sent} getting putting next = λ items views kept has_view apart has_other.
     let getter = getter_is_first kept place getting has_view in
     let number = next ∙ ap (λ v. length (ended_in v)) (sym getting ∙ getter.1) in
-    let here = was_there views place other _ _ apart has_other ∙ ap some (putting ∙ ap (λ n. Putting n sent) number) in
+    let here = was_there views place other _ apart has_other ∙ ap some (putting ∙ ap (λ n. Putting n sent) number) in
     rw (getter.0, getter.1, putting) (lawful_with_end kept other (λ q. apart (q ∙ sym getter.0)) here)
 
 -- what the pass to get learns of the queue

@@ -1,5 +1,5 @@
 -- The rows that the seats of a desk know: sums over them and facts of each, after a change of one seat, and what they deal.
-use Rattle.std.proofs.{Common.{◌≡◌, ◌⊎◌, inl, inr, ℕ, zero, suc, ◌+◌, ◌≤◌, List, [], ◌∷◌, ◌++◌, length, set, refl, sym, ap, ◌∙◌, subst, arith, length-append, append-nil, ◌<◌, ◌==◌, sum_by, count_by, All, AllPairs, if◌then◌else◌}, lemmas.{List.{get_or_append_left, map-append, nil_from_length, take_at, drop_at, Sums.{sum_by-cons, sum_by-append, sum_by_push, sum_by-set, get_or-le-sum_by}, Elements.{All-append, All-nil, All-take, All-drop}}, Bool.{cases_lt}}}
+use Rattle.std.proofs.{Common.{◌≡◌, ◌⊎◌, inl, inr, ℕ, zero, suc, ◌+◌, ◌≤◌, List, [], ◌∷◌, ◌++◌, length, set, refl, sym, ap, ◌∙◌, subst, arith, length-append, append-nil, ◌<◌, ◌==◌, sum_by, count_by, All, AllPairs, Some, if◌then◌else◌}, lemmas.{List.{map-append, nil_from_length, take_at, drop_at, Sums.{sum_by-cons, sum_by-append, sum_by_push, sum_by-set, get_or-le-sum_by}, Elements.{All-append, All-nil, All-pop, All-take, All-drop}}, Bool.{cases_lt}}}
 use mathlib.Core.Option.{some, some-injective, some-ne-none}
 use lib.ListN.{get_elem?}
 use Rattle.kalah_run.proofs.ViewLemmas.{Each, in_views, view_at}
@@ -20,13 +20,13 @@ times_rows x (r ∷ rs) =
     omega (arith, times_rows x rs, mine, sum_by-cons (times_in_row x) r rs)
 
 -- a sum, after a change of one term
-pub sum_set : {X : Type 0} (f : X → ℕ) (xs : List X) (k : ℕ) (old new : X) → get_elem? xs k ≡ some old
+pub sum_set : {X : Type 0} (f : X → ℕ) (xs : List X) (k : ℕ) {old : X} (new : X) → get_elem? xs k ≡ some old
     → sum_by f (set xs k new) + f old ≡ sum_by f xs + f new
-sum_set f xs k old new has_old = rw (view_at xs k old has_old) at (sum_by-set f xs k new old (in_views xs k has_old))
+sum_set f xs k {old} new has_old = rw (view_at xs k old has_old) at (sum_by-set f xs k new old (in_views xs k has_old))
 
 -- a term is within the sum
-sum_at : {X : Type 0} (f : X → ℕ) (xs : List X) (k : ℕ) (term : X) → get_elem? xs k ≡ some term → f term ≤ sum_by f xs
-sum_at f xs k term has_term = rw (view_at xs k term has_term) at (get_or-le-sum_by f xs k term (in_views xs k has_term))
+sum_at : {X : Type 0} (f : X → ℕ) (xs : List X) (k : ℕ) {term : X} → get_elem? xs k ≡ some term → f term ≤ sum_by f xs
+sum_at f xs k {term} has_term = rw (view_at xs k term has_term) at (get_or-le-sum_by f xs k term (in_views xs k has_term))
 
 -- the sum over all rows is one over the seats
 rows_sum : (f : DrawnRow → ℕ) (views : List DeskView) → sum_by f (all_rows views) ≡ sum_by (λ view. sum_by f (rows_in view)) views
@@ -35,10 +35,10 @@ rows_sum f (x ∷ xs) =
     omega (arith, rows_sum f xs, sum_by-append f (rows_in x) (all_rows xs), sum_by-cons (λ view. sum_by f (rows_in view)) x xs)
 
 -- the sum over all rows, after a change of one view
-pub rows_set : (f : DrawnRow → ℕ) (views : List DeskView) (seat : ℕ) (old new : DeskView) → get_elem? views seat ≡ some old
+pub rows_set : (f : DrawnRow → ℕ) (views : List DeskView) (seat : ℕ) {old : DeskView} (new : DeskView) → get_elem? views seat ≡ some old
     → sum_by f (all_rows (set views seat new)) + sum_by f (rows_in old) ≡ sum_by f (all_rows views) + sum_by f (rows_in new)
-rows_set f views seat old new has_old =
-    omega (arith, rows_sum f (set views seat new), rows_sum f views, sum_set (λ u. sum_by f (rows_in u)) views seat old new has_old)
+rows_set f views seat new has_old =
+    omega (arith, rows_sum f (set views seat new), rows_sum f views, sum_set (λ u. sum_by f (rows_in u)) views seat new has_old)
 
 -- the same with one seat more
 pub rows_push : (f : DrawnRow → ℕ) (views : List DeskView) (new : DeskView)
@@ -47,18 +47,18 @@ rows_push f views new =
     omega (arith, rows_sum f (views ++ new ∷ []), rows_sum f views, sum_by_push (λ u. sum_by f (rows_in u)) views new)
 
 -- the sum over one seat's rows is within that over all
-pub rows_at : (f : DrawnRow → ℕ) (views : List DeskView) (seat : ℕ) (view : DeskView) → get_elem? views seat ≡ some view
+pub rows_at : (f : DrawnRow → ℕ) (views : List DeskView) (seat : ℕ) {view : DeskView} → get_elem? views seat ≡ some view
     → sum_by f (rows_in view) ≤ sum_by f (all_rows views)
-rows_at f views seat view has_view = omega (arith, rows_sum f views, sum_at (λ u. sum_by f (rows_in u)) views seat view has_view)
+rows_at f views seat has_view = omega (arith, rows_sum f views, sum_at (λ u. sum_by f (rows_in u)) views seat has_view)
 
 -- a fact of the rows of one seat
-pub all_at : (P : DrawnRow → Type 0) (views : List DeskView) (seat : ℕ) (view : DeskView) → get_elem? views seat ≡ some view
+pub all_at : (P : DrawnRow → Type 0) (views : List DeskView) (seat : ℕ) {view : DeskView} → get_elem? views seat ≡ some view
     → All P (all_rows views) → All P (rows_in view)
-all_at P [] seat view has_view all = absurd (some-ne-none view (sym has_view))
-all_at P (x ∷ xs) zero view has_view all = subst (λ u. All P (rows_in u)) (some-injective x view has_view)
+all_at P [] seat {view} has_view all = absurd (some-ne-none view (sym has_view))
+all_at P (x ∷ xs) zero {view} has_view all = subst (λ u. All P (rows_in u)) (some-injective x view has_view)
     (rw (take_at (rows_in x) (all_rows xs) _ refl) at (All-take P (length (rows_in x)) _ all))
-all_at P (x ∷ xs) (suc seat) view has_view all =
-    all_at P xs seat view has_view (rw (drop_at (rows_in x) (all_rows xs) _ refl) at (All-drop P (length (rows_in x)) _ all))
+all_at P (x ∷ xs) (suc seat) has_view all =
+    all_at P xs seat has_view (rw (drop_at (rows_in x) (all_rows xs) _ refl) at (All-drop P (length (rows_in x)) _ all))
 
 -- a fact of the rows of each seat is one of all rows
 pub all_from : (P : DrawnRow → Type 0) (views : List DeskView) → Each (λ seat view. All P (rows_in view)) views → All P (all_rows views)
@@ -68,10 +68,7 @@ all_from P (x ∷ xs) each =
 
 -- a seat has at most one row for each of its passes
 rows_within_one : (view : DeskView) → length (rows_in view) ≤ passes_in view
-rows_within_one (Opening total handed_out left) = omega arith
-rows_within_one (Drawing total number r) = omega arith
-rows_within_one (Closing rows) = omega arith
-rows_within_one Reclaimed = omega arith
+rows_within_one view = grind arith
 
 -- and all seats have at most one for each of their passes
 pub rows_within_passes : (views : List DeskView) → length (all_rows views) ≤ sum_by passes_in views
@@ -90,12 +87,11 @@ has_all (x ∷ xs) zero rows has_view whole =
     nil_from_length (all_rows xs) (omega (arith, part, whole, rows_within_passes xs, sum_by-cons passes_in x xs)) in
     ap (λ u. rows_in u ++ all_rows xs) x_is ∙ ap (rows ++◌) rest ∙ append-nil rows
 has_all (x ∷ xs) (suc seat) rows has_view whole =
-    let mine : length rows ≤ sum_by passes_in xs = sum_at passes_in xs seat (Closing rows) has_view in
+    let mine : length rows ≤ sum_by passes_in xs = sum_at passes_in xs seat has_view in
     let no_pass : passes_in x ≡ 0 = omega (arith, mine, whole, sum_by-cons passes_in x xs) in
     let short : rows_in x ≡ [] = nil_from_length (rows_in x) (omega (arith, no_pass, rows_within_one x)) in
     ap (◌++ all_rows xs) short ∙ has_all xs seat rows has_view (omega (arith, no_pass, whole, sum_by-cons passes_in x xs))
 
--- the numbers of the row ascend
 abbrev pub Ascends : DrawnRow → Type 0
 Ascends r = AllPairs (λ x y. x < y) r.numbers
 
@@ -127,6 +123,5 @@ deals_to_others {total} {drawn} passes p empty deals =
     deals_alike all
     (omega (arith, sum_by_push (λ (x : DrawnRow). length x.numbers) rows p.row, ap length empty))
     (λ x. omega (arith, sum_by_push (times_in_row x) rows p.row, ap (λ (l : List ℕ). count_by (λ y. y == x) l) empty))
-    (λ k d within. subst Ascends (get_or_append_left rows (p.row ∷ []) d k within)
-    (all.ascending k d (omega (arith, within, length-append rows (p.row ∷ [])))))
+    (All-pop Ascends (rows ++ p.row ∷ []) rows (Some p.row) refl all.ascending).0
     (λ some. all.spent (omega (arith, some, sum_by_push (λ (x : DrawnRow). if x.spent then 1 else 0) rows p.row)))

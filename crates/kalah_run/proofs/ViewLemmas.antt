@@ -45,7 +45,7 @@ module _ {V : Type 0} where
       elim (at_end views w u j has_u) [ inl before ↦ each j u before | inr last ↦ rw (last.0, ← last.1) has_fact ]
 
   -- what another place has after a change of one, it had before
-  pub was_there : (views : List V) (place other : ℕ) (w u : V) → other ≢ place → get_elem? (set views place w) other ≡ some u
+  pub was_there : (views : List V) (place other : ℕ) (w : V) {u : V} → other ≢ place → get_elem? (set views place w) other ≡ some u
       → get_elem? views other ≡ some u
-  was_there views place other w u apart has_u =
+  was_there views place other w {u} apart has_u =
       elim (at_set views place other w u has_u) [ inl here ↦ absurd (apart here.0) | inr elsewhere ↦ elsewhere.1 ]

@@ -86,9 +86,13 @@ as_many_as_asked asked many count_is least_is total_is = (omega (arith, many, co
 
 -- workers with new passes, that have sent nothing, are at work
 pub new_at_work : {G : Type 0} {knows : G → ℕ → Bool} (shared : SharedWork G) (workers : List Worker) (count : ℕ)
-    → AreNewPasses shared.desk count (passes_of workers) → ArePassesFrom shared.queue.id 0 (puts_of workers)
-    → All (λ p. p.sent ≡ []) (puts_of workers) → AreAtWork knows shared workers
-new_at_work {knows = knows} shared workers count new from unsent = λ k d within.
+    {passes : List PassState} {puts : List PutPassState} → passes_of workers ≡ passes → puts_of workers ≡ puts
+    → AreNewPasses shared.desk count passes → ArePassesFrom shared.queue.id 0 puts → All (λ p. p.sent ≡ []) puts
+    → AreAtWork knows shared workers
+new_at_work {knows = knows} shared workers count passes_are puts_are all_new all_from all_unsent = λ k d within.
+    let new = subst (AreNewPasses shared.desk count) (sym passes_are) all_new in
+    let from = subst (ArePassesFrom shared.queue.id 0) (sym puts_are) all_from in
+    let unsent = subst (All (λ p. p.sent ≡ [])) (sym puts_are) all_unsent in
     let w = get_or workers k d in
     let low : k < count = omega (arith, new.0, length-map workers (λ (x : Worker). x.pass)) in
     let put_low : k < length (puts_of workers) = omega (arith, length-map workers (λ (x : Worker). x.put_pass)) in
@@ -125,7 +129,7 @@ pub have_run : {G : Type 0} {knows : G → ℕ → Bool} {shared : SharedWork G}
 have_run list_is as_many each = rw (← list_is) (record { as_many = as_many; each = each })
 
 -- each worker that has run
-module _ {G : Type 0} {knows : G → ℕ → Bool} (shared : SharedWork G) (before after : List Worker)
+module _ {G : Type 0} {knows : G → ℕ → Bool} {shared : SharedWork G} {before after : List Worker}
     (run : HaveRun knows shared before after) where
   -- it is at work
   run_at_work : AreAtWork knows shared after
@@ -157,7 +161,7 @@ shares_of_workers {shared = shared} {before} {after} run pairs count_is deals ac
       workers = rw (count_is ∙ sym run.as_many ∙ sym row_count) at accounts.below;
       whole = λ w within.
           let low : w < length after = omega (arith, within, row_count) in
-          accounts.whole w (omega (arith, low, sent_count)) ∙ sent_in_order shared after w (run_at_work shared before after run) low;
+          accounts.whole w (omega (arith, low, sent_count)) ∙ sent_in_order shared after w (run_at_work run) low;
     }
 
 -- Each number below the count of those drawn stands in the rows once, the pairs that were got and those left inside account for what was
@@ -175,7 +179,7 @@ each_job_got {shared = shared} {after = after} {drawn = drawn} run got count_is 
     let many : length got ≡ length (job_list own) = all ∙ ap job_count jobs_are ∙ sym (length-job_list own) in
     let whole : drawn ≡ length (job_list own) = omega (
       arith,
-      as_many_as_numbers drawn (job own) rows (got ++ rest) are_shared,
+      as_many_as_numbers are_shared,
       length-append got rest,
       many,
       deals.within,
@@ -233,4 +237,4 @@ each_job_known {knows = knows} {shared} {before} {after} {drawn} run some deals 
     All-at_dealt Known job (drawn_rows (passes_of after)) (omega (arith, once))
     (All-map (λ (r : DrawnRow). All Known r.numbers) (λ (p : PassState). p.row) (passes_of after)
     (All-map (λ (p : PassState). All Known p.row.numbers) (λ (w : Worker). w.pass) after
-    (λ k w within. (run_at_work shared before after run k w within).known)))
+    (λ k w within. (run_at_work run k w within).known)))

@@ -29,7 +29,7 @@ use std::sync::Wait;
 use std::sync::atomic::Rule;
 use std::thread::Threads;
 
-// The rule of the word that is 1 once the workers of a batch have ended. `OpenBatch::run` is proved for every rule, so this one states
+// The rule of the word that is 1 once the workers of a batch have ended. `OpenBatch::answer` is proved for every rule, so this one states
 // nothing.
 struct NoFact;
 
@@ -72,7 +72,7 @@ pub fn answer_batch<R: Threads + Wait + Sync, G: Gate, V: Watch, W: Sink>(
 {
     let jobs = Jobs::with_question(alloc, request.question, request.files)?;
     if jobs.total() > 0 {
-        let Some(()) = OpenBatch::open(alloc, request, &jobs, gate)?.run::<R, V, W, NoFact>(
+        let Some(()) = OpenBatch::open(alloc, request, &jobs, gate)?.answer::<R, V, W, NoFact>(
             rt, watch, out,
         ) else {
             return Err(RunFault::NoWorker);

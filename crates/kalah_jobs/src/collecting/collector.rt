@@ -38,8 +38,9 @@ impl Collector {
         ensures empty { IfOk result (λ c. c ≡ new_files jobs.now) }
         ensures counts { IfOk result (λ c. HasLinesOf jobs.now c) }
     {
-        let mut files = Vec::with_capacity(alloc, jobs.files() as usize)?;
-        for f in 0..jobs.files() {
+        let count = jobs.files();
+        let mut files = Vec::with_capacity(alloc, count as usize)?;
+        for f in 0..count {
             files.push_reserved(Arrivals::new(alloc, jobs.lines(f))?);
         }
         Ok(Collector { files })

@@ -46,7 +46,8 @@ fn board_of(own: &Side, other: &Side, rule: Rule) -> Result<Board, LineFault>
             return Ok(board);
         }
     }
-    if own.len() != other.len() || own.len() > MOST_HOUSES {
+    let houses = own.len();
+    if houses != other.len() || houses > MOST_HOUSES {
         return Err(LineFault::Houses);
     }
     Err(LineFault::Seeds)

@@ -4,9 +4,9 @@ ghost use Rattle.kalah_jobs.specs.{Files.Lines.{line_feed}, Writing.{Answer.{ans
 
 use crate::writing::answer::{Answer, Taken};
 use crate::writing::named_text::write_named;
-use crate::writing::sink::{Sink, write_unless_failed};
+use crate::writing::sink::Sink;
 use crate::writing::stack_text::{ROOM, StackText};
-use crate::writing::steps::{text_of_steps, write_steps, write_steps_in_line};
+use crate::writing::steps::{push_line, text_of_steps, write_steps, write_steps_in_line};
 use kalah_solve::{MoveValue, MoveValues};
 use std::alloc::{AllocError, Global};
 use std::io;
@@ -31,11 +31,12 @@ fn prepend_values(text: &mut StackText, values: &MoveValues, i: u8)
     ensures values { text.new ≡ values_text (drop i values.now) ++ text.old }
     ensures short { length text.new + 16 * i ≤ length text.old + 96 }
 {
-    if i == values.len() {
+    let count = values.len();
+    if i == count {
         return;
     }
     let value = values.get(i);
-    if i + 1 == values.len() {
+    if i + 1 == count {
         return prepend_value(text, value);
     }
     prepend_values(text, values, i + 1);
@@ -98,8 +99,8 @@ pub fn answer_text(alloc: Global, name: &str, taken: &Taken) -> Result<String, A
     }
     prepend_joined_text(&mut rest, &taken.answer);
     prepend_place(&mut rest, taken.line);
-    let mut text = String::from_str(alloc, name)?;
-    text.push_str(rest.as_str())?;
+    let mut text = String::new(alloc);
+    push_line(&mut text, true, name, rest.as_str())?;
     Ok(text)
 }
 
@@ -109,14 +110,14 @@ pub fn answer_text(alloc: Global, name: &str, taken: &Taken) -> Result<String, A
 pub fn write_answer_unless_failed<W: Sink>(out: &mut W, name: &str, taken: &Taken)
     ensures { WasGiven W.state out.old out.new (answer_output name.now taken.now) }
 {
-    let mut text = StackText::new();
     match &taken.answer {
         Answer::Steps(board) => {
-            prepend_place(&mut text, taken.line);
-            write_steps(out, name, text.as_str(), board);
+            let mut place = StackText::new();
+            prepend_place(&mut place, taken.line);
+            write_steps(out, name, place.as_str(), board);
         }
         _ => {
-            text.prepend("\n");
+            let mut text = StackText::of("\n");
             prepend_joined_text(&mut text, &taken.answer);
             prepend_place(&mut text, taken.line);
             write_named(out, name, &mut text);
@@ -149,10 +150,9 @@ pub(crate) fn write_joined_text<W: Sink>(out: &mut W, answer: &Answer)
     match answer {
         Answer::Steps(board) => write_steps_in_line(out, board),
         _ => {
-            let mut text = StackText::new();
-            text.prepend("\n");
+            let mut text = StackText::of("\n");
             prepend_joined_text(&mut text, answer);
-            write_unless_failed(out, text.bytes());
+            text.write_to(out);
         }
     }
 }

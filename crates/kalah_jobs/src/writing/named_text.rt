@@ -12,7 +12,7 @@ fn write_apart<W: Sink>(out: &mut W, name: &str, text: &StackText)
     ensures { WasGiven W.state out.old out.new (name.now ++ text.now) }
 {
     write_unless_failed(out, name.as_bytes());
-    write_unless_failed(out, text.bytes());
+    text.write_to(out);
 }
 
 /// Writes the name and then the text, by one call of the sink. If the name is too long to be put in front of the text, there are two.
@@ -24,6 +24,6 @@ pub(crate) fn write_named<W: Sink>(out: &mut W, name: &str, text: &mut StackText
         write_apart(out, name, text);
     } else {
         text.prepend(name);
-        write_unless_failed(out, text.bytes());
+        text.write_to(out);
     }
 }

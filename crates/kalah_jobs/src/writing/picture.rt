@@ -4,7 +4,7 @@ ghost use Rattle.kalah_jobs.specs.Writing.{Sink.{WasGiven}, Picture.{column_text
 ghost use Rattle.kalah_rules.specs.Position.{side_length};
 
 use crate::writing::player::Player;
-use crate::writing::sink::{Sink, write_unless_failed};
+use crate::writing::sink::Sink;
 use crate::writing::stack_text::{ROOM, StackText};
 use kalah_rules::Board;
 
@@ -57,8 +57,7 @@ fn picture(board: &Board) -> StackText
     ensures { result ≡ picture_of board.now }
 {
     let m = usize::from(board.m());
-    let mut text = StackText::new();
-    text.prepend("\n");
+    let mut text = StackText::of("\n");
     prepend_houses(&mut text, board, Player::Mover);
     text.prepend("\n");
     prepend_column(&mut text, board.own_store());
@@ -75,5 +74,5 @@ fn picture(board: &Board) -> StackText
 pub fn write_picture<W: Sink>(out: &mut W, board: &Board)
     ensures { WasGiven W.state out.old out.new (picture_of board.now) }
 {
-    write_unless_failed(out, picture(board).bytes());
+    picture(board).write_to(out);
 }

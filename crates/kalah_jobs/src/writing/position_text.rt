@@ -4,7 +4,7 @@ ghost use Rattle.kalah_jobs.specs.{Writing.{Sink.{WasGiven}, Player.{houses_of, 
 ghost use Rattle.kalah_rules.specs.{Limits.{most_in_store}, Position.{IsWithinLimits, side_length}};
 
 use crate::writing::player::Player;
-use crate::writing::sink::{Sink, write_unless_failed};
+use crate::writing::sink::Sink;
 use crate::writing::stack_text::{ROOM, StackText};
 use kalah_rules::{Board, Rule, Step};
 use std::alloc::{AllocError, Global};
@@ -100,8 +100,7 @@ pub(crate) fn text_of_step(h: u8, step: &Step, end: &str) -> StackText
     ensures text { result ≡ step_text_of h step.now ++ end.now }
     ensures short { length result ≤ 68 }
 {
-    let mut text = StackText::new();
-    text.prepend(end);
+    let mut text = StackText::of(end);
     prepend_step(&mut text, h, step);
     text
 }
@@ -121,8 +120,7 @@ fn line_end(value: Option<i32>) -> StackText
     ensures end { result ≡ value_suffix value ++ line_feed ∷ [] }
     ensures short { length result ≤ 13 }
 {
-    let mut text = StackText::new();
-    text.prepend("\n");
+    let mut text = StackText::of("\n");
     if let Some(value) = value {
         text.prepend_margin(value);
         text.prepend(" ");
@@ -136,5 +134,5 @@ pub fn write_step<W: Sink>(out: &mut W, h: u8, step: &Step, value: Option<i32>)
 {
     let mut text = line_end(value);
     prepend_step(&mut text, h, step);
-    write_unless_failed(out, text.bytes());
+    text.write_to(out);
 }

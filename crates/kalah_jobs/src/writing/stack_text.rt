@@ -1,7 +1,8 @@
 //! A short text that is put together on the stack.
 ghost use Rattle.std.specs.{Prelude.{◌≡◌, ◌+◌, ◌≤◌, [], ◌++◌, IsUtf8, length, replicate, decimal}, Fmt.{signed_decimal}};
-ghost use Rattle.kalah_jobs.specs.Line.Line.{space};
+ghost use Rattle.kalah_jobs.specs.{Line.Line.{space}, Writing.Sink.{WasGiven}};
 
+use crate::writing::sink::{Sink, write_unless_failed};
 use itoa::write_digits;
 use std::marker::Model;
 use std::str;
@@ -39,6 +40,17 @@ impl StackText {
         }
     }
 
+    /// Makes a text of this piece.
+    #[inline]
+    pub(crate) fn of(piece: &str) -> StackText
+        requires { length piece.now ≤ ROOM }
+        ensures { result ≡ piece.now }
+    {
+        let mut text = StackText::new();
+        text.prepend(piece);
+        text
+    }
+
     /// Returns the bytes.
     pub(crate) fn bytes(&self) -> &[u8]
         ensures bytes { result.now ≡ self.now }
@@ -52,6 +64,14 @@ impl StackText {
         ensures { result.now ≡ self.now }
     {
         str::from_utf8(self.bytes()).unwrap()
+    }
+
+    /// Writes the text by one call of the sink, unless that has failed.
+    #[inline(always)]
+    pub(crate) fn write_to<W: Sink>(&self, out: &mut W)
+        ensures { WasGiven W.state out.old out.new self.now }
+    {
+        write_unless_failed(out, self.bytes());
     }
 
     /// Returns how many more bytes there is room for.

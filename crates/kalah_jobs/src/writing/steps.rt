@@ -18,10 +18,11 @@ pub(crate) fn write_steps<W: Sink>(out: &mut W, name: &str, place: &str, board: 
         (join_with_byte line_feed (map (λ text. (name.now ++ place.now) ++ text) (steps_texts board.now)) ++ line_feed ∷ []) }
 {
     let moves = board.legal();
-    if moves.len() == 0 {
+    let count = moves.len();
+    if count == 0 {
         return write_unless_failed(out, b"\n");
     }
-    for i in 0..moves.len() {
+    for i in 0..count {
         let h = moves.get(i);
         let mut text = text_of_step(h, &board.apply(h), "\n");
         text.prepend(place);
@@ -29,8 +30,13 @@ pub(crate) fn write_steps<W: Sink>(out: &mut W, name: &str, place: &str, board: 
     }
 }
 
-// Appends a line of a move to the text: a line feed before it if it isn't the first, the name and the rest of the line.
-fn push_line(text: &mut String, is_first: bool, name: &str, rest: &str) -> Result<(), AllocError>
+/// Appends a line to the text: a line feed before it if it isn't the first, the name and the rest of the line.
+pub(crate) fn push_line(
+    text: &mut String,
+    is_first: bool,
+    name: &str,
+    rest: &str,
+) -> Result<(), AllocError>
     ensures { OnOk result (string_bytes text.new
         ≡ string_bytes text.old ++ ((if is_first then [] else line_feed ∷ []) ++ (name.now ++ rest.now))) }
 {
@@ -82,7 +88,7 @@ pub(crate) fn write_steps_in_line<W: Sink>(out: &mut W, board: &Board)
 {
     let moves = board.legal();
     for i in 0..moves.len() {
-        write_unless_failed(out, next_text(i == 0, board, moves.get(i)).bytes());
+        next_text(i == 0, board, moves.get(i)).write_to(out);
     }
     write_unless_failed(out, b"\n");
 }

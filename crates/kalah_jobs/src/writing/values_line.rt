@@ -5,7 +5,7 @@ ghost use Rattle.kalah_solve.specs.Solver.MoveValues.{values_of};
 ghost use Rattle.kalah_jobs.specs.{Files.Lines.{line_feed}, Writing.{Sink.{WasGiven}, ValuesLine.{AreMoveValues, AscendFrom, value_column, value_columns, values_line}}};
 
 use crate::writing::picture::COLUMN_WIDTH;
-use crate::writing::sink::{Sink, write_unless_failed};
+use crate::writing::sink::Sink;
 use crate::writing::stack_text::{ROOM, StackText};
 use kalah_rules::Board;
 use kalah_solve::{MoveValue, MoveValues};
@@ -47,8 +47,7 @@ fn line_below(board: &Board, values: &MoveValues) -> StackText
     requires { values.now ≡ values_of board.now }
     ensures { result ≡ values_line board.now ++ line_feed ∷ [] }
 {
-    let mut text = StackText::new();
-    text.prepend("\n");
+    let mut text = StackText::of("\n");
     if board.is_over() {
         text.prepend_margin(board.returns());
         text.prepend("over, margin ");
@@ -65,5 +64,5 @@ pub fn write_values<W: Sink>(out: &mut W, board: &Board, values: &MoveValues)
     requires { values.now ≡ values_of board.now }
     ensures { WasGiven W.state out.old out.new (values_line board.now ++ line_feed ∷ []) }
 {
-    write_unless_failed(out, line_below(board, values).bytes());
+    line_below(board, values).write_to(out);
 }

@@ -1,7 +1,7 @@
 //! The variation of a move: the houses that are moved from it on to the end of the game, in best play.
 ghost use Rattle.kalah_jobs.specs.Writing.{Sink.{WasGiven}, Variation.{next_house, variation_start}};
 
-use crate::writing::sink::{Sink, write_unless_failed};
+use crate::writing::sink::Sink;
 use crate::writing::stack_text::StackText;
 use kalah_solve::MoveValue;
 
@@ -15,7 +15,7 @@ pub fn write_variation_start<W: Sink>(out: &mut W, value: MoveValue)
     text.prepend_margin(i32::from(value.value));
     text.prepend("  ");
     text.prepend_byte(value.house);
-    write_unless_failed(out, text.bytes());
+    text.write_to(out);
 }
 
 /// Writes a space and the next house of a variation.
@@ -25,5 +25,5 @@ pub fn write_next_house<W: Sink>(out: &mut W, house: u8)
     let mut text = StackText::new();
     text.prepend_byte(house);
     text.prepend(" ");
-    write_unless_failed(out, text.bytes());
+    text.write_to(out);
 }

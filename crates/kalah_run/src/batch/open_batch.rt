@@ -1,4 +1,4 @@
-//! A batch that is opened, run and closed.
+//! A batch that is opened, answered and closed.
 ghost use Rattle.std.specs.Prelude.{◌≡◌, ◌≤◌, ◌⊎◌, ℕ, ◌<◌, [], ◌∷◌, ◌++◌, length, vec_len, vec_capacity, false, true, IfOk, IfNone, IfSome};
 ghost use Rattle.kalah_jobs.specs.{Files.Jobs.{job_count}, Writing.Sink.{WasGiven}};
 ghost use Rattle.kalah_run.specs.{Limits.{IsTableSize}, Batch.{AtWork.{passes_of, puts_of, OnceRun}, Running.{IsAsAsked, IsReadyToRun, HaveOwnTables}, OrderedOutput.{whole_output}}, declared.batch.request.OnFailedWrite.TheVariants.{Solve}};
@@ -8,7 +8,7 @@ use crate::batch::gate::Gate;
 use crate::batch::ordered_output::OrderedOutput;
 use crate::batch::receiver::{CallerPasses, Receiver, RestPass};
 use crate::batch::request::BatchRequest;
-use crate::batch::running::run_and_write;
+use crate::batch::running::collect_from_crew;
 use crate::batch::shared_work::SharedWork;
 use crate::batch::watch::Watch;
 use crate::batch::worker::Worker;
@@ -132,7 +132,7 @@ impl<'a, G: Gate> OpenBatch<'a, G> {
 
     /// Answers the jobs: runs the workers, and writes each answer line once it is ready and all earlier ones are written. Then it closes
     /// the batch. Returns `None` if no thread could be started; then nothing is written.
-    pub(crate) fn run<R: Threads + Wait + Sync, V: Watch, W: Sink, E: Rule + Sync>(
+    pub(crate) fn answer<R: Threads + Wait + Sync, V: Watch, W: Sink, E: Rule + Sync>(
         self,
         rt: &R,
         watch: &mut V,
@@ -163,7 +163,8 @@ impl<'a, G: Gate> OpenBatch<'a, G> {
             ended: &ended,
         };
         let receiver = Receiver::new(&shared.desk, &shared.queue, caller, &ended);
-        let Some((workers, caller)) = run_and_write(rt, crew, receiver, output, watch, out) else {
+        let Some((workers, caller)) = collect_from_crew(rt, crew, receiver, output, watch, out)
+        else {
             return None;
         };
         // Closing has no effect that a caller sees: here the desk proves that each number was drawn once, and the queue that each outcome

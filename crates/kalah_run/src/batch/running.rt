@@ -1,5 +1,5 @@
 //! Runs the workers on further threads, while the calling thread accepts what they send.
-ghost use Rattle.std.specs.{Prelude.{◌≡◌, ◌⊎◌, [], length, IfNone, IfSome}, Thread.{IsSync}};
+ghost use Rattle.std.specs.{Prelude.{◌≡◌, ◌⊎◌, [], length, MatchOption}, Thread.{IsSync}};
 ghost use Rattle.kalah_jobs.specs.{Files.Jobs.{job_count}, Writing.Sink.{IsReady, WasGiven}};
 ghost use Rattle.kalah_run.specs.Batch.{AtWork.{CanRun, HaveRun}, Running.{HasCollected, IsAtStart, GetsOrEnds}, Leaving.{NothingRemains}};
 
@@ -102,7 +102,13 @@ fn collect<R: Wait, V: Watch, W: Sink, E: Rule>(
 
 /// Runs the crew on further threads, and meanwhile accepts the outcome of each job and writes what is ready. Returns the workers and the
 /// passes. Returns `None` if no thread could be started; then nothing is written.
-pub(crate) fn run_and_write<R: Threads + Wait + Sync, G: Gate, V: Watch, W: Sink, E: Rule + Sync>(
+pub(crate) fn collect_from_crew<
+    R: Threads + Wait + Sync,
+    G: Gate,
+    V: Watch,
+    W: Sink,
+    E: Rule + Sync,
+>(
     rt: &R,
     crew: Crew<'_, '_, G, E>,
     receiver: Receiver<'_, E>,
@@ -111,9 +117,8 @@ pub(crate) fn run_and_write<R: Threads + Wait + Sync, G: Gate, V: Watch, W: Sink
     out: &mut W,
 ) -> Option<(Vec<Worker>, CallerPasses)>
     requires { CanRun G.knows crew.shared.now crew.workers.items (E.invariant 1) × IsAtStart receiver.passes output }
-    ensures ran { IfSome result (λ r. HaveRun G.knows crew.entry.shared.now crew.entry.workers.items r.0.items) }
-    ensures collected { IfSome result (λ r. HasCollected W.state output.entry out.old out.new receiver.entry.passes r.1) }
-    ensures untouched { IfNone result (out.new ≡ out.old) }
+    ensures { MatchOption result (out.new ≡ out.old) (λ r. HaveRun G.knows crew.entry.shared.now crew.entry.workers.items r.0.items
+        × HasCollected W.state output.entry out.old out.new receiver.entry.passes r.1) }
 {
     let (ran, _watch, _out) = thread::scope(
         thread::scope_env(),
@@ -122,9 +127,9 @@ pub(crate) fn run_and_write<R: Threads + Wait + Sync, G: Gate, V: Watch, W: Sink
             requires { IsSync R.row × IsSync G.row
                 × CanRun G.knows crew.shared.now crew.workers.items (E.invariant 1) × IsAtStart receiver.passes output }
             ensures names { (result.1.ghost_name ≡ watch.entry.ghost_name) × (result.2.ghost_name ≡ out.entry.ghost_name) }
-            ensures ran { IfSome result.0 (λ r. HaveRun G.knows crew.entry.shared.now crew.entry.workers.items r.0.items) }
-            ensures collected { IfSome result.0 (λ r. HasCollected W.state output.entry out.entry.now result.2.now receiver.entry.passes r.1) }
-            ensures untouched { IfNone result.0 (result.2.now ≡ out.entry.now) }
+            ensures ran { MatchOption result.0 (result.2.now ≡ out.entry.now)
+                (λ r. HaveRun G.knows crew.entry.shared.now crew.entry.workers.items r.0.items
+                × HasCollected W.state output.entry out.entry.now result.2.now receiver.entry.passes r.1) }
         {
             let all_have_run = AllHaveRun {
                 shared: crew.shared,

@@ -1,5 +1,5 @@
 -- The sink is given the output of the files, by the batch that was run, or because it is empty; the flush adds nothing to it.
-use Rattle.std.proofs.{lemmas.Grind.{common_steps}, Common.{◌∙◌, sym, ap, ⊎_elim, inl, inr, arith}}
+use Rattle.std.proofs.{lemmas.Grind.{common_steps}, Common.{◌∙◌, ◌<◌, sym, ap, ⊎_elim, inl, inr, arith, subst}}
 use Rattle.kalah_jobs.specs.{Files.Jobs.{job_count}, Writing.{Sink.{WasGiven}, Output.{output_to}}}
 use Rattle.kalah_jobs.proofs.SinkLemmas.{given_none, given_then_flush}
 use Rattle.kalah_run.proofs.{AnsweringLemmas.{answered, as_many_jobs, no_output, whole_output_is}, batch.answer_batch.Goals.{then-total-gt0+in_ok-open+in-Some, else-total-gt0}}
@@ -11,7 +11,7 @@ returns-in_default-clause-answers g c =
     let jobs = c.in_ok-jobs.ensures in
     let same = c.in_default.ensures.untouched in (
       jobs.0,
-      omega (arith, c.if-total-gt0.true, c.total.ensures.lines, as_many_jobs _ _ _ jobs.1),
+      subst (0 <◌) (c.total.ensures.lines ∙ as_many_jobs _ _ _ jobs.1) c.if-total-gt0.true,
       (same, ap (λ o. (g.W.Sink.state o).has_failed) same ∙ c.requires.not_failed),
     )
 
@@ -49,21 +49,21 @@ returns-clause-gate_hears_all g c = λ unless ok job low.
           let same = ap (λ o. (g.W.Sink.state o).has_failed) (sym w.out-is) in
           rw (← asked.of_gate) (w.in-Some.ensures.gate_hears_all
           (⊎_elim (λ solve. inl (asked.of_choice ∙ solve)) (λ sound. inr (same ∙ (end.given.whole sound).0)) unless) job
-          (omega (arith, low, jobs, ap job_count asked.of_jobs)))
+          (subst (job <◌) (sym (ap job_count asked.of_jobs ∙ jobs)) low))
       | else-total-gt0 w ↦ absurd (omega (arith, low, jobs, w.if-total-gt0.false, c.total.ensures.lines))
     ]
 
+pub answer-requires-clause-ready : goal.answer-requires-clause-ready
+answer-requires-clause-ready g c κs within = c.in_ok-open.ensures.ready
+
+pub answer-requires-clause-begins : goal.answer-requires-clause-begins
+answer-requires-clause-begins g c κs within = tt
+
+pub answer-requires-clause-ends : goal.answer-requires-clause-ends
+answer-requires-clause-ends g c κs within = λ after run. tt
+
 pub open-requires-after_bounds : goal.open-requires-after_bounds
 open-requires-after_bounds g c κs within = grind (arith, common_steps)
-
-pub run-requires-clause-ready : goal.run-requires-clause-ready
-run-requires-clause-ready g c κs within = c.in_ok-open.ensures.ready
-
-pub run-requires-clause-begins : goal.run-requires-clause-begins
-run-requires-clause-begins g c κs within = tt
-
-pub run-requires-clause-ends : goal.run-requires-clause-ends
-run-requires-clause-ends g c κs within = λ after run. tt
 
 pub returns-in_err-jobs-clause-answers : goal.returns-in_err-jobs-clause-answers
 returns-in_err-jobs-clause-answers g c = grind (arith, common_steps)

@@ -54,18 +54,17 @@ struct Run {
     gate: Counting,
 }
 
-fn run_with<R: Threads + Wait + Sync>(
+fn run_with<R: AllocGlobal + Threads + Wait + Sync>(
     rt: &R,
-    alloc: Global,
     question: Question,
     files: &[FileText],
     on_failed_write: OnFailedWrite,
     most: u32,
 ) -> Run {
     let gate = Counting::new();
-    let mut out = Stream::new(Failing::after(alloc, most));
+    let mut out = Stream::new(Failing::after(rt.alloc(), most));
     let request = request_of(question, files, 2, on_failed_write);
-    let tally = answer_batch(rt, alloc, &request, &gate, &mut NoWatch, &mut out);
+    let tally = answer_batch(rt, rt.alloc(), &request, &gate, &mut NoWatch, &mut out);
     Run {
         tally,
         writer: out.into_inner(),
@@ -74,9 +73,8 @@ fn run_with<R: Threads + Wait + Sync>(
 }
 
 // What `solve_batch` does with such a writer.
-fn solve_with<R: Threads + Wait + Sync>(
+fn solve_with<R: AllocGlobal + Threads + Wait + Sync>(
     rt: &R,
-    alloc: Global,
     files: &[FileText],
     workers: u32,
     most: u32,
@@ -84,8 +82,8 @@ fn solve_with<R: Threads + Wait + Sync>(
     requires { (0 < workers) × (workers ≤ 64) }
 {
     let gate = Counting::new();
-    let mut out = Stream::new(Failing::after(alloc, most));
-    let tally = solve_batch(rt, alloc, files, workers, 16, &gate, &mut out);
+    let mut out = Stream::new(Failing::after(rt.alloc(), most));
+    let tally = solve_batch(rt, rt.alloc(), files, workers, 16, &gate, &mut out);
     Run {
         tally,
         writer: out.into_inner(),
@@ -106,24 +104,16 @@ fn ends_the_writing_alone(run: &Run, most: u32) -> bool {
 // There is a call for each line, and one to flush them. One that fails ends the writing and nothing else.
 #[test]
 fn every_failing_call_ends_the_writing_and_nothing_else(rt: HostRuntime) {
-    let alloc = rt.alloc();
-    let files = four_files(alloc).expect(&rt, "no memory");
+    let files = four_files(rt.alloc()).expect(&rt, "no memory");
     for question in [Question::BestMove, Question::Values, Question::Steps] {
         for most in 0..9u32 {
-            let run = run_with(
-                &rt,
-                alloc,
-                question,
-                files.as_slice(),
-                OnFailedWrite::Solve,
-                most,
-            );
+            let run = run_with(&rt, question, files.as_slice(), OnFailedWrite::Solve, most);
             assert!(rt; ends_the_writing_alone(&run, most), "{most}");
         }
     }
     for most in 0..9u32 {
         for workers in [1, 2, 64] {
-            let run = solve_with(&rt, alloc, files.as_slice(), workers, most);
+            let run = solve_with(&rt, files.as_slice(), workers, most);
             assert!(rt; ends_the_writing_alone(&run, most), "{workers} {most}");
         }
     }
@@ -131,17 +121,9 @@ fn every_failing_call_ends_the_writing_and_nothing_else(rt: HostRuntime) {
 
 #[test]
 fn a_flush_that_fails_is_a_failed_write(rt: HostRuntime) {
-    let alloc = rt.alloc();
-    let files = four_files(alloc).expect(&rt, "no memory");
+    let files = four_files(rt.alloc()).expect(&rt, "no memory");
     for (files, text, most) in [(files.as_slice(), ANSWERS, 7), (&[], "", 0)] {
-        let run = run_with(
-            &rt,
-            alloc,
-            Question::BestMove,
-            files,
-            OnFailedWrite::Solve,
-            most,
-        );
+        let run = run_with(&rt, Question::BestMove, files, OnFailedWrite::Solve, most);
         assert!(rt; run.tally == Err(RunFault::Write), "{most}");
         assert!(rt; run.writer.bytes.as_slice() == text.as_bytes(), "{most}");
     }
@@ -152,15 +134,8 @@ fn a_flush_that_fails_is_a_failed_write(rt: HostRuntime) {
 fn all_jobs_are_done_though_the_writer_takes_one_line(rt: HostRuntime) {
     for lines in [200, ROOM + 200] {
         let files = same_lines(&rt, rt.alloc(), lines);
-        let asked = run_with(
-            &rt,
-            rt.alloc(),
-            Question::BestMove,
-            &files,
-            OnFailedWrite::Solve,
-            1,
-        );
-        let solved = solve_with(&rt, rt.alloc(), &files, 64, 1);
+        let asked = run_with(&rt, Question::BestMove, &files, OnFailedWrite::Solve, 1);
+        let solved = solve_with(&rt, &files, 64, 1);
         for run in [&asked, &solved] {
             let ended = (run.tally, run.writer.calls);
             assert!(rt; ended == (Err(RunFault::Write), 2), "{lines}");
@@ -178,14 +153,7 @@ const MOST_BEGUN: u32 = 1 + QUEUE_CAPACITY + 2;
 #[test]
 fn no_job_begins_once_the_rest_is_left(rt: HostRuntime) {
     let files = same_lines(&rt, rt.alloc(), 3000);
-    let run = run_with(
-        &rt,
-        rt.alloc(),
-        Question::BestMove,
-        &files,
-        OnFailedWrite::Leave,
-        0,
-    );
+    let run = run_with(&rt, Question::BestMove, &files, OnFailedWrite::Leave, 0);
     assert!(rt; (run.tally, run.writer.calls) == (Err(RunFault::Write), 1));
     let begun = run.gate.begun.load(SeqCst);
     assert!(rt; begun <= MOST_BEGUN && run.gate.sent.load(SeqCst) == begun);

@@ -8,12 +8,6 @@ pub returns-then-failed-clause-given : goal.returns-then-failed-clause-given
 returns-then-failed-clause-given g c =
     given_more_after_failure _ _ c.flush_unless_failed.ensures.given (sym c.failed.ensures ∙ c.if-failed.true)
 
-pub returns-clause-read : goal.returns-clause-read
-returns-clause-read g c = grind (arith, common_steps, asked_fault)
-
-pub returns-then-failed-clause-read : goal.returns-then-failed-clause-read
-returns-then-failed-clause-read g c = grind (arith, common_steps, asked_fault)
-
 pub returns-clause-given : goal.returns-clause-given
 returns-clause-given g c =
     let state = g.O.Sink.state in
@@ -24,3 +18,9 @@ returns-clause-given g c =
     let answer = c.answer-answer.ensures ∙ ap answer_of (c.of_line-entry.ensures ∙ ap (entry_to c.args.question) c.bytes.ensures) in
     subst (WasGiven state c.args.out.now c.write_joined_text.new.out) (ap (λ a. joined_text a ++ line_feed ∷ []) answer)
     (given_then state flushed c.write_joined_text.ensures)
+
+pub returns-clause-read : goal.returns-clause-read
+returns-clause-read g c = grind (arith, common_steps, asked_fault)
+
+pub returns-then-failed-clause-read : goal.returns-then-failed-clause-read
+returns-then-failed-clause-read g c = grind (arith, common_steps, asked_fault)

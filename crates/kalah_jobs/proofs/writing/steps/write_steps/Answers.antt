@@ -18,23 +18,23 @@ loop-i-preserved g c =
     let line = subst (WasGiven g.W.Sink.state c.loop-i.out c.write_named.new.out)
     (line_of_step c.args.name.now c.args.place.now _ step c.prepend.ensures.piece) c.write_named.ensures in
     given_more _ one c.legal-moves.ensures.moves c.loop-i.i _ _ c.loop-i.invariant _ c.get-h.result
-    (omega (arith, c.loop-i-test.true, c.len-i-end.ensures)) c.get-h.ensures line
+    (omega (arith, c.loop-i-test.true, c.len-count.ensures)) c.get-h.ensures line
 
 pub loop-i-init : goal.loop-i-init
 loop-i-init g c = given_none _ _
 
 pub apply-requires : goal.apply-requires
 apply-requires g c =
-    legal_at c.loop-i.i c.legal-moves.ensures.moves (omega (arith, c.loop-i-test.true, c.len-i-end.ensures)) c.get-h.ensures
+    legal_at c.loop-i.i c.legal-moves.ensures.moves (omega (arith, c.loop-i-test.true, c.len-count.ensures)) c.get-h.ensures
 
 pub returns : goal.returns
 returns g c =
     let place = c.args.name.now ++ c.args.place.now in
     let text : ℕ → List ℕ = house_step_text c.args.board.now in
     let moves = c.legal-moves.result in
-    let some : 0 < length moves = omega (arith, c.if-len-eq0.false, c.len.ensures) in
+    let some : 0 < length moves = omega (arith, c.if-count-eq0.false, c.len-count.ensures) in
     subst (WasGiven g.W.Sink.state c.args.out.now c.loop-i.out)
     (sym (lines_end_in_feeds place text moves some)
     ∙ ap (λ ms. join_with_byte line_feed (map (place ++◌) (map text ms)) ++ line_feed ∷ []) c.legal-moves.ensures.moves)
     (given_all _ (λ h. (place ++ text h) ++ line_feed ∷ []) (let same : moves ≡ moves = λ _. moves in same) c.loop-i.i _ _
-    c.loop-i.invariant (omega (arith, c.loop-i-test.false, c.len-i-end.ensures)))
+    c.loop-i.invariant (omega (arith, c.loop-i-test.false, c.len-count.ensures)))

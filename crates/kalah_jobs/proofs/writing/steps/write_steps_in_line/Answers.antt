@@ -10,10 +10,10 @@ loop-i-preserved g c =
     let moves = c.legal-moves.result in
     let i = c.loop-i.i in
     let more = one_text_more text moves i (omega (arith, c.loop-i-test.true, c.len-i-end.ensures)) in
-    subst (WasGiven g.W.Sink.state c.args.out.now c.write_unless_failed.new.out)
-    (ap (texts_in_line text (take i moves) ++◌) (c.bytes.ensures.bytes ∙ c.next_text.ensures)
+    subst (WasGiven g.W.Sink.state c.args.out.now c.write_to.new.out)
+    (ap (texts_in_line text (take i moves) ++◌) c.next_text.ensures
     ∙ sym (more ∙ ap (λ h. texts_in_line text (take i moves) ++ (cond (i == 0) [] (codes "; ") ++ text h)) (sym c.get.ensures)))
-    (given_then _ c.loop-i.invariant c.write_unless_failed.ensures)
+    (given_then _ c.loop-i.invariant c.write_to.ensures)
 
 pub next_text-requires : goal.next_text-requires
 next_text-requires g c =
@@ -27,6 +27,6 @@ returns g c =
     let text : ℕ → List ℕ = house_step_text c.args.board.now in
     let moves = c.legal-moves.result in
     let all = take_all c.loop-i.i moves (omega (arith, c.loop-i-test.false, c.len-i-end.ensures)) ∙ c.legal-moves.ensures.moves in
-    subst (WasGiven g.W.Sink.state c.args.out.now c.write_unless_failed-2.new.out)
+    subst (WasGiven g.W.Sink.state c.args.out.now c.write_unless_failed.new.out)
     (ap (λ ms. texts_in_line text ms ++ line_feed ∷ []) all)
-    (given_then _ c.loop-i.invariant c.write_unless_failed-2.ensures)
+    (given_then _ c.loop-i.invariant c.write_unless_failed.ensures)

@@ -10,10 +10,7 @@ use std::test::Fail;
 /// A collector for the jobs of two files and a solver, each made at the second try if memory was refused.
 pub(super) fn trial_of(rt: &(impl Abort + AllocGlobal)) -> Result<Trial, JobsFault> {
     let alloc = rt.alloc();
-    let files = match two_texts(alloc) {
-        Ok(files) => files,
-        Err(_) => two_texts(alloc)?,
-    };
+    let files = two_texts(alloc).or_else(|_| two_texts(alloc))?;
     let jobs = match Jobs::of_files(alloc, files.as_slice()) {
         Ok(jobs) => jobs,
         Err(fault) => {
@@ -21,10 +18,7 @@ pub(super) fn trial_of(rt: &(impl Abort + AllocGlobal)) -> Result<Trial, JobsFau
             Jobs::of_files(alloc, files.as_slice())?
         }
     };
-    let table = match Table::new(alloc, 16) {
-        Ok(table) => table,
-        Err(_) => Table::new(alloc, 16)?,
-    };
+    let table = Table::new(alloc, 16).or_else(|_| Table::new(alloc, 16))?;
     let collector = match Collector::new(alloc, &jobs) {
         Ok(collector) => collector,
         Err(_) => Collector::new(alloc, &jobs)?,

@@ -1,11 +1,8 @@
 -- Each pass that is joined adds its row to those of the closing seat. With all joined, the last word says which numbers the rows hold.
-use Rattle.std.proofs.{Common.{rules, List, [], ◌∷◌, ◌++◌, length, get_or, length-append, arith, ◌≡◌, ◌<◌, sym, ap, ◌∙◌}, lemmas.List.{length-map, map-append, append_assoc, get_or_append_left}}
+use Rattle.std.proofs.{Common.{rules, List, [], ◌∷◌, ◌++◌, ◌≡◌, Some, sym, ap, ◌∙◌}, lemmas.List.{length-map, map-append, append_assoc, Elements.{All-pop}}}
 use Rattle.kalah_run.specs.{PassState, drawn_rows, Desk.Protocol.{rows_in}, declared.desk.protocol.DeskView.TheVariants.{Closing}}
 use Rattle.kalah_run.proofs.DeskLemmas.{Determines, rows_at_end, start_closing_is_lawful}
 use Rattle.kalah_run.proofs.desk.Desk.close.Goals as goal
-
-pub load_new_seat-closer-requires : goal.load_new_seat-closer-requires
-load_new_seat-closer-requires c = (search rules, start_closing_is_lawful _ _)
 
 -- no pass is left, so the seat has the rows of all
 closed : (c : goal.After-drop-rest) → c.loop-pass.closer.me.0 ≡ Closing (drawn_rows c.args.passes.items)
@@ -33,12 +30,8 @@ loop-pass-preserved c =
     let row : rows_in c.join_seat.new.seat.me.0 ≡ c.in-Some.pass.row ∷ past = search rules in
     record {
       table = search rules;
-      passes = λ k d low.
-          let within : k < length c.loop-pass.rest.items =
-          omega (arith, low, ap length parts, length-append left (c.in-Some.pass ∷ [])) in
-          ap (λ (p : PassState). p.desk)
-          (sym (ap (λ (l : List PassState). get_or l k d) parts ∙ get_or_append_left left (c.in-Some.pass ∷ []) d k low))
-          ∙ c.loop-pass.invariant.passes k d within;
+      passes = (All-pop (λ (p : PassState). p.desk ≡ c.self.inside.table.shared.table_id) _ left (Some c.in-Some.pass) parts
+          c.loop-pass.invariant.passes).0;
       closing = search rules;
       rows = ap (drawn_rows left ++◌) row
           ∙ sym (append_assoc (drawn_rows left) (c.in-Some.pass.row ∷ []) past)
@@ -46,3 +39,6 @@ loop-pass-preserved c =
           ∙ ap drawn_rows (sym parts))
           ∙ c.loop-pass.invariant.rows;
     }
+
+pub load_new_seat-closer-requires : goal.load_new_seat-closer-requires
+load_new_seat-closer-requires c = (search rules, start_closing_is_lawful _ _)

@@ -4,9 +4,6 @@ use Rattle.kalah_run.proofs.{DeskLemmas.{hand_out_is_lawful}, PassLemmas.{draw_p
 use Rattle.kalah_run.specs.{DeskState, AreNewPasses, number_in, row_in, total_in, Desk.Protocol.{after_handing_out, pass_handed_out}, declared.desk.protocol.DeskView.TheVariants.{Opening}}
 use Rattle.kalah_run.proofs.desk.Desk.open.Goals as goal
 
-pub split_seat-seat-requires : goal.split_seat-seat-requires
-split_seat-seat-requires c = (search rules, search rules, hand_out_is_lawful _ (ap (λ m. m.0) c.loop.invariant.opener) (omega arith))
-
 pub loop-preserved : goal.loop-preserved
 loop-preserved c =
     let so_far = c.loop.invariant in
@@ -31,3 +28,6 @@ loop-preserved c =
             row = row_in v;
           }));
     }
+
+pub split_seat-seat-requires : goal.split_seat-seat-requires
+split_seat-seat-requires c = (search rules, search rules, hand_out_is_lawful _ (ap (λ m. m.0) c.loop.invariant.opener) (omega arith))

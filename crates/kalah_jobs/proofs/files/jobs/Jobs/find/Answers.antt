@@ -8,9 +8,6 @@ overflow_cast-result c =
     let found = c.loop-past.invariant in
     omega (arith, found.some, found.within, ap length c.self.view_is, c.self.invariant.0.few_files)
 
-pub index-requires-2 : goal.index-requires-2
-index-requires-2 c = grind (arith, common_steps, lines_between c.args.self.now c.loop-past.file, c.self.invariant.1.before c.loop-past.file)
-
 pub returns : goal.returns
 returns c =
     let line = c.args.n - c.index-found.result.now.start in
@@ -25,3 +22,6 @@ returns c =
       slice_get-get_or c.index-found.result.now.entries.items line entry,
       c.self.invariant.1.before c.loop-past.file,
     )
+
+pub index-requires-2 : goal.index-requires-2
+index-requires-2 c = grind (arith, common_steps, lines_between c.args.self.now c.loop-past.file, c.self.invariant.1.before c.loop-past.file)

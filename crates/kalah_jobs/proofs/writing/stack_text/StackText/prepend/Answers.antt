@@ -11,9 +11,6 @@ invariant_of-self c = (
       c.self.invariant.2,
 )
 
-pub overflow_sub-self : goal.overflow_sub-self
-overflow_sub-self c = grind (arith, common_steps)
-
 pub copy_from_slice-requires : goal.copy_from_slice-requires
 copy_from_slice-requires c = grind (arith, common_steps)
 

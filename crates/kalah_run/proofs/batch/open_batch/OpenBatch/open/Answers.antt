@@ -1,6 +1,6 @@
 -- Of the new passes the last one is the calling thread's, and the workers have the others; nothing was drawn, sent or got.
-use Rattle.std.proofs.Common.{◌≡◌, ◌+◌, [], ap, arith, length, refl, sym, ◌∙◌}
-use Rattle.kalah_run.specs.{PassState, GetPassState}
+use Rattle.std.proofs.Common.{◌≡◌, ◌+◌, [], ap, arith, length, refl, subst, sym, ◌∙◌}
+use Rattle.kalah_run.specs.{PassState, GetPassState, ArePassesFrom}
 use Rattle.kalah_run.proofs.{WorkerLemmas.{as_many_as_asked, as_many_workers, new_at_work}, PassLemmas.{last_new_pass}}
 use Rattle.kalah_run.proofs.batch.open_batch.OpenBatch.open.Goals as goal
 
@@ -29,9 +29,8 @@ returns-clause-ready g c =
       passes = c.in_ok-desk.ensures.desk.1 ∙ ap (◌+ 1) (sym many);
       rest_pass = (ap (λ (p : PassState). p.desk) new.1, ap (λ (p : PassState). p.total) new.1);
       nothing_drawn = ap (λ (p : PassState). p.row.numbers) new.1;
-      at_work = new_at_work _ _ _ (rw (← workers.passes) at new.0) (rw (← workers.puts) at queue.puts.1)
-          (rw (← workers.puts) at queue.puts.2);
-      put_passes = rw workers.puts queue.puts.1;
+      at_work = new_at_work _ _ _ workers.passes workers.puts new.0 queue.puts.1 queue.puts.2;
+      put_passes = subst (ArePassesFrom c.in_ok-queue.queue.id 0) (sym workers.puts) queue.puts.1;
       get_pass = queue.get ∙ ap (λ n. let p : GetPassState = record { queue = c.in_ok-queue.queue.id; workers = n; got = [] } in p) (sym many);
       output = c.in_ok-output.ensures.new;
       jobs = c.in_ok-output.ensures.of.1;

@@ -2,7 +2,7 @@
 use denote.Param.Send.{sendable}
 use Rattle.std.proofs.{Common.{arith, refl}, lemmas.Grind.{common_steps}, Crossing.{crosses}}
 use Rattle.kalah_run.proofs.Crossing.{crew_send, worker_send}
-use Rattle.kalah_run.proofs.batch.running.fn.run_and_write.scope.Goals as goal
+use Rattle.kalah_run.proofs.batch.running.fn.collect_from_crew.scope.Goals as goal
 
 pub spawn_with-started-requires-send-F : goal.spawn_with-started-requires-send-F
 spawn_with-started-requires-send-F g c κs within = search (sendable, crosses, crew_send) depth 60
@@ -13,9 +13,7 @@ spawn_with-started-requires-send-T g c κs within = search (sendable, crosses, w
 pub returns : goal.returns
 returns g c = record {
   names = (refl, refl);
-  ran = rw (← c.of.ensures) (rw c.in-Ok.ensures.ok at c.join-workers.ensures);
-  collected = c.collect-passes.ensures.collected;
-  untouched = tt;
+  ran = (rw (← c.of.ensures) (rw c.in-Ok.ensures.ok at c.join-workers.ensures), c.collect-passes.ensures.collected);
 }
 
 pub spawn_with-started-requires-clause-keeps : goal.spawn_with-started-requires-clause-keeps
