@@ -1,5 +1,5 @@
 -- A batch under way: the pass of the calling thread, what it collects, and what stands written when it has ended.
-use Rattle.std.proofs.{Common.{[], ◌≡◌, ◌<◌, ◌+◌, ℕ, List, ◌∷◌, ◌++◌, arith, sym, ap, ◌∙◌, Bool, true, false, refl, ⊎_elim, length, subst, ◌⊎◌, inl, inr, All, Some, Option, None}, lemmas.{List.{map-append, length-append, length-map, Elements.{All-push}}, Bool.{both_ways}}}
+use Rattle.std.proofs.{Common.{[], ◌≡◌, ◌<◌, ◌≤◌, ◌+◌, ℕ, List, ◌∷◌, ◌++◌, arith, sym, ap, ◌∙◌, Bool, true, false, refl, ⊎_elim, length, subst, ◌⊎◌, inl, inr, All, Some, Option, None}, lemmas.{List.{map-append, length-append, length-map, Elements.{All-push}}, Bool.{both_ways}}}
 use Rattle.kalah_run.specs.{Job, passes_of, puts_of, HaveRun, HasBeenOffered, HasWritten, whole_output, AwaitsLine, WritesOn, HasDrawnNothing, IsAbandoned, DrawsOnlyTheRest, GetPassState, HasGot, PutPassState, ArePassesFrom, outcomes_in, PassState, IsPassAt, HasCollected, IsAtStart, GetsOrEnds, declared.batch.{ordered_output.OrderedOutput.{OrderedOutput}, worker.Worker.{Worker}, receiver.{CallerPasses.{CallerPasses}, RestPass.{RestPass}}, shared_work.SharedWork.{SharedWork}, request.OnFailedWrite.{OnFailedWrite, TheVariants.{Solve, Leave}}}}
 use Rattle.kalah_jobs.specs.{Collecting.AnyOrder.{IsPermutationOfJobs}, Writing.{Sink.{SinkState, WasGiven}, Output.{output_of_jobs, names_of}}, Files.Jobs.{job_count}}
 use Rattle.kalah_run.proofs.{OutputLemmas.{new_has_written_nothing, sink_was_given_all, failed_sink_was_given_all, written_after_offer, under_way_after_no_text}, WorkerLemmas.{puts_after, run_passes}}
@@ -104,6 +104,10 @@ pub one_longer : (before : GetPassState) {after : GetPassState} (outcome : Job) 
     → length after.got ≡ length before.got + 1
 one_longer before outcome has_got =
     ap (λ (p : GetPassState). length p.got) has_got.2 ∙ length-append before.got ((has_got.0, outcome) ∷ [])
+
+-- as many were got as there are jobs once the loop over them has ended
+pub all_got : {got counter total jobs : ℕ} → got ≡ counter → total ≤ counter → counter ≤ total → total ≡ jobs → got ≡ jobs
+all_got counted ended within total_is = omega (arith, counted, ended, within, total_is)
 
 module _ {W : Type 0} {state : W → SinkState} {output r : OrderedOutput} {begun out : W} where
   -- at first nothing was got

@@ -84,6 +84,16 @@ pub as_many_as_asked : {workers count least total jobs : ℕ} (asked : ℕ) → 
     → total ≡ jobs → (workers ≡ max 1 (min asked jobs)) × (0 < workers)
 as_many_as_asked asked many count_is least_is total_is = (omega (arith, many, count_is, least_is, total_is), omega (arith, many, count_is))
 
+-- a list from which all passes were taken, one more than there are workers, has room for all again
+pub room_for_all : {workers count size len capacity popped left : ℕ} → workers ≡ count → left ≡ popped → popped ≡ capacity
+    → (len ≡ size) × (len ≤ capacity) → size ≡ count + 1 → workers < left
+room_for_all many left_is popped_is held size_is = omega (arith, many, left_is, popped_is, held, size_is)
+
+-- so it is with one pass for each worker
+pub room_for_each : {workers count len size capacity left : ℕ} → workers ≡ count → left ≡ capacity → (len ≡ size) × (len ≤ capacity)
+    → len ≡ count → workers ≤ left
+room_for_each many left_is held len_is = omega (arith, many, left_is, held, len_is)
+
 -- workers with new passes, that have sent nothing, are at work
 pub new_at_work : {G : Type 0} {knows : G → ℕ → Bool} (shared : SharedWork G) (workers : List Worker) (count : ℕ)
     {passes : List PassState} {puts : List PutPassState} → passes_of workers ≡ passes → puts_of workers ≡ puts

@@ -3,7 +3,7 @@
 use Rattle.std.proofs.{Common.{◌+◌, inl, inr, length, ap, ◌∙◌, arith, rules, Some}, lemmas.Grind.{common_steps}}
 use Rattle.kalah_jobs.proofs.SinkLemmas.{given_none}
 use Rattle.kalah_run.specs.{GetsOrEnds}
-use Rattle.kalah_run.proofs.{BatchLemmas.{failed_still, got_after, has_collected, collected_at_start, one_collected, one_longer, rest_left}, batch.running.collect.Goals.{in-Some, in-None+in-Some-flush_and_get, else-loop-test, then-loop-test+in-None+in-None-flush_and_get}}
+use Rattle.kalah_run.proofs.{BatchLemmas.{all_got, failed_still, got_after, has_collected, collected_at_start, one_collected, one_longer, rest_left}, batch.running.collect.Goals.{in-Some, in-None+in-Some-flush_and_get, else-loop-test, then-loop-test+in-None+in-None-flush_and_get}}
 use Rattle.kalah_run.proofs.batch.running.collect.Given as given
 use Rattle.kalah_run.proofs.batch.running.collect.Goals as goal
 
@@ -49,7 +49,7 @@ returns-clause-collected g c =
     let so_far = c.loop.invariant in
     elim c.loop-test.branch [
       | else-loop-test w ↦ has_collected so_far.collected (c.into_passes.ensures ∙ ap (λ r. r.passes) w.receiver-is)
-          (inl (omega (arith, so_far.counted, w.loop-test.false, c.total-total.ensures.lines)))
+          (inl (all_got so_far.counted w.loop-test.false c.loop.auto.counter-end c.total-total.ensures.lines))
           (rw w.out-is at unwritten)
       | then-loop-test+in-None+in-None-flush_and_get w ↦
           let last = rest_left so_far.collected (got_after (w.in-None.ensures.got ∙ w.leave_after.ensures.get_pass)

@@ -1,7 +1,7 @@
 -- Of the new passes the last one is the calling thread's, and the workers have the others; nothing was drawn, sent or got.
-use Rattle.std.proofs.Common.{◌≡◌, ◌+◌, [], ap, arith, length, refl, subst, sym, ◌∙◌}
+use Rattle.std.proofs.Common.{◌≡◌, ◌+◌, [], ap, length, refl, subst, sym, ◌∙◌}
 use Rattle.kalah_run.specs.{PassState, GetPassState, ArePassesFrom}
-use Rattle.kalah_run.proofs.{WorkerLemmas.{as_many_as_asked, as_many_workers, new_at_work}, PassLemmas.{last_new_pass}}
+use Rattle.kalah_run.proofs.{WorkerLemmas.{as_many_as_asked, as_many_workers, new_at_work, room_for_all, room_for_each}, PassLemmas.{last_new_pass}}
 use Rattle.kalah_run.proofs.batch.open_batch.OpenBatch.open.Goals as goal
 
 pub returns-clause-asked : goal.returns-clause-asked
@@ -36,8 +36,8 @@ returns-clause-ready g c =
       jobs = c.in_ok-output.ensures.of.1;
       room = record {
         empty = workers.empty;
-        passes = omega (arith, many, workers.room, c.in-Some.ensures.capacity, c.in_ok-desk.ensures.passes.0, c.in_ok-desk.passes.ok);
-        puts = omega (arith, many, workers.room, queue.puts.0, c.in_ok-queue.puts.ok);
+        passes = room_for_all many workers.room.0 c.in-Some.ensures.capacity c.in_ok-desk.passes.ok c.in_ok-desk.ensures.passes.0;
+        puts = room_for_each many workers.room.1 c.in_ok-queue.puts.ok queue.puts.0;
       };
     }
 
