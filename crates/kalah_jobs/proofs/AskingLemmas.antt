@@ -1,5 +1,5 @@
 -- Lines that come as a stream: what is answered of them, and how far.
-use Rattle.std.proofs.{Common.{◌≡◌, ◌≢◌, ◌∙◌, ℕ, zero, suc, ◌+◌, ◌≤◌, Bool, true, false, List, [], ◌∷◌, ◌++◌, length, take, inl, inr, refl, sym, ap, ap₂, arith, append-nil, append_assoc, Err, not, ◌||◌, ◌&&◌, subst, length-take-le, take_all, Result, Ok, Option, IsErrOf}, KnownBytes.{Appends-kept, Appends-nil, Appends-trans, Consumes-kept, Consumes-nil, Consumes-trans, Consumes-whole, Keeps-refl}, Math.Bool.{and-true}, lemmas.{Bool.{cases_lt, cond_both}, Grind.{flat_map-append}, List.{Elements.{All-nil, All-push}, Folds.{list_any-append}}}}
+use Rattle.std.proofs.{Common.{◌≡◌, ◌≢◌, ◌∙◌, ℕ, zero, suc, ◌+◌, ◌≤◌, Bool, true, false, List, [], ◌∷◌, ◌++◌, length, take, inl, inr, refl, sym, ap, ap₂, arith, append-nil, append_assoc, Err, not, ◌||◌, ◌&&◌, subst, length-take-le, take_all, Result, Ok, Option, Some, None, option_to_list, IsErrOf}, KnownBytes.{Appends-kept, Appends-nil, Appends-trans, Consumes-kept, Consumes-nil, Consumes-trans, Consumes-whole, Keeps-refl}, Math.Bool.{and-true}, lemmas.{Bool.{cases_lt, cond_both}, Grind.{flat_map-append}, List.{Elements.{All-nil, All-push}, Folds.{list_any-append}}}}
 use Rattle.std.specs.{Io.KnownBytes.{Appends, Consumes, IsAtEnd, Keeps}, List.{flat_map, enumerate_from}}
 use Rattle.kalah_rules.specs.Position as position
 use Rattle.kalah_rules.specs.Position.{is_over}
@@ -195,25 +195,32 @@ module _ {question : Question} {before now old new : Option (List ℕ)} {line : 
   reply_part : last_reply question line ≡ answers_to question so_far.part
   reply_part = ap (last_reply question) so_far.kept ∙ sym (last_reply_is question so_far.part so_far.unended)
 
+  -- what a reader took is a byte that is known, or nothing
+  taken_is : (next : Option (List ℕ)) {found known : Option ℕ} → found ≡ known → Consumes now next (option_to_list found)
+      → Consumes now next (option_to_list known)
+  taken_is next found_is taken = subst (λ byte. Consumes now next (option_to_list byte)) found_is taken
+
   -- a byte more was read, which ends no line
-  pub byte_read : {next kept : Option (List ℕ)} (byte : ℕ) → byte ≢ line_feed → Consumes now next (byte ∷ []) → Keeps new kept
-      → IsAnsweredSoFar question before next old kept (take kept_bytes (line ++ byte ∷ [])) all_read
-  byte_read {next} {kept} byte other taken keeps = record {
+  pub byte_read : {next kept : Option (List ℕ)} {found : Option ℕ} {longer : List ℕ} (byte : ℕ) → found ≡ Some byte → byte ≢ line_feed
+      → Consumes now next (option_to_list found) → Keeps new kept → longer ≡ take kept_bytes (line ++ byte ∷ [])
+      → IsAnsweredSoFar question before next old kept longer all_read
+  byte_read {next} {kept} byte found_is other taken keeps longer_is = record {
     lines = so_far.lines;
     part = so_far.part ++ byte ∷ [];
     ended = so_far.ended;
     unended = All-push IsNoFeed so_far.part byte so_far.unended other;
-    kept = ap (λ l. take kept_bytes (l ++ byte ∷ [])) so_far.kept ∙ take_more_kept kept_bytes so_far.part byte;
-    taken = more_taken _ _ taken;
+    kept = longer_is ∙ ap (λ l. take kept_bytes (l ++ byte ∷ [])) so_far.kept ∙ take_more_kept kept_bytes so_far.part byte;
+    taken = more_taken _ _ (taken_is next found_is taken);
     written = answers_kept kept keeps;
     status = so_far.status;
   }
 
   -- a line feed was read, and the line that it ends was answered
-  pub line_read : {next more : Option (List ℕ)} {is_read : Bool} (kept : Option (List ℕ)) → Consumes now next (line_feed ∷ [])
-      → Keeps new kept → Appends kept more (reply question line) → is_read ≡ not (is_faulty line)
-      → IsAnsweredSoFar question before next old more [] (all_read && is_read)
-  line_read {next} {more} {is_read} kept fed keeps answered read =
+  pub line_read : {next more : Option (List ℕ)} {found : Option ℕ} {byte : ℕ} {empty : List ℕ} {is_read : Bool} (kept : Option (List ℕ))
+      → found ≡ Some byte → byte ≡ line_feed → Consumes now next (option_to_list found) → Keeps new kept
+      → Appends kept more (reply question line) → is_read ≡ not (is_faulty line) → empty ≡ []
+      → IsAnsweredSoFar question before next old more empty (all_read && is_read)
+  line_read {next} {more} kept found_is feed taken keeps answered read empty_is =
       let whole : List ℕ = so_far.part ++ line_feed ∷ [] in
       let one = feed_ends_one_line so_far.part so_far.unended in
       record {
@@ -221,8 +228,9 @@ module _ {question : Question} {before now old new : Option (List ℕ)} {line : 
         part = [];
         ended = inr (so_far.lines ++ so_far.part, sym (append_assoc so_far.lines so_far.part (line_feed ∷ [])));
         unended = All-nil IsNoFeed;
-        kept = refl;
-        taken = subst (Consumes before next) (sym (append-nil (so_far.lines ++ whole))) (more_taken _ _ fed);
+        kept = empty_is;
+        taken = subst (Consumes before next) (sym (append-nil (so_far.lines ++ whole)))
+            (more_taken _ _ (taken_is next (found_is ∙ ap Some feed) taken));
         written = subst (Appends old more)
             (ap (answers_to question so_far.lines ++◌) reply_whole
             ∙ sym (answers_to_more question so_far.lines whole so_far.part so_far.ended one))
@@ -270,26 +278,29 @@ module _ {question : Question} {before now old new : Option (List ℕ)} {line : 
   }
 
   -- of a line that ended
-  pub begun_line : {next more : Option (List ℕ)} (kept : Option (List ℕ)) → Consumes now next (line_feed ∷ []) → Keeps new kept
-      → AppendsPrefix kept more (reply question line) → IsBegun question before next old more
-  begun_line {next} kept end =
+  pub begun_line : {next more : Option (List ℕ)} {found : Option ℕ} {byte : ℕ} (kept : Option (List ℕ)) → found ≡ Some byte
+      → byte ≡ line_feed → Consumes now next (option_to_list found) → Keeps new kept → AppendsPrefix kept more (reply question line)
+      → IsBegun question before next old more
+  begun_line {next} kept found_is feed taken =
       let one = feed_ends_one_line so_far.part so_far.unended in
-      begun kept (so_far.part ++ line_feed ∷ []) (reply question line) (rw one (omega arith)) (more_taken _ _ end)
+      begun kept (so_far.part ++ line_feed ∷ []) (reply question line) (rw one (omega arith))
+      (more_taken _ _ (taken_is next (found_is ∙ ap Some feed) taken))
       (reply_whole ∙ sym (answers_to_one question (so_far.part ++ line_feed ∷ []) so_far.part one))
 
   -- of what stands after the last line feed, if nothing is left
-  pub begun_last : {next more : Option (List ℕ)} (kept : Option (List ℕ)) → Consumes now next [] → Keeps new kept
-      → AppendsPrefix kept more (last_reply question line) → IsBegun question before next old more
-  begun_last {next} kept end =
-      begun kept so_far.part (last_reply question line) (one_line so_far.part so_far.unended) (all_taken next end) reply_part
+  pub begun_last : {next more : Option (List ℕ)} {found : Option ℕ} (kept : Option (List ℕ)) → found ≡ None
+      → Consumes now next (option_to_list found) → Keeps new kept → AppendsPrefix kept more (last_reply question line)
+      → IsBegun question before next old more
+  begun_last {next} kept none taken = begun kept so_far.part (last_reply question line) (one_line so_far.part so_far.unended)
+      (all_taken next (taken_is next none taken)) reply_part
 
   -- of all that was read, if the whole was written
-  all_answered : {next more : Option (List ℕ)} {is_read : Bool} (kept : Option (List ℕ)) → Consumes now next [] → IsAtEnd now
-      → Keeps new kept → Appends kept more (last_reply question line) → is_read ≡ is_last_read line
+  all_answered : {next more : Option (List ℕ)} {found : Option ℕ} {is_read : Bool} (kept : Option (List ℕ)) → found ≡ None
+      → Consumes now next (option_to_list found) → IsAtEnd now → Keeps new kept → Appends kept more (last_reply question line) → is_read ≡ is_last_read line
       → IsAnswered question before next old more (all_read && is_read)
-  all_answered {next} {more} {is_read} kept end at_end keeps answered read = record {
+  all_answered {next} {more} kept none taken at_end keeps answered read = record {
     read = so_far.lines ++ so_far.part;
-    taken = all_taken next end;
+    taken = all_taken next (taken_is next none taken);
     all = Consumes-whole before now (so_far.lines ++ so_far.part) (λ bytes. so_far.lines ++ so_far.part ≡ bytes) so_far.taken at_end refl;
     written = subst (Appends old more) (sym (answers_split question so_far.lines so_far.part so_far.ended))
         (more_written _ _ _ keeps (subst (Appends kept more) reply_part answered));
@@ -299,14 +310,14 @@ module _ {question : Question} {before now old new : Option (List ℕ)} {line : 
 
 -- what holds if all was read, answered and flushed
 pub reading_done : {question : Question} {before now next new : Option (List ℕ)} {old out : SinkState} {line : List ℕ}
-    {all_read is_read : Bool} (kept : Option (List ℕ)) → IsAnsweredSoFar question before now old.written new line all_read
-    → Consumes now next [] → IsAtEnd now → Keeps new kept → AppendsPrefix kept out.written (last_reply question line)
+    {all_read is_read : Bool} {found : Option ℕ} (kept : Option (List ℕ)) → IsAnsweredSoFar question before now old.written new line all_read
+    → found ≡ None → Consumes now next (option_to_list found) → IsAtEnd now → Keeps new kept → AppendsPrefix kept out.written (last_reply question line)
     → Appends kept out.written (last_reply question line) → is_read ≡ is_last_read line → out.has_failed ≡ false → out.is_flushed ≡ true
     → AnswersLines question before next old out (Ok (all_read && is_read))
-reading_done kept so_far end at_end keeps start written read sound flushed = record {
-  answered = all_answered so_far kept end at_end keeps written read;
+reading_done kept so_far none taken at_end keeps start written read sound flushed = record {
+  answered = all_answered so_far kept none taken at_end keeps written read;
   cut_off = λ failed. absurd (cc failed);
-  begins = begun_last so_far kept end keeps start;
+  begins = begun_last so_far kept none taken keeps start;
   failed = (λ failed. absurd (cc (sound, failed)), λ failed. absurd (cc failed));
   all_flushed = λ _. flushed;
 }

@@ -21,39 +21,36 @@ pub loop-byte-preserved-then-byte-ne-LINE_FEED : goal.loop-byte-preserved-then-b
 loop-byte-preserved-then-byte-ne-LINE_FEED g c =
     let so_far = c.loop-byte.invariant in
     let next = c.in_ok-byte.ensures in
-    let taken = rw c.in-Some.is at next.taken in
-    let answered = byte_read so_far.answered _ c.if-byte-ne-LINE_FEED.true taken next.keeps in
-    rw c.push.ensures (record {
-      answered = answered;
+    record {
+      answered = byte_read so_far.answered _ c.in-Some.is c.if-byte-ne-LINE_FEED.true next.taken next.keeps c.push.ensures;
       sound = next.sound;
       start = next.start ∙ so_far.start;
       same_reference = next.same_reference ∙ so_far.same_reference;
-    })
+    }
 
 pub loop-byte-preserved : goal.loop-byte-preserved
 loop-byte-preserved g c =
     let so_far = c.loop-byte.invariant in
     let next = c.in_ok-byte.ensures in
     let reply = c.write_reply-all_read.ensures in
-    let taken = rw (c.in-Some.is, c.if-byte-ne-LINE_FEED.false) at next.taken in
     let sound = sym c.failed.ensures ∙ c.if-failed.false in
-    let answered = line_read so_far.answered _ taken next.keeps (reply.given.whole sound).1 reply.read in
-    rw c.new-line-in-Some.ensures (record {
-      answered = answered;
+    record {
+      answered = line_read so_far.answered _ c.in-Some.is c.if-byte-ne-LINE_FEED.false next.taken next.keeps (reply.given.whole sound).1
+          reply.read c.new-line-in-Some.ensures;
       sound = sound;
       start = next.start ∙ so_far.start;
       same_reference = next.same_reference ∙ so_far.same_reference;
-    })
+    }
 
 pub returns-then-failed : goal.returns-then-failed
 returns-then-failed g c =
     let so_far = c.loop-byte.invariant in
     let next = c.in_ok-byte.ensures in
-    let taken = rw (c.in-Some.is, c.if-byte-ne-LINE_FEED.false) at next.taken in
     let failed = sym c.failed.ensures ∙ c.if-failed.true in
     record {
       same_reference = next.same_reference ∙ so_far.same_reference;
-      lines = write_failed failed (begun_line so_far.answered _ taken next.keeps c.write_reply-all_read.ensures.given.start);
+      lines = write_failed failed (begun_line so_far.answered _ c.in-Some.is c.if-byte-ne-LINE_FEED.false next.taken next.keeps
+          c.write_reply-all_read.ensures.given.start);
       fault = failed;
     }
 
@@ -61,11 +58,11 @@ pub returns-then-failed-2 : goal.returns-then-failed-2
 returns-then-failed-2 g c =
     let so_far = c.loop-byte.invariant in
     let next = c.in_ok-byte.ensures in
-    let taken = rw c.in_default.is at next.taken in
     let failed = sym c.failed-2.ensures ∙ c.if-failed-2.true in
     record {
       same_reference = next.same_reference ∙ so_far.same_reference;
-      lines = write_failed failed (begun_last so_far.answered _ taken next.keeps c.write_last_reply-all_read.ensures.given.start);
+      lines = write_failed failed (begun_last so_far.answered _ c.in_default.is next.taken next.keeps
+          c.write_last_reply-all_read.ensures.given.start);
       fault = failed;
     }
 
@@ -74,9 +71,8 @@ returns-clause-lines g c =
     let so_far = c.loop-byte.invariant.answered in
     let next = c.in_ok-byte.ensures in
     let reply = c.write_last_reply-all_read.ensures in
-    let taken = rw c.in_default.is at next.taken in
     let sound = sym c.failed-2.ensures ∙ c.if-failed-2.false in
-    reading_done _ so_far taken (next.end c.in_default.is) next.keeps reply.given.start (reply.given.whole sound).1 reply.read sound
+    reading_done _ so_far c.in_default.is next.taken (next.end c.in_default.is) next.keeps reply.given.start (reply.given.whole sound).1 reply.read sound
     (reply.all_flushed sound)
 
 pub loop-byte-smaller : goal.loop-byte-smaller

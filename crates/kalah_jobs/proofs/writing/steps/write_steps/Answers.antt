@@ -1,5 +1,5 @@
 -- After i moves their lines were given, each with its line feed; all of them are the lines joined, and one more line feed.
-use Rattle.std.proofs.Common.{◌≡◌, ◌++◌, ◌∷◌, [], ◌<◌, ◌∙◌, ℕ, List, ap, append_assoc, arith, length, map, subst, sym}
+use Rattle.std.proofs.Common.{◌≡◌, ◌++◌, ◌∷◌, [], ◌<◌, ◌≤◌, ◌∙◌, ℕ, List, ap, append_assoc, arith, length, map, subst, sym}
 use Rattle.std.specs.List.{join_with_byte}
 use Rattle.kalah_jobs.specs.{line_feed, step_text_of, house_step_text, WasGiven}
 use Rattle.kalah_jobs.proofs.{SinkLemmas.{given_all, given_more, given_none}, TextLemmas.{legal_at, lines_end_in_feeds}}
@@ -18,14 +18,14 @@ loop-i-preserved g c =
     let line = subst (WasGiven g.W.Sink.state c.loop-i.out c.write_named.new.out)
     (line_of_step c.args.name.now c.args.place.now _ step c.prepend.ensures.piece) c.write_named.ensures in
     given_more _ one c.legal-moves.ensures.moves c.loop-i.i _ _ c.loop-i.invariant _ c.get-h.result
-    (omega (arith, c.loop-i-test.true, c.len-count.ensures)) c.get-h.ensures line
+    (subst (c.loop-i.i <◌) c.len-count.ensures c.loop-i-test.true) c.get-h.ensures line
 
 pub loop-i-init : goal.loop-i-init
 loop-i-init g c = given_none _ _
 
 pub apply-requires : goal.apply-requires
 apply-requires g c =
-    legal_at c.loop-i.i c.legal-moves.ensures.moves (omega (arith, c.loop-i-test.true, c.len-count.ensures)) c.get-h.ensures
+    legal_at c.loop-i.i c.legal-moves.ensures.moves (subst (c.loop-i.i <◌) c.len-count.ensures c.loop-i-test.true) c.get-h.ensures
 
 pub returns : goal.returns
 returns g c =
@@ -37,4 +37,4 @@ returns g c =
     (sym (lines_end_in_feeds place text moves some)
     ∙ ap (λ ms. join_with_byte line_feed (map (place ++◌) (map text ms)) ++ line_feed ∷ []) c.legal-moves.ensures.moves)
     (given_all _ (λ h. (place ++ text h) ++ line_feed ∷ []) (let same : moves ≡ moves = λ _. moves in same) c.loop-i.i _ _
-    c.loop-i.invariant (omega (arith, c.loop-i-test.false, c.len-count.ensures)))
+    c.loop-i.invariant (subst (◌≤ c.loop-i.i) c.len-count.ensures c.loop-i-test.false))
