@@ -110,14 +110,14 @@ pub fn answer_text(alloc: Global, name: &str, taken: &Taken) -> Result<String, A
 pub fn write_answer_unless_failed<W: Sink>(out: &mut W, name: &str, taken: &Taken)
     ensures { WasGiven W.state out.old out.new (answer_output name.now taken.now) }
 {
+    let mut text = StackText::new();
     match &taken.answer {
         Answer::Steps(board) => {
-            let mut place = StackText::new();
-            prepend_place(&mut place, taken.line);
-            write_steps(out, name, place.as_str(), board);
+            prepend_place(&mut text, taken.line);
+            write_steps(out, name, text.as_str(), board);
         }
         _ => {
-            let mut text = StackText::of("\n");
+            text.prepend("\n");
             prepend_joined_text(&mut text, &taken.answer);
             prepend_place(&mut text, taken.line);
             write_named(out, name, &mut text);
