@@ -77,11 +77,9 @@ packed_row-same (suc n) q =
     let before = packed_row-same n q in
     packed_row-suc n (λ i. q) ∙ omega arith ∙ sym (ap (λ z. q * z) (packed_row-suc n (λ i. 1)))
 
--- one seed in each house, if x lies past them all
 pub packed_row-all : (n x : ℕ) → n ≤ x → packed_row (row_of n (up_to x)) ≡ ones n
 packed_row-all n x past = grind (arith, row_of_same)
 
--- one seed in each house up to x
 pub packed_row-up_to : (n x : ℕ) → x ≤ n → packed_row (row_of n (up_to x)) ≡ ones x
 packed_row-up_to zero x within = grind arith
 packed_row-up_to (suc n) x within = elim (cases_eq x (suc n)) [
@@ -173,7 +171,6 @@ ones_le a (suc b) fewer = elim (cases_eq a (suc b)) [
   | inr less ↦ let on = ones_le a b (omega arith) in omega (arith, packed_row-suc)
 ]
 
--- a row moved up by a few houses fits sixty-four bits
 pub moved_fits : (k x : ℕ) → k ≤ 5 → x < 2 ^ 30 → x * 32 ^ k % 2 ^ 64 ≡ 32 ^ k * x
 moved_fits k x place few = cases_to_five (λ k. x * 32 ^ k % 2 ^ 64 ≡ 32 ^ k * x) k place
     (omega arith) (omega arith) (omega arith) (omega arith) (omega arith) (omega arith)
@@ -198,7 +195,6 @@ laps_few m c some few =
     let q = c / (2 * m + 1) in
     omega (arith, mul-le 3 q (2 * m + 1) q (omega arith) (omega arith))
 
--- what lies up to x holds what lies up to h
 pub up_to_past : (m h x : ℕ) → h ≤ m → h ≤ x → ones h ≤ packed_row (row_of m (up_to x))
 up_to_past m h x within past = grind (arith, packed_row-up_to, ones_le, packed_row-all)
 

@@ -290,7 +290,6 @@ module _ (p : Position) (h : ℕ) (holds : HoldsSeeds p h) where
             shows_after (last_house_other _ holds low high far) shows
       ]
 
-  -- the mover moves again if it falls into the store
   pub again_at : moves_again p h ≡ (place == side_length p + 1)
   again_at = grind (arith, cases_eq, place_past, eq-eqb, place_near)
 
@@ -388,7 +387,6 @@ module _ {a : HousesState} {h rows seeds variant : ℕ} {r : RowNumbers} (fields
   moved_within : AreWithinLimits (houses_in moved)
   moved_within = after_within _ _ fields_are.limits (legal_holds _ _ legal)
 
-  -- what came is among the seeds
   pub store_within : r.store ≤ seeds
   store_within = omega (arith, move_keeps.play, fields_are.seeds_are)
 
@@ -498,14 +496,12 @@ module _ {a : HousesState} {h rows seeds variant : ℕ} {r : RowNumbers} (fields
   can_sow : CanSow a h
   can_sow = record { limits = (fields_of fields view_is).limits; holds = legal_holds _ _ legal }
 
-  -- the last seed falls as far as the house has seeds
   distance_is_seeds : last_distance (storeless a) h ≡ position.seeds a.own h
   distance_is_seeds = short_distance _ h can_sow.holds (omega arith)
 
   again_after : moves_again (storeless a) h ≡ true
   again_after = omega (arith, eq-eqb, distance_is_seeds)
 
-  -- its place is that of the store
   ends_at_store : last_place (length a.own) h (position.seeds a.own h) ≡ length a.own + 1
   ends_at_store = eqb-true _ _ (sym (again_at _ h can_sow.holds) ∙ again_after)
 

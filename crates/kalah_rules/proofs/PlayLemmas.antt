@@ -71,14 +71,12 @@ div-mod-suc n k pos = grind arith
 gain_more : (n k d : ℕ) → 1 ≤ d → d ≤ n → d ≡ k % n + 1 → gain n (k + 1) d ≡ gain n k d + 1
 gain_more n k d low high here = grind arith
 
--- one seed more changes no cell at another distance
 gain_same : (n k d : ℕ) → 1 ≤ d → d ≤ n → d ≢ k % n + 1 → gain n (k + 1) d ≡ gain n k d
 gain_same n k d low high elsewhere = grind (arith, div-mod-suc)
 
 gain_none : (n d : ℕ) → 0 < n → 1 ≤ d → gain n 0 d ≡ 0
 gain_none n d pos low = grind arith
 
--- the distance of an own house past house h
 pub own_distance_past : (m h i : ℕ) → h < i → own_distance m h i ≡ i - h
 own_distance_past m h i past = grind arith
 
@@ -480,7 +478,6 @@ pub after_equal_sides : (p : Position) (h : ℕ) → HasEqualSides (after p h)
 unfolding after
 after_equal_sides p h = omega (arith, capture_side, sow_side)
 
--- no seed is farther from the store than its row is long
 pub row_distance_le : (row : List ℕ) → row_distance row ≤ length row * sum row
 unfolding row_distance
 row_distance_le houses = distance_range_le houses 1 _ _ (omega arith)

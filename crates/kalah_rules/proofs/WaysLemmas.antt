@@ -51,7 +51,6 @@ ways_from n (Over own other) = if n == 0 then 1 else 0
 ways_from n (Again gained a) = ways n (storeless a)
 ways_from n (Turn gained a) = ways n (storeless a)
 
--- a swept position has one way of no move, and no other
 ways_swept : (n : ℕ) (q : Position) → ways n (swept q) ≡ (if n == 0 then 1 else 0)
 ways_swept zero q = ways_none _
 ways_swept (suc n) q = grind (arith, sum-zeros, ways-suc)

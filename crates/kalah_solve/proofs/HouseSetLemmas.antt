@@ -33,11 +33,9 @@ module _ (m : ℕ) (f : ℕ → ℕ) (few : (h : ℕ) → f h < 32) where
   row_of-few : (k : ℕ) → get_or (row_of m f) k 0 < 32
   row_of-few k = grind (arith, cases_lt, get_or-map-range_with_len, get_or_past, length-row_of)
 
-  -- each cell is that of the house
   cell_inside : (i : ℕ) → i < m → cell (packed_row (row_of m f)) i ≡ f (i + 1)
   cell_inside i inside = grind (arith, cell_of_row, row_of-few, get_or-map-range_with_len)
 
-  -- past the houses the cells are empty
   cell_outside : (i : ℕ) → m ≤ i → cell (packed_row (row_of m f)) i ≡ 0
   cell_outside i past = grind (arith, cell_of_row, row_of-few, get_or_past, length-row_of)
 
@@ -86,7 +84,6 @@ module _ (mask h : ℕ) (last : IsLastIn mask h) where
   last_is_in : 0 < cell mask (h - 1)
   last_is_in = highest_cell_some _ _ last.low last.high
 
-  -- what is left was in it before
   in_before : (i : ℕ) → 0 < cell (without_house mask h) i → 0 < cell mask i
   in_before i some = grind (arith, cases_eq, last_is_in, other_cells_kept)
 
@@ -267,7 +264,6 @@ unless_both a x n implied = (
 )
 
 module _ {a : HousesState} {row : ℕ} (limits : AreWithinLimits a) (row_is : row ≡ packed_row a.own) where
-  -- the cells of the mover's row
   own_cell : (i : ℕ) → cell row i ≡ slice_index a.own i
   own_cell i = rw row_is (cell_of_row a.own i (λ k. omega (arith, house_le_sum a.own k)))
 

@@ -20,7 +20,6 @@ choose_le_plus n (suc d) k =
 pub choose_rises : (n m k : ℕ) → n ≤ m → choose n k ≤ choose m k
 choose_rises n m k few = let all : n + (m - n) ≡ m = omega arith in rw all at (choose_le_plus n (m - n) k)
 
--- there are no more ways than ways to take any
 choose_le_power : (n k : ℕ) → choose n k ≤ 2 ^ n
 unfolding choose
 choose_le_power n zero = omega (arith, pow_pos n)
@@ -147,7 +146,6 @@ module _ (row : List ℕ) (few : sum row ≤ most_ending_seeds) (m passed sums a
   abbrev two_past : List ℕ
   two_past = drop (2 * (passed + 1)) row
 
-  -- they are what is left of the row
   two_more : drop (2 * passed) row ≡ two_first ∷ two_second ∷ two_past
   two_more = grind (arith, drop_more)
 
@@ -179,7 +177,6 @@ module _ (row : List ℕ) (few : sum row ≤ most_ending_seeds) (m passed sums a
       let two_add : row_rank (drop (2 * passed) row) ≡ c + row_rank two_past = rw two_more (omega arith) in
       record { left = two_are.past; rank = omega arith }
 
-  -- both sums are numbers of seeds of an ending
   pub two_few : (sums % 1024 % 32 < COUNTS) × (sums % 1024 / 32 < COUNTS)
   two_few = omega (arith, sum_by-cons, two_are.first, two_are.second, two_less)
 

@@ -47,11 +47,6 @@ pub enough_is_won : {a : HousesState} {beta h bound : ℕ} → AreWithinLimits a
     → IsSoftBound beta (won_by_step (houses_step a h)) bound → beta ≤ bound → bound ≤ won a
 enough_is_won {a} {h = h} limits legal bounded enough = omega (arith, won_at_most a limits h legal)
 
--- if no legal move wins more than `most`, best play wins no more
-won_at_most_of_all : (a : HousesState) (most : ℕ) → AreWithinLimits a → is_over (storeless a) ≡ false
-    → ((h : ℕ) → IsLegal a h → WinsAtMost a most h) → won a ≤ most
-won_at_most_of_all a most limits going each = grind (arith, won_reached)
-
 -- ==== Turns, and what the reply to one leaves
 
 -- a turn leads on to the houses that it leaves
@@ -101,7 +96,6 @@ place_inside {priority = priority} placed found some =
     let at = get_or_default _ found.0 0 priority found.1 ∙ found.2 in
     omega (arith, at, placed.inside found.0 (omega (arith, at)), placed.named found.0 (omega (arith, at)))
 
--- a place that was set to 0 has nothing
 none_at : (xs : List ℕ) (at : ℕ) → get_or (slice_set xs at 0) at 0 ≡ 0
 none_at xs at = elim (cases_lt at (length xs)) [
   | inl inside ↦ get_or-set_same xs at 0 0 inside
@@ -281,6 +275,7 @@ untried_fewer {a} {priorities = priorities} {turns = turns} bound untried taken 
 -- once none waits, `most` is a bound of what best play wins
 pub none_untried : {a : HousesState} {beta most : ℕ} {priorities : List ℕ} {turns : List HousesState} → AreWithinLimits a
     → is_over (storeless a) ≡ false → AreUntried a beta most priorities turns → IsEmpty priorities → IsSoftBound beta (won a) most
-none_untried {a} limits going untried none =
-    let high = won_at_most_of_all a _ limits going (λ h legal. untried.tried h legal (none (h - 1))) in
+none_untried {a} {most = most} limits going untried none =
+    let each : (h : ℕ) → IsLegal a h → WinsAtMost a most h = λ h legal. untried.tried h legal (none (h - 1)) in
+    let high : won a ≤ most = grind (arith, won_reached) in
     record { lower = λ enough. absurd (omega (arith, untried.short)); upper = λ short. high }

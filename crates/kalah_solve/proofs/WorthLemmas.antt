@@ -284,7 +284,6 @@ value-store_seeds : (v w : Position → ℤ) (a b : ℕ) (p : Position) (h : ℕ
     → value_by v (with_store_seeds a b p) h ≡ value_by w p h +ℤ (pos a -ℤ pos b)
 value-store_seeds v w a b p h again turn = grind (arith, after-store_seeds, shift_either, shift_turned, final-store_seeds)
 
--- with no move left the worth is the final margin
 worth_zero : (p : Position) → worth_within zero p ≡ final_margin p
 unfolding worth_within
 worth_zero p = refl
