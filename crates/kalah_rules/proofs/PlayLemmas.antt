@@ -146,7 +146,6 @@ module _ (m h : ℕ) (h_low : 1 ≤ h) (h_high : h ≤ m) where
   own_distance_apart : (i j : ℕ) → 1 ≤ i → i ≤ m → 1 ≤ j → j ≤ m → i ≢ j → own_distance m h i ≢ own_distance m h j
   own_distance_apart i j i_low i_high j_low j_high other = grind arith
 
-  -- none has that of the store
   own_from_store : (i : ℕ) → 1 ≤ i → i ≤ m → own_distance m h i ≢ store_distance m h
   own_from_store i low high = grind arith
 
@@ -452,8 +451,7 @@ capture_leaves_fewer q i one = omega (arith, sum-set_zero)
 -- where the last seed falls there are fewer seeds in houses, or nothing changes
 captured_leaves_no_more : (q : Position) (o : Option ℕ)
     → (seeds_in_houses (after_capture q o) < seeds_in_houses q) ⊎ (after_capture q o ≡ q)
-captured_leaves_no_more q None = inr refl
-captured_leaves_no_more q (Some i) = grind (arith, capture_leaves_fewer)
+captured_leaves_no_more q o = grind (arith, capture_leaves_fewer)
 
 -- a sowing brings the game nearer to its end
 sown_nearer : (p : Position) (h : ℕ) → HoldsSeeds p h → length p.other ≡ side_length p → IsNearerEnd (sown p h) p
@@ -467,8 +465,7 @@ after_nearer p h holds equal = grind (arith, sown_nearer, captured_leaves_no_mor
 -- a capture keeps the number of houses of both sides
 capture_side : (q : Position) (o : Option ℕ)
     → (side_length (after_capture q o) ≡ side_length q) × (length (after_capture q o).other ≡ length q.other)
-capture_side q None = omega arith
-capture_side q (Some i) = grind (arith, length-set)
+capture_side q o = grind (arith, length-set)
 
 after_side : (p : Position) (h : ℕ) → side_length (after p h) ≡ side_length p
 unfolding after

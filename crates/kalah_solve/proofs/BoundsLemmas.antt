@@ -1,8 +1,8 @@
 -- How many seeds are won, and the margins and windows that they make.
-use Rattle.std.proofs.{Common.{◌≡◌, ◌↔◌, ℕ, ◌+◌, ◌≤◌, arith, zero, suc, ◌-◌, ◌/◌, ◌<◌, inl, inr, ◌∙◌, ap, max, min, ℤ, pos, ◌+ℤ◌, ◌≤ℤ◌, false, sum, ◌<ℤ◌}, lemmas.{Int.ints, Int.clamps, Bool.cases_Bool}}
+use Rattle.std.proofs.{Common.{◌≡◌, ◌↔◌, ℕ, ◌+◌, ◌≤◌, arith, zero, suc, ◌-◌, ◌<◌, inl, inr, ◌∙◌, ap, max, min, ℤ, pos, ◌+ℤ◌, ◌≤ℤ◌, false, sum, ◌<ℤ◌}, lemmas.{Int.ints, Int.clamps, Bool.cases_Bool}}
 use Rattle.std.specs.Int.{int_max, int_min}
 use Rattle.kalah_rules.specs.{Limits.{most_seeds}, Position.{HousesState, AreWithinLimits, seeds_in_houses, is_over, storeless}, Measure.{moves_left}, HousesStep.{houses_step}, declared.step.HousesStep.{HousesStep, TheVariants.{Over, Again, Turn}}}
-use Rattle.kalah_solve.specs.{IsHalf, clamped, margin_of, least_margin, most_margin, Encloses, houses_worth, value_of_move, nat_or_zero, won, won_by_step, declared.bounds.{window.Window.{Window}, interval.Interval.{Interval}, seed_bounds.SeedBounds.{SeedBounds}}}
+use Rattle.kalah_solve.specs.{IsHalf, clamped, margin_of, least_margin, most_margin, Encloses, houses_worth, value_of_move, won, won_by_step, declared.bounds.{window.Window.{Window}, interval.Interval.{Interval}, seed_bounds.SeedBounds.{SeedBounds}}}
 use Rattle.kalah_rules.proofs.PlayLemmas.{IsLegal, legal_going}
 use Rattle.kalah_solve.proofs.WorthLemmas.{worth_of_step, LeadsTo, LeadsOn, worth_of_over, value_is, leads_on, worth_is_most}
 
@@ -64,16 +64,13 @@ some_won (suc n) a limits few = elim (cases_Bool _) [
       (λ b _ on. some_won n b on.limits (omega arith)))
 ]
 
--- that number is the one that the definition names
-won_is_one : (n : ℕ) (z : ℤ) (t : ℕ) → IsWonOf n z t → nat_or_zero (z +ℤ pos n) / 2 ≡ t
-won_is_one n z t bounds = rw bounds.margin (omega arith)
-
 -- the worth of houses is the margin of a mover who wins `won` seeds
 pub won_of_houses : {a : HousesState} → AreWithinLimits a → IsWonOf (seeds_in_houses (storeless a)) (houses_worth a) (won a)
 unfolding won
 won_of_houses {a} limits =
     let bounds = some_won (suc (moves_left (storeless a))) a limits (omega arith) in
-    rw (won_is_one _ _ _ bounds.1) bounds.1
+    let named : won a ≡ bounds.0 = rw bounds.1.margin (omega arith) in
+    rw named bounds.1
 
 -- houses are worth what the mover wins less the others
 pub worth_of_won : (a : HousesState) → AreWithinLimits a → houses_worth a ≡ margin_of (won a) (seeds_in_houses (storeless a))

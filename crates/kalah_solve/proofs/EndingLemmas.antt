@@ -43,7 +43,6 @@ same_digits_elsewhere : (j k n d : ℕ) → j ≢ k → stored_at n k ≡ 0 → 
     → stored_at (n + d * 2 ^ (4 * k)) j ≡ stored_at n j
 same_digits_elsewhere j k n d other none small = grind (arith, cases_lt, same_digits_before, same_digits_past)
 
--- a digit of a word is no more than a word
 pub digit_fits : (k d : ℕ) → k < 16 → d < 16 → d * 2 ^ (4 * k) < 2 ^ 64
 digit_fits k d place small = omega (arith, mul-le d (2 ^ (4 * k)) 15 (2 ^ 60) (omega (arith, small)) (pow_mono {j = 60} (omega arith)))
 
@@ -91,7 +90,6 @@ next_binomials-zero : (before : ℕ) (ws : List ℕ) → 1 ≤ length ws → get
 next_binomials-zero before [] some = omega arith
 next_binomials-zero before (w ∷ ws) some = refl
 
--- cell k has the ways to choose k of n
 binomials_are : (n k : ℕ) → k < 13 → get_or (binomials n) k 0 ≡ choose n k
 unfolding choose
 binomials_are zero zero few = refl

@@ -1,5 +1,5 @@
 -- What the entries of a table state of the worth of houses stays true.
-use Rattle.std.proofs.Common.{ℕ, ◌≡◌, inl, inr, arith, sym, ap, List, ◌∙◌, eqb-true, Option, Some, None, Result, Ok, Err, nat_eq, IfSome, IsSome, IsOk, OnOk, OnErr, ◌⊎◌}
+use Rattle.std.proofs.Common.{ℕ, ◌≡◌, inl, inr, arith, sym, List, ◌∙◌, eqb-true, Option, Some, None, Result, nat_eq, IfSome, IsSome, IsOk, OnOk, OnErr, ◌⊎◌}
 use Rattle.kalah_rules.specs.{Position.{HousesState, AreWithinLimits}, Key.{key_of}}
 use Rattle.kalah_rules.proofs.KeyLemmas.{key-injective}
 use Rattle.std.specs.{Map.{lookup}, Cmp.{nat_eq_equiv}}
@@ -49,12 +49,10 @@ state_of c = record { entries = c.entries; capacity = c.cap }
 pub put_or_same : {X E : Type 0} (r : Result X E) (c new : LruCache ℕ Interval) (k : ℕ) (i : Interval)
     → OnOk r (new ≡ lru_cache (put_entries nat_eq c k i) c.cap) → OnErr r (new ≡ c)
     → (lookup (nat_eq k) new.entries ≡ Some i) ⊎ (state_of new ≡ state_of c)
-put_or_same (Ok x) c new k i ok err = inl (rw ok (lookup-put_entries nat_eq c k i nat_eq_equiv))
-put_or_same (Err x) c new k i ok err = inr (ap state_of err)
+put_or_same r c new k i ok err = let found = lookup-put_entries nat_eq c k i nat_eq_equiv in grind arith
 
 -- if there was one, the put succeeds
 pub put_replaces : {X E : Type 0} (r : Result X E) (c new : LruCache ℕ Interval) (k : ℕ) (i : Interval)
     → OnOk r (new ≡ lru_cache (put_entries nat_eq c k i) c.cap) → (IsSome (lookup (nat_eq k) c.entries) → IsOk r)
     → IsSome (lookup (nat_eq k) c.entries) → lookup (nat_eq k) new.entries ≡ Some i
-put_replaces (Ok x) c new k i ok succeeds some = rw ok (lookup-put_entries nat_eq c k i nat_eq_equiv)
-put_replaces (Err x) c new k i ok succeeds some = cc (succeeds some)
+put_replaces r c new k i ok succeeds some = let found = lookup-put_entries nat_eq c k i nat_eq_equiv in grind arith

@@ -29,7 +29,6 @@ house_le_sum xs k = grind (arith, cases_lt, get_or-le-sum_by (λ (y : ℕ). y), 
 
 -- a row of m houses, given house by house, holds few seeds in each
 module _ (m : ℕ) (f : ℕ → ℕ) (few : (h : ℕ) → f h < 32) where
-  -- its houses hold no more than the function gives
   row_of-few : (k : ℕ) → get_or (row_of m f) k 0 < 32
   row_of-few k = grind (arith, cases_lt, get_or-map-range_with_len, get_or_past, length-row_of)
 

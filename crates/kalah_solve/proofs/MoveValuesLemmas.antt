@@ -1,13 +1,12 @@
 -- Values of moves in one number, a digit each.
-use Rattle.std.proofs.{Common.{List, zero, suc, negsuc, ◌≡◌, ℕ, ◌<◌, ◌≤◌, inl, inr, ◌∷◌, length, arith, ap, refl, ◌+◌, ℤ, ◌≤ℤ◌, pos, ◌+ℤ◌, ◌-ℤ◌, ◌*◌, ◌/◌, ◌%◌, ◌^◌, ◌-◌}, lemmas.{Bool.cases_eq, Int.ints}, Math.Nat.{pow-succ'}}
+use Rattle.std.proofs.{Common.{List, zero, suc, ◌≡◌, ℕ, ◌<◌, ◌≤◌, inl, inr, ◌∷◌, length, arith, ap, refl, ◌+◌, ℤ, ◌≤ℤ◌, pos, ◌+ℤ◌, ◌-ℤ◌, ◌*◌, ◌/◌, ◌%◌, ◌^◌, ◌-◌}, lemmas.{Bool.cases_eq, Int.ints}, Math.Nat.{pow-succ'}}
 use Rattle.kalah_rules.specs.Limits.{most_in_play}
 use Rattle.kalah_solve.specs.{nat_or_zero, IsMoveValue, digit_of, value_at, packed_values, values_in, ArePackedValues, declared.solver.move_values.{MoveValue.{MoveValue}, TheConstants.{VALUE_COUNT, DIGIT_BASE}}}
 
 -- ==== A value and its digit
 
 nat_or_zero_again : (z : ℤ) → pos 1 ≤ℤ z → pos (nat_or_zero z) ≡ z
-nat_or_zero_again (pos n) some = refl
-nat_or_zero_again (negsuc n) some = grind (arith, ints)
+nat_or_zero_again z some = grind (arith, ints)
 
 -- a digit of the base other than 0, by which the value is found
 record Finds (v : MoveValue) (digit : ℕ) : Type 0 where

@@ -40,7 +40,6 @@ choose_none n zero more = omega arith
 choose_none zero (suc k) more = refl
 choose_none (suc n) (suc k) more = omega (arith, choose_none n k (omega arith), choose_none n (suc k) (omega arith))
 
--- a thing is among those that are chosen, or it is not
 choose_next : (n k : ℕ) → choose (suc n) (suc k) ≡ choose n k + choose n (suc k)
 unfolding choose
 choose_next n k = refl

@@ -67,10 +67,7 @@ module _ {a b : HousesState} {h bound seeds left : ℕ} (beta : ℕ) (limits : A
       (bound_of_rest _ (omega (arith, (turn_leads limits turn).kept)) reply_few (rw (left_is, seeds_are) at bounded))
 
   pub reply_fits : bound ≤ seeds
-  reply_fits = elim (cases_lt bound (left + 1)) [
-    | inl short ↦ omega arith
-    | inr enough ↦ omega (arith, bounded.lower enough, reply_few, (turn_leads limits turn).kept)
-  ]
+  reply_fits = let kept = (turn_leads limits turn).kept in grind (arith, cases_lt, reply_few)
 
   -- what is left of them is no more than best play wins, if it is enough
   pub turn_enough : beta ≤ seeds - bound → seeds - bound ≤ won a
@@ -105,11 +102,7 @@ none_at xs at = elim (cases_lt at (length xs)) [
 -- with one more
 turns_with_one_more : {a b : HousesState} (at v : ℕ) {priorities : List ℕ} {turns : List HousesState} → AreTurns a priorities turns
     → ArePlaced priorities turns → at < 6 → IsTurnOf a (at + 1) b → AreTurns a (slice_set priorities at v) (slice_set turns at b)
-turns_with_one_more {a} {b} at v {priorities} {turns} waiting placed inside turn k some d = elim (cases_eq k at) [
-  | inl same ↦ rw (same, get_or-set_same turns at b d (omega (arith, placed.six_turns))) turn
-  | inr other ↦
-      rw (get_or-set_other turns at k b d other) (waiting k (rw (get_or-set_other priorities at k v 0 other) at some) d)
-]
+turns_with_one_more at v waiting placed inside turn k some d = grind (arith, cases_eq, get_or-set_same, get_or-set_other)
 
 -- without one that was taken out
 turns_without_one : (a : HousesState) (priorities : List ℕ) (turns : List HousesState) (at : ℕ) → AreTurns a priorities turns

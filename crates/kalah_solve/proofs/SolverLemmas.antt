@@ -138,11 +138,9 @@ best_is_strategy = record { moves = λ p equal going. (best_found _ equal going)
 pub best_plays : PlaysBest (follow best_house)
 best_plays = grind (arith, best_attains)
 
--- it gets the mover at least the worth
 best_secures : (p : Position) → HasEqualSides p → Secures best_house p (worth p)
 best_secures p equal = λ houses final game. (game_is_bounded (strategy_within best_is_strategy) (same_policy _) equal game).low best_plays
 
--- the best house holds the mover to the worth when the opponent moves it
 best_holds : (p : Position) → HasEqualSides p → HoldsTo best_house p (worth p)
 best_holds p equal = λ houses final game. (game_is_bounded (same_policy _) (strategy_within best_is_strategy) equal game).high best_plays
 
@@ -186,7 +184,6 @@ best_play_is_one p v w equal a b = omega (arith, ints, secured_at_most p v w equ
 
 -- ==== Which moves are best
 
--- the value of a move is the margin of best play after it
 move_worth : (p : Position) (h : ℕ) → IsWorthOfMove p h (value_of_move p h)
 move_worth p h = record {
   again = λ more. subst (IsBestPlay _) (sym (value_moving_again _ _ more)) (worth_is_best_play _ (after_equal_sides p h));

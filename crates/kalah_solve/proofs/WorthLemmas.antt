@@ -270,8 +270,7 @@ greatest_shift f g d (x ∷ xs) some same = rw (same x) (fold_shift f g d (g x) 
 -- one of two shifted numbers
 shift_either : (first : Bool) (d : ℤ) {x y : ℤ} (x' y' : ℤ) → x ≡ x' +ℤ d → y ≡ y' +ℤ d
     → (if first then x else y) ≡ (if first then x' else y') +ℤ d
-shift_either true d x' y' one two = one
-shift_either false d x' y' one two = two
+shift_either first d x' y' one two = grind arith
 
 -- the opponent's value is shifted the other way
 shift_turned : (a b : ℕ) (u' : ℤ) {u : ℤ} → u ≡ u' +ℤ (pos b -ℤ pos a) → neg_ℤ u ≡ neg_ℤ u' +ℤ (pos a -ℤ pos b)

@@ -6,6 +6,5 @@ use Rattle.kalah_solve.proofs.solver.Solver.values.Given as goal
 abbrev pub invariant-loop-i : goal.invariant-loop-i
 invariant-loop-i g l = record { done : l.values ≡ map (move_value l.board) (drop l.i l.moves); within : l.i ≤ length l.moves }
 
--- the moves that are left
 abbrev pub decreases-loop-i : goal.decreases-loop-i
 decreases-loop-i g l = l.i

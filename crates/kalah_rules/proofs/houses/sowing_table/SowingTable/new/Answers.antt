@@ -12,13 +12,10 @@ loop-i-init c = record {
 pub loop-i-preserved : goal.loop-i-preserved
 loop-i-preserved c =
     let before = c.loop-i.invariant in
-    let sowing = c.sowing_at.result in
     record {
-      all = length-set c.loop-i.cells c.loop-i.i sowing ∙ before.all;
-      right = sowings_more _ _ _ (omega arith) before.right
-          c.sowing_at.ensures;
+      all = length-set c.loop-i.cells c.loop-i.i c.sowing_at.result ∙ before.all;
+      right = sowings_more _ _ _ (omega arith) before.right c.sowing_at.ensures;
     }
 
 pub invariant_of-result : goal.invariant_of-result
-invariant_of-result c = λ m h count k d cell below.
-    c.loop-i.invariant.right m h count k d cell (omega arith)
+invariant_of-result c = λ m h count k d cell below. c.loop-i.invariant.right m h count k d cell (omega arith)

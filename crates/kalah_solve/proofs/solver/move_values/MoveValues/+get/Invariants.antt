@@ -1,5 +1,4 @@
 use Rattle.kalah_solve.proofs.solver.move_values.MoveValues.+get.Given as goal
 
--- the place
 abbrev pub decreases-get : goal.decreases-get
 decreases-get l = l.i
