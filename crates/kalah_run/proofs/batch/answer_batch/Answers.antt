@@ -2,7 +2,7 @@
 use Rattle.std.proofs.{lemmas.Grind.{common_steps}, Common.{◌∙◌, ◌<◌, sym, ap, ⊎_elim, inl, inr, arith, subst}}
 use Rattle.kalah_jobs.specs.{Files.Jobs.{job_count}, Writing.{Sink.{WasGiven}, Output.{output_to}}}
 use Rattle.kalah_jobs.proofs.SinkLemmas.{given_none, given_then_flush}
-use Rattle.kalah_run.proofs.{AnsweringLemmas.{answered, as_many_jobs, no_output, whole_output_is}, batch.answer_batch.Goals.{then-total-gt0+in_ok-open+in-Some, else-total-gt0}}
+use Rattle.kalah_run.proofs.{AnsweringLemmas.{answered, as_many_jobs, given_as, no_line, no_output, whole_output_is}, batch.answer_batch.Goals.{then-total-gt0+in_ok-open+in-Some, else-total-gt0}}
 use Rattle.kalah_run.proofs.batch.answer_batch.Goals as goal
 
 -- no thread could be started
@@ -26,14 +26,11 @@ returns-clause-answers g c =
     elim c.if-total-gt0.branch [
       | then-total-gt0+in_ok-open+in-Some w ↦
           let asked = w.in_ok-open.ensures.asked in
-          rw (
-            w.out-is,
-            ← whole_output_is question files w.in_ok-open.field-0.output asked.of_files
-                (w.in_ok-open.ensures.ready.jobs ∙ asked.of_jobs ∙ jobs.1),
-          ) w.in-Some.ensures.given
+          given_as g.W.Sink.state w.out-is (whole_output_is question files w.in_ok-open.field-0.output asked.of_files
+          (w.in_ok-open.ensures.ready.jobs ∙ asked.of_jobs ∙ jobs.1)) w.in-Some.ensures.given
       | else-total-gt0 w ↦
-          rw (w.out-is, no_output question files (omega (arith, w.if-total-gt0.false, c.total.ensures.lines, as_many_jobs _ _ _ jobs.1)))
-          (given_none g.W.Sink.state c.args.out.now)
+          given_as g.W.Sink.state w.out-is (sym (no_output question files (no_line w.if-total-gt0.false (c.total.ensures.lines
+          ∙ as_many_jobs _ _ _ jobs.1)))) (given_none g.W.Sink.state c.args.out.now)
     ] in
     answered g.W.Sink.state question files _ jobs _ _ (given_then_flush g.W.Sink.state given end.given) end.counted end.all_flushed
     end.fault
