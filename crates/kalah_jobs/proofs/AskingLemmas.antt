@@ -1,5 +1,5 @@
 -- Lines that come as a stream: what is answered of them, and how far.
-use Rattle.std.proofs.{Common.{◌≡◌, ◌≢◌, ◌∙◌, ℕ, zero, suc, ◌+◌, ◌≤◌, Bool, true, false, List, [], ◌∷◌, ◌++◌, length, take, inl, inr, refl, sym, ap, ap₂, arith, append-nil, append_assoc, Err, not, ◌||◌, ◌&&◌, subst, length-take-le, take_all, Result, Ok, Option, Some, None, option_to_list, IsErrOf}, KnownBytes.{Appends-kept, Appends-nil, Appends-trans, Consumes-kept, Consumes-nil, Consumes-trans, Consumes-whole, Keeps-refl}, Math.Bool.{and-true}, lemmas.{Bool.{cases_lt, cond_both}, Grind.{flat_map-append}, List.{Elements.{All-nil, All-push}, Folds.{list_any-append}}}}
+use Rattle.std.proofs.{Common.{◌≡◌, ◌≢◌, ◌∙◌, ℕ, zero, suc, ◌+◌, ◌≤◌, Bool, true, false, List, [], ◌∷◌, ◌++◌, length, take, inl, inr, refl, sym, ap, ap₂, arith, append-nil, append_assoc, Err, not, ◌||◌, ◌&&◌, subst, length-take-le, take_all, Result, Ok, Option, Some, None, option_to_list}, KnownBytes.{Appends-kept, Appends-nil, Appends-trans, Consumes-kept, Consumes-nil, Consumes-trans, Consumes-whole, Keeps-refl}, Math.Bool.{and-true}, lemmas.{Bool.{cases_lt, cond_both}, Grind.{flat_map-append}, List.{Elements.{All-nil, All-push}, Folds.{list_any-append}}}}
 use Rattle.std.specs.{Io.KnownBytes.{Appends, Consumes, IsAtEnd, Keeps}, List.{flat_map, enumerate_from}}
 use Rattle.kalah_rules.specs.Position as position
 use Rattle.kalah_rules.specs.Position.{is_over}

@@ -1,7 +1,7 @@
 -- What a batch answers: the output of its files, each result, and a batch whose files have no line.
 use Rattle.std.proofs.{Common.{[], IfErr, ◌≡◌, ◌≤◌, ℕ, List, ◌++◌, arith, sym, ap, ◌∙◌, true, false, refl, length, take, inl, inr, Some, Option, None, Result, Ok, Err, OnOk, count_by, IfOk, flat_map}, lemmas.List.{nil_from_length, append-nil}, Math.Seq.{take-nil}, KnownBytes.{Keeps-refl}}
 use Rattle.kalah_run.specs.{Entry, Job, Tally, Question, text_of_job, whole_output, AnswersBatch, counts_of, AnswersNothing, declared.batch.{ordered_output.OrderedOutput.{OrderedOutput}, run_fault.RunFault.{RunFault, TheVariants.{TooManyFiles, TooManyLines, OutOfMemory, NoWorker, Write}}}}
-use Rattle.kalah_jobs.specs.{Files.{JobList.{job_list, is_faulty_job}, NamedBytes.{NamedBytes}, Jobs.{MakesJobs, job_count, jobs_to, lines_in_all}}, Writing.{Sink.{AppendsPrefix, SinkState, WasGiven}, Output.{taken_output, output_to, output_of_jobs, names_of, tally_of}}}
+use Rattle.kalah_jobs.specs.{Files.{JobList.{job_list, is_faulty_job}, NamedBytes.{NamedBytes}, Jobs.{MakesJobs, job_count, jobs_to, lines_in_all}}, Writing.{Sink.{SinkState, WasGiven}, Output.{taken_output, output_to, output_of_jobs, names_of, tally_of}}}
 use Rattle.std.specs.Io.KnownBytes.{Appends, Keeps}
 use Rattle.kalah_jobs.proofs.{WritingLemmas.{files_are_their_jobs}, FilesLemmas.{length-job_list, job_count-jobs_to}}
 use Rattle.kalah_run.proofs.OutputLemmas.{texts_from}

@@ -1,5 +1,5 @@
 -- The results queue: its pairs, and each step keeps its protocol.
-use Rattle.std.proofs.{Common.{◌≡◌, ◌≢◌, ℕ, suc, ◌+◌, ◌<◌, ◌≤◌, ◌==◌, if◌then◌else◌, Bool, true, false, List, [], ◌∷◌, ◌++◌, length, All, slice_index_or, refl, sym, ap, ◌∙◌, eq-eqb, ne_eqb, arith, set, append_assoc, inl, inr, length-append}, lemmas.{List.{append-nil, length-map, length-set, length_push, map-append, get_or_at, get_or_append_left, get_or_push, Elements.{All-push}}, Bool.{cases_lt}}}
+use Rattle.std.proofs.{Common.{◌≡◌, ◌≢◌, ℕ, suc, ◌+◌, ◌<◌, ◌≤◌, ◌==◌, if◌then◌else◌, Bool, List, [], ◌∷◌, ◌++◌, length, All, slice_index_or, refl, sym, ap, ◌∙◌, eq-eqb, ne_eqb, arith, set, append_assoc, inl, inr, length-append}, lemmas.{List.{append-nil, length-map, length-set, length_push, map-append, get_or_at, get_or_append_left, get_or_push, Elements.{All-push}}, Bool.{cases_lt}}}
 use Rattle.kalah_run.specs.{Job, QueueView, Accounts, outcomes_in, declared.queue.protocol.QueueView.TheVariants.{Getting, Putting, Reclaimed}, Queue.Protocol.{FitsPairs, FitsPut, IsLawful, IsWholeAndInOrder, opening_view, after_handing_out, pass_handed_out, after_put, after_reclaiming, IsGot, KnowsSent}}
 use Rattle.kalah_jobs.specs.Collecting.Shares.{sent_by_worker}
 use mathlib.Core.Option.{some, some-injective, some-ne-none}

@@ -3,7 +3,7 @@ use Rattle.std.proofs.{Common.{◌≡◌, ◌⊎◌, inl, inr, ℕ, zero, suc, �
 use mathlib.Core.Option.{some, some-injective, some-ne-none}
 use lib.ListN.{get_elem?}
 use Rattle.kalah_run.proofs.ViewLemmas.{Each, in_views, view_at}
-use Rattle.kalah_run.specs.{DrawnRow, DeskView, drawn_numbers, drawn_in, spent_in, DealsEachOnce, PassState, drawn_rows, declared.desk.protocol.DeskView.TheVariants.{Opening, Drawing, Closing, Reclaimed}, Desk.Protocol.{rows_in, all_rows, passes_in}}
+use Rattle.kalah_run.specs.{DrawnRow, DeskView, drawn_numbers, drawn_in, spent_in, DealsEachOnce, PassState, drawn_rows, declared.desk.protocol.DeskView.TheVariants.{Closing}, Desk.Protocol.{rows_in, all_rows, passes_in}}
 use Rattle.kalah_jobs.specs.Collecting.Shares.{times_in}
 
 -- ==== Sums over the rows of all seats, and facts of each row: after a change of one seat's view, and after a new seat
