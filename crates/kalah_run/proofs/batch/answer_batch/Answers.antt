@@ -61,6 +61,3 @@ answer-requires-clause-ends g c κs within = λ after run. tt
 
 pub open-requires-after_bounds : goal.open-requires-after_bounds
 open-requires-after_bounds g c κs within = grind (arith, common_steps)
-
-pub returns-in_err-jobs-clause-answers : goal.returns-in_err-jobs-clause-answers
-returns-in_err-jobs-clause-answers g c = grind (arith, common_steps)

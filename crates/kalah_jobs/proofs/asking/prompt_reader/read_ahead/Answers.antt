@@ -9,6 +9,3 @@ returns-in-Err-2-clause-keeps g c = Keeps-trans _ _ _ c.loop.invariant c.fill_bu
 
 pub returns-in-Ok-clause-keeps : goal.returns-in-Ok-clause-keeps
 returns-in-Ok-clause-keeps g c = grind (arith, common_steps)
-
-pub returns-in-Ok-clause-filled : goal.returns-in-Ok-clause-filled
-returns-in-Ok-clause-filled g c = grind (arith, common_steps)

@@ -1,6 +1,6 @@
 -- After each outcome that is accepted, all lines that became ready stand written. The loop ends with as many outcomes as jobs, or with the
 -- rest left and the workers ended.
-use Rattle.std.proofs.{Common.{◌+◌, inl, inr, length, ap, ◌∙◌, arith, rules, Some}, lemmas.Grind.{common_steps}}
+use Rattle.std.proofs.Common.{◌+◌, inl, inr, length, ap, ◌∙◌, arith, rules, Some}
 use Rattle.kalah_jobs.proofs.SinkLemmas.{given_none}
 use Rattle.kalah_run.specs.{GetsOrEnds}
 use Rattle.kalah_run.proofs.{BatchLemmas.{all_got, failed_still, got_after, has_collected, collected_at_start, one_collected, one_longer, rest_left}, batch.running.collect.Goals.{in-Some, in-None+in-Some-flush_and_get, else-loop-test, then-loop-test+in-None+in-None-flush_and_get}}
@@ -58,6 +58,3 @@ returns-clause-collected g c =
           has_collected last.0 (c.into_passes.ensures ∙ ap (λ r. r.passes) w.receiver-is)
           (inr (last.1.0, failed_still after last.1.1)) after
     ]
-
-pub returns-clause-ended : goal.returns-clause-ended
-returns-clause-ended g c = grind (arith, common_steps)

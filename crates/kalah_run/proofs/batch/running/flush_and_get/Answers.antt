@@ -12,6 +12,3 @@ returns g c = record {
 
 pub returns-then-leave_after : goal.returns-then-leave_after
 returns-then-leave_after g c = grind (arith, common_steps)
-
-pub get_last-requires-clause-spent : goal.get_last-requires-clause-spent
-get_last-requires-clause-spent g c = grind (arith, common_steps)

@@ -47,6 +47,3 @@ loop-put-preserved g c =
 
 pub returns-clause-few : goal.returns-clause-few
 returns-clause-few g c = grind (arith, common_steps)
-
-pub absorb-requires-clause-queue : goal.absorb-requires-clause-queue
-absorb-requires-clause-queue g c = grind (arith, common_steps)

@@ -31,6 +31,3 @@ returns-in_err-store-in-47-clause-none c =
     let slash_next : after ≡ slash ∷ take (length after - 1) (drop 1 after) = grind (arith, common_steps) in
     rw c.from_residual-in_err-store-in-47.ensures
     (no_store_follows c.loop-seeds.invariant c.in_ok-seeds.ensures.read slash_next c.in_err-store-in-47.ensures.none)
-
-pub returns-in_default-clause-none : goal.returns-in_default-clause-none
-returns-in_default-clause-none c = grind (arith, common_steps)

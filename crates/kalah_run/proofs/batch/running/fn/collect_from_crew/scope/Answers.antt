@@ -1,6 +1,6 @@
 -- What crosses to the crew's thread may cross, and what that returns is what it promised: workers that have run.
 use denote.Param.Send.{sendable}
-use Rattle.std.proofs.{Common.{arith, refl}, lemmas.Grind.{common_steps}, Crossing.{crosses}}
+use Rattle.std.proofs.{Common.{refl}, Crossing.{crosses}}
 use Rattle.kalah_run.proofs.Crossing.{crew_send, worker_send}
 use Rattle.kalah_run.proofs.batch.running.fn.collect_from_crew.scope.Goals as goal
 
@@ -15,9 +15,3 @@ returns g c = record {
   names = (refl, refl);
   ran = (rw (← c.of.ensures) (rw c.in-Ok.ensures.ok at c.join-workers.ensures), c.collect-passes.ensures.collected);
 }
-
-pub spawn_with-started-requires-clause-keeps : goal.spawn_with-started-requires-clause-keeps
-spawn_with-started-requires-clause-keeps g c κs within = grind (arith, common_steps)
-
-pub returns-in_default : goal.returns-in_default
-returns-in_default g c = grind (arith, common_steps)
