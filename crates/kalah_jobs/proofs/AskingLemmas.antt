@@ -201,8 +201,8 @@ module _ {question : Question} {before now old new : Option (List ℕ)} {line : 
   taken_is next found_is taken = subst (λ byte. Consumes now next (option_to_list byte)) found_is taken
 
   -- a byte more was read, which ends no line
-  pub byte_read : {next kept : Option (List ℕ)} {found : Option ℕ} {longer : List ℕ} (byte : ℕ) → found ≡ Some byte → byte ≢ line_feed
-      → Consumes now next (option_to_list found) → Keeps new kept → longer ≡ take kept_bytes (line ++ byte ∷ [])
+  pub byte_read : {next kept : Option (List ℕ)} {found : Option ℕ} {longer : List ℕ} (byte : ℕ) → found ≡ Some byte
+      → byte ≢ line_feed → Consumes now next (option_to_list found) → Keeps new kept → longer ≡ take kept_bytes (line ++ byte ∷ [])
       → IsAnsweredSoFar question before next old kept longer all_read
   byte_read {next} {kept} byte found_is other taken keeps longer_is = record {
     lines = so_far.lines;
@@ -216,8 +216,8 @@ module _ {question : Question} {before now old new : Option (List ℕ)} {line : 
   }
 
   -- a line feed was read, and the line that it ends was answered
-  pub line_read : {next more : Option (List ℕ)} {found : Option ℕ} {byte : ℕ} {empty : List ℕ} {is_read : Bool} (kept : Option (List ℕ))
-      → found ≡ Some byte → byte ≡ line_feed → Consumes now next (option_to_list found) → Keeps new kept
+  pub line_read : {next more : Option (List ℕ)} {found : Option ℕ} {byte : ℕ} {empty : List ℕ} {is_read : Bool}
+      (kept : Option (List ℕ)) → found ≡ Some byte → byte ≡ line_feed → Consumes now next (option_to_list found) → Keeps new kept
       → Appends kept more (reply question line) → is_read ≡ not (is_faulty line) → empty ≡ []
       → IsAnsweredSoFar question before next old more empty (all_read && is_read)
   line_read {next} {more} kept found_is feed taken keeps answered read empty_is =
@@ -279,8 +279,8 @@ module _ {question : Question} {before now old new : Option (List ℕ)} {line : 
 
   -- of a line that ended
   pub begun_line : {next more : Option (List ℕ)} {found : Option ℕ} {byte : ℕ} (kept : Option (List ℕ)) → found ≡ Some byte
-      → byte ≡ line_feed → Consumes now next (option_to_list found) → Keeps new kept → AppendsPrefix kept more (reply question line)
-      → IsBegun question before next old more
+      → byte ≡ line_feed → Consumes now next (option_to_list found) → Keeps new kept
+      → AppendsPrefix kept more (reply question line) → IsBegun question before next old more
   begun_line {next} kept found_is feed taken =
       let one = feed_ends_one_line so_far.part so_far.unended in
       begun kept (so_far.part ++ line_feed ∷ []) (reply question line) (rw one (omega arith))
@@ -296,7 +296,8 @@ module _ {question : Question} {before now old new : Option (List ℕ)} {line : 
 
   -- of all that was read, if the whole was written
   all_answered : {next more : Option (List ℕ)} {found : Option ℕ} {is_read : Bool} (kept : Option (List ℕ)) → found ≡ None
-      → Consumes now next (option_to_list found) → IsAtEnd now → Keeps new kept → Appends kept more (last_reply question line) → is_read ≡ is_last_read line
+      → Consumes now next (option_to_list found) → IsAtEnd now → Keeps new kept
+      → Appends kept more (last_reply question line) → is_read ≡ is_last_read line
       → IsAnswered question before next old more (all_read && is_read)
   all_answered {next} {more} kept none taken at_end keeps answered read = record {
     read = so_far.lines ++ so_far.part;
@@ -310,8 +311,9 @@ module _ {question : Question} {before now old new : Option (List ℕ)} {line : 
 
 -- what holds if all was read, answered and flushed
 pub reading_done : {question : Question} {before now next new : Option (List ℕ)} {old out : SinkState} {line : List ℕ}
-    {all_read is_read : Bool} {found : Option ℕ} (kept : Option (List ℕ)) → IsAnsweredSoFar question before now old.written new line all_read
-    → found ≡ None → Consumes now next (option_to_list found) → IsAtEnd now → Keeps new kept → AppendsPrefix kept out.written (last_reply question line)
+    {all_read is_read : Bool} {found : Option ℕ} (kept : Option (List ℕ))
+    → IsAnsweredSoFar question before now old.written new line all_read → found ≡ None
+    → Consumes now next (option_to_list found) → IsAtEnd now → Keeps new kept → AppendsPrefix kept out.written (last_reply question line)
     → Appends kept out.written (last_reply question line) → is_read ≡ is_last_read line → out.has_failed ≡ false → out.is_flushed ≡ true
     → AnswersLines question before next old out (Ok (all_read && is_read))
 reading_done kept so_far none taken at_end keeps start written read sound flushed = record {

@@ -247,7 +247,8 @@ number_ends_in_digit : (byte : ℕ) (text : List ℕ) (n : ℕ) → IsNumber tex
 number_ends_in_digit byte text n written = grind arith
 
 -- a side ends in a digit
-side_ends_in_digit : (byte : ℕ) {text houses : List ℕ} {store : ℕ} → IsSide text houses store → last_or byte text ≤ zero_digit + 9
+side_ends_in_digit : (byte : ℕ) {text houses : List ℕ} {store : ℕ} → IsSide text houses store
+    → last_or byte text ≤ zero_digit + 9
 side_ends_in_digit byte {text} {store = store} side =
     let last : last_or byte text ≡ last_or slash side.store_text =
     ap (last_or byte) side.parts ∙ last_or-append byte side.houses_text slash side.store_text in

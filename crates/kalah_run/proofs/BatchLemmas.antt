@@ -106,7 +106,8 @@ one_longer before outcome has_got =
     ap (λ (p : GetPassState). length p.got) has_got.2 ∙ length-append before.got ((has_got.0, outcome) ∷ [])
 
 -- as many were got as there are jobs once the loop over them has ended
-pub all_got : {got counter total jobs : ℕ} → got ≡ counter → total ≤ counter → counter ≤ total → total ≡ jobs → got ≡ jobs
+pub all_got : {got counter total jobs : ℕ} → got ≡ counter → total ≤ counter → counter ≤ total → total ≡ jobs
+    → got ≡ jobs
 all_got counted ended within total_is = omega (arith, counted, ended, within, total_is)
 
 module _ {W : Type 0} {state : W → SinkState} {output r : OrderedOutput} {begun out : W} where

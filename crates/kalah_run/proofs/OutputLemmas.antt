@@ -87,14 +87,15 @@ module _ {W : Type 0} {state : W → SinkState} {text : ℕ → Taken → List �
       → WasGiven state out more (text current t) → IsUnderWay state text (record p { files = after }) begun more
   under_way_after_line {after} {t} {more} step given =
       let n : ℕ = taken_of p current in
+      let one_more = with_one_taken (state_of files current) in
       let now : CollectingState = record p { files = after_take files current } in
       let same_taken : (g : ℕ) → (g ≡ current → ⊥) → taken_of now g ≡ taken_of p g =
-      λ g other. ap (λ (s : ArrivalsState). s.taken) (get_or-set_other files current g (with_one_taken (state_of files current)) no_file other) in
+      λ g other. ap (λ (s : ArrivalsState). s.taken) (get_or-set_other files current g one_more no_file other) in
       let offer = under_way.kept.offered.only current t.line t.answer step.next_line.came in
       let line : t.line ≡ n = step.next_line.first in
       let entry_is : entry_at jobs current n ≡ Some offer.entry = ap (entry_at jobs current) (sym line) ∙ offer.entry_is in
       let taken : taken_of now current ≡ n + 1 =
-      ap (λ (s : ArrivalsState). s.taken) (get_or-set_same files current (with_one_taken (state_of files current)) no_file step.file_there) in
+      ap (λ (s : ArrivalsState). s.taken) (get_or-set_same files current one_more no_file step.file_there) in
       let text_is : written_so_far text p ++ text current t ≡ written_so_far text now =
       ap (λ x. written_so_far text p ++ text current x) (taken_is t n offer.entry line offer.answer_is)
       ∙ written_with_next_line text jobs current n offer.entry entry_is

@@ -35,8 +35,8 @@ rows_sum f (x ∷ xs) =
     omega (arith, rows_sum f xs, sum_by-append f (rows_in x) (all_rows xs), sum_by-cons (λ view. sum_by f (rows_in view)) x xs)
 
 -- the sum over all rows, after a change of one view
-pub rows_set : (f : DrawnRow → ℕ) (views : List DeskView) (seat : ℕ) {old : DeskView} (new : DeskView) → get_elem? views seat ≡ some old
-    → sum_by f (all_rows (set views seat new)) + sum_by f (rows_in old) ≡ sum_by f (all_rows views) + sum_by f (rows_in new)
+pub rows_set : (f : DrawnRow → ℕ) (views : List DeskView) (seat : ℕ) {old : DeskView} (new : DeskView)
+    → get_elem? views seat ≡ some old → sum_by f (all_rows (set views seat new)) + sum_by f (rows_in old) ≡ sum_by f (all_rows views) + sum_by f (rows_in new)
 rows_set f views seat new has_old =
     omega (arith, rows_sum f (set views seat new), rows_sum f views, sum_set (λ u. sum_by f (rows_in u)) views seat new has_old)
 

@@ -90,8 +90,8 @@ pub room_for_all : {workers count size len capacity popped left : ℕ} → worke
 room_for_all many left_is popped_is held size_is = omega (arith, many, left_is, popped_is, held, size_is)
 
 -- so it is with one pass for each worker
-pub room_for_each : {workers count len size capacity left : ℕ} → workers ≡ count → left ≡ capacity → (len ≡ size) × (len ≤ capacity)
-    → len ≡ count → workers ≤ left
+pub room_for_each : {workers count len size capacity left : ℕ} → workers ≡ count → left ≡ capacity
+    → (len ≡ size) × (len ≤ capacity) → len ≡ count → workers ≤ left
 room_for_each many left_is held len_is = omega (arith, many, left_is, held, len_is)
 
 -- workers with new passes, that have sent nothing, are at work

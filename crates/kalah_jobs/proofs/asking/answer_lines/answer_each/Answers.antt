@@ -72,8 +72,8 @@ returns-clause-lines g c =
     let next = c.in_ok-byte.ensures in
     let reply = c.write_last_reply-all_read.ensures in
     let sound = sym c.failed-2.ensures ∙ c.if-failed-2.false in
-    reading_done _ so_far c.in_default.is next.taken (next.end c.in_default.is) next.keeps reply.given.start (reply.given.whole sound).1 reply.read sound
-    (reply.all_flushed sound)
+    reading_done _ so_far c.in_default.is next.taken (next.end c.in_default.is) next.keeps reply.given.start
+    (reply.given.whole sound).1 reply.read sound (reply.all_flushed sound)
 
 pub loop-byte-smaller : goal.loop-byte-smaller
 loop-byte-smaller g c = grind (arith, common_steps)

@@ -28,5 +28,6 @@ apply-requires c =
 pub returns : goal.returns
 returns c =
     let moves = c.legal-moves.result in
-    let all = take_all c.loop-i.i moves (subst (◌≤ c.loop-i.i) c.len-i-end.ensures c.loop-i-test.false) ∙ c.legal-moves.ensures.moves in
+    let high = subst (◌≤ c.loop-i.i) c.len-i-end.ensures c.loop-i-test.false in
+    let all = take_all c.loop-i.i moves high ∙ c.legal-moves.ensures.moves in
     c.loop-i.invariant ∙ ap (joined_lines (c.args.name.now ++ c.args.place.now) (house_step_text c.args.board.now)) all

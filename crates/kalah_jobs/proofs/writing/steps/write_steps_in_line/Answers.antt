@@ -26,7 +26,8 @@ pub returns : goal.returns
 returns g c =
     let text : ℕ → List ℕ = house_step_text c.args.board.now in
     let moves = c.legal-moves.result in
-    let all = take_all c.loop-i.i moves (subst (◌≤ c.loop-i.i) c.len-i-end.ensures c.loop-i-test.false) ∙ c.legal-moves.ensures.moves in
+    let high = subst (◌≤ c.loop-i.i) c.len-i-end.ensures c.loop-i-test.false in
+    let all = take_all c.loop-i.i moves high ∙ c.legal-moves.ensures.moves in
     subst (WasGiven g.W.Sink.state c.args.out.now c.write_unless_failed.new.out)
     (ap (λ ms. texts_in_line text ms ++ line_feed ∷ []) all)
     (given_then _ c.loop-i.invariant c.write_unless_failed.ensures)
