@@ -140,7 +140,7 @@ module _ {O : Type 0} (state : O → SinkState) {status : ExitStatus} {may_give 
       no_line_feed = λ _. no_line_feed;
       clean = λ _. rw answered.counted at clean;
       ends = record {
-        failed = λ write_failed. absurd (both_ways _ answered.sound write_failed);
+        failed = λ write_failed. absurd (both_ways _ answered.not_failed write_failed);
         unchanged = λ failed. absurd (not_failed failed);
         all_flushed = λ _ _. answered.flushed;
       };

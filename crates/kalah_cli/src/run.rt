@@ -76,7 +76,7 @@ fn run_request<'a, R: Sources + Clock + Terminal + Threads + Wait + Sync, O: Sin
     err: &mut E,
 ) -> Result<ExitStatus, Failure<'a>>
     requires range { IsInRange request.now }
-    requires sink { (O.state out.old).has_failed ≡ false }
+    requires not_failed { (O.state out.old).has_failed ≡ false }
     ensures { Does O.state out.old out.new (exit_status_of result) (R.may_give rt.now) (task_of request.now) }
 {
     match request {
@@ -110,7 +110,7 @@ pub fn run_words<R: Sources + Clock + Terminal + Threads + Wait + Sync, O: Sink,
     out: &mut O,
     err: &mut E,
 ) -> ExitStatus
-    requires sink { (O.state out.old).has_failed ≡ false }
+    requires not_failed { (O.state out.old).has_failed ≡ false }
     requires named { 0 < vec_len words }
     // Arguments that make a request: the program does what they ask for (if it fails, in part), or fails and writes nothing.
     ensures accepted { DoesWhatIsAsked O.state out.old out.new result (R.may_give rt.now) (texts_of words.items) }

@@ -51,7 +51,7 @@ module _ {W : Type 0} (state : W → SinkState) (question : Question) (files : L
   answered made new (Ok tally) given counted sound fault = record {
     few = made.0;
     written = (given.whole sound.0).1;
-    sound = sound.0;
+    not_failed = sound.0;
     flushed = sound.1;
     counted = counted ∙ ap counts_of made.1 ∙ counted_tally question files;
   }

@@ -4,7 +4,7 @@ use Rattle.std.specs.Int.{int_max, int_min}
 use Rattle.kalah_rules.specs.{Limits.{most_seeds}, Position.{HousesState, AreWithinLimits, seeds_in_houses, is_over, storeless}, Measure.{moves_left}, HousesStep.{houses_step}, declared.step.HousesStep.{HousesStep, TheVariants.{Over, Again, Turn}}}
 use Rattle.kalah_solve.specs.{IsHalf, clamped, margin_of, least_margin, most_margin, Encloses, houses_worth, value_of_move, won, won_by_step, declared.bounds.{window.Window.{Window}, interval.Interval.{Interval}, seed_bounds.SeedBounds.{SeedBounds}}}
 use Rattle.kalah_rules.proofs.PlayLemmas.{IsLegal, legal_going}
-use Rattle.kalah_solve.proofs.WorthLemmas.{worth_of_step, LeadsTo, LeadsOn, worth_of_over, value_is, leads_on, worth_is_most}
+use Rattle.kalah_solve.proofs.WorthLemmas.{worth_of_step, LeadsOnAt, LeadsOn, worth_of_over, value_is, leads_on, worth_is_most}
 
 -- ==== Bounds of seeds and the margins that they make
 
@@ -42,7 +42,7 @@ pub record IsWonOf (n : ℕ) (z : ℤ) (t : ℕ) : Type 0 where
 
 -- some number is won by a step, if some is of the houses that it leads to
 some_won_by_step : (a : HousesState) (s : HousesStep) → LeadsOn a s
-    → ((b : HousesState) (gained : ℕ) → LeadsTo a gained b → (t : ℕ) × IsWonOf (seeds_in_houses (storeless b)) (houses_worth b)
+    → ((b : HousesState) (gained : ℕ) → LeadsOnAt a gained b → (t : ℕ) × IsWonOf (seeds_in_houses (storeless b)) (houses_worth b)
     t) → (t : ℕ) × IsWonOf (seeds_in_houses (storeless a)) (worth_of_step s) t
 some_won_by_step a (Over own other) leads each = (own, omega (arith, ints))
 some_won_by_step a (Again gained b) leads each =

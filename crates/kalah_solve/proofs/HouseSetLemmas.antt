@@ -3,7 +3,7 @@ use Rattle.std.proofs.{Common.{◌≡◌, ◌≢◌, ℕ, zero, suc, ◌+◌, �
 use Rattle.std.specs.Int.{Bits.{bit_and, bit_or, bit_xor, xor_add_and, xor_self}, Count.{count_leading_zeros}}
 use Rattle.kalah_rules.specs.{Position.{HousesState, AreWithinLimits, is_over, storeless}, Sowing.{row_of, EndsInStore}, Key.{packed_row}, Fields.{BeginsHouse, ones}}
 use Rattle.kalah_rules.proofs.{KeyLemmas.{pow_five, ones_le}, PlayLemmas.{IsLegal, holds_legal, legal_holds, length-row_of}}
-use Rattle.kalah_solve.specs.{cell, IsMask, IsLastIn, IsMaskOfFilled, IsMaskOfEnding, all_end_in_store, without_house}
+use Rattle.kalah_solve.specs.{cell, IsMask, IsLastIn, IsMaskOfFilled, IsMaskIntoStore, all_into_store, without_house}
 
 -- ==== Cells of a number
 
@@ -227,25 +227,25 @@ apart_or_equal : (x y : ℕ) → (0 < bit_xor (min 1 (bit_xor x y)) 1) ↔ (x �
 apart_or_equal x y = grind (arith, cases_eq, bit_xor, xor_self, min, xor_add_and, and_le_l, and_le_r)
 
 -- the mask of a row of m cells, if that of those that don't hold their distance is given
-module _ (row : ℕ) {m others mask : ℕ} (few : m ≤ 6) (others_are : IsMaskOfFilled (bit_xor row (all_end_in_store m)) others)
+module _ (row : ℕ) {m others mask : ℕ} (few : m ≤ 6) (others_are : IsMaskOfFilled (bit_xor row (all_into_store m)) others)
     (mask_is : mask ≡ bit_xor others (ones m)) where
   -- a cell is in it unless it is among the others
-  ending_cell : (i : ℕ) → i < 6 → cell mask i ≡ bit_xor (min 1 (bit_xor (cell row i) (cell (all_end_in_store m) i))) (cell (ones m) i)
-  ending_cell i inside = rw (mask_is, cell_xor, others_are.cells i inside, cell_xor) refl
+  cell_into_store : (i : ℕ) → i < 6 → cell mask i ≡ bit_xor (min 1 (bit_xor (cell row i) (cell (all_into_store m) i))) (cell (ones m) i)
+  cell_into_store i inside = rw (mask_is, cell_xor, others_are.cells i inside, cell_xor) refl
 
   -- it has each cell that holds its distance
   ending_inside : (i : ℕ) → i < m → (0 < cell mask i) ↔ (cell row i + i ≡ m)
-  ending_inside i inside = grind (arith, ending_cell, cell_inside, apart_or_equal)
+  ending_inside i inside = grind (arith, cell_into_store, cell_inside, apart_or_equal)
 
   -- it is the mask of the row
-  pub mask_of_ending : IsMaskOfEnding row m mask
-  mask_of_ending =
+  pub mask_into_store : IsMaskIntoStore row m mask
+  mask_into_store =
       let all_small : ones m ≤ 34636833 = ones_le m 6 few in
       record {
         inside = ending_inside;
-        past = λ i inside past none. grind (arith, ending_cell, cell_outside);
+        past = λ i inside past none. grind (arith, cell_into_store, cell_outside);
         are = mask_of_six (rw mask_is (xor_lt 30 others (ones m) others_are.are.small (omega arith)))
-            (λ i inside. grind (arith, cases_lt, cell_inside, cell_outside, ending_cell, xor_lt));
+            (λ i inside. grind (arith, cases_lt, cell_inside, cell_outside, cell_into_store, xor_lt));
       }
 
 -- ==== Sets of a player's houses
@@ -283,10 +283,10 @@ module _ {a : HousesState} {row : ℕ} (limits : AreWithinLimits a) (row_is : ro
         (omega arith)
   ]
 
-  module _ {m ending : ℕ} (side : m ≡ length a.own) (mask : IsMaskOfEnding row m ending) where
+  module _ {m ending : ℕ} (side : m ≡ length a.own) (mask : IsMaskIntoStore row m ending) where
     -- what is in the set ends in the store
-    pub in_ending : (i : ℕ) → (0 < cell ending i) ↔ ((i < length a.own) × EndsInStore a (i + 1))
-    in_ending i = elim (cases_lt i m) [
+    pub in_mask_into_store : (i : ℕ) → (0 < cell ending i) ↔ ((i < length a.own) × EndsInStore a (i + 1))
+    in_mask_into_store i = elim (cases_lt i m) [
       | inl is_inside ↦
           let marked = mask.inside i is_inside in (
             λ some. (omega arith, (ends_at i).1 (omega (arith, marked.0 some, own_cell i))),
@@ -305,7 +305,7 @@ module _ {a : HousesState} {row : ℕ} (limits : AreWithinLimits a) (row_is : ro
       pub in_remaining : (i : ℕ) → (0 < cell (bit_xor filled ending) i) ↔ ((0 < slice_index a.own i) × ¬ EndsInStore a (i + 1))
       in_remaining i =
           let seeds = in_filled with_seeds i in
-          let ends = in_ending i in
+          let ends = in_mask_into_store i in
           let has_seeds : 0 < cell ending i → 0 < cell filled i = λ marked.
           let distance = (ends_at i).0 (ends.0 marked).1 in
           let inside = (ends.0 marked).0 in

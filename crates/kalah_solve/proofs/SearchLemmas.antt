@@ -6,7 +6,7 @@
 -- tried: it wins at most `most`. `bound_by_moves` tries those that wait, and all others were tried (`AreUntried`).
 use Rattle.std.proofs.{Common.{◌≡◌, ℕ, ◌+◌, ◌*◌, ◌-◌, ◌<◌, ◌≤◌, inl, inr, List, get_or, arith, refl, sym, ap, ◌∙◌, length, subst, ◌↔◌, Bool, false, IsTrue, Contains, ◌%◌, max, slice_set, sum}, lemmas.{Bool.cases_lt, Bool.cases_eq, List.get_or-set_same, List.get_or-set_other, List.get_or_default, List.get_or_past, List.set_past}}
 use Rattle.kalah_solve.specs.{cell, IsLastIn, without_house, IsSoftBound, WinsAtMost, IsTurnOf, AreTurns, AreWaiting, ArePlaced, IsEmpty, IsTaken, won, won_by_step}
-use Rattle.kalah_solve.proofs.{HouseSetLemmas.{AreMovable, EachOutside, cell_of_zero, into_store_legal, seeded_is_legal, movable_before_last, each_before_last, each_outside_without_last}, WorthLemmas.{LeadsTo, leads_by}, BoundsLemmas.{won_at_most, won_of_houses, won_reached}}
+use Rattle.kalah_solve.proofs.{HouseSetLemmas.{AreMovable, EachOutside, cell_of_zero, into_store_legal, seeded_is_legal, movable_before_last, each_before_last, each_outside_without_last}, WorthLemmas.{LeadsOnAt, played_leads_on}, BoundsLemmas.{won_at_most, won_of_houses, won_reached}}
 use Rattle.kalah_rules.specs.{Limits.{most_seeds}, Position.{HousesState, AreWithinLimits, seeds, seeds_in_houses, is_over, storeless}, Sowing.{EndsInStore}, HousesStep.{houses_step}, declared.step.HousesStep.TheVariants.{Turn}}
 use Rattle.kalah_rules.proofs.PlayLemmas.{IsLegal, legal_holds, sum-set_zero}
 
@@ -51,8 +51,8 @@ enough_is_won {a} {h = h} limits legal bounded enough = omega (arith, won_at_mos
 
 -- a turn leads on to the houses that it leaves
 turn_leads : {a b : HousesState} {h : ℕ} → AreWithinLimits a → IsTurnOf a h b
-    → LeadsTo a (seeds_in_houses (storeless a) - seeds_in_houses (storeless b)) b
-turn_leads limits turn = leads_by limits turn.legal (sym turn.step)
+    → LeadsOnAt a (seeds_in_houses (storeless a) - seeds_in_houses (storeless b)) b
+turn_leads limits turn = played_leads_on limits turn.legal (sym turn.step)
 
 -- a turn that waited, of all `seeds`, by a bound of what the opponent wins after it; `left` and one more were asked of that player
 module _ {a b : HousesState} {h bound seeds left : ℕ} (beta : ℕ) (limits : AreWithinLimits a) (turn : IsTurnOf a h b)
@@ -76,13 +76,13 @@ module _ {a b : HousesState} {h bound seeds left : ℕ} (beta : ℕ) (limits : A
 -- a legal house whose step is a turn
 pub step_is_turn : {a b : HousesState} {h gained : ℕ} → AreWithinLimits a → IsLegal a h → Turn gained b ≡ houses_step a h → IsTurnOf a h b
 step_is_turn {a} {b} {h} {gained} limits legal step_is =
-    let on = leads_by limits legal step_is in
+    let on = played_leads_on limits legal step_is in
     let brought : gained ≡ seeds_in_houses (storeless a) - seeds_in_houses (storeless b) = omega arith in
     record { legal = legal; step = sym step_is ∙ ap (λ g. Turn g b) brought }
 
 -- a turn brings few seeds to the store
 pub gained_few : {a b : HousesState} {h gained : ℕ} → AreWithinLimits a → IsLegal a h → Turn gained b ≡ houses_step a h → gained ≤ most_seeds
-gained_few limits legal step_is = let leads = leads_by limits legal step_is in omega (arith, leads.kept)
+gained_few limits legal step_is = let leads = played_leads_on limits legal step_is in omega (arith, leads.kept)
 
 -- ==== Turns that wait
 

@@ -348,7 +348,7 @@ worth_of_step (Again gained b) = pos gained +ℤ houses_worth b
 worth_of_step (Turn gained b) = pos gained -ℤ houses_worth b
 
 -- the houses b go on from a, with `gained` seeds fewer
-pub record LeadsTo (a : HousesState) (gained : ℕ) (b : HousesState) : Type 0 where
+pub record LeadsOnAt (a : HousesState) (gained : ℕ) (b : HousesState) : Type 0 where
   pub kept : gained + seeds_in_houses (storeless b) ≡ seeds_in_houses (storeless a)
   pub fewer : moves_left (storeless b) < moves_left (storeless a)
   pub going : is_over (storeless b) ≡ false
@@ -358,8 +358,8 @@ pub record LeadsTo (a : HousesState) (gained : ℕ) (b : HousesState) : Type 0 w
 -- the houses to which a step leads go on from a, and at the end of the game no seed is lost
 abbrev pub LeadsOn : HousesState → HousesStep → Type 0
 LeadsOn a (Over own other) = own + other ≡ seeds_in_houses (storeless a)
-LeadsOn a (Again gained b) = LeadsTo a gained b
-LeadsOn a (Turn gained b) = LeadsTo a gained b
+LeadsOn a (Again gained b) = LeadsOnAt a gained b
+LeadsOn a (Turn gained b) = LeadsOnAt a gained b
 
 -- the most moves that are left after a step
 abbrev pub moves_after : HousesStep → ℕ
@@ -417,33 +417,33 @@ leads_on a h limits legal =
     }))
 
 -- a step that was played leads there
-pub leads_by : {a : HousesState} {h : ℕ} {s : HousesStep} → AreWithinLimits a → IsLegal a h → s ≡ houses_step a h → LeadsOn a s
-leads_by {a} {h} limits legal step_is = grind (arith, leads_on)
+pub played_leads_on : {a : HousesState} {h : ℕ} {s : HousesStep} → AreWithinLimits a → IsLegal a h → s ≡ houses_step a h → LeadsOn a s
+played_leads_on {a} {h} limits legal step_is = grind (arith, leads_on)
 
 -- ---- what the search needs of a step
 -- houses that go on from a are of its variant, within the limits
-goes_on_to : {a b : HousesState} {variant gained : ℕ} → AreWithinLimits a → variant_of a ≡ variant → LeadsTo a gained b
+goes_on_at : {a b : HousesState} {variant gained : ℕ} → AreWithinLimits a → variant_of a ≡ variant → LeadsOnAt a gained b
     → GoesOnAt variant gained b
-goes_on_to limits variant_is leads = record {
+goes_on_at limits variant_is leads = record {
   ongoing = record { going = leads.going; variant_is = leads.same ∙ variant_is };
   few = omega (arith, leads.kept);
   limits = leads.limits;
 }
 
 -- the same for a step
-goes_on_of : {a : HousesState} {variant : ℕ} (s : HousesStep) → AreWithinLimits a → variant_of a ≡ variant → LeadsOn a s
+goes_on_if_leads_on : {a : HousesState} {variant : ℕ} (s : HousesStep) → AreWithinLimits a → variant_of a ≡ variant → LeadsOn a s
     → GoesOn variant s
-goes_on_of s limits variant_is leads = grind arith
+goes_on_if_leads_on s limits variant_is leads = grind arith
 
 -- the step of a legal move goes on in the variant
 pub goes_on : {a : HousesState} {variant h : ℕ} {s : HousesStep} → variant_of a ≡ variant → AreWithinLimits a → IsLegal a h
     → s ≡ houses_step a h → GoesOn variant s
-goes_on {s = s} variant_is limits legal step_is = goes_on_of s limits variant_is (leads_by limits legal step_is)
+goes_on {s = s} variant_is limits legal step_is = goes_on_if_leads_on s limits variant_is (played_leads_on limits legal step_is)
 
 -- the step of a legal move leaves fewer moves
 pub step_falls : {a : HousesState} {h : ℕ} {s : HousesStep} → AreWithinLimits a → IsLegal a h → s ≡ houses_step a h
     → moves_after s < moves_left (storeless a)
 step_falls {a} {h} {s} limits legal step_is =
     let fewer = after_fewer (storeless a) h (legal_holds (storeless a) h legal) (record { same = limits.same_side }) in
-    let leads = leads_by limits legal step_is in
+    let leads = played_leads_on limits legal step_is in
     grind arith

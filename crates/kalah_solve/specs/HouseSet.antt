@@ -29,11 +29,11 @@ pub record IsMaskOfFilled (row mask : ℕ) : Type 0 where
   pub are : IsMask mask
 
 -- the row of m houses that all end in the store
-abbrev pub all_end_in_store : ℕ → ℕ
-all_end_in_store m = packed_row (row_of m (store_distance m))
+abbrev pub all_into_store : ℕ → ℕ
+all_into_store m = packed_row (row_of m (store_distance m))
 
 -- the set has the houses of a row of m that end in the store, and none past them that is empty
-pub record IsMaskOfEnding (row m mask : ℕ) : Type 0 where
+pub record IsMaskIntoStore (row m mask : ℕ) : Type 0 where
   pub inside : (i : ℕ) → i < m → (0 < cell mask i) ↔ (cell row i + i ≡ m)
   pub past : (i : ℕ) → i < 6 → m ≤ i → cell row i ≡ 0 → cell mask i ≡ 0
   pub are : IsMask mask

@@ -52,7 +52,7 @@ pub(crate) fn run_ask<I: Read + Drop, O: Sink, E: Write>(
     err: &mut E,
 ) -> Result<ExitStatus, Failure<'static>>
     requires table { IsTableSize table_entries }
-    requires sink { (O.state out.old).has_failed ≡ false }
+    requires not_failed { (O.state out.old).has_failed ≡ false }
     ensures { AnswersInput O.state out.old out.new (exit_status_of result) question (I.remaining input) }
 {
     let Ok(mut input) = reading_ahead(alloc, input) else {

@@ -62,7 +62,7 @@ pub(crate) fn run_files<
     err: &mut E,
 ) -> Result<ExitStatus, Failure<'a>>
     requires limits { AreFilesInRange request.now }
-    requires sink { (O.state out.old).has_failed ≡ false }
+    requires not_failed { (O.state out.old).has_failed ≡ false }
     ensures { AnswersFiles O.state out.old out.new (exit_status_of result) (R.may_give rt.now) request.now.question
         (map (λ name. name.now) request.now.files.items) }
 {

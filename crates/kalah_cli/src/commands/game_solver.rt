@@ -24,12 +24,12 @@ pub(crate) struct GameSolver<O> {
     sink: Snapshot<O>,
 }
 
-/// Returns a solver with an empty table of this capacity. Fails with `AllocError` only if memory was refused.
-pub(crate) fn new_solver(alloc: Global, capacity: u32) -> Result<Solver, AllocError>
-    requires { IsTableSize capacity }
-    ensures { IfOk result (HasTable capacity) }
+/// Returns a solver with an empty table of this many entries. Fails with `AllocError` only if memory was refused.
+pub(crate) fn new_solver(alloc: Global, table_entries: u32) -> Result<Solver, AllocError>
+    requires { IsTableSize table_entries }
+    ensures { IfOk result (HasTable table_entries) }
 {
-    Ok(Solver::new(Table::new(alloc, capacity)?))
+    Ok(Solver::new(Table::new(alloc, table_entries)?))
 }
 
 impl<O: Sink> GameSolver<O> {
@@ -37,17 +37,17 @@ impl<O: Sink> GameSolver<O> {
     /// yet.
     pub(crate) fn new(
         alloc: Global,
-        capacity: u32,
+        table_entries: u32,
         board: &Board,
         form: MoveForm,
         out: &O,
     ) -> Result<GameSolver<O>, AllocError>
-        requires { IsTableSize capacity }
-        ensures table { IfOk result (λ s. HasTable capacity s.solver) }
+        requires { IsTableSize table_entries }
+        ensures table { IfOk result (λ s. HasTable table_entries s.solver) }
         ensures begun { IfOk result (λ s. begun s ≡ record { form = form; first = board.now; sink = out.now }) }
     {
         Ok(GameSolver {
-            solver: new_solver(alloc, capacity)?,
+            solver: new_solver(alloc, table_entries)?,
             form,
             first: Snapshot::of(board),
             sink: Snapshot::of(out),

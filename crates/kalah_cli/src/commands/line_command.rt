@@ -51,7 +51,7 @@ pub(crate) fn run_line<O: Sink, E: Write>(
     err: &mut E,
 ) -> Result<ExitStatus, Failure<'static>>
     requires range { IsCommandInRange command.now }
-    requires sink { (O.state out.old).has_failed ≡ false }
+    requires not_failed { (O.state out.old).has_failed ≡ false }
     ensures { Does O.state out.old out.new (exit_status_of result) any_bytes (about_line command.now line.now) }
 {
     match read_line(line.as_bytes()) {

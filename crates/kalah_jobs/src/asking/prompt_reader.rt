@@ -89,7 +89,7 @@ impl<'a, I: Read + Drop, O: Sink> PromptReader<'a, I, O> {
         ensures keeps { Keeps (O.state out.old).written (O.state out.new).written }
         ensures taken { IfOk result (λ byte. Consumes (unread I.remaining self.old) (unread I.remaining self.new) (option_to_list byte)) }
         ensures end { IfOk result (λ byte. byte ≡ None → IsAtEnd (unread I.remaining self.old)) }
-        ensures sound { OnOk result ((O.state out.new).has_failed ≡ false) }
+        ensures not_failed { OnOk result ((O.state out.new).has_failed ≡ false) }
         ensures counted { IfOk result (λ byte. self.new.budget + length (option_to_list byte) ≡ self.old.budget) }
         ensures untaken { OnErr result (Keeps (unread I.remaining self.old) (unread I.remaining self.new)) }
         ensures fault { IfErr result (λ fault. LeavesBy fault (O.state out.new) self.new.budget) }

@@ -28,7 +28,7 @@ module _ {W : Type 0} (state : W → SinkState) (output : List ℕ) (files : Lis
   pub record AnswersAll (tally : Tally) : Type 0 where
     pub few : AreWithinBatchLimits files
     pub written : Appends (state old).written (state new).written output
-    pub sound : (state new).has_failed ≡ false
+    pub not_failed : (state new).has_failed ≡ false
     pub flushed : (state new).is_flushed ≡ true
     pub counted : tally ≡ tally_of files
 

@@ -28,19 +28,19 @@ fn workers_of_passes(
     alloc: Global,
     passes: &mut Vec<Pass>,
     puts: &mut Vec<PutPass>,
-    entries: u32,
+    table_entries: u32,
 ) -> Result<Vec<Worker>, AllocError>
     requires as_many { vec_len passes.old ≡ vec_len puts.old }
-    requires table { IsTableSize entries }
+    requires table { IsTableSize table_entries }
     ensures passes { IfOk result (λ workers. passes_of workers.items ≡ passes.old.items) }
     ensures puts { IfOk result (λ workers. puts_of workers.items ≡ puts.old.items) }
-    ensures tables { IfOk result (λ workers. HaveOwnTables entries workers.items) }
+    ensures tables { IfOk result (λ workers. HaveOwnTables table_entries workers.items) }
     ensures empty { IfOk result (λ _. (passes.new.items ≡ []) × (puts.new.items ≡ [])) }
     ensures room { (vec_capacity passes.new ≡ vec_capacity passes.old) × (vec_capacity puts.new ≡ vec_capacity puts.old) }
 {
     let mut workers: Vec<Worker> = Vec::with_capacity(alloc, passes.len())?;
     for _ in 0..passes.len() {
-        let solver = Worker::new_solver(alloc, entries, workers.last())?;
+        let solver = Worker::new_solver(alloc, table_entries, workers.last())?;
         let Some(pass) = passes.pop() else {
             unreachable!()
         };

@@ -23,19 +23,19 @@ pub(crate) struct Worker {
 }
 
 impl Worker {
-    /// Makes the solver of a worker, with a table of its own for `entries` entries. It shares what it learns of endings with that of the
-    /// other worker, if there is one. Fails with `AllocError` only if memory was refused.
+    /// Makes the solver of a worker, with a table of its own. It shares what it learns of endings with that of the other worker, if there is
+    /// one. Fails with `AllocError` only if memory was refused.
     pub(crate) fn new_solver(
         alloc: Global,
-        entries: u32,
+        table_entries: u32,
         other: Option<&Worker>,
     ) -> Result<Solver, AllocError>
-        requires { IsTableSize entries }
-        ensures { IfOk result (λ solver. solver.search.table ≡ empty_table entries) }
+        requires { IsTableSize table_entries }
+        ensures { IfOk result (λ solver. solver.search.table ≡ empty_table table_entries) }
     {
         match other {
-            Some(worker) => worker.solver.sharing_endings(alloc, entries),
-            None => Ok(Solver::new(Table::new(alloc, entries)?)),
+            Some(worker) => worker.solver.sharing_endings(alloc, table_entries),
+            None => Ok(Solver::new(Table::new(alloc, table_entries)?)),
         }
     }
 

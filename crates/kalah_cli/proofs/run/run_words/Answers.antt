@@ -11,7 +11,7 @@ ran g c =
     let arguments = ap texts_of (sym c.as_slice-arguments.ensures.value) in
     elim c.match-parsed.branch [
       | in-Ok w ↦ rw (c.report_end.ensures, w.ended-is, w.out-is)
-          (run_of_request c.requires.sink (accepted_at arguments (rw w.in-Ok.is at c.parse-parsed.ensures.accepted)) w.run_request-ended.ensures)
+          (run_of_request c.requires.not_failed (accepted_at arguments (rw w.in-Ok.is at c.parse-parsed.ensures.accepted)) w.run_request-ended.ensures)
       | in-Err w ↦
           let refused = w.end_without_request-ended.ensures in
           rw (c.report_end.ensures, w.ended-is, w.out-is) (run_without_request w.in-Err.error

@@ -3,10 +3,10 @@ use Rattle.kalah_cli.proofs.EndsLemmas.{input_answered, input_refused}
 use Rattle.kalah_cli.proofs.commands.ask.run_ask.Goals as goal
 
 pub returns-in_default : goal.returns-in_default
-returns-in_default g c = input_refused _ refl c.requires.sink
+returns-in_default g c = input_refused _ refl c.requires.not_failed
 
 pub returns-in_default-new_solver : goal.returns-in_default-new_solver
-returns-in_default-new_solver g c = input_refused _ refl c.requires.sink
+returns-in_default-new_solver g c = input_refused _ refl c.requires.not_failed
 
 pub returns : goal.returns
 returns g c =

@@ -4,7 +4,7 @@ use Rattle.kalah_cli.proofs.EndsLemmas.{files_answered, files_failed, files_refu
 use Rattle.kalah_cli.proofs.commands.files.run_files.Goals as goal
 
 pub returns-in-Err : goal.returns-in-Err
-returns-in-Err g c = files_refused _ refl c.requires.sink
+returns-in-Err g c = files_refused _ refl c.requires.not_failed
 
 pub returns-in-Ok-answered : goal.returns-in-Ok-answered
 returns-in-Ok-answered g c =
@@ -23,4 +23,4 @@ returns-in-Ok-2 g c =
 pub returns : goal.returns
 returns g c =
     files_failed _ c.as_slice-files.result.now (rw c.as_slice-files.ensures.value (rw c.as_slice.ensures.value at c.in-Ok.ensures.files)) _
-    c.in-Err-answered.ensures.answers refl c.requires.sink
+    c.in-Err-answered.ensures.answers refl c.requires.not_failed

@@ -11,9 +11,9 @@ returns-in-Ok-print g c =
 pub returns-in-Err-print : goal.returns-in-Err-print
 returns-in-Err-print g c =
     line_refused _ c.args.command.now c.in-Ok.board (rw c.as_bytes.ensures.value at c.in-Ok.ensures.reads)
-    refl c.requires.sink c.in-Err-print.ensures.printed
+    refl c.requires.not_failed c.in-Err-print.ensures.printed
 
 pub returns-in-Err : goal.returns-in-Err
 returns-in-Err g c = line_unread _ c.args.command.now
     (λ p reads. let no_fault = c.in-Err.ensures.every p (rw c.as_bytes.ensures.value reads) in cc)
-    refl c.requires.sink
+    refl c.requires.not_failed

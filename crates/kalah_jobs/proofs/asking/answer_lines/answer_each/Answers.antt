@@ -6,7 +6,7 @@ use Rattle.kalah_jobs.proofs.asking.answer_lines.answer_each.Goals as goal
 pub loop-byte-init : goal.loop-byte-init
 loop-byte-init g c = record {
   answered = nothing_read _ _ _ _ c.new-line.ensures;
-  sound = c.requires.not_failed;
+  not_failed = c.requires.not_failed;
   start = refl;
   same_reference = refl;
 }
@@ -23,7 +23,7 @@ loop-byte-preserved-then-byte-ne-LINE_FEED g c =
     let next = c.in_ok-byte.ensures in
     record {
       answered = byte_read so_far.answered _ c.in-Some.is c.if-byte-ne-LINE_FEED.true next.taken next.keeps c.push.ensures;
-      sound = next.sound;
+      not_failed = next.not_failed;
       start = next.start ∙ so_far.start;
       same_reference = next.same_reference ∙ so_far.same_reference;
     }
@@ -33,11 +33,11 @@ loop-byte-preserved g c =
     let so_far = c.loop-byte.invariant in
     let next = c.in_ok-byte.ensures in
     let reply = c.write_reply-all_read.ensures in
-    let sound = sym c.failed.ensures ∙ c.if-failed.false in
+    let not_failed = sym c.failed.ensures ∙ c.if-failed.false in
     record {
-      answered = line_read so_far.answered _ c.in-Some.is c.if-byte-ne-LINE_FEED.false next.taken next.keeps (reply.given.whole sound).1
+      answered = line_read so_far.answered _ c.in-Some.is c.if-byte-ne-LINE_FEED.false next.taken next.keeps (reply.given.whole not_failed).1
           reply.read c.new-line-in-Some.ensures;
-      sound = sound;
+      not_failed = not_failed;
       start = next.start ∙ so_far.start;
       same_reference = next.same_reference ∙ so_far.same_reference;
     }
@@ -71,9 +71,9 @@ returns-clause-lines g c =
     let so_far = c.loop-byte.invariant.answered in
     let next = c.in_ok-byte.ensures in
     let reply = c.write_last_reply-all_read.ensures in
-    let sound = sym c.failed-2.ensures ∙ c.if-failed-2.false in
+    let not_failed = sym c.failed-2.ensures ∙ c.if-failed-2.false in
     reading_done _ so_far c.in_default.is next.taken (next.end c.in_default.is) next.keeps reply.given.start
-    (reply.given.whole sound).1 reply.read sound (reply.all_flushed sound)
+    (reply.given.whole not_failed).1 reply.read not_failed (reply.all_flushed not_failed)
 
 pub loop-byte-smaller : goal.loop-byte-smaller
 loop-byte-smaller g c = grind (arith, common_steps)

@@ -12,7 +12,7 @@ invariant-loop-byte g l =
     record {
       answered : IsAnsweredSoFar l.question (unread remaining l.fn.input) (unread remaining l.input)
           (state l.fn.out).written (state l.out).written l.line l.all_read;
-      sound : (state l.out).has_failed ≡ false;
+      not_failed : (state l.out).has_failed ≡ false;
       start : start_of remaining state l.input ≡ start_of remaining state l.fn.input;
       same_reference : l.input.input.ghost_name ≡ l.fn.input.input.ghost_name;
     }

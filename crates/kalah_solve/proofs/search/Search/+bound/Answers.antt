@@ -69,7 +69,7 @@ bound_by_moves-returns g t c =
 -- ==== bound_into_store: moves that end in the store without a lap
 pub bound_into_store-loop-house-init : goal.bound_into_store-loop-house-init
 bound_into_store-loop-house-init g t c =
-    let set = c.ending_in_store-untried.ensures in
+    let set = c.into_store-untried.ensures in
     tried_at_start set.limits c.requires.going set.members
 
 pub bound_into_store-play_into_store-requires : goal.bound_into_store-play_into_store-requires
@@ -80,7 +80,7 @@ bound_into_store-play_into_store-requires g t c = record {
 
 pub bound_into_store-bound_step-bound-requires : goal.bound_into_store-bound_step-bound-requires
 bound_into_store-bound_step-bound-requires g t c κs within =
-    let limits = c.ending_in_store-untried.ensures.limits in
+    let limits = c.into_store-untried.ensures.limits in
     let legal = last_is_legal c.loop-house.invariant.movable c.in-Some.ensures.0 in
     let step = c.play_into_store.ensures in (
       lower_measure 8 3 c.decreases (step_falls limits legal step) (lit≤ tt),
@@ -90,7 +90,7 @@ bound_into_store-bound_step-bound-requires g t c κs within =
 pub bound_into_store-returns-then-beta-bound-clause-lower : goal.bound_into_store-returns-then-beta-bound-clause-lower
 bound_into_store-returns-then-beta-bound-clause-lower g t c =
     let legal = last_is_legal c.loop-house.invariant.movable c.in-Some.ensures.0 in
-    enough_is_won c.ending_in_store-untried.ensures.limits legal (rw c.play_into_store.ensures at c.bound_step-bound.ensures)
+    enough_is_won c.into_store-untried.ensures.limits legal (rw c.play_into_store.ensures at c.bound_step-bound.ensures)
 
 pub bound_into_store-loop-house-preserved : goal.bound_into_store-loop-house-preserved
 bound_into_store-loop-house-preserved g t c =

@@ -1,6 +1,6 @@
 -- Best play wins at least `most`, and a move outside the set at most that; so best play wins it once no move is left or it is all seeds.
 use Rattle.std.proofs.Common.{arith, rules, ◌∙◌}
-use Rattle.kalah_solve.proofs.{BoundsLemmas.{won_of_houses}, WorthLemmas.{leads_by}, HouseSetLemmas.{without_last_less, seeded_is_legal, movable_before_last, last_is_legal}, EndingLemmas.{most_at_start, most_with_last, most_is_all, won_is_most}}
+use Rattle.kalah_solve.proofs.{BoundsLemmas.{won_of_houses}, WorthLemmas.{played_leads_on}, HouseSetLemmas.{without_last_less, seeded_is_legal, movable_before_last, last_is_legal}, EndingLemmas.{most_at_start, most_with_last, most_is_all, won_is_most}}
 use Rattle.kalah_solve.proofs.table.ending_table.EndingTable.+won.Goals as goal
 
 pub most_won-loop-house-init : goal.most_won-loop-house-init
@@ -43,25 +43,25 @@ most_won-returns g t c =
 
 pub move_wins-won-requires : goal.move_wins-won-requires
 move_wins-won-requires g t c κs within =
-    let next = leads_by c.play_with.ensures.limits c.requires.legal (rw c.in-Again.is at c.play_with.ensures.step) in
+    let next = played_leads_on c.play_with.ensures.limits c.requires.legal (rw c.in-Again.is at c.play_with.ensures.step) in
     (omega arith, (within, (search rules, (record { going = next.going; variant_is = next.same ∙ c.requires.variant }, omega arith))))
 
 pub move_wins-overflow_add-result : goal.move_wins-overflow_add-result
 move_wins-overflow_add-result g t c =
-    let next = leads_by c.play_with.ensures.limits c.requires.legal (rw c.in-Again.is at c.play_with.ensures.step) in
+    let next = played_leads_on c.play_with.ensures.limits c.requires.legal (rw c.in-Again.is at c.play_with.ensures.step) in
     omega (arith, (won_of_houses next.limits).few)
 
 pub move_wins-won-requires-in-Turn : goal.move_wins-won-requires-in-Turn
 move_wins-won-requires-in-Turn g t c κs within =
-    let next = leads_by c.play_with.ensures.limits c.requires.legal (rw c.in-Turn.is at c.play_with.ensures.step) in
+    let next = played_leads_on c.play_with.ensures.limits c.requires.legal (rw c.in-Turn.is at c.play_with.ensures.step) in
     (omega arith, (within, (search rules, (record { going = next.going; variant_is = next.same ∙ c.requires.variant }, omega arith))))
 
 pub move_wins-overflow_sub-result : goal.move_wins-overflow_sub-result
 move_wins-overflow_sub-result g t c =
-    let next = leads_by c.play_with.ensures.limits c.requires.legal (rw c.in-Turn.is at c.play_with.ensures.step) in
+    let next = played_leads_on c.play_with.ensures.limits c.requires.legal (rw c.in-Turn.is at c.play_with.ensures.step) in
     omega (arith, (won_of_houses next.limits).few)
 
 pub move_wins-overflow_add-result-in-Turn : goal.move_wins-overflow_add-result-in-Turn
 move_wins-overflow_add-result-in-Turn g t c =
-    let next = leads_by c.play_with.ensures.limits c.requires.legal (rw c.in-Turn.is at c.play_with.ensures.step) in
+    let next = played_leads_on c.play_with.ensures.limits c.requires.legal (rw c.in-Turn.is at c.play_with.ensures.step) in
     omega arith
