@@ -3,7 +3,7 @@ use Rattle.std.proofs.{Common.{◌≡◌, ◌≢◌, ◌∙◌, ℕ, List, true,
 use Rattle.kalah_rules.specs.Position.{Position}
 use Rattle.kalah_jobs.specs.{Line.Line.{Reads}, Writing.{Sink.{SinkState, WasGiven}, Output.{output_to}}, declared.{asking.ask_fault.AskFault.{AskFault, TheVariants.{Read, Write}}, writing.tally.Tally.{Tally}}, Files.NamedBytes.{NamedBytes}, Asking.{IsAnswered, IsBegun, IsCutOff}}
 use Rattle.kalah_jobs.proofs.{LineLemmas.{no_line_reads_twice}, SinkLemmas.{given_then_flush, prefix_none, prefix_then}, AskingLemmas.{begun_so_far, cut_off, nothing_read}}
-use Rattle.kalah_cli.specs.{FailsOrFlushes, IsPrinted, WritesNoPosition, PrintsByStatus, ExitStatus, Failed, LineFaults, Clean, MayPrint, command_output, AreFilesOf, any_bytes, MayBeLeft, Source, Question, LineCommand, Does, AnswersFiles, has_line_feed, AnswersInput, StopsBetweenLines, Arguments.Request.{about_line}}
+use Rattle.kalah_cli.specs.{FailsOrFlushes, IsPrinted, WritesNoPosition, PrintsByStatus, ExitStatus, Failed, LineFaults, Clean, MayPrint, command_output, AreFilesOf, any_bytes, MayBeLeft, Source, Question, LineCommand, Does, AnswersFiles, has_line_feed, AnswersInput, StopsBetweenLines, about_line}
 use Rattle.std.specs.{List.{list_any}, Io.{Buffered.{reader_buffer, reader_capacity, reader_inner, reader_remaining}, KnownBytes.{Consumes, IsAtEnd, prepend_known}}, declared.io.buffered.BufReader.{BufReader}}
 use Rattle.clap.proofs.WalkLemmas.{list_any-map}
 use Rattle.kalah_run.specs.{Batch.Answering.{AnswersAll, AnswersBatch}, declared.batch.run_fault.RunFault.{RunFault}}

@@ -1,7 +1,7 @@
 -- What a run promises of its arguments.
 use Rattle.std.proofs.{Common.{◌≡◌, ◌≢◌, ◌∙◌, ℕ, List, true, false, sym, subst, inl, inr}, lemmas.Bool.{false_from_ne_true}}
 use Rattle.kalah_jobs.specs.Writing.Sink.{SinkState}
-use Rattle.kalah_cli.specs.{FailsOrFlushes, FailsWithoutOutput, ExitStatus, Failed, LineFaults, Clean, Source, StopsBetweenLines, kalah_app, Task, DoesNotAskFor, IsAcceptedAs, Question, Moves, Does, DoesWhatIsAsked, NeedsNoInput, MovesByItsArguments, EndsWithoutRequest, version_line, Arguments.Request.{about_line, about_files, about_input, conflict}}
+use Rattle.kalah_cli.specs.{FailsOrFlushes, FailsWithoutOutput, ExitStatus, Failed, LineFaults, Clean, Source, StopsBetweenLines, kalah_app, Task, DoesNotAskFor, IsAcceptedAs, Question, Moves, Does, DoesWhatIsAsked, NeedsNoInput, MovesByItsArguments, EndsWithoutRequest, version_line, about_line, about_files, about_input, conflict}
 use Rattle.std.specs.Io.KnownBytes.{Appends}
 use Rattle.clap.specs.{Words.{HasKind, IsAmong, Text, fault_of, kind_of}, declared.error.{Error.{Error}, kind.ErrorKind.{ErrorKind, TheVariants.{DisplayHelp, DisplayVersion, OutOfMemory}}}}
 use Rattle.kalah_cli.proofs.{RequestLemmas.{moves_accepted, accepted_at, accepted_once, read_is_no_flag}, EndsLemmas.{ends_unchanged, stops_at_once}}

@@ -1,7 +1,7 @@
 -- The collector: how far each file has come, and what any list of offers and takes makes of it.
 use Rattle.std.proofs.{Common.{◌≡◌, ℕ, zero, suc, ◌+◌, ◌<◌, ◌≤◌, List, [], ◌∷◌, length, set, get_or, replicate, true, false, refl, arith, ap, eq-eqb, ◌≢◌, inl, inr, cond, ◌++◌, map, ◌∙◌, sym, ne_eqb, length-set, get_or-set_other, get_or-set_same, take, Option, Some, None, is_some, IsSome, Contains, Result, Ok, Err}, lemmas.{Bool.{cases_eq, Decides.{nat_tests}}, List.{length-map, get_or_default, length-replicate, get_or-replicate, get_or_past, append-nil, append_assoc, take_all, take_more, get_or-map, Elements.{Contains-append_left, Contains-push, Contains-push_cases}, FromFn.{length-enumerate_from, get_or-enumerate_from}, Sums.{sum_by-append}}, Option.{slice_get_within, get_or_from_slice_get, slice_get-get_or}}}
 use Rattle.std.specs.List.{enumerate_from}
-use Rattle.kalah_jobs.specs.{IsPermutationOfJobs, AcceptsEachJob, MakesEveryLineReady, Event, Offers, Gives, offered_in, taken_in, with_taken, HasArrived, answered_line, answered_lines, IsAfterEvents, KeepsItsLaw, front_of, ArrivalsState, no_file, state_of, line_count, arrived_for, HasLinesOf, with_answer, with_one_taken, after_offer, after_take, new_files, front, IsNext, HasEnded, IsOffered, HoldsOffered, AgreeWithOffers, IsWanted, IsRefusedFor, AnswersInOneWay, entries_of, entry_at, line_job, no_job, Answer, Job, Entry, Refusal, Taken, answer_of, Collecting.CollectorEvents.{Offered, Took}}
+use Rattle.kalah_jobs.specs.{IsPermutationOfJobs, AcceptsEachJob, MakesEveryLineReady, Event, Offers, Gives, offered_in, taken_in, with_taken, HasArrived, answered_line, answered_lines, IsAfterEvents, KeepsItsLaw, front_of, ArrivalsState, no_file, state_of, line_count, arrived_for, HasLinesOf, with_answer, with_one_taken, after_offer, after_take, new_files, front, IsNext, HasEnded, IsOffered, HoldsOffered, AgreeWithOffers, IsWanted, IsRefusedFor, AnswersInOneWay, entries_of, entry_at, line_job, no_job, Answer, Job, Entry, Refusal, Taken, answer_of, Offered, Took}
 use Rattle.kalah_jobs.proofs.{CountingLemmas.{same_job, same_entry_itself, times_offered, contains_from_times, times_from_contains, hits, hit, times_in_jobs}, ListLemmas.{count_by-cons, some_value}}
 
 -- ==== How many of the first lines of a file have come without a gap

@@ -2,8 +2,7 @@
 use Rattle.std.proofs.{Common.{SFits, of_z, to_z, w16, w32, ℕ, ◌<◌, ◌≤◌, ◌^◌, length, arith, ◌≡◌, zero, suc, List, ◌++◌, IsAscii, IsUtf8, subst, sym, refl, ◌+◌, [], ap, ◌∙◌, take, drop, append_assoc, ◌∷◌, map, get_or, flat_map, cond, ◌==◌, append-nil, add-one, Bool, false, codes, ◌-◌, filter, length-append, replicate, Contains, ℤ, pos, negsuc, slice_get, Some, drop_of_length-le}, lemmas.{Bool.{ne_eqb, cond_both}, Fmt.{length-decimal-le, IsAscii-decimal, length_signed_le}, Int.{ints, to_z-of_z}, List.{length-take-le, length-drop, drop_at, drop-drop, drop_more, Elements.{All-head, All-tail, All-map, All-from_get_or, Contains-get_or}}, Str.{IsUtf8-append, IsUtf8-from_ascii, Ascii.{IsAscii-nil, IsAscii-cons}}}}
 use Rattle.std.specs.{Fmt.{decimal, signed_decimal}, Int.Signed.{mag}, List.{join_with_byte, range_with_len}}
 use Rattle.kalah_rules.specs.{Play.{legal_houses}, Position.{Position, side_length, IsWithinLimits, IsMarginInRange, is_over}}
-use Rattle.kalah_solve.proofs.SolverLemmas.{move_value_small}
-use Rattle.kalah_solve.specs.Solver.MoveValues.{IsMoveValue, move_value, values_of}
+use Rattle.kalah_solve.{proofs.SolverLemmas.{move_value_small}, specs.Solver.MoveValues.{IsMoveValue, move_value, values_of}}
 use Rattle.kalah_jobs.specs.{line_feed, comma, space, side_text, Player, Answer, Taken, Mover, Other, MoveValue, in_one_line, answer_line, joined_text, place_text, value_text, values_text, HasOneText, column_text, column_width, empty_columns, houses_of, AreMoveValues, AscendFrom, value_column, value_columns, declared.writing.answer.Answer.TheVariants.{Best, Over, Values, Steps, Fault}}
 use Rattle.kalah_jobs.proofs.ListLemmas.{items_from}
 

@@ -1,5 +1,5 @@
 -- Rows as numbers, and what a key determines of its houses.
-use Rattle.std.proofs.{Common.{zero, suc, ◌≡◌, ℕ, ◌+◌, ◌-◌, ◌*◌, ◌/◌, ◌%◌, ◌^◌, ◌<◌, ◌≤◌, inl, inr, List, [], ◌∷◌, ◌++◌, length, get_or, arith, ap, sym, ◌∙◌, refl, add-one, take, drop, replicate, rules, Option, Some, None, length-take-le, length-append, slice_set, sum, nat_lt, min, if◌then◌else◌, ◌==◌, nat_eq, All, IsSome, IfSome, ◌↔◌, length-set}, lemmas.{Nat.pow-add, Nat.mul-le, List.map_push, List.length-drop, List.length-replicate, List.get_or-replicate, List.take-append-drop, List.Sums.sum_by-cons, List.Sums.sum_by-append, Bool.cases_eq, Grind.same_number_lists, List.Folds.sum_by-replicate, List.Elements.All-replicate}, Math.{Nat.{pow-succ', mul_assoc, div-div-eq-div-mul}, Seq.{take-append_seam, drop-append_seam}}}
+use Rattle.std.proofs.{Common.{zero, suc, ◌≡◌, ℕ, ◌+◌, ◌-◌, ◌*◌, ◌/◌, ◌%◌, ◌^◌, ◌<◌, ◌≤◌, inl, inr, List, [], ◌∷◌, ◌++◌, length, get_or, arith, ap, sym, ◌∙◌, refl, add-one, take, drop, replicate, rules, Option, Some, None, length-take-le, length-append, slice_set, sum, nat_lt, min, if◌then◌else◌, ◌==◌, nat_eq, All, IsSome, IfSome, ◌↔◌, length-set}, lemmas.{Nat.{pow-add, mul-le}, List.{map_push, length-drop, length-replicate, get_or-replicate, take-append-drop, Sums.{sum_by-cons, sum_by-append}, Folds.{sum_by-replicate}, Elements.{All-replicate}}, Bool.{cases_eq}, Grind.{same_number_lists}}, Math.{Nat.{pow-succ', mul_assoc, div-div-eq-div-mul}, Seq.{take-append_seam, drop-append_seam}}}
 use Rattle.kalah_rules.specs.{seeds, HousesState, AreWithinLimits, seeds_in_houses, storeless, without_seeds, row_of, lap_length, gain, own_distance, other_distance, packed_row, cells, rule_bit, packed_rows, key_of, variant_of, side_in_key, houses_in_key, IsKey, ones, up_to, houses_of_fields, AreFieldsOf, AreFields, AreRowFields, own_gains, other_gains, store_gains, padded, houses_from, CanBeHouses, declared.{rule.Rule.{Rule, TheVariants.{Classic, EmptyCapture}}, houses.numbers.TheConstants.{MOST_LAPS, ONE_EACH}}}
 use Rattle.kalah_rules.proofs.PlayLemmas.{range-suc, length-row_of, same_as_row, row_of_same, seeds-set_same, seeds-set_other, sum-zeros}
 

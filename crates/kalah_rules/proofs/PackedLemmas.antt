@@ -1,8 +1,8 @@
 -- Moves on the numbers of two rows, the step of a board by that of its houses, and the cells of the table of sowings.
 use Rattle.kalah_rules.specs.declared.step.Step.TheVariants as step
 use Rattle.kalah_rules.specs.Position as position
-use Rattle.std.proofs.{Common.{◌≡◌, ◌≢◌, ℕ, zero, suc, ◌+◌, ◌-◌, ◌*◌, ◌/◌, ◌%◌, ◌^◌, ◌<◌, ◌≤◌, inl, inr, length, arith, ap, sym, ◌∙◌, refl, subst, eq-eqb, List, Bool, true, false, sum, ◌==◌, ◌&&◌, Option, Some, MatchBool, Contains, slice_set, bit_and, length-set}, lemmas.{Nat.mod_below, Nat.div-add-mod', Nat.and_block, Nat.and_mask, Nat.and_le_r, Nat.pow_pos, Bool.cases_Bool, Bool.cases_eq, Bool.cases_lt, Bool.and_parts, Bool.cond_both, Bool.eqb-true, Bool.Decides.nat_tests, List.length-replicate, List.get_or-set_same, List.get_or-set_other}, Math.{Nat.{div-eq_of_lt, mod-eq_of_lt, div-div-eq-div-mul}, Bool.{or_comm}}}
-use Rattle.kalah_rules.specs.{Position.Position, HousesState, AreWithinLimits, side_length, seeds, opposite, seeds_in_houses, storeless, IsWithinLimits, is_over, swapped, houses_in, with_stores, without_seeds, HoldsSeeds, lifted, lap_length, own_distance, other_distance, store_distance, sow, sown, last_distance, moves_again, captures, can_capture, after_capture, after, packed_row, packed_rows, rule_bit, ShowsPosition, ones, houses_of_fields, AreFieldsOf, AreFields, own_gains, other_gains, store_gains, last_house, last_place, IsLastHouse, IsNoHouse, IsSowing, IsSowingCell, AreSowings, legal_houses, step_to, step_of, position_after, IsNearerEnd, houses_step_to, houses_step, HousesStep.HousesStep, Over, Again, Turn, declared.{houses.{play.RowNumbers.{RowNumbers}, sowing_table.Sowing.{Sowing}}, rule.Rule.{Rule}, step.Step.{Step}}}
+use Rattle.std.proofs.{Common.{◌≡◌, ◌≢◌, ℕ, zero, suc, ◌+◌, ◌-◌, ◌*◌, ◌/◌, ◌%◌, ◌^◌, ◌<◌, ◌≤◌, inl, inr, length, arith, ap, sym, ◌∙◌, refl, subst, eq-eqb, List, Bool, true, false, sum, ◌==◌, ◌&&◌, Option, Some, MatchBool, Contains, slice_set, bit_and, length-set}, lemmas.{Nat.{mod_below, div-add-mod', and_block, and_mask, and_le_r, pow_pos}, Bool.{cases_Bool, cases_eq, cases_lt, and_parts, cond_both, eqb-true, Decides.{nat_tests}}, List.{length-replicate, get_or-set_same, get_or-set_other}}, Math.{Nat.{div-eq_of_lt, mod-eq_of_lt, div-div-eq-div-mul}, Bool.{or_comm}}}
+use Rattle.kalah_rules.specs.{HousesState, AreWithinLimits, side_length, seeds, opposite, seeds_in_houses, storeless, IsWithinLimits, is_over, swapped, houses_in, with_stores, without_seeds, HoldsSeeds, lifted, lap_length, own_distance, other_distance, store_distance, sow, sown, last_distance, moves_again, captures, can_capture, after_capture, after, packed_row, packed_rows, rule_bit, ShowsPosition, ones, houses_of_fields, AreFieldsOf, AreFields, own_gains, other_gains, store_gains, last_house, last_place, IsLastHouse, IsNoHouse, IsSowing, IsSowingCell, AreSowings, legal_houses, step_to, step_of, position_after, IsNearerEnd, houses_step_to, houses_step, Over, Again, Turn, Position.{Position}, HousesStep.{HousesStep}, declared.{houses.{play.RowNumbers.{RowNumbers}, sowing_table.Sowing.{Sowing}}, rule.Rule.{Rule}, step.Step.{Step}}}
 use Rattle.kalah_rules.proofs.{PlayLemmas.{IsLegal, sum-set_zero, sow_side, sow_keeps, own_distance_past, own_distance_back, last_house_own, last_house_store, last_house_other, after_at, legal_holds, after_nearer, sum-zeros, with_store_seeds, after_of_houses, legal_going}, KeyLemmas.{packed_row-small, pow_five, pow_other, own_house_of_rows, moved_across_fits, placed_small, packed_row-set, packed_row-all, packed_row-up_to, read_seeds, own_sown, other_sown, own_gain, other_gain, ones_le, fields_of, rows_of_fields, are_fields, sum-zero, packed_row-zero}}
 
 -- ==== A move on the numbers of two rows

@@ -1,7 +1,7 @@
 -- Moves, house by house: how seeds are sown and captured, which moves there are, and how each nears the end.
-use Rattle.std.proofs.{Common.{get_or, slice_get, zero, suc, ◌≡◌, ◌≢◌, ℕ, ◌+◌, ◌-◌, ◌*◌, ◌<◌, ◌≤◌, inl, inr, List, [], ◌∷◌, zero-le, length, replicate, arith, ap, ◌∙◌, refl, ◌/◌, ◌%◌, ◌⊎◌, sym, add-one, ◌++◌, eq-eqb, lt-ltb, slice_set, slice_index, sum, sum_by, Bool, true, false, cond, Option, Some, None, find, filter, Contains, All, nat_lt, length-set, mod-eq_of_lt}, lemmas.{Nat.mul-le, Bool.cases_eq, Bool.cases_lt, Bool.cond_both, Bool.ltb-true, Bool.ne_eqb, List.get_or_past, List.set_past, List.get_or-set_same, List.get_or-set_other, List.Folds.{find_at, sum_by-replicate}, Option.slice_get-get_or, List.Sums.position_or_len_is, List.Sums.sum_by-set, List.Sums.sum_by-cons, List.Sums.length-filter, List.Sums.count_by-le-length, Grind.same_number_lists, List.FromFn.length-map-range_with_len, List.FromFn.get_or-map-range_with_len, List.FromFn.length-range_with_len, List.FromFn.get_or-range_with_len, List.Elements.filter-append, List.Elements.filter_passes, List.Elements.All-filter, List.Elements.All-contains, List.Elements.Contains-append_left, List.Elements.Contains-append_right, List.Elements.Contains-push}}
+use Rattle.std.proofs.{Common.{get_or, slice_get, zero, suc, ◌≡◌, ◌≢◌, ℕ, ◌+◌, ◌-◌, ◌*◌, ◌<◌, ◌≤◌, inl, inr, List, [], ◌∷◌, zero-le, length, replicate, arith, ap, ◌∙◌, refl, ◌/◌, ◌%◌, ◌⊎◌, sym, add-one, ◌++◌, eq-eqb, lt-ltb, slice_set, slice_index, sum, sum_by, Bool, true, false, cond, Option, Some, None, find, filter, Contains, All, nat_lt, length-set, mod-eq_of_lt}, lemmas.{Nat.{mul-le}, Bool.{cases_eq, cases_lt, cond_both, ltb-true, ne_eqb}, List.{get_or_past, set_past, get_or-set_same, get_or-set_other, Folds.{find_at, sum_by-replicate}, Sums.{position_or_len_is, sum_by-set, sum_by-cons, length-filter, count_by-le-length}, FromFn.{length-map-range_with_len, get_or-map-range_with_len, length-range_with_len, get_or-range_with_len}, Elements.{filter-append, filter_passes, All-filter, All-contains, Contains-append_left, Contains-append_right, Contains-push}}, Option.{slice_get-get_or}, Grind.{same_number_lists}}}
 use Rattle.std.specs.List.{range_with_len}
-use Rattle.kalah_rules.specs.{own_distance, gain, row_of, lap_length, store_distance, other_distance, sow, last_distance, last_house, sown, after, after_capture, with_capture, Position.Position, HousesState, seeds, side_length, seeds_in_houses, is_over, houses_in, storeless, HasEqualSides, swapped, Cell, Own, Store, Other, distance, IsCellOf, with_seed, lifted, HoldsSeeds, legal_houses, row_distance, distance_to_stores, IsNearerEnd, moves_left, position_after, declared.step.Step.{Step, TheVariants.{Again, Turn, Over}}}
+use Rattle.kalah_rules.specs.{own_distance, gain, row_of, lap_length, store_distance, other_distance, sow, last_distance, last_house, sown, after, after_capture, with_capture, HousesState, seeds, side_length, seeds_in_houses, is_over, houses_in, storeless, HasEqualSides, swapped, Cell, Own, Store, Other, distance, IsCellOf, with_seed, lifted, HoldsSeeds, legal_houses, row_distance, distance_to_stores, IsNearerEnd, moves_left, position_after, Position.{Position}, declared.step.Step.{Step, TheVariants.{Again, Turn, Over}}}
 
 -- ==== Numbers, sums and lists of them, as the sections below need them
 

@@ -1,6 +1,5 @@
 -- The fields of houses, of one row, and of rows after a move, and what they stand for.
-use Rattle.std.proofs.Common.{arith}
-use Rattle.std.specs.Prelude.{◌≡◌, ℕ, ◌≤◌, ◌+◌, ◌-◌, ◌*◌, ◌/◌, ◌%◌, ◌^◌, if◌then◌else◌, nat_le, sum}
+use Rattle.std.{proofs.Common.{arith}, specs.Prelude.{◌≡◌, ℕ, ◌≤◌, ◌+◌, ◌-◌, ◌*◌, ◌/◌, ◌%◌, ◌^◌, if◌then◌else◌, nat_le, sum}}
 use Rattle.kalah_rules.specs.{Position.{Position, HousesState, seeds_in_houses, storeless, AreWithinLimits}, Sowing.{row_of}, Limits.{most_houses, most_seeds}, Key.{packed_row, cells, packed_rows, variant_of, houses_in_key}, declared.houses.play.RowNumbers.{RowNumbers}}
 
 -- the houses whose key has these rows, and this variant above them

@@ -39,8 +39,7 @@ impl Model for Houses {
 
     ghost Value = { HousesState };
 
-    ghost use Rattle.kalah_rules.specs.Position.{storeless, seeds_in_houses};
-    ghost use Rattle.kalah_rules.specs.Key.{packed_rows, variant_of};
+    ghost use Rattle.kalah_rules.specs.{Position.{storeless, seeds_in_houses}, Key.{packed_rows, variant_of}};
     ghost use Rattle.kalah_rules.specs.Fields.{AreFields, houses_of_fields};
 
     ghost view = { λ a. houses_of_fields a.rows a.variant };

@@ -42,8 +42,7 @@ pub struct ResultsQueue {
 impl Model for ResultsQueue {
     ghost use Rattle.std.specs.Prelude.{◌≤◌};
     ghost use Rattle.crossbeam_queue.specs.Passes.{ruled_capacity};
-    ghost use Rattle.kalah_run.specs.Limits.{most_capacity};
-    ghost use Rattle.kalah_run.specs.Queue.States.{QueueState};
+    ghost use Rattle.kalah_run.specs.{Limits.{most_capacity}, Queue.States.{QueueState}};
 
     ghost Value = { QueueState };
 

@@ -1,5 +1,5 @@
 -- How many seeds are won, and the margins and windows that they make.
-use Rattle.std.proofs.{Common.{◌≡◌, ◌↔◌, ℕ, ◌+◌, ◌≤◌, arith, zero, suc, ◌-◌, ◌<◌, inl, inr, ◌∙◌, ap, max, min, ℤ, pos, ◌+ℤ◌, ◌≤ℤ◌, false, sum, ◌<ℤ◌}, lemmas.{Int.ints, Int.clamps, Bool.cases_Bool}}
+use Rattle.std.proofs.{Common.{◌≡◌, ◌↔◌, ℕ, ◌+◌, ◌≤◌, arith, zero, suc, ◌-◌, ◌<◌, inl, inr, ◌∙◌, ap, max, min, ℤ, pos, ◌+ℤ◌, ◌≤ℤ◌, false, sum, ◌<ℤ◌}, lemmas.{Int.{ints, clamps}, Bool.{cases_Bool}}}
 use Rattle.std.specs.Int.{int_max, int_min}
 use Rattle.kalah_rules.specs.{Limits.{most_seeds}, Position.{HousesState, AreWithinLimits, seeds_in_houses, is_over, storeless}, Measure.{moves_left}, HousesStep.{houses_step}, declared.step.HousesStep.{HousesStep, TheVariants.{Over, Again, Turn}}}
 use Rattle.kalah_solve.specs.{IsHalf, clamped, margin_of, least_margin, most_margin, Encloses, houses_worth, value_of_move, won, won_by_step, declared.bounds.{window.Window.{Window}, interval.Interval.{Interval}, seed_bounds.SeedBounds.{SeedBounds}}}

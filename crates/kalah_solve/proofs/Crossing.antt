@@ -11,8 +11,7 @@ use Rattle.kalah_solve.specs.contracts.solver.Solver as Solver
 use denote.RattleType.{RattleType}
 use denote.Param.Send.{IsSend, IsSync, Frees, part_keyless, sendable}
 use denote.Struct.Struct.{Struct}
-use Rattle.std.specs.declared.alloc.Allocator.{Ghosts}
-use Rattle.std.proofs.Crossing.{crosses, frees}
+use Rattle.std.{specs.declared.alloc.Allocator.{Ghosts}, proofs.Crossing.{crosses, frees}}
 use Rattle.atomic_table.proofs.{Rights.{right_send}, Sent.{owns_keyless, shares_keyless}}
 use Rattle.lru.proofs.Crosses.{KeyRef-send, List-send, Deed-send}
 

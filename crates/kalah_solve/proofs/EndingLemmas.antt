@@ -1,5 +1,5 @@
 -- What the words of endings state is what the mover wins, and stays so: each ending has digits of its own in its word.
-use Rattle.std.proofs.{Common.{ℕ, ◌≡◌, ◌≢◌, zero, suc, ◌+◌, ◌*◌, ◌/◌, ◌%◌, ◌^◌, ◌-◌, ◌<◌, ◌≤◌, arith, refl, ap, List, [], ◌∷◌, ◌++◌, length, get_or, length-append, ◌∙◌, lit<, lit≤, pow_mono, sum, slice_set, slice_index, false, max, ◌↔◌}, Math.{Nat.{add-mul-div_right, div-div-eq-div-mul}, ListN.{replicate, length-replicate, length-set}}, lemmas.{Nat.pow_pos, Nat.pow-add, Nat.mul-le, Bool.cases_lt, Bool.cases_eq, List.get_or-set_same, List.get_or-set_other, List.get_or-replicate, List.get_or_past, List.Sums.sum_by-append}}
+use Rattle.std.proofs.{Common.{ℕ, ◌≡◌, ◌≢◌, zero, suc, ◌+◌, ◌*◌, ◌/◌, ◌%◌, ◌^◌, ◌-◌, ◌<◌, ◌≤◌, arith, refl, ap, List, [], ◌∷◌, ◌++◌, length, get_or, length-append, ◌∙◌, lit<, lit≤, pow_mono, sum, slice_set, slice_index, false, max, ◌↔◌}, Math.{Nat.{add-mul-div_right, div-div-eq-div-mul}, ListN.{replicate, length-replicate, length-set}}, lemmas.{Nat.{pow_pos, pow-add, mul-le}, Bool.{cases_lt, cases_eq}, List.{get_or-set_same, get_or-set_other, get_or-replicate, get_or_past, Sums.{sum_by-append}}}}
 use Rattle.kalah_rules.specs.{Position.{HousesState, AreWithinLimits, storeless, is_over, seeds_in_houses}, HousesStep.{houses_step}}
 use Rattle.kalah_rules.proofs.{KeyLemmas.{rule_bit-small}, PlayLemmas.{IsLegal, legal_holds}}
 use Rattle.kalah_solve.specs.{choose, rank_of_houses, most_ending_seeds, IsEnding, HoldsWon, AreTrueWords, word_index, stored_at, won, won_by_step, cell, IsLastIn, without_house, declared.table.ending_table.words.TheConstants.{FIRST_WORDS, WORDS}}

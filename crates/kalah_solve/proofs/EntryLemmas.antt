@@ -1,7 +1,6 @@
 -- What the entries of a table state of the worth of houses stays true.
 use Rattle.std.proofs.Common.{ℕ, ◌≡◌, inl, inr, arith, sym, List, ◌∙◌, eqb-true, Option, Some, None, Result, nat_eq, IfSome, IsSome, IsOk, OnOk, OnErr, ◌⊎◌}
-use Rattle.kalah_rules.specs.{Position.{HousesState, AreWithinLimits}, Key.{key_of}}
-use Rattle.kalah_rules.proofs.KeyLemmas.{key-injective}
+use Rattle.kalah_rules.{specs.{Position.{HousesState, AreWithinLimits}, Key.{key_of}}, proofs.KeyLemmas.{key-injective}}
 use Rattle.std.specs.{Map.{lookup}, Cmp.{nat_eq_equiv}}
 use Rattle.lru.specs.LruCache.{LruCache, lru_cache, put_entries}
 use Rattle.lru.proofs.CallerLemmas.{lookup-put_entries, Contains-lookup, Contains-put_entries}

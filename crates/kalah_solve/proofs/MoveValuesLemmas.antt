@@ -1,5 +1,5 @@
 -- Values of moves in one number, a digit each.
-use Rattle.std.proofs.{Common.{List, zero, suc, ◌≡◌, ℕ, ◌<◌, ◌≤◌, inl, inr, ◌∷◌, length, arith, ap, refl, ◌+◌, ℤ, ◌≤ℤ◌, pos, ◌+ℤ◌, ◌-ℤ◌, ◌*◌, ◌/◌, ◌%◌, ◌^◌, ◌-◌}, lemmas.{Bool.cases_eq, Int.ints}, Math.Nat.{pow-succ'}}
+use Rattle.std.proofs.{Common.{List, zero, suc, ◌≡◌, ℕ, ◌<◌, ◌≤◌, inl, inr, ◌∷◌, length, arith, ap, refl, ◌+◌, ℤ, ◌≤ℤ◌, pos, ◌+ℤ◌, ◌-ℤ◌, ◌*◌, ◌/◌, ◌%◌, ◌^◌, ◌-◌}, lemmas.{Bool.{cases_eq}, Int.{ints}}, Math.Nat.{pow-succ'}}
 use Rattle.kalah_rules.specs.Limits.{most_in_play}
 use Rattle.kalah_solve.specs.{nat_or_zero, IsMoveValue, digit_of, value_at, packed_values, values_in, ArePackedValues, declared.solver.move_values.{MoveValue.{MoveValue}, TheConstants.{VALUE_COUNT, DIGIT_BASE}}}
 
@@ -31,10 +31,6 @@ digit_of_its_value d some few =
     rw up (omega arith)
 
 -- ==== The values in a number, digit by digit
-
-length-values_in : (n k : ℕ) → length (values_in n k) ≤ n
-length-values_in zero k = omega arith
-length-values_in (suc n) k = grind (arith, length-values_in n (k / DIGIT_BASE))
 
 -- the value of the lowest digit, and those of the others
 pub values_in-positive : (n k : ℕ) → 0 < k → values_in (suc n) k ≡ value_at (k % DIGIT_BASE) ∷ values_in n (k / DIGIT_BASE)

@@ -1,5 +1,5 @@
 -- The rank of a row of cells determines the row, and is added up from the choices and pairs of cells.
-use Rattle.std.proofs.{Common.{ℕ, ◌≡◌, ◌≢◌, zero, suc, ◌+◌, ◌*◌, ◌/◌, ◌%◌, ◌^◌, ◌-◌, ◌<◌, ◌≤◌, arith, refl, ap, List, [], ◌∷◌, ◌++◌, length, get_or, drop, length-append, pow_mono, sum, slice_set, mul_comm, take}, lemmas.{Nat.pow_pos, Nat.mul-le, Bool.cases_eq, List.append_cancel_left, List.drop_more, List.length-drop, List.get_or-set_same, List.get_or-set_other, List.Sums.sum_by-cons, List.Sums.sum_by-take-drop}, Math.Seq.{take-append_seam}}
+use Rattle.std.proofs.{Common.{ℕ, ◌≡◌, ◌≢◌, zero, suc, ◌+◌, ◌*◌, ◌/◌, ◌%◌, ◌^◌, ◌-◌, ◌<◌, ◌≤◌, arith, refl, ap, List, [], ◌∷◌, ◌++◌, length, get_or, drop, length-append, pow_mono, sum, slice_set, mul_comm, take}, lemmas.{Nat.{pow_pos, mul-le}, Bool.{cases_eq}, List.{append_cancel_left, drop_more, length-drop, get_or-set_same, get_or-set_other, Sums.{sum_by-cons, sum_by-take-drop}}}, Math.Seq.{take-append_seam}}
 use Rattle.kalah_rules.specs.{Position.{HousesState, AreWithinLimits}, Key.{packed_row, variant_of}}
 use Rattle.kalah_rules.proofs.KeyLemmas.{key-injective, packed_row-append, pow_five}
 use Rattle.kalah_solve.specs.{choose, row_rank, packed_sums, rank_of_houses, most_ending_seeds, choice_at, AreChoices, pair_at, ArePairs, declared.table.ending_table.TheConstants.{COUNTS, CHOICES, INVERSE_OF_31}}

@@ -4,7 +4,7 @@
 -- in the set, it does not, and `try_remaining` is still to play it: each of those outside waits or was tried (`ArePlayed`);
 -- waiting: its turn must be searched (`AreTurns`; `AreWaiting` once all were played);
 -- tried: it wins at most `most`. `bound_by_moves` tries those that wait, and all others were tried (`AreUntried`).
-use Rattle.std.proofs.{Common.{◌≡◌, ℕ, ◌+◌, ◌*◌, ◌-◌, ◌<◌, ◌≤◌, inl, inr, List, get_or, arith, refl, sym, ap, ◌∙◌, length, subst, ◌↔◌, Bool, false, IsTrue, Contains, ◌%◌, max, slice_set, sum}, lemmas.{Bool.cases_lt, Bool.cases_eq, List.get_or-set_same, List.get_or-set_other, List.get_or_default, List.get_or_past, List.set_past}}
+use Rattle.std.proofs.{Common.{◌≡◌, ℕ, ◌+◌, ◌*◌, ◌-◌, ◌<◌, ◌≤◌, inl, inr, List, get_or, arith, refl, sym, ap, ◌∙◌, length, subst, ◌↔◌, Bool, false, IsTrue, Contains, ◌%◌, max, slice_set, sum}, lemmas.{Bool.{cases_lt, cases_eq}, List.{get_or-set_same, get_or-set_other, get_or_default, get_or_past, set_past}}}
 use Rattle.kalah_solve.specs.{cell, IsLastIn, without_house, IsSoftBound, WinsAtMost, IsTurnOf, AreTurns, AreWaiting, ArePlaced, IsEmpty, IsTaken, won, won_by_step}
 use Rattle.kalah_solve.proofs.{HouseSetLemmas.{AreMovable, EachOutside, cell_of_zero, into_store_legal, seeded_is_legal, movable_before_last, each_before_last, each_outside_without_last}, WorthLemmas.{LeadsOnAt, played_leads_on}, BoundsLemmas.{won_at_most, won_of_houses, won_reached}}
 use Rattle.kalah_rules.specs.{Limits.{most_seeds}, Position.{HousesState, AreWithinLimits, seeds, seeds_in_houses, is_over, storeless}, Sowing.{EndsInStore}, HousesStep.{houses_step}, declared.step.HousesStep.TheVariants.{Turn}}

@@ -1,5 +1,5 @@
 -- Games, best play, and what a solver says of it.
-use Rattle.std.proofs.{Common.{zero, suc, ◌≡◌, ℕ, ◌<◌, ◌≤◌, inl, inr, List, [], ◌∷◌, length, get_or, arith, ap, sym, subst, ◌∙◌, refl, ◌+◌, w32, to_z, of_z, FitsSigned, false, Contains, ℤ, ◌≤ℤ◌, nat_lt, neg_ℤ, true, map, pos, ◌<ℤ◌, find, option_map, ◌+ℤ◌, ◌-ℤ◌, int_eq}, lemmas.{Bool.both_ways, Bool.cases_Bool, Bool.cases_eq, Bool.cond_both, Int.ints, Int.clamps, List.get_or_default, List.map-id, Simd.map-map, List.Elements.All-map, List.Elements.All-from_get_or, List.Elements.Contains-get_or}}
+use Rattle.std.proofs.{Common.{zero, suc, ◌≡◌, ℕ, ◌<◌, ◌≤◌, inl, inr, List, [], ◌∷◌, length, get_or, arith, ap, sym, subst, ◌∙◌, refl, ◌+◌, w32, to_z, of_z, FitsSigned, false, Contains, ℤ, ◌≤ℤ◌, nat_lt, neg_ℤ, true, map, pos, ◌<ℤ◌, find, option_map, ◌+ℤ◌, ◌-ℤ◌, int_eq}, lemmas.{Bool.{both_ways, cases_Bool, cases_eq, cond_both}, Int.{ints, clamps}, List.{get_or_default, map-id, Elements.{All-map, All-from_get_or, Contains-get_or}}, Simd.{map-map}}}
 use Rattle.kalah_rules.specs.{Limits.{most_houses}, Position.{Position, HasEqualSides, is_over, swapped, final_margin, side_length, seeds, IsWithinLimits, IsMarginInRange, HousesState, AreWithinLimits, houses_in, storeless}, Play.{legal_houses}, Measure.{moves_left}, HousesStep.{houses_step}}
 use Rattle.kalah_rules.proofs.{PlayLemmas.{IsLegal, legal_holds, after_equal_sides, after_fewer, find_first, moves_left-swapped}, PackedLemmas.{houses_within, is_over-swapped}}
 use Rattle.kalah_solve.specs.{Strategy, IsStrategy, Policy, follow, Game, Secures, HoldsTo, IsBestPlay, IsBestMove, IsWorthOfMove, EndsInTime, StrategiesPlayAGame, StrategiesPlayOneGame, GamesEnd, WorthIsBestPlay, BestPlayIsOne, BestHouseIsBestPlay, EndsWithAtLeast, EndsWithAtMost, BestPlayAgainstStrategies, BestHouseIsLowest, BestMovesAttain, BestVerdictIsOne, worth, value_of_move, best_house, houses_worth, verdict_of, IsBestInRange, StatesBestPlay, AreValuesByBestPlay, ValueIsWorthOfMove, WorthOfMoveIsOne, ValuesTellVerdict, move_value, values_of, IsMoveValue, least_margin, most_margin, clamped, won, won_by_step, Solver.BestPlay.Game.{is_at_end, moves_on, passes_turn}, declared.solver.{Verdict.{Verdict, TheVariants.{Best, Over}}, move_values.MoveValue.{MoveValue}}}

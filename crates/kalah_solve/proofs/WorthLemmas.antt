@@ -1,6 +1,6 @@
 -- What positions, moves and steps are worth.
 use Rattle.kalah_rules.specs.declared.step.Step.TheVariants as board
-use Rattle.std.proofs.{Common.{zero, suc, ◌≡◌, ℕ, ◌+◌, ◌<◌, ◌≤◌, inl, inr, List, [], ◌∷◌, length, get_or, arith, sym, ◌∙◌, refl, ap, IsTrue, ◌-◌, Bool, true, false, Contains, map, filter, find, unwrap_or, ℤ, if◌then◌else◌, pos, ◌≤ℤ◌, ◌<ℤ◌, sum, neg_ℤ, ◌+ℤ◌, ◌-ℤ◌, fold, int_eq}, lemmas.{Bool.cases_Bool, Bool.cases_lt, Bool.cond_both, Int.fold-int_max_reached, Int.ints, Int.fold-int_max_bounds, List.length-map, List.get_or-map, List.get_or_default, List.Elements.All-contains, List.Elements.All-filter, List.Elements.Contains-get_or, List.Elements.All-from_get_or, Bool.Decides.Decides-int_eq, List.Sums.sum_by-le}}
+use Rattle.std.proofs.{Common.{zero, suc, ◌≡◌, ℕ, ◌+◌, ◌<◌, ◌≤◌, inl, inr, List, [], ◌∷◌, length, get_or, arith, sym, ◌∙◌, refl, ap, IsTrue, ◌-◌, Bool, true, false, Contains, map, filter, find, unwrap_or, ℤ, if◌then◌else◌, pos, ◌≤ℤ◌, ◌<ℤ◌, sum, neg_ℤ, ◌+ℤ◌, ◌-ℤ◌, fold, int_eq}, lemmas.{Bool.{cases_Bool, cases_lt, cond_both, Decides.{Decides-int_eq}}, Int.{fold-int_max_reached, ints, fold-int_max_bounds}, List.{length-map, get_or-map, get_or_default, Elements.{All-contains, All-filter, Contains-get_or, All-from_get_or}, Sums.{sum_by-le}}}}
 use Rattle.std.specs.{List.{range_with_len}, Int.{int_max}}
 use Rattle.lru.proofs.Splits.{Contains-head, Contains-tail, Contains-cons}
 use Rattle.kalah_solve.specs.{greatest, worth, best_house, value_by, worth_within, value_of_move, houses_worth, CountPlaysNoPart, WorthIsMostOfMoves, GoesOn, GoesOnAt}
@@ -149,20 +149,6 @@ worth_of_going p equal going =
 
 final_margin-swept : (q : Position) → final_margin (swept q) ≡ final_margin q
 final_margin-swept q = omega (arith, ints)
-
--- the step of a move
-abbrev step_by : Bool → Bool → Position → Step
-step_by b a q = if b then board.Over (swept q) else (if a then board.Again q else board.Turn (swapped q))
-
--- what a step states: the game is over, and the houses are swept; the mover moves again; or the turn passes, and the sides are swapped
-abbrev pub StatesStep : Bool → Bool → Position → Step → Type 0
-StatesStep over again q (board.Over e) = (over ≡ true) × (e ≡ swept q)
-StatesStep over again q (board.Again e) = (over ≡ false) × (again ≡ true) × (e ≡ q)
-StatesStep over again q (board.Turn e) = (over ≡ false) × (again ≡ false) × (e ≡ swapped q)
-
--- each step states what it is
-pub step_states : (over again : Bool) (q : Position) (s : Step) → s ≡ step_by over again q → StatesStep over again q s
-step_states over again q s step_is = grind arith
 
 -- a move that ends the game leaves it over
 pub over_ends : (p : Position) (h : ℕ) (e : Position) → board.Over e ≡ step_of p h → IsTrue (is_over e)
@@ -421,16 +407,7 @@ pub played_leads_on : {a : HousesState} {h : ℕ} {s : HousesStep} → AreWithin
 played_leads_on {a} {h} limits legal step_is = grind (arith, leads_on)
 
 -- ---- what the search needs of a step
--- houses that go on from a are of its variant, within the limits
-goes_on_at : {a b : HousesState} {variant gained : ℕ} → AreWithinLimits a → variant_of a ≡ variant → LeadsOnAt a gained b
-    → GoesOnAt variant gained b
-goes_on_at limits variant_is leads = record {
-  ongoing = record { going = leads.going; variant_is = leads.same ∙ variant_is };
-  few = omega (arith, leads.kept);
-  limits = leads.limits;
-}
-
--- the same for a step
+-- a step that leads on from houses within the limits goes on in their variant
 goes_on_if_leads_on : {a : HousesState} {variant : ℕ} (s : HousesStep) → AreWithinLimits a → variant_of a ≡ variant → LeadsOn a s
     → GoesOn variant s
 goes_on_if_leads_on s limits variant_is leads = grind arith

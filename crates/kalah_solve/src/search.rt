@@ -109,7 +109,7 @@ impl<A: Allocator + Clone> Search<A> {
         in_its_variant!(self.clamped_in_variant(houses, window))
     }
 
-    // Does so for houses of this variant.
+    // As `clamped_worth`, for houses of this variant.
     fn clamped_in_variant<const VARIANT: u8>(&mut self, houses: &Houses, window: Window) -> i32
         requires { IsOngoing VARIANT houses.now }
         ensures { result ≡ clamped window.lo window.hi (houses_worth houses.now) }
@@ -182,7 +182,7 @@ impl<A: Allocator + Clone> Search<A> {
         in_its_variant!(self.move_reaches_in_variant(houses, house, beta))
     }
 
-    // Does so for houses of this variant.
+    // As `move_reaches`, for houses of this variant.
     #[tactic(auto, using(crate::proofs::WorthLemmas::goes_on))]
     fn move_reaches_in_variant<const VARIANT: u8>(
         &mut self,

@@ -41,8 +41,7 @@ pub struct Table<A: Allocator + Clone = Global> {
 }
 
 impl<A: Allocator + Clone> Model for Table<A> {
-    ghost use Rattle.kalah_solve.specs.Table.SlotTable.{AreSlots};
-    ghost use Rattle.kalah_solve.specs.Table.Entries.{TableState, AreTrueEntries};
+    ghost use Rattle.kalah_solve.specs.Table.{SlotTable.{AreSlots}, Entries.{TableState, AreTrueEntries}};
 
     ghost Value = { TableState };
 
@@ -52,9 +51,7 @@ impl<A: Allocator + Clone> Model for Table<A> {
 }
 
 impl<A: Allocator + Clone> Table<A> {
-    ghost use Rattle.kalah_solve.specs.Bounds.Intervals.{Encloses};
-    ghost use Rattle.kalah_solve.specs.Table.Entries.{AreTrueEntries};
-    ghost use Rattle.kalah_solve.specs.Bounds.Won.{won};
+    ghost use Rattle.kalah_solve.specs.{Bounds.{Intervals.{Encloses}, Won.{won}}, Table.Entries.{AreTrueEntries}};
 
     /// Makes an empty table with room for `capacity` entries, 1 to 1,048,576.
     ///

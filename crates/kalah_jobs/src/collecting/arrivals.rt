@@ -17,8 +17,7 @@ pub(crate) struct Arrivals {
 
 impl Model for Arrivals {
     ghost use Rattle.std.specs.Prelude.{◌≡◌, ◌≤◌, length};
-    ghost use Rattle.kalah_jobs.specs.Collecting.CollectorState.{ArrivalsState, front_of};
-    ghost use Rattle.kalah_jobs.specs.Limits.{most_lines};
+    ghost use Rattle.kalah_jobs.specs.{Collecting.CollectorState.{ArrivalsState, front_of}, Limits.{most_lines}};
 
     ghost Value = { ArrivalsState };
 

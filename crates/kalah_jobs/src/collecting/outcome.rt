@@ -26,8 +26,7 @@ impl Model for Outcome {
 
     ghost Value = { Job };
 
-    ghost use Rattle.kalah_jobs.specs.Collecting.Found.{found_of};
-    ghost use Rattle.kalah_jobs.specs.Collecting.OutcomeJob.{outcome_of, outcome_again};
+    ghost use Rattle.kalah_jobs.specs.Collecting.{Found.{found_of}, OutcomeJob.{outcome_of, outcome_again}};
 
     ghost view = { λ o. o.job };
 

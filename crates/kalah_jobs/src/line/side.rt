@@ -37,8 +37,7 @@ pub(crate) struct Side {
 
 impl Side {
     ghost use Rattle.std.specs.Prelude.{◌≡◌, ◌≤◌, ◌<◌, ◌+◌, ◌∷◌, [], ◌++◌, ℕ, List, length, IfSome, IfNone, Some, None};
-    ghost use Rattle.kalah_jobs.specs.Line.Reading.{side_at};
-    ghost use Rattle.kalah_jobs.specs.Line.Side.{AreKept, StartsWithSide};
+    ghost use Rattle.kalah_jobs.specs.Line.{Reading.{side_at}, Side.{AreKept, StartsWithSide}};
 
     // Makes a side without houses.
     fn new() -> Side

@@ -7,8 +7,7 @@ use crate::moves::Moves;
 use crate::step::{HousesStep, Step};
 
 impl Board {
-    ghost use Rattle.kalah_rules.specs.Play.{legal_houses, step_of};
-    ghost use Rattle.kalah_rules.specs.Measure.{IsNearerEnd};
+    ghost use Rattle.kalah_rules.specs.{Play.{legal_houses, step_of}, Measure.{IsNearerEnd}};
 
     /// Returns whether the mover's house `h` may be moved: it holds seeds, and the game isn't over. `h` may be any number.
     pub fn is_legal(&self, h: u8) -> bool

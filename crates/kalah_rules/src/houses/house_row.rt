@@ -18,8 +18,7 @@ pub struct HouseRow {
 
 impl Model for HouseRow {
     ghost use Rattle.std.specs.Prelude.{ℕ, List};
-    ghost use Rattle.kalah_rules.specs.Key.{cells};
-    ghost use Rattle.kalah_rules.specs.Fields.{AreRowFields};
+    ghost use Rattle.kalah_rules.specs.{Key.{cells}, Fields.{AreRowFields}};
 
     ghost Value = { List ℕ };
 

@@ -42,8 +42,7 @@ fn captured_seeds(rule: Rule, single: bool, across: u64, seeds: u64) -> Captured
 }
 
 impl Houses {
-    ghost use Rattle.kalah_rules.specs.Fields.{ShowsPosition};
-    ghost use Rattle.kalah_rules.specs.HousesStep.{houses_step};
+    ghost use Rattle.kalah_rules.specs.{Fields.{ShowsPosition}, HousesStep.{houses_step}};
 
     // Returns the rows after the move of this house: those of its sowing, less what the last seed captures.
     #[inline(always)]

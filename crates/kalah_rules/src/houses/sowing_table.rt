@@ -87,8 +87,7 @@ pub struct SowingTable {
 }
 
 impl Model for SowingTable {
-    ghost use Rattle.kalah_rules.specs.SowingTable.{AreSowings};
-    ghost use Rattle.kalah_rules.specs.declared.houses.sowing_table.TheConstants.{CELLS};
+    ghost use Rattle.kalah_rules.specs.{SowingTable.{AreSowings}, declared.houses.sowing_table.TheConstants.{CELLS}};
 
     ghost Value = { Unit {0} };
 

@@ -54,10 +54,8 @@ pub struct MoveValues {
 }
 
 impl Model for MoveValues {
-    ghost use Rattle.std.specs.Prelude.{ℕ, List};
-    ghost use Rattle.std.proofs.Common.{ap};
-    ghost use Rattle.kalah_solve.specs.declared.solver.move_values.MoveValues.TheInside.{Inside};
-    ghost use Rattle.kalah_solve.specs.declared.solver.move_values.MoveValue.{MoveValue};
+    ghost use Rattle.std.{specs.Prelude.{ℕ, List}, proofs.Common.{ap}};
+    ghost use Rattle.kalah_solve.specs.declared.solver.move_values.{MoveValues.TheInside.{Inside}, MoveValue.{MoveValue}};
     ghost use Rattle.kalah_solve.specs.Solver.MoveValues.{packed_values, values_in, ArePackedValues};
 
     ghost Value = { List MoveValue };

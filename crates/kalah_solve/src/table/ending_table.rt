@@ -44,9 +44,8 @@ pub(crate) struct EndingTable<A: Allocator = Global> {
 }
 
 impl<A: Allocator> Model for EndingTable<A> {
-    ghost use Rattle.kalah_solve.specs.Table.EndingTable.{ArePairs};
+    ghost use Rattle.kalah_solve.specs.{Table.EndingTable.{ArePairs}, declared.table.ending_table.TheConstants.{PAIRS}};
     ghost use Rattle.std.specs.Prelude.{◌≡◌};
-    ghost use Rattle.kalah_solve.specs.declared.table.ending_table.TheConstants.{PAIRS};
     ghost use Rattle.kalah_solve.specs.declared.table.ending_table.words.TheConstants.{WORDS};
 
     ghost Value = { Unit {0} };

@@ -70,8 +70,7 @@ pub(crate) struct SlotTable<A: Allocator = Global> {
 
 impl<A: Allocator> Model for SlotTable<A> {
     ghost use Rattle.std.specs.Prelude.{List, length};
-    ghost use Rattle.kalah_solve.specs.declared.table.slot_table.Slot.{Slot};
-    ghost use Rattle.kalah_solve.specs.Table.SlotTable.{AreSlotsByShift, AreTrueSlots};
+    ghost use Rattle.kalah_solve.specs.{declared.table.slot_table.Slot.{Slot}, Table.SlotTable.{AreSlotsByShift, AreTrueSlots}};
 
     ghost Value = { List Slot };
 

@@ -1,5 +1,4 @@
-use Rattle.kalah_cli.specs.{program_app}
-use Rattle.kalah_cli.proofs.CommandLemmas.{subcommand_added}
+use Rattle.kalah_cli.{specs.{program_app}, proofs.CommandLemmas.{subcommand_added}}
 use Rattle.kalah_cli.proofs.arguments.command.program_with.Goals as goal
 
 pub loop-subcommand-preserved : goal.loop-subcommand-preserved

@@ -1,8 +1,7 @@
 use Rattle.std.proofs.Common.{arith, codes}
 use Rattle.clap.specs.Words.{found_of, one_of}
 use Rattle.kalah_solve.specs.Table.Entries.{most_entries}
-use Rattle.kalah_cli.specs.{rows_in}
-use Rattle.kalah_cli.proofs.RequestLemmas.{in_range, number_read}
+use Rattle.kalah_cli.{specs.{rows_in}, proofs.RequestLemmas.{in_range, number_read}}
 use Rattle.kalah_cli.proofs.arguments.request.entries_given.Goals as goal
 
 pub returns-clause-given : goal.returns-clause-given

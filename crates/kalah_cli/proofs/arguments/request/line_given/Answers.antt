@@ -1,6 +1,5 @@
 use Rattle.std.proofs.Common.{◌∙◌, ap, codes, sym, option_map}
-use Rattle.clap.specs.Words.{found_of}
-use Rattle.clap.proofs.{CallerLemmas.{some_of_text}, WalkLemmas.{first_value-rows}}
+use Rattle.clap.{specs.Words.{found_of}, proofs.{CallerLemmas.{some_of_text}, WalkLemmas.{first_value-rows}}}
 use Rattle.kalah_cli.proofs.arguments.request.line_given.Goals as goal
 
 pub unwrap-requires : goal.unwrap-requires

@@ -1,8 +1,7 @@
 -- A parse without a fault enters a subcommand. Two getters return its name and its rows, which are those of the parse.
 use Rattle.std.proofs.{Common.{◌∙◌, ap, map, refl, sym, option_and_then}, lemmas.Result.{IfOk-weaker}}
 use Rattle.clap.proofs.{CallerLemmas.{some_of_text}, FaultLemmas.{failed_up, fails_by_memory}}
-use Rattle.kalah_cli.specs.{IsAcceptedAs, task_of, task_of_matches}
-use Rattle.kalah_cli.proofs.RequestLemmas.{faulty, pair_got, parsed}
+use Rattle.kalah_cli.{specs.{IsAcceptedAs, task_of, task_of_matches}, proofs.RequestLemmas.{faulty, pair_got, parsed}}
 use Rattle.kalah_cli.proofs.arguments.request.parse.Goals as goal
 
 pub unwrap-requires : goal.unwrap-requires

@@ -1,8 +1,7 @@
 use Rattle.std.proofs.Common.{◌∙◌, ap, arith, codes, unwrap_or}
 use Rattle.clap.specs.Words.{found_of, one_of}
 use Rattle.kalah_run.specs.Limits.{IsWorkerCount, most_workers}
-use Rattle.kalah_cli.specs.{default_workers, number_given, rows_in}
-use Rattle.kalah_cli.proofs.RequestLemmas.{in_range, number_read, or_default}
+use Rattle.kalah_cli.{specs.{default_workers, number_given, rows_in}, proofs.RequestLemmas.{in_range, number_read, or_default}}
 use Rattle.kalah_cli.proofs.arguments.request.worker_count.Goals as goal
 
 pub returns-clause-number : goal.returns-clause-number

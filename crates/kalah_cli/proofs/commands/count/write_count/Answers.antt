@@ -1,6 +1,5 @@
 use Rattle.std.proofs.Common.{ap}
-use Rattle.kalah_jobs.specs.Writing.Counts.{total_line}
-use Rattle.kalah_jobs.proofs.SinkLemmas.{given_then_if_sound}
+use Rattle.kalah_jobs.{specs.Writing.Counts.{total_line}, proofs.SinkLemmas.{given_then_if_sound}}
 use Rattle.kalah_cli.proofs.EndsLemmas.{printed_flushed}
 use Rattle.kalah_cli.proofs.commands.count.write_count.Goals as goal
 

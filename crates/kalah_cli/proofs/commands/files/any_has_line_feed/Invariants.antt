@@ -1,5 +1,4 @@
-use Rattle.std.proofs.Common.{◌≡◌, drop, map}
-use Rattle.std.specs.List.{list_any}
+use Rattle.std.{proofs.Common.{◌≡◌, drop, map}, specs.List.{list_any}}
 use Rattle.kalah_cli.specs.{has_line_feed}
 use Rattle.kalah_cli.proofs.commands.files.any_has_line_feed.Given as goal
 

@@ -2,8 +2,7 @@
 use Rattle.std.proofs.Common.{ℕ, List, None, arith}
 use Rattle.kalah_rules.specs.Play.{step_of}
 use Rattle.kalah_jobs.proofs.SinkLemmas.{given_all, given_more}
-use Rattle.kalah_cli.specs.{move_lines}
-use Rattle.kalah_cli.proofs.EndsLemmas.{printed_flushed}
+use Rattle.kalah_cli.{specs.{move_lines}, proofs.EndsLemmas.{printed_flushed}}
 use Rattle.kalah_cli.proofs.commands.moves.write_moves.Goals as goal
 
 pub loop-i-preserved : goal.loop-i-preserved

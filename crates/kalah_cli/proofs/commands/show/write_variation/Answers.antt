@@ -2,9 +2,8 @@
 use Rattle.std.proofs.{Common.{◌≡◌, ◌∷◌, [], ◌∙◌, ℕ, List, Some, IfSome, ◌==◌, ap, refl, subst, sym, Contains}, lemmas.List.Elements.{All-contains_itself, All-map, recursion_from_All}}
 use Rattle.kalah_rules.specs.{Position.{Position}, Play.{legal_houses, position_after}}
 use Rattle.kalah_solve.specs.{Solver.MoveValues.{move_value, values_of}, declared.solver.move_values.MoveValue.{MoveValue}}
-use Rattle.kalah_cli.specs.{move_of_rank, rank_in}
+use Rattle.kalah_cli.{specs.{move_of_rank, rank_in}, proofs.{ClapWalkLemmas.{found_all}, GameSolverLemmas.{variation_is_reached}}}
 use Rattle.kalah_jobs.proofs.SinkLemmas.{given_then}
-use Rattle.kalah_cli.proofs.{ClapWalkLemmas.{found_all}, GameSolverLemmas.{variation_is_reached}}
 use Rattle.kalah_cli.proofs.commands.show.write_variation.Goals as goal
 
 -- the value is that of a legal move

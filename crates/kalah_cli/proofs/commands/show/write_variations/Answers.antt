@@ -2,8 +2,7 @@
 use Rattle.std.proofs.{Common.{◌≡◌, ◌<◌, ◌≤◌, ◌+◌, ◌∙◌, ap, arith, length, refl, sym}, lemmas.List.FromFn.{get_or-range_with_len, length-range_with_len}}
 use Rattle.kalah_solve.specs.Solver.MoveValues.{values_of}
 use Rattle.kalah_jobs.proofs.SinkLemmas.{given_all, given_more}
-use Rattle.kalah_cli.specs.{ranked_line}
-use Rattle.kalah_cli.proofs.GameSolverLemmas.{variations_go_on}
+use Rattle.kalah_cli.{specs.{ranked_line}, proofs.GameSolverLemmas.{variations_go_on}}
 use Rattle.kalah_cli.proofs.commands.show.write_variations.Goals as goal
 
 pub loop-rank-preserved : goal.loop-rank-preserved

@@ -1,5 +1,4 @@
-use Rattle.std.proofs.Common.{flat_map, length, take}
-use Rattle.std.specs.List.{range_with_len}
+use Rattle.std.{proofs.Common.{flat_map, length, take}, specs.List.{range_with_len}}
 use Rattle.kalah_solve.specs.Solver.MoveValues.{values_of}
 use Rattle.kalah_jobs.specs.Writing.Sink.{WasGiven}
 use Rattle.kalah_cli.specs.{ranked_line, ShowsValues, begun}

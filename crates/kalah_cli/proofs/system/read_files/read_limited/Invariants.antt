@@ -1,5 +1,4 @@
-use Rattle.std.proofs.Common.{◌+◌, ◌-◌, length}
-use Rattle.std.specs.Io.KnownBytes.{Consumes}
+use Rattle.std.{proofs.Common.{◌+◌, ◌-◌, length}, specs.Io.KnownBytes.{Consumes}}
 use Rattle.kalah_cli.proofs.system.read_files.read_limited.Given as goal
 
 -- what was read so far was taken from the front of what the reader had

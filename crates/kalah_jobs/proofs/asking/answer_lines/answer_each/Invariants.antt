@@ -1,7 +1,6 @@
 -- After each byte all lines that were read are answered, and the head has the bytes of the line that is being read.
 use Rattle.std.proofs.Common.{◌≡◌, false}
-use Rattle.kalah_jobs.specs.{start_of, unread}
-use Rattle.kalah_jobs.proofs.AskingLemmas.{IsAnsweredSoFar}
+use Rattle.kalah_jobs.{specs.{start_of, unread}, proofs.AskingLemmas.{IsAnsweredSoFar}}
 use Rattle.kalah_jobs.proofs.asking.answer_lines.answer_each.Given as goal
 
 -- the lines that were read are answered

@@ -1,6 +1,5 @@
 use Rattle.std.proofs.Common.{◌≡◌, ◌==◌, ◌∙◌, ℕ, List, [], ◌∷◌, false, ap, length, refl, subst, sym}
-use Rattle.kalah_jobs.specs.{last_reply, reply, Question, WasGiven}
-use Rattle.kalah_jobs.proofs.SinkLemmas.{given_then_flush}
+use Rattle.kalah_jobs.{specs.{last_reply, reply, Question, WasGiven}, proofs.SinkLemmas.{given_then_flush}}
 use Rattle.kalah_jobs.proofs.asking.reply.write_last_reply.Goals as goal
 
 -- bytes after the last line feed are answered as a line

@@ -1,6 +1,5 @@
 use Rattle.std.proofs.{Common.{◌++◌, ◌∙◌, ap, arith, codes, decimal}, lemmas.Int.{ints}}
-use Rattle.kalah_jobs.specs.{joined_text}
-use Rattle.kalah_jobs.proofs.TextLemmas.{from_margin}
+use Rattle.kalah_jobs.{specs.{joined_text}, proofs.TextLemmas.{from_margin}}
 use Rattle.kalah_jobs.proofs.writing.answer_line.prepend_joined_text.Goals as goal
 
 pub returns-in-Best-clause-joined : goal.returns-in-Best-clause-joined

@@ -1,6 +1,5 @@
 use Rattle.std.proofs.Common.{◌++◌, subst}
-use Rattle.kalah_jobs.specs.{WasGiven}
-use Rattle.kalah_jobs.proofs.SinkLemmas.{given_then}
+use Rattle.kalah_jobs.{specs.{WasGiven}, proofs.SinkLemmas.{given_then}}
 use Rattle.kalah_jobs.proofs.writing.named_text.write_apart.Goals as goal
 
 pub returns : goal.returns

@@ -1,7 +1,6 @@
 use Rattle.std.proofs.Common.{◌∙◌, ap, arith}
 use Rattle.kalah_rules.specs.Position.{seeds, side_length}
-use Rattle.kalah_jobs.specs.{seeds_in, houses_of}
-use Rattle.kalah_jobs.proofs.TextLemmas.{columns_before}
+use Rattle.kalah_jobs.{specs.{seeds_in, houses_of}, proofs.TextLemmas.{columns_before}}
 use Rattle.kalah_jobs.proofs.writing.picture.prepend_houses.Goals as goal
 
 pub loop-column-preserved : goal.loop-column-preserved

@@ -1,7 +1,6 @@
 use Rattle.std.proofs.Common.{◌≡◌, ◌++◌, ◌+◌, ◌-◌, ◌*◌, ◌≤◌, length}
 use Rattle.kalah_rules.specs.Position.{side_length}
-use Rattle.kalah_jobs.specs.{seeds_in}
-use Rattle.kalah_jobs.proofs.TextLemmas.{columns}
+use Rattle.kalah_jobs.{specs.{seeds_in}, proofs.TextLemmas.{columns}}
 use Rattle.kalah_jobs.proofs.writing.picture.prepend_houses.Given as goal
 
 abbrev pub invariant-loop-column : goal.invariant-loop-column

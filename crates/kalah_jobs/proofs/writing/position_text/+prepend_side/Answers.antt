@@ -1,6 +1,5 @@
 use Rattle.std.proofs.Common.{arith}
-use Rattle.kalah_jobs.specs.{houses_of, store_of}
-use Rattle.kalah_jobs.proofs.TextLemmas.{side_before, length-houses_of}
+use Rattle.kalah_jobs.{specs.{houses_of, store_of}, proofs.TextLemmas.{side_before, length-houses_of}}
 use Rattle.kalah_jobs.proofs.writing.position_text.+prepend_side.Goals as goal
 
 pub returns-clause-side : goal.returns-clause-side

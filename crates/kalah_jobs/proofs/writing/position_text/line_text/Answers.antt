@@ -1,6 +1,5 @@
 use Rattle.std.proofs.{Common.{◌≡◌, ◌++◌, ℕ, List, append-nil, ap, subst, sym, string_bytes, ◌∙◌}, lemmas.Result.{IfOk-weaker}}
-use Rattle.kalah_jobs.specs.{Reads, line_text_of}
-use Rattle.kalah_jobs.proofs.LineTextLemmas.{every_text_is_read_back}
+use Rattle.kalah_jobs.{specs.{Reads, line_text_of}, proofs.LineTextLemmas.{every_text_is_read_back}}
 use Rattle.kalah_jobs.proofs.writing.position_text.line_text.Goals as goal
 
 pub returns-clause-read_back : goal.returns-clause-read_back

@@ -1,8 +1,7 @@
 -- After i moves the text has their lines, with a line feed between any two.
 use Rattle.std.proofs.Common.{◌≡◌, ◌++◌, ◌<◌, ◌≤◌, ◌∙◌, ℕ, List, ap, ap₂, append_assoc, append-nil, length, subst, sym, take_all}
 use Rattle.kalah_rules.specs.Play.{step_of}
-use Rattle.kalah_jobs.specs.{step_text_of, house_step_text}
-use Rattle.kalah_jobs.proofs.TextLemmas.{joined_lines, legal_at, one_line_more}
+use Rattle.kalah_jobs.{specs.{step_text_of, house_step_text}, proofs.TextLemmas.{joined_lines, legal_at, one_line_more}}
 use Rattle.kalah_jobs.proofs.writing.steps.text_of_steps.Goals as goal
 
 -- a line after what is there

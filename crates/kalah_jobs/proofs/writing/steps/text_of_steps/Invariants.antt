@@ -1,6 +1,5 @@
 use Rattle.std.proofs.Common.{◌≡◌, ◌++◌, take, string_bytes}
-use Rattle.kalah_jobs.specs.{house_step_text}
-use Rattle.kalah_jobs.proofs.TextLemmas.{joined_lines}
+use Rattle.kalah_jobs.{specs.{house_step_text}, proofs.TextLemmas.{joined_lines}}
 use Rattle.kalah_jobs.proofs.writing.steps.text_of_steps.Given as goal
 
 abbrev pub invariant-loop-i : goal.invariant-loop-i

@@ -1,6 +1,5 @@
 use Rattle.std.proofs.Common.{take}
-use Rattle.kalah_jobs.specs.{house_step_text, WasGiven}
-use Rattle.kalah_jobs.proofs.TextLemmas.{texts_in_line}
+use Rattle.kalah_jobs.{specs.{house_step_text, WasGiven}, proofs.TextLemmas.{texts_in_line}}
 use Rattle.kalah_jobs.proofs.writing.steps.write_steps_in_line.Given as goal
 
 abbrev pub invariant-loop-i : goal.invariant-loop-i

@@ -1,7 +1,6 @@
 -- Columns are put in front of those after them: the column of a value, after blanks for the houses without a move before it.
 use Rattle.std.proofs.Common.{◌++◌, ◌+◌, ◌∙◌, ap, arith, drop, sym}
-use Rattle.kalah_jobs.specs.{empty_columns, value_columns}
-use Rattle.kalah_jobs.proofs.{ListLemmas.{items_from}, TextLemmas.{column_before, next_value}}
+use Rattle.kalah_jobs.{specs.{empty_columns, value_columns}, proofs.{ListLemmas.{items_from}, TextLemmas.{column_before, next_value}}}
 use Rattle.kalah_jobs.proofs.writing.values_line.+prepend_value_columns.Goals as goal
 
 pub overflow_add-value : goal.overflow_add-value

@@ -1,6 +1,5 @@
 use Rattle.std.proofs.Common.{◌∙◌, ap}
-use Rattle.kalah_rules.specs.{HousesState, storeless, ways_by}
-use Rattle.kalah_rules.proofs.WaysLemmas.{ways_by_of_houses}
+use Rattle.kalah_rules.{specs.{HousesState, storeless, ways_by}, proofs.WaysLemmas.{ways_by_of_houses}}
 use Rattle.kalah_rules.proofs.board.Board.ways_by.Goals as goal
 
 pub returns-clause-ways : goal.returns-clause-ways

@@ -1,6 +1,5 @@
 use Rattle.std.proofs.Common.{◌+◌, ◌-◌, ◌*◌}
-use Rattle.kalah_rules.specs.{storeless}
-use Rattle.kalah_rules.proofs.WaysLemmas.{AreWaysBefore}
+use Rattle.kalah_rules.{specs.{storeless}, proofs.WaysLemmas.{AreWaysBefore}}
 use Rattle.kalah_rules.proofs.houses.Houses.+ways.Given as goal
 
 abbrev pub decreases-ways : goal.decreases-ways

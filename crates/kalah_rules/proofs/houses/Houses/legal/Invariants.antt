@@ -1,5 +1,4 @@
-use Rattle.std.proofs.Common.{◌≡◌, ◌-◌, filter, nat_lt}
-use Rattle.std.specs.List.{range_with_len}
+use Rattle.std.{proofs.Common.{◌≡◌, ◌-◌, filter, nat_lt}, specs.List.{range_with_len}}
 use Rattle.kalah_rules.specs.{seeds}
 use Rattle.kalah_rules.proofs.houses.Houses.legal.Given as goal
 

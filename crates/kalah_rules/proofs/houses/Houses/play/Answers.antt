@@ -1,7 +1,6 @@
 -- A legal house is one of 1 to m, as each call requires.
 use Rattle.std.proofs.Common.{arith}
-use Rattle.kalah_rules.specs.{storeless}
-use Rattle.kalah_rules.proofs.PlayLemmas.{legal_holds}
+use Rattle.kalah_rules.{specs.{storeless}, proofs.PlayLemmas.{legal_holds}}
 use Rattle.kalah_rules.proofs.houses.Houses.play.Goals as goal
 
 pub own-requires : goal.own-requires

@@ -1,6 +1,5 @@
 use Rattle.std.proofs.Common.{◌∙◌, sym}
-use Rattle.kalah_rules.specs.{storeless}
-use Rattle.kalah_rules.proofs.{PlayLemmas.{legal_holds}, PackedLemmas.{again_at}}
+use Rattle.kalah_rules.{specs.{storeless}, proofs.{PlayLemmas.{legal_holds}, PackedLemmas.{again_at}}}
 use Rattle.kalah_rules.proofs.houses.Houses.play_sown.Goals as goal
 
 pub after-requires-clause-holds : goal.after-requires-clause-holds

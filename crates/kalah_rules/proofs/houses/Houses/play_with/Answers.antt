@@ -1,6 +1,5 @@
 use Rattle.std.proofs.Common.{arith}
-use Rattle.kalah_rules.specs.{storeless}
-use Rattle.kalah_rules.proofs.PlayLemmas.{legal_holds}
+use Rattle.kalah_rules.{specs.{storeless}, proofs.PlayLemmas.{legal_holds}}
 use Rattle.kalah_rules.proofs.houses.Houses.play_with.Goals as goal
 
 pub own_seeds_in-requires : goal.own_seeds_in-requires

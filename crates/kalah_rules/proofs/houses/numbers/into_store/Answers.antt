@@ -1,5 +1,5 @@
 -- There are 36 pairs of a side and a house at most, so each cell of the table is computed.
-use Rattle.std.proofs.{Common.{arith, refl, ◌≡◌, ◌≤◌, ◌<◌, ◌+◌, ◌-◌, ◌*◌, ◌/◌, ◌%◌, ◌^◌, ◌==◌, Bool, ℕ, true, nat_le, if◌then◌else◌, get_or}, lemmas.{Bool.agree_below_at, Bool.Decides.nat_tests}}
+use Rattle.std.proofs.{Common.{arith, refl, ◌≡◌, ◌≤◌, ◌<◌, ◌+◌, ◌-◌, ◌*◌, ◌/◌, ◌%◌, ◌^◌, ◌==◌, Bool, ℕ, true, nat_le, if◌then◌else◌, get_or}, lemmas.Bool.{agree_below_at, Decides.{nat_tests}}}
 use Rattle.kalah_rules.specs.{ones, declared.houses.numbers.TheConstants.{INTO_STORE}}
 use Rattle.kalah_rules.proofs.houses.numbers.into_store.Goals as goal
 

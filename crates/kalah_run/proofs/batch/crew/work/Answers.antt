@@ -1,7 +1,6 @@
 -- A round adds one number to the worker's row, a job that the gate knows, and sends the outcome of that job.
 use Rattle.std.proofs.{Common.{◌≡◌, ℕ, ◌∷◌, ◌++◌, [], true, rules, sym, ap, ◌∙◌}, lemmas.List.Elements.{All-push}}
-use Rattle.kalah_run.specs.{DrawnRow, PassState, PutPassState}
-use Rattle.kalah_run.proofs.WorkerLemmas.{drawn_jobs-more, less_left}
+use Rattle.kalah_run.{specs.{DrawnRow, PassState, PutPassState}, proofs.WorkerLemmas.{drawn_jobs-more, less_left}}
 use Rattle.kalah_run.proofs.batch.crew.work.Goals as goal
 
 -- with no job in hand, all that was drawn is sent

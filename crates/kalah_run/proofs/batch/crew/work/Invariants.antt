@@ -1,6 +1,5 @@
 use Rattle.std.proofs.Common.{◌≡◌, ◌-◌}
-use Rattle.kalah_run.proofs.WorkerLemmas.{least_above}
-use Rattle.kalah_run.specs.{IsAtWork}
+use Rattle.kalah_run.{proofs.WorkerLemmas.{least_above}, specs.{IsAtWork}}
 use Rattle.kalah_run.proofs.batch.crew.work.Given as goal
 
 abbrev pub invariant-loop-job : goal.invariant-loop-job

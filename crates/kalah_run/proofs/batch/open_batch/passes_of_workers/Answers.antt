@@ -1,6 +1,5 @@
 -- Each round takes one worker apart: its passes go into their lists, which have room for them.
-use Rattle.kalah_run.specs.declared.batch.worker.Worker.{Worker}
-use Rattle.kalah_run.proofs.WorkerLemmas.{one_taken, room_for_one, room_still}
+use Rattle.kalah_run.{specs.declared.batch.worker.Worker.{Worker}, proofs.WorkerLemmas.{one_taken, room_for_one, room_still}}
 use Rattle.kalah_run.proofs.batch.open_batch.passes_of_workers.Goals as goal
 
 pub push_reserved-requires : goal.push_reserved-requires

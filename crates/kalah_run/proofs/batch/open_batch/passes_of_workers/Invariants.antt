@@ -1,5 +1,4 @@
-use Rattle.std.proofs.Common.{◌≡◌, ◌+◌, ◌≤◌, length, vec_len, vec_capacity}
-use Rattle.std.specs.Vec.Iter.{into_iter_items}
+use Rattle.std.{proofs.Common.{◌≡◌, ◌+◌, ◌≤◌, length, vec_len, vec_capacity}, specs.Vec.Iter.{into_iter_items}}
 use Rattle.kalah_run.specs.{passes_of, puts_of}
 use Rattle.kalah_run.proofs.batch.open_batch.passes_of_workers.Given as goal
 

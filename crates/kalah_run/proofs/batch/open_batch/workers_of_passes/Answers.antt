@@ -1,7 +1,6 @@
 -- A new worker takes the last pass of each list, so the passes left and then those of the workers, the newest first, stay all passes.
 use Rattle.std.proofs.{lemmas.Grind.{common_steps}, Common.{arith, ap, ◌∙◌}}
-use Rattle.kalah_run.specs.declared.batch.worker.Worker.{Worker}
-use Rattle.kalah_run.proofs.WorkerLemmas.{one_given, tables_more}
+use Rattle.kalah_run.{specs.declared.batch.worker.Worker.{Worker}, proofs.WorkerLemmas.{one_given, tables_more}}
 use Rattle.kalah_run.proofs.batch.open_batch.workers_of_passes.Goals as goal
 
 pub loop-preserved : goal.loop-preserved

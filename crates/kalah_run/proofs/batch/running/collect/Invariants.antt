@@ -1,6 +1,5 @@
 use Rattle.std.proofs.Common.{◌≡◌, ◌≤◌, length}
-use Rattle.kalah_run.proofs.BatchLemmas.{AreCollected}
-use Rattle.kalah_run.specs.declared.limits.TheConstants.{MOST_TRIES}
+use Rattle.kalah_run.{proofs.BatchLemmas.{AreCollected}, specs.declared.limits.TheConstants.{MOST_TRIES}}
 use Rattle.kalah_run.proofs.batch.running.collect.Given as goal
 
 abbrev pub invariant-loop : goal.invariant-loop

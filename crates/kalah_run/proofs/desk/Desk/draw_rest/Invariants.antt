@@ -1,6 +1,5 @@
 use Rattle.std.proofs.Common.{◌≡◌, ◌-◌}
-use Rattle.kalah_run.proofs.WorkerLemmas.{least_above}
-use Rattle.kalah_run.specs.{IsPassAt}
+use Rattle.kalah_run.{proofs.WorkerLemmas.{least_above}, specs.{IsPassAt}}
 use Rattle.kalah_run.proofs.desk.Desk.draw_rest.Given as goal
 
 abbrev pub invariant-loop : goal.invariant-loop

@@ -1,5 +1,4 @@
-use Rattle.std.proofs.Common.{◌≡◌, ◌++◌, length}
-use Rattle.std.specs.Vec.Iter.{into_iter_items}
+use Rattle.std.{proofs.Common.{◌≡◌, ◌++◌, length}, specs.Vec.Iter.{into_iter_items}}
 use Rattle.crossbeam_queue.specs.Passes.{view, IsPassOf}
 use Rattle.kalah_run.specs.{ArePassesFrom, sent_by, declared.queue.protocol.QueueView.TheVariants.{Getting}}
 use Rattle.kalah_run.proofs.QueueLemmas.{ended_in}

@@ -2,9 +2,8 @@
 -- best play.
 use Rattle.std.proofs.Common.{ℕ, arith, rules, sym, subst, lit≤, ◌+◌}
 use Rattle.kalah_rules.specs.{Sowing.{EndsInStore}, HousesStep.{houses_step}}
-use Rattle.kalah_solve.specs.{GoesOn, IsSoftBound, won_by_step}
+use Rattle.kalah_solve.{specs.{GoesOn, IsSoftBound, won_by_step}, proofs.search.Search.+bound.Given.{Over}}
 use Rattle.kalah_solve.proofs.{HouseSetLemmas.{without_last_less, last_is_legal, each_at_last}, SearchLemmas.{lower_measure, enough_is_won, soft_if_enough, turn_enough, reply_left, step_is_turn, taken_is_turn, taken_falls, reply_fits, bound_le_max, bound_of_rest, played_at_start, played_and_waits, played_and_bounded, played_enough, all_played, gained_few, tried_at_start, tried_without_last, all_tried, untried_at_start, untried_fewer, none_untried}, WorthLemmas.{goes_on, step_falls}, BoundsLemmas.{won_of_houses}}
-use Rattle.kalah_solve.proofs.search.Search.+bound.Given.{Over}
 use Rattle.kalah_solve.proofs.search.Search.+bound.Goals as goal
 use Rattle.kalah_solve.proofs.search.Search.+bound.Goals.{try_remaining-Joined-step, try_remaining-in-Turn+else-gained-beta, try_remaining-in_default-step}
 

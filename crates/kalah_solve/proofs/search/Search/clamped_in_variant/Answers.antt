@@ -1,6 +1,5 @@
 use Rattle.std.proofs.{Common.{ap, rules, ◌∙◌, w32}, lemmas.Int.{to_z-of_z}}
-use Rattle.kalah_solve.specs.{clamped}
-use Rattle.kalah_solve.proofs.BoundsLemmas.{margin_of_won_is_worth}
+use Rattle.kalah_solve.{specs.{clamped}, proofs.BoundsLemmas.{margin_of_won_is_worth}}
 use Rattle.kalah_solve.proofs.search.Search.clamped_in_variant.Goals as goal
 
 pub returns-then-seeds-self : goal.returns-then-seeds-self

@@ -1,5 +1,5 @@
 -- Both lists have 31 cells, so each is computed and tested.
-use Rattle.std.proofs.{Common.{arith, refl, ◌≡◌, ◌<◌, ◌+◌, ◌-◌, ◌/◌, ◌%◌, ◌==◌, ◌&&◌, [], Bool, ℕ, zero, suc, true, nat_lt, get_or}, lemmas.{Bool.agree_below_at, Bool.Decides.nat_tests}}
+use Rattle.std.proofs.{Common.{arith, refl, ◌≡◌, ◌<◌, ◌+◌, ◌-◌, ◌/◌, ◌%◌, ◌==◌, ◌&&◌, [], Bool, ℕ, zero, suc, true, nat_lt, get_or}, lemmas.Bool.{agree_below_at, Decides.{nat_tests}}}
 use Rattle.kalah_solve.specs.declared.search.move_order.weights.TheConstants.{PLACE_PRIORITIES}
 use Rattle.kalah_solve.proofs.search.move_order.place_priority.Goals as goal
 

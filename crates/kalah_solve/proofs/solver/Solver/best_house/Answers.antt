@@ -1,7 +1,6 @@
 -- The houses so far win less than best play, so the first that wins as much is the best one, and the last is if all others win less.
 use Rattle.std.proofs.{Common.{arith, refl, ap, ◌∙◌, ◌≡◌, ◌<◌, ◌-◌, ℕ, List, length, get_or}, lemmas.List.Elements.{Contains-get_or}}
-use Rattle.kalah_rules.specs.{Position.{storeless}, Lap.{HoldsSeeds}}
-use Rattle.kalah_rules.proofs.PlayLemmas.{legal_holds}
+use Rattle.kalah_rules.{specs.{Position.{storeless}, Lap.{HoldsSeeds}}, proofs.PlayLemmas.{legal_holds}}
 use Rattle.kalah_solve.proofs.{WorthLemmas.{legal_some}, SolverLemmas.{first_enough_is_best, one_more_falls_short, last_is_best}, SearchLemmas.{below_if_test_fails}, solver.Solver.best_house.{Given.{Over}, Goals.{After-get-h}}}
 use Rattle.kalah_solve.proofs.solver.Solver.best_house.Goals as goal
 

@@ -1,7 +1,6 @@
 -- The worth of the houses tells what best play wins, which `best_house` is asked for, and with the stores it is the margin.
 use Rattle.std.proofs.{Common.{arith, rules, sym, ap, ◌∙◌, ◌≡◌, w32}, lemmas.Int.{ints, to_z-of_z}}
-use Rattle.kalah_rules.specs.Position.{HousesState, storeless}
-use Rattle.kalah_rules.proofs.PackedLemmas.{houses_within}
+use Rattle.kalah_rules.{specs.Position.{HousesState, storeless}, proofs.PackedLemmas.{houses_within}}
 use Rattle.kalah_solve.specs.{best_house, houses_worth, declared.solver.Verdict.TheVariants.{Over}}
 use Rattle.kalah_solve.proofs.{SolverLemmas.{verdict_of_going, verdict_of_over, small_best, verdict_states}, WorthLemmas.{best_of_houses, best_found, board_equal_sides}, BoundsLemmas.{worth_low, worth_high, half_is_won}}
 use Rattle.kalah_solve.proofs.solver.Solver.solve.Given as given

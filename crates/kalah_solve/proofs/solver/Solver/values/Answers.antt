@@ -1,5 +1,5 @@
 -- The loop runs from the last move to the first, and puts the value of each before those of the moves behind it.
-use Rattle.std.proofs.{lemmas.{Grind.common_steps, List.drop_more, List.Elements.Contains-get_or}, Common.{◌≡◌, ℕ, ◌<◌, ◌≤◌, ◌-◌, ◌+◌, List, ◌∷◌, arith, length, subst, sym, map, drop, get_or, Contains, refl}}
+use Rattle.std.proofs.{lemmas.{Grind.{common_steps}, List.{drop_more, Elements.{Contains-get_or}}}, Common.{◌≡◌, ℕ, ◌<◌, ◌≤◌, ◌-◌, ◌+◌, List, ◌∷◌, arith, length, subst, sym, map, drop, get_or, Contains, refl}}
 use Rattle.kalah_rules.specs.Position.{Position}
 use Rattle.kalah_solve.specs.{IsMoveValue, move_value, AreValuesByBestPlay, declared.solver.move_values.MoveValue.{MoveValue}}
 use Rattle.kalah_solve.proofs.SolverLemmas.{values_state, move_value_small}

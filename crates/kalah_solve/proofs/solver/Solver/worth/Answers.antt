@@ -1,7 +1,6 @@
 use Rattle.std.proofs.{Common.{rules, sym, ap, ◌∙◌, w32}, lemmas.Int.{to_z-of_z}}
 use Rattle.kalah_rules.proofs.PackedLemmas.{houses_within}
-use Rattle.kalah_solve.specs.{houses_worth}
-use Rattle.kalah_solve.proofs.WorthLemmas.{worth_of_over}
+use Rattle.kalah_solve.{specs.{houses_worth}, proofs.WorthLemmas.{worth_of_over}}
 use Rattle.kalah_solve.proofs.solver.Solver.worth.Goals as goal
 
 pub returns-then-is_over-clause-worth : goal.returns-then-is_over-clause-worth

@@ -1,6 +1,5 @@
 use Rattle.std.proofs.Common.{◌≤◌, length, vec_capacity}
-use Rattle.kalah_jobs.specs.{entries_in, starts_in}
-use Rattle.kalah_jobs.proofs.FilesLemmas.{AreRead}
+use Rattle.kalah_jobs.{specs.{entries_in, starts_in}, proofs.FilesLemmas.{AreRead}}
 use Rattle.kalah_jobs.proofs.files.jobs.Jobs.with_question.Given as goal
 
 abbrev pub invariant-loop-file : goal.invariant-loop-file

@@ -1,7 +1,6 @@
 -- After each comma the houses so far are those that the text before it names; a slash leaves the store.
 use Rattle.std.proofs.{Common.{◌≡◌, ◌∷◌, ◌++◌, ◌-◌, [], arith, drop, length, take}, lemmas.Grind.{common_steps}}
-use Rattle.kalah_jobs.specs.{comma, slash}
-use Rattle.kalah_jobs.proofs.SideLemmas.{house_follows, no_store_follows, read_at_start, store_follows}
+use Rattle.kalah_jobs.{specs.{comma, slash}, proofs.SideLemmas.{house_follows, no_store_follows, read_at_start, store_follows}}
 use Rattle.kalah_jobs.proofs.line.side.Side.read.Goals as goal
 
 pub loop-seeds-init : goal.loop-seeds-init

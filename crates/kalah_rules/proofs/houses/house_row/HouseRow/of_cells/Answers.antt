@@ -1,5 +1,5 @@
 -- The row holds the cells so far, so a push fails only where they hold too many seeds; the second loop has found each later cell empty.
-use Rattle.std.proofs.{Common.{ℕ, List, ◌≡◌, ◌≤◌, ◌<◌, ◌+◌, ◌-◌, ◌∙◌, ◌↔◌, All, arith, drop, get_or, length, length-take-le, refl, get_or-drop, length-drop}, lemmas.{Bool.false≢true, List.Elements.All-from_get_or, List.Sums.sum_by_more_le}}
+use Rattle.std.proofs.{Common.{ℕ, List, ◌≡◌, ◌≤◌, ◌<◌, ◌+◌, ◌-◌, ◌∙◌, ◌↔◌, All, arith, drop, get_or, length, length-take-le, refl, get_or-drop, length-drop}, lemmas.{Bool.{false≢true}, List.{Elements.{All-from_get_or}, Sums.{sum_by_more_le}}}}
 use Rattle.kalah_rules.proofs.KeyLemmas.{sum-shown}
 use Rattle.kalah_rules.proofs.houses.house_row.HouseRow.of_cells.Goals as goal
 

@@ -1,7 +1,6 @@
 -- Each round writes the next line of the current file, or goes on to the next file once all lines of this one are written.
 use Rattle.std.proofs.{lemmas.Grind.{common_steps}, Common.{arith, refl, ◌<◌, ap, length, ◌∙◌}}
-use Rattle.kalah_jobs.specs.Files.NamedBytes.{NamedBytes}
-use Rattle.kalah_jobs.proofs.{CollectingLemmas.{files_many}, SinkLemmas.{given_then}}
+use Rattle.kalah_jobs.{specs.Files.NamedBytes.{NamedBytes}, proofs.{CollectingLemmas.{files_many}, SinkLemmas.{given_then}}}
 use Rattle.kalah_run.proofs.OutputLemmas.{under_way_after_line, under_way_after_no_line, under_way_in_next_file, writes_then, text_of_taken}
 use Rattle.kalah_run.proofs.batch.ordered_output.OrderedOutput.write_ready.Goals as goal
 

@@ -1,7 +1,6 @@
 use Rattle.std.proofs.Common.{◌+◌, ◌-◌, ℕ, List, length}
 use Rattle.kalah_jobs.specs.Writing.Sink.{WasGiven}
-use Rattle.kalah_run.specs.{WritesOn}
-use Rattle.kalah_run.proofs.OutputLemmas.{ready_lines}
+use Rattle.kalah_run.{specs.{WritesOn}, proofs.OutputLemmas.{ready_lines}}
 use Rattle.kalah_run.proofs.batch.ordered_output.OrderedOutput.write_ready.Given as goal
 
 abbrev pub invariant-loop-self : goal.invariant-loop-self

@@ -1,7 +1,6 @@
 -- Both bounds are half of an end of the interval and all seeds, so they enclose what is won just as the interval encloses its margin.
 use Rattle.std.proofs.{Common.{arith, pos, ◌+ℤ◌, w8, w32, SFits, rules}, lemmas.Int.{ints, to_z-of_z}}
-use Rattle.kalah_solve.specs.{IsHalf}
-use Rattle.kalah_solve.proofs.BoundsLemmas.{bounds_held, bounds_exact}
+use Rattle.kalah_solve.{specs.{IsHalf}, proofs.BoundsLemmas.{bounds_held, bounds_exact}}
 use Rattle.kalah_solve.proofs.bounds.seed_bounds.SeedBounds.of_margins.Goals as goal
 
 module _ (c : goal.After-result-1) where

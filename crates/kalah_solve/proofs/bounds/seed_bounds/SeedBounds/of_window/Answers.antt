@@ -1,7 +1,6 @@
 -- A margin and all seeds add up to twice what is won, so both ends of the window become numbers of seeds by halves.
 use Rattle.std.proofs.{Common.{arith, pos, ◌+ℤ◌, w32}, lemmas.Int.{ints, to_z-of_z}}
-use Rattle.kalah_solve.specs.{IsHalf}
-use Rattle.kalah_solve.proofs.BoundsLemmas.{bounds_ordered, bounds_high, bounds_apart}
+use Rattle.kalah_solve.{specs.{IsHalf}, proofs.BoundsLemmas.{bounds_ordered, bounds_high, bounds_apart}}
 use Rattle.kalah_solve.proofs.bounds.seed_bounds.SeedBounds.of_window.Goals as goal
 
 module _ (c : goal.After-won_of-2) where

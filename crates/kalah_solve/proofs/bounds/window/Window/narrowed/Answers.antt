@@ -1,9 +1,7 @@
 -- If the ends meet or cross, each margin that the interval encloses gives the same answer; else the narrowed window leaves the answers.
-use Rattle.std.proofs.{Common.{arith, rules, w8, w32, SFits, ◌≤ℤ◌, ◌<ℤ◌, ◌≡◌}, lemmas.Int.{ints, to_z-of_z}}
-use Rattle.std.specs.Int.{int_max, int_min}
-use Rattle.kalah_solve.proofs.BoundsLemmas.{known_answers, narrowed_answers}
+use Rattle.std.{proofs.{Common.{arith, rules, w8, w32, SFits, ◌≤ℤ◌, ◌<ℤ◌, ◌≡◌}, lemmas.Int.{ints, to_z-of_z}}, specs.Int.{int_max, int_min}}
+use Rattle.kalah_solve.proofs.{BoundsLemmas.{known_answers, narrowed_answers}, bounds.window.Window.narrowed.Goals.{After-min-hi}}
 use Rattle.kalah_solve.proofs.bounds.window.Window.narrowed.Goals as goal
-use Rattle.kalah_solve.proofs.bounds.window.Window.narrowed.Goals.{After-min-hi}
 
 module _ (c : After-min-hi) where
   -- the ends that were compared (`simp` and `search` read that each number fits its width)

@@ -1,5 +1,5 @@
 -- After i places the greatest so far is one of the priorities, and none of those is greater.
-use Rattle.std.proofs.{Common.{arith, ◌≡◌, ◌≤◌, ◌<◌, ◌+◌, ℕ, List, length, get_or, inl, inr, Contains, max}, lemmas.{Bool.cases_lt, List.Elements.Contains-get_or}}
+use Rattle.std.proofs.{Common.{arith, ◌≡◌, ◌≤◌, ◌<◌, ◌+◌, ℕ, List, length, get_or, inl, inr, Contains, max}, lemmas.{Bool.{cases_lt}, List.Elements.{Contains-get_or}}}
 use Rattle.kalah_solve.proofs.SearchLemmas.{place_inside}
 use Rattle.kalah_solve.proofs.search.waiting_turns.WaitingTurns.highest.Goals as goal
 

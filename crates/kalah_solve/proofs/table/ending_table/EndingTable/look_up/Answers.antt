@@ -1,6 +1,5 @@
 use Rattle.std.proofs.Common.{arith, ◌∙◌, ◌≡◌, ◌%◌, subst}
-use Rattle.kalah_solve.specs.{rank_of_houses, HoldsWon, stored_at}
-use Rattle.kalah_solve.proofs.EndingLemmas.{stored_is_won}
+use Rattle.kalah_solve.{specs.{rank_of_houses, HoldsWon, stored_at}, proofs.EndingLemmas.{stored_is_won}}
 use Rattle.kalah_solve.proofs.table.ending_table.EndingTable.look_up.Goals as goal
 
 pub returns : goal.returns

@@ -1,7 +1,6 @@
 -- The slot of the key has bounds that are true of the houses; all other slots stay.
 use Rattle.std.proofs.Common.{arith, ◌∙◌, length-set}
-use Rattle.kalah_solve.specs.{IsWithinSlot, won}
-use Rattle.kalah_solve.proofs.SlotLemmas.{bounds_more}
+use Rattle.kalah_solve.{specs.{IsWithinSlot, won}, proofs.SlotLemmas.{bounds_more}}
 use Rattle.kalah_solve.proofs.table.slot_table.SlotTable.keep.Goals as goal
 
 pub invariant_of-self : goal.invariant_of-self
