@@ -90,7 +90,6 @@ packed_row-up_to (suc n) x within = elim (cases_eq x (suc n)) [
       packed_row-suc n (up_to x) ∙ rw past (omega arith)
 ]
 
--- the same by the lower of x and the number of houses
 pub ones_of_least : (x n : ℕ) → ones (min x n) ≡ packed_row (row_of n (up_to x))
 ones_of_least x n = grind (arith, packed_row-up_to, packed_row-all)
 
@@ -432,11 +431,9 @@ module _ {count number seeds : ℕ} (x : ℕ) (row : AreRowFields count number s
   sum_more : sum (houses ++ x ∷ []) ≡ seeds + x
   sum_more = omega (arith, sum_by-append)
 
-  -- it stands above the others
   number_more : packed_row (houses ++ x ∷ []) ≡ number + 32 ^ count * x
   number_more = rw (packed_row-append, length-cells) (omega arith)
 
-  -- one house more stands after the others
   pub houses_pushed : cells (count + 1) (number + 32 ^ count * x) ≡ houses ++ x ∷ []
   houses_pushed =
       let long : length (houses ++ x ∷ []) ≡ count + 1 = omega (arith, length-append houses (x ∷ []), length-cells) in

@@ -215,7 +215,6 @@ module _ {a : HousesState} {h : ℕ} (can : CanSow a h) where
           shows = rw (taken_are, alone) (record { own = left.own_is; other = left.other_is; store = omega (arith, both.1) });
         }
 
-    -- so the rows that are left show the position after the capture
     capture_shows : LeavesRows r taken count (after_capture after_sowing (Some i))
     capture_shows = elim (cases_Bool (can_capture after_sowing i)) [ inl alone ↦ rows_if_captured alone | inr kept ↦ rows_if_kept kept ]
 
@@ -443,7 +442,8 @@ abbrev pub IsStepWithin : Position → HousesStep → Type 0
 IsStepWithin p s = IsWithinLimits (position_after (with_board_stores p s))
 
 -- the step with the stores is that of the position with the stores
-with_board_stores-step_to : (p q : Position) (again : Bool) → side_length q ≡ side_length p → q.rule ≡ p.rule → q.other_store ≡ 0
+with_board_stores-step_to : (p q : Position) (again : Bool) → side_length q ≡ side_length p → q.rule ≡ p.rule
+    → q.other_store ≡ 0
     → with_board_stores p (houses_step_to q again) ≡ step_to (with_store_seeds p.own_store p.other_store q) again
 with_board_stores-step_to p q again side rule none = grind (arith, cases_Bool)
 

@@ -56,7 +56,8 @@ ways_swept zero q = ways_none _
 ways_swept (suc n) q = grind (arith, sum-zeros, ways-suc)
 
 -- the ways after a step are those after the step of the houses
-ways_step_to : (n : ℕ) (q : Position) (again : Bool) → ways n (position_after (step_to q again)) ≡ ways_from n (houses_step_to q again)
+ways_step_to : (n : ℕ) (q : Position) (again : Bool)
+    → ways n (position_after (step_to q again)) ≡ ways_from n (houses_step_to q again)
 ways_step_to n q again = grind (arith, cases_Bool, ways_swept, ways_of_houses)
 
 -- the ways after a move are those after the step of the houses

@@ -87,7 +87,6 @@ pub half_is_won : (a : HousesState) (worth : ℤ) (half : ℕ) → AreWithinLimi
     → IsHalf (worth +ℤ pos (seeds_in_houses (storeless a))) half → half ≡ won a
 half_is_won a worth half limits worth_is half_is = grind (arith, won_of_houses)
 
--- what is won by a step
 won_of_step : (a : HousesState) (s : HousesStep) → LeadsOn a s
     → IsWonOf (seeds_in_houses (storeless a)) (worth_of_step s) (won_by_step s)
 won_of_step a (Over own other) leads = omega (arith, ints)
@@ -127,7 +126,8 @@ pub in_both : (i j : Interval) {lo hi : ℤ} → lo ≡ int_max i.lo j.lo → hi
 in_both i j lo_is hi_is z = (λ within. omega (arith, ints, clamps), λ both. omega (arith, ints, clamps))
 
 -- an interval that leaves some of it open leaves the answers
-pub narrowed_answers : (lo hi z : ℤ) (k : Interval) {new_lo new_hi : ℤ} → Encloses k z → new_lo ≡ int_max lo k.lo → new_hi ≡ int_min hi k.hi
+pub narrowed_answers : (lo hi z : ℤ) (k : Interval) {new_lo new_hi : ℤ} → Encloses k z → new_lo ≡ int_max lo k.lo
+    → new_hi ≡ int_min hi k.hi
     → new_lo <ℤ new_hi → clamped new_lo new_hi z ≡ clamped lo hi z
 narrowed_answers lo hi z k holds lo_is hi_is ordered = omega (arith, ints, clamps)
 

@@ -11,7 +11,6 @@ use Rattle.kalah_solve.proofs.{HouseSetLemmas.{EachOutside, cell_of_zero, each_o
 power_of_next_place : (k : ℕ) → 2 ^ (4 * suc k) ≡ 16 * 2 ^ (4 * k)
 power_of_next_place k = let more : 4 * suc k ≡ 4 + 4 * k = omega arith in rw (more, pow-add) refl
 
--- what stands from the next place on stands so in a sixteenth
 digits_from_next_place : (n k : ℕ) → n / 2 ^ (4 * suc k) ≡ n / 16 / 2 ^ (4 * k)
 digits_from_next_place n k = simp (power_of_next_place, div-div-eq-div-mul)
 

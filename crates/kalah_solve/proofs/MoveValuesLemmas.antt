@@ -99,7 +99,8 @@ packed_le_power (suc m) (suc n) k packed few = elim (cases_eq k 0) [
 -- ==== A value in front of the others
 
 -- one value more, in front of fewer than six
-module _ {v : MoveValue} (k : ℕ) {vs : List MoveValue} (small : IsMoveValue v) (packed : ArePackedValues 6 k) (values_are : values_in 6 k ≡ vs)
+module _ {v : MoveValue} (k : ℕ) {vs : List MoveValue} (small : IsMoveValue v) (packed : ArePackedValues 6 k)
+    (values_are : values_in 6 k ≡ vs)
     (room : length vs < 6) where
   pub values_prepended : values_in 6 (digit_of v + DIGIT_BASE * k) ≡ v ∷ vs
   values_prepended =

@@ -81,7 +81,8 @@ step_is_turn {a} {b} {h} {gained} limits legal step_is =
     record { legal = legal; step = sym step_is ∙ ap (λ g. Turn g b) brought }
 
 -- a turn brings few seeds to the store
-pub gained_few : {a b : HousesState} {h gained : ℕ} → AreWithinLimits a → IsLegal a h → Turn gained b ≡ houses_step a h → gained ≤ most_seeds
+pub gained_few : {a b : HousesState} {h gained : ℕ} → AreWithinLimits a → IsLegal a h → Turn gained b ≡ houses_step a h
+    → gained ≤ most_seeds
 gained_few limits legal step_is = let leads = played_leads_on limits legal step_is in omega (arith, leads.kept)
 
 -- ==== Turns that wait

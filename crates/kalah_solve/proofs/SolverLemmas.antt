@@ -97,7 +97,8 @@ widened mine_wider theirs_wider equal (is_at_end over) = is_at_end over
 widened {p = p} mine_wider theirs_wider equal (moves_on {h = h} going chosen again rest) =
     moves_on going (mine_wider.widens equal going chosen) again (widened mine_wider theirs_wider (after_equal_sides p h) rest)
 widened {p = p} mine_wider theirs_wider equal (passes_turn {h = h} going chosen turn rest) =
-    passes_turn going (mine_wider.widens equal going chosen) turn (widened theirs_wider mine_wider (swapped_equal_sides _ (after_equal_sides p h)) rest)
+    passes_turn going (mine_wider.widens equal going chosen) turn
+    (widened theirs_wider mine_wider (swapped_equal_sides _ (after_equal_sides p h)) rest)
 
 -- ==== What players who play best secure
 
@@ -168,7 +169,8 @@ pub best_against_strategies : BestPlayAgainstStrategies
 best_against_strategies = record {
   secured = λ p equal.
       (best_house, best_is_strategy, λ theirs lawful. ends_at_least _ theirs best_is_strategy lawful p equal _ (best_secures _ equal));
-  held = λ p equal. (best_house, best_is_strategy, λ mine lawful. ends_at_most mine _ lawful best_is_strategy p equal _ (best_holds _ equal));
+  held = λ p equal.
+      (best_house, best_is_strategy, λ mine lawful. ends_at_most mine _ lawful best_is_strategy p equal _ (best_holds _ equal));
 }
 
 -- of two margins of best play neither is above the other
@@ -389,7 +391,6 @@ module _ (p : Position) {best : ℤ} {own other : ℕ} (limits : IsWithinLimits 
   pub margin_is_worth : margin_in_bits best own other ≡ worth p
   margin_is_worth = margin_is ∙ rw best_is (sym (worth_of_houses p))
 
-  -- it is one that a player can have
   pub margin_is_small : IsMarginInRange (margin_in_bits best own other)
   margin_is_small =
       let of_houses = won_of_houses (houses_within p limits) in

@@ -215,11 +215,9 @@ best_found p equal going =
     let attains = best.2 ∙ sym (worth_of_going p equal going) in
     find_passes _ (legal_houses p) _ best.1 (int_eq-same _ (worth p) attains)
 
--- the value of the best house is the worth
 pub best_attains : {p : Position} → HasEqualSides p → is_over p ≡ false → value_of_move p (best_house p) ≡ worth p
 best_attains {p} equal going = grind (arith, best_found)
 
--- no legal house gets more than the worth
 pub value_most : (p : Position) (h : ℕ) → HasEqualSides p → is_over p ≡ false → Contains (legal_houses p) h
     → value_of_move p h ≤ℤ worth p
 value_most p h equal going legal =
