@@ -81,8 +81,8 @@ fn read_file<R: Sources>(
     alloc: Global,
     name: &str,
 ) -> Result<Result<Vec<u8>, ReadFault>, AllocError>
-    ensures { IfOk result (λ read. IfOk read (λ bytes.
-        R.may_give rt.now (file_named name.now) bytes.items × (length bytes.items ≤ most_file_bytes))) }
+    ensures within { IfOk result (λ read. IfOk read (λ bytes. length bytes.items ≤ most_file_bytes)) }
+    ensures given { IfOk result (λ read. IfOk read (λ bytes. R.may_give rt.now (file_named name.now) bytes.items)) }
 {
     match rt.open(name) {
         Ok(mut file) => read_limited(alloc, &mut file, MOST_FILE_BYTES),

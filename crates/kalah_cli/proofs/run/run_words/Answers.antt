@@ -11,12 +11,13 @@ ran g c =
     let arguments = ap texts_of (sym c.as_slice-arguments.ensures.value) in
     elim c.match-parsed.branch [
       | in-Ok w ↦ rw (c.report_end.ensures, w.ended-is, w.out-is)
-          (run_of_request c.requires.not_failed (accepted_at arguments (rw w.in-Ok.is at c.parse-parsed.ensures.accepted)) w.run_request-ended.ensures)
+          (run_of_request c.requires.not_failed (accepted_at arguments (rw w.in-Ok.is at c.parse-parsed.ensures.accepted))
+          w.run_request-ended.ensures)
       | in-Err w ↦
           let refused = w.end_without_request-ended.ensures in
           rw (c.report_end.ensures, w.ended-is, w.out-is) (run_without_request w.in-Err.error
-          (rw (c.as_slice-arguments.ensures.value, w.in-Err.is) at c.parse-parsed.ensures.kinds) refused.mistake refused.failed refused.unchanged refused.no_line
-          refused.version refused.all_flushed)
+          (rw (c.as_slice-arguments.ensures.value, w.in-Err.is) at c.parse-parsed.ensures.kinds)
+          refused.mistake refused.failed refused.unchanged refused.no_line refused.version refused.all_flushed)
     ]
 
 pub returns : goal.returns

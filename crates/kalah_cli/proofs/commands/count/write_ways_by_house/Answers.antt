@@ -68,5 +68,5 @@ returns-clause-total g c sound =
 pub returns-clause-given : goal.returns-clause-given
 returns-clause-given g c =
     let positive : c.args.depth ≡ suc (c.args.depth - 1) = omega arith in
-    rw positive (given_all _ (house_line (c.args.depth - 1) c.args.board.now) c.loop-i.invariant.same c.loop-i.i _ _ c.loop-i.invariant.given
-    (omega (arith, c.loop-i-test.false, c.len-i-end.ensures)))
+    rw positive (given_all _ (house_line (c.args.depth - 1) c.args.board.now) c.loop-i.invariant.same c.loop-i.i _ _
+    c.loop-i.invariant.given (omega (arith, c.loop-i-test.false, c.len-i-end.ensures)))
