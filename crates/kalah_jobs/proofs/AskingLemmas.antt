@@ -8,8 +8,6 @@ use Rattle.kalah_jobs.proofs.{FileLinesLemmas.{IsNoFeed, lines_of-ended, lines_o
 
 -- ==== What is answered, line by line
 
--- ---- the lines of a piece
-
 -- a piece that ends is one line
 feed_ends_one_line : (piece : List ℕ) → HasNoLineFeed piece → lines_of (piece ++ line_feed ∷ []) ≡ piece ∷ []
 unfolding lines_of

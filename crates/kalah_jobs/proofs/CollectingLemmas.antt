@@ -383,8 +383,6 @@ fronts_full {jobs} {files = files} each_once holds f =
     ap is_some (holds.arrived f k e entry_is (each_arrived each_once f k e entry_is))) in
     omega (arith, all, front_within arrived)
 
--- ---- the two laws
-
 pub accepts_each_job : AcceptsEachJob
 accepts_each_job jobs past o rest files after (Ok ready) each_once run step = refl
 accepts_each_job jobs past o rest files after (Err r) each_once run step =

@@ -63,8 +63,6 @@ unfolding lines_of
 lines_of-empty [] none = refl
 lines_of-empty (byte ∷ bytes) none = absurd (omega arith)
 
--- ---- how many lines there are
-
 -- a byte that goes to the head of a line makes no new line
 length-onto_first-same : (byte : ℕ) (lines : List (List ℕ)) → 0 < length lines → length (onto_first byte lines) ≡ length lines
 length-onto_first-same byte [] some = absurd (omega arith)

@@ -22,8 +22,6 @@ entries_are_one = record { some = λ line. grind (arith, is_reading line); one =
 
 -- ==== The number of jobs before each file, and the place of a line in the list of jobs
 
--- ---- counts
-
 abbrev entry_in : Job → Entry
 entry_in job = job.entry
 

@@ -5,8 +5,6 @@ use Rattle.kalah_jobs.specs.{IsNumber, zero_digit, comma, slash, AreHouses, IsSi
 
 -- ==== What writes a number, what it is read as, and its text
 
--- ---- reading
-
 -- the bytes are a text of the number, and what follows it
 pub record WritesNumber (bytes : List ℕ) (n : ℕ) (rest : List ℕ) : Type 0 where
   pub text : List ℕ

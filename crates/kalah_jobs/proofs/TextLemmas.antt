@@ -207,8 +207,6 @@ module _ {v z : ℤ} {end len : ℕ} (old : List ℕ) {text : List ℕ} (small :
       let blanks : end + column_width - len ≡ column_width - length (signed_decimal v) = omega (arith, length_now) in
       rw (all_is, blanks, text_is, same_value) (simp append_assoc)
 
--- ---- one value more
-
 -- the column of a value before those after it
 pub column_before : (filled : ℕ) (v : MoveValue) (vs : List MoveValue) (old : List ℕ) {columns longer after : List ℕ}
     → columns ≡ value_columns (v.house + 1) vs ++ old → longer ≡ value_column v.value ++ columns

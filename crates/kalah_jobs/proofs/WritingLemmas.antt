@@ -67,8 +67,6 @@ files_are_their_jobs = record {
 abbrev counts : ℕ → ℕ → Tally
 counts lines faults = record { lines = lines; faults = faults }
 
--- ---- files
-
 pub output_splits_by_files : OutputSplitsByFiles
 unfolding output_to tally_of
 output_splits_by_files = record {

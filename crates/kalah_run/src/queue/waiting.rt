@@ -7,10 +7,9 @@
 //! that stores 1 and tries after what has come. Once that one has what it waited for, it wakes the next. All steps are in one total order
 //! (`SeqCst`).
 //!
-//! A try can also fail because another thread is in the way. If that thread has claimed a place and has not finished its step, what
-//! the waiter waits for arrives with that step, after the try. Then its thread sends the wake-up. If a worker lost a place to another
-//! worker, it may sleep though there is room. What the other worker has put will be got, and that `get` wakes one. So it sleeps until
-//! the next outcome is got at the latest, and for no longer than a full queue would make it sleep.
+//! A try can also fail because another thread is in the way. If that thread has claimed a place and has not finished its step, that
+//! step, after the try, brings what the waiter waits for, and its wake-up. If a worker lost a place to another worker, it may sleep
+//! though there is room, but no longer than beside a full queue: what the other worker has put will be got, and that `get` wakes one.
 //!
 //! `tests/wakes` reads these steps here and in `queue.rt`, with the steps of the queue below. It goes through each order in which a few
 //! threads can take them.
@@ -24,8 +23,8 @@ use std::sync::atomic::Ordering::SeqCst;
 /// isn't tried after each outcome.
 const PAUSE_SPINS: u32 = 6;
 
-/// The threads that wait for the same event, such as room in a queue. They are woken sequentially: a wake-up wakes one, and none if one
-/// is under way. A thread that was woken, and got what it waited for, wakes the next. So room for one thread doesn't wake all of them.
+/// The threads that wait for the same event, such as room in a queue. They are woken sequentially, so room for one doesn't wake all: a
+/// wake-up wakes one, and none if one is under way. A thread that was woken, and got what it waited for, wakes the next.
 #[derive(Drop)]
 pub(crate) struct Waiters {
     // 1 from the time when a thread announces that it will sleep until a wake-up is sent.

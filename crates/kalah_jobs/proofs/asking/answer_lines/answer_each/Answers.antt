@@ -1,5 +1,5 @@
 -- After each byte the lines read so far are answered. A read or a write that fails leaves the answers of whole lines, or a prefix of them.
-use Rattle.std.proofs.{Common.{◌∙◌, refl, sym, arith}, lemmas.{Grind.{common_steps}, Result.{err_from_is_err_and}}}
+use Rattle.std.proofs.{Common.{◌∙◌, refl, sym}, lemmas.Result.{err_from_is_err_and}}
 use Rattle.kalah_jobs.proofs.AskingLemmas.{begun_last, begun_line, byte_read, line_read, nothing_read, reading_done, reading_ended, write_failed}
 use Rattle.kalah_jobs.proofs.asking.answer_lines.answer_each.Goals as goal
 
@@ -74,6 +74,3 @@ returns-clause-lines g c =
     let not_failed = sym c.failed-2.ensures ∙ c.if-failed-2.false in
     reading_done _ so_far c.in_default.is next.taken (next.end c.in_default.is) next.keeps reply.given.start
     (reply.given.whole not_failed).1 reply.read not_failed (reply.all_flushed not_failed)
-
-pub loop-byte-smaller : goal.loop-byte-smaller
-loop-byte-smaller g c = grind (arith, common_steps)

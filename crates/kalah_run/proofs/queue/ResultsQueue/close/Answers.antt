@@ -1,6 +1,6 @@
 -- Each pass that is absorbed adds what its worker sent to what the getter knows of the ended. With all absorbed it knows all that was sent:
 -- what was got, and then what is left inside.
-use Rattle.std.proofs.{lemmas.{Grind.{common_steps}, List.{length-map, length_push}}, Common.{◌≡◌, ◌∷◌, ◌++◌, [], ◌∙◌, ap, append_assoc, arith, length, subst, sym}}
+use Rattle.std.proofs.{lemmas.List.{length-map, length_push}, Common.{◌≡◌, ◌∷◌, ◌++◌, [], ◌∙◌, ap, append_assoc, arith, length, subst, sym}}
 use Rattle.std.specs.Vec.Iter.{into_iter_deque, into_iter_items}
 use Rattle.crossbeam_queue.specs.Passes.{view}
 use Rattle.kalah_run.specs.{ArePassesFrom, PutPassState, sent_by, declared.queue.protocol.QueueView.TheVariants.{Getting, Putting}}
@@ -44,6 +44,3 @@ loop-put-preserved g c =
       ended = ap (◌++ sent_by rest) more ∙ append_assoc ended (put.sent ∷ []) (sent_by rest)
           ∙ ap (λ l. ended ++ sent_by l) (sym step) ∙ so_far.ended;
     }
-
-pub returns-clause-few : goal.returns-clause-few
-returns-clause-few g c = grind (arith, common_steps)

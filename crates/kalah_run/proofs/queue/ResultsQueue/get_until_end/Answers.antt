@@ -6,9 +6,3 @@ returns-in-Some-try_get-clause-got g c = grind (arith, common_steps)
 
 pub returns-then-has_ended-clause-ended : goal.returns-then-has_ended-clause-ended
 returns-then-has_ended-clause-ended g c = grind (arith, common_steps)
-
-pub returns-then-has_ended-clause-got : goal.returns-then-has_ended-clause-got
-returns-then-has_ended-clause-got g c = grind (arith, common_steps)
-
-pub returns-in-Some-try_get-clause-ended : goal.returns-in-Some-try_get-clause-ended
-returns-in-Some-try_get-clause-ended g c = grind (arith, common_steps)

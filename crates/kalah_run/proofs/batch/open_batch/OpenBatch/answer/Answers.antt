@@ -1,6 +1,6 @@
 -- The desk closes with each number drawn once, and the queue with each outcome sent got once or left inside. So the outcomes got are those
 -- of all jobs, or the rest is left after a failed write; in either case the collection says what the sink was given.
-use Rattle.std.proofs.{lemmas.Grind.{common_steps}, Common.{arith, ◌≡◌, ⊎_elim, inl, inr, length, ap, ◌∙◌}}
+use Rattle.std.proofs.Common.{◌≡◌, ⊎_elim, inl, inr, length, ap, ◌∙◌}
 use Rattle.kalah_jobs.specs.{Collecting.AnyOrder.{IsPermutationOfJobs}, Files.Jobs.{job_count}}
 use Rattle.kalah_run.specs.{DealsEachOnce, drawn_rows, GetPassState, outcomes_in, passes_of, HasDrawnNothing}
 use Rattle.kalah_run.proofs.{WorkerLemmas.{each_job_known, each_job_got}, BatchLemmas.{passes_are_back, nothing_drawn, own_back, passes_fit, puts_back, unless_left}, RowLemmas.{deals_to_others}, batch.open_batch.OpenBatch.answer.Given.{Over}}
@@ -72,6 +72,3 @@ pub returns-clause-gate_hears_all : goal.returns-clause-gate_hears_all
 returns-clause-gate_hears_all g c = λ unless job low.
     let drawn = nothing_drawn c.requires.ready.nothing_drawn (rw c.new-receiver.ensures at c.in-Some.ensures.1.draws) in
     each_job_known c.in-Some.ensures.0 c.requires.ready.some_worker (dealt g c (unless_left drawn unless)) job low
-
-pub returns-in_default-clause-untouched : goal.returns-in_default-clause-untouched
-returns-in_default-clause-untouched g c = grind (arith, common_steps)
