@@ -36,7 +36,8 @@ rows_sum f (x ∷ xs) =
 
 -- the sum over all rows, after a change of one view
 pub rows_set : (f : DrawnRow → ℕ) (views : List DeskView) (seat : ℕ) {old : DeskView} (new : DeskView)
-    → get_elem? views seat ≡ some old → sum_by f (all_rows (set views seat new)) + sum_by f (rows_in old) ≡ sum_by f (all_rows views) + sum_by f (rows_in new)
+    → get_elem? views seat ≡ some old
+    → sum_by f (all_rows (set views seat new)) + sum_by f (rows_in old) ≡ sum_by f (all_rows views) + sum_by f (rows_in new)
 rows_set f views seat new has_old =
     omega (arith, rows_sum f (set views seat new), rows_sum f views, sum_set (λ u. sum_by f (rows_in u)) views seat new has_old)
 

@@ -3,7 +3,6 @@ ghost use Rattle.kalah_solve.specs.Solver.{Laws.{WorthOfOver, WorthIsGreatestVal
 
 /// The worth of a game that is over is its final margin. That of any other position is the greatest value of a legal move. Such a
 /// position has at least one legal move.
-#[tactic(auto, using(crate::proofs::WorthLemmas::worth_count, crate::proofs::WorthLemmas::worth_of_over, crate::proofs::WorthLemmas::worth_of_going, crate::proofs::WorthLemmas::legal_some, crate::proofs::WorthLemmas::worth_is_most))]
 pub fn worth_is_greatest_value()
     ensures over { WorthOfOver }
     ensures going { WorthIsGreatestValue }

@@ -1,4 +1,4 @@
-use Rattle.std.proofs.Common.{◌++◌, ◌∙◌, ap, subst, rules}
+use Rattle.std.proofs.Common.{◌∷◌, ◌++◌, ◌∙◌, ap, subst, rules}
 use Rattle.kalah_jobs.{specs.{answer_line, line_feed, WasGiven}, proofs.TextLemmas.{line_before}}
 use Rattle.kalah_jobs.proofs.writing.answer_line.write_answer_unless_failed.Goals as goal
 
