@@ -8,7 +8,7 @@ invariant-loop l = record {
   as_many : vec_len l.passes ≡ vec_len l.puts;
   passes : l.passes.items ++ passes_of (reverse l.workers.items) ≡ l.fn.passes.items;
   puts : l.puts.items ++ puts_of (reverse l.workers.items) ≡ l.fn.puts.items;
-  tables : HaveOwnTables l.fn.entries (reverse l.workers.items);
+  tables : HaveOwnTables l.fn.table_entries (reverse l.workers.items);
   passes_room : vec_capacity l.passes ≡ vec_capacity l.fn.passes;
   puts_room : vec_capacity l.puts ≡ vec_capacity l.fn.puts;
   room : vec_len l.passes + vec_len l.workers ≤ vec_capacity l.workers;
