@@ -35,7 +35,7 @@ pub(crate) fn write_text<E: Write>(text: &str, err: &mut E) {
 /// Writes a text. On a terminal each byte of a control character but the line feed is written as a backslash and three octal digits, as
 /// `ls -b` does, so that no name can move the cursor or rename the window. What can't be written is dropped.
 pub(crate) fn write_escaped<E: Write>(text: &str, on_terminal: bool, err: &mut E) {
-    if !on_terminal {
+    if !on_terminal || !text.chars().any(is_hidden) {
         write_text(text, err);
         return;
     }
