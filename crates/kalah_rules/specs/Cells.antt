@@ -1,4 +1,4 @@
--- Rows of at most six houses in six cells, as a caller gives them, and what may be given.
+-- How rows are represented, in six cells as a caller gives them, and what may be given; no part of what is promised to players.
 use Rattle.std.specs.Prelude.{◌≡◌, ℕ, ◌+◌, ◌-◌, ◌≤◌, List, ◌++◌, length, take, drop, replicate, All, sum}
 use Rattle.std.proofs.Common.{arith, length-take-le}
 use Rattle.kalah_rules.specs.{Limits.{most_houses, most_seeds, most_in_store}, Position.{Position, HousesState, with_stores, AreWithinLimits}, declared.rule.Rule.{Rule}}

@@ -1,4 +1,4 @@
--- The fields of houses, of one row, and of rows after a move, and what they stand for.
+-- How houses, rows, and rows after a move are represented; no part of what is promised to players.
 use Rattle.std.{proofs.Common.{arith}, specs.Prelude.{◌≡◌, ℕ, ◌≤◌, ◌+◌, ◌-◌, ◌*◌, ◌/◌, ◌%◌, ◌^◌, if◌then◌else◌, nat_le, sum}}
 use Rattle.kalah_rules.specs.{Position.{Position, HousesState, seeds_in_houses, storeless, AreWithinLimits}, Sowing.{row_of}, Limits.{most_houses, most_seeds}, Key.{packed_row, cells, packed_rows, variant_of, houses_in_key}, declared.houses.play.RowNumbers.{RowNumbers}}
 

@@ -1,4 +1,4 @@
--- A distinct number for each value of houses.
+-- How houses are represented, by a distinct number for each value; no part of what is promised to players.
 use Rattle.std.specs.Prelude.{ℕ, zero, suc, ◌+◌, ◌*◌, ◌/◌, ◌%◌, ◌^◌, ◌==◌, List, [], ◌∷◌, length, if◌then◌else◌}
 use Rattle.kalah_rules.specs.{declared.rule.Rule.{Rule, TheVariants.{Classic, EmptyCapture}}, Position.{HousesState}, Cells.{CanBeHouses, houses_from}}
 

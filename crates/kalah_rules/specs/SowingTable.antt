@@ -1,4 +1,4 @@
--- A sowing as one subtraction from both rows.
+-- How a sowing is represented, as one subtraction from both rows; no part of what is promised to players.
 use Rattle.std.specs.Prelude.{◌≡◌, ℕ, ◌+◌, ◌-◌, ◌*◌, ◌%◌, ◌^◌, ◌==◌, ◌<◌, ◌≤◌, List, slice_index_or}
 use Rattle.kalah_rules.specs.{Key.{packed_row}, Sowing.{lap_length, row_of, gain, own_distance, store_distance, other_distance}, declared.houses.sowing_table.Sowing.{Sowing}}
 

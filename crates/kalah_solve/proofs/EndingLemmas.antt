@@ -64,7 +64,7 @@ abbrev binomials : ℕ → List ℕ
 binomials zero = 1 ∷ 0 ∷ 0 ∷ 0 ∷ 0 ∷ 0 ∷ 0 ∷ 0 ∷ 0 ∷ 0 ∷ 0 ∷ 0 ∷ 0 ∷ []
 binomials (suc n) = next_binomials 0 (binomials n)
 
--- there are equally many of the next number
+-- the next row is as long as this one
 length-next_binomials : (before : ℕ) (ws : List ℕ) → length (next_binomials before ws) ≡ length ws
 length-next_binomials before [] = refl
 length-next_binomials before (w ∷ ws) = ap suc (length-next_binomials w ws)
@@ -73,7 +73,7 @@ length-binomials : (n : ℕ) → length (binomials n) ≡ 13
 length-binomials zero = refl
 length-binomials (suc n) = length-next_binomials 0 _ ∙ length-binomials n
 
--- each is a sum of two of this number
+-- each number of the next row after the first is a sum of two neighbours in this one
 next_binomials-suc : (before : ℕ) (ws : List ℕ) (k : ℕ) → suc k < length ws
     → get_or (next_binomials before ws) (suc k) 0 ≡ get_or ws k 0 + get_or ws (suc k) 0
 next_binomials-suc before [] k inside = refl
@@ -84,7 +84,7 @@ next_binomials-suc before (w ∷ v ∷ ws) (suc k) inside = next_binomials-suc w
 binomials-none : (k : ℕ) → get_or (binomials zero) (suc k) 0 ≡ 0
 binomials-none k = grind arith
 
--- the first is the one before it and the first of this number
+-- the first number of the next row is `before` and the first of this one
 next_binomials-zero : (before : ℕ) (ws : List ℕ) → 1 ≤ length ws → get_or (next_binomials before ws) 0 0 ≡ before + get_or ws 0 0
 next_binomials-zero before [] some = omega arith
 next_binomials-zero before (w ∷ ws) some = refl

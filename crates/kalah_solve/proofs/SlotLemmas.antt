@@ -39,7 +39,7 @@ houses_by_slot_and_tag : (s : ℕ) (a b : HousesState) → s ≤ 54 → AreWithi
     → a ≡ b
 houses_by_slot_and_tag s a b enough limits_a limits_b rest place = grind (arith, key-injective, mixed-injective, key_fits, slot_and_tag-injective)
 
--- the greatest power of two of at least 1,024 has ten digits below its one
+-- a power of two that is more than half of a number of at least 1,024 is at least 2^10
 pub ten_bits : (bits n : ℕ) → 1024 ≤ n → n < 2 * 2 ^ bits → 10 ≤ bits
 ten_bits bits n some next = elim (cases_lt bits 10) [
   | inl few ↦ absurd (omega (arith, pow_mono {i = bits} {j = 9} (omega (arith, few))))

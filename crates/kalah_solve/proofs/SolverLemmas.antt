@@ -237,7 +237,7 @@ best_house_lowest : (p : Position) (h : ℕ) → is_over p ≡ false → IsBestM
 best_house_lowest p h going best = best_lowest _ _ going best.legal (attains_if_best _ _ best)
 
 pub best_moves_attain : BestMovesAttain
-best_moves_attain p h equal going = (λ best. (best.legal, attains_if_best _ _ best), λ legal. attaining_is_best _ _ equal legal.0 legal.1)
+best_moves_attain p h equal = (λ best. (best.legal, attains_if_best _ _ best), λ legal. attaining_is_best _ _ equal legal.0 legal.1)
 
 -- ==== The verdict states best play, and no other does
 
@@ -281,10 +281,10 @@ best_verdict_is_one p v w equal one other = grind (arith, stated_is_verdict)
 -- ==== What a move secures, and that the values of the moves determine the verdict
 
 pub value_is_worth : ValueIsWorthOfMove
-value_is_worth p h equal going is_legal = move_worth p h
+value_is_worth = move_worth
 
 pub worth_of_move_is_one : WorthOfMoveIsOne
-worth_of_move_is_one p h v w equal going a b = move_worth_is_one a b
+worth_of_move_is_one p h v w a b = move_worth_is_one a b
 
 -- ---- the values of all moves
 

@@ -3,24 +3,11 @@ use Rattle.kalah_rules.specs.declared.step.Step.TheVariants as board
 use Rattle.std.proofs.{Common.{zero, suc, ◌≡◌, ℕ, ◌+◌, ◌<◌, ◌≤◌, inl, inr, List, [], ◌∷◌, length, get_or, arith, sym, ◌∙◌, refl, ap, IsTrue, ◌-◌, Bool, true, false, Contains, map, filter, find, unwrap_or, ℤ, if◌then◌else◌, pos, ◌≤ℤ◌, ◌<ℤ◌, sum, neg_ℤ, ◌+ℤ◌, ◌-ℤ◌, fold, int_eq}, lemmas.{Bool.{cases_Bool, cases_lt, cond_both, Decides.{Decides-int_eq}}, Int.{fold-int_max_reached, ints, fold-int_max_bounds}, List.{length-map, get_or-map, get_or_default, Elements.{All-contains, All-filter, Contains-get_or, All-from_get_or}, Sums.{sum_by-le}}}}
 use Rattle.std.specs.{List.{range_with_len}, Int.{int_max}}
 use Rattle.lru.proofs.Splits.{Contains-head, Contains-tail, Contains-cons}
-use Rattle.kalah_solve.specs.{greatest, worth, best_house, value_by, worth_within, value_of_move, houses_worth, CountPlaysNoPart, WorthIsMostOfMoves, GoesOn, GoesOnAt}
-use Rattle.kalah_rules.specs.{Position.{Position, IsWithinLimits, is_over, final_margin, HasEqualSides, seeds_in_houses, swapped, swept, houses_in, storeless, HousesState, AreWithinLimits}, Sowing.{after, moves_again}, Play.{legal_houses, step_of}, Measure.{moves_left}, HousesStep.{houses_step_to, houses_step}, declared.step.{HousesStep.{HousesStep, TheVariants.{Over, Again, Turn}}, Step.{Step}}, Key.{variant_of, rule_bit}}
+use Rattle.kalah_solve.specs.{greatest, worth, best_house, value_by, worth_within, value_of_move, houses_worth, CountPlaysNoPart, WorthIsMostOfMoves, GoesOn}
+use Rattle.kalah_rules.specs.{Position.{Position, IsWithinLimits, is_over, final_margin, HasEqualSides, seeds_in_houses, swapped, swept, houses_in, storeless, HousesState, AreWithinLimits}, Sowing.{after, moves_again}, Play.{legal_houses, step_of}, Measure.{moves_left}, HousesStep.{houses_step_to, houses_step}, declared.step.{HousesStep.{HousesStep, TheVariants.{Over, Again, Turn}}}, Key.{variant_of, rule_bit}}
 use Rattle.kalah_rules.proofs.{PlayLemmas.{IsLegal, all_range, legal_holds, holds_legal, sum-zeros, after_equal_sides, after_fewer, moves_left-swapped, with_store_seeds, after-store_seeds, storeless-store_seeds}, PackedLemmas.{after_keeps, is_over-swapped, after_within, swapped_within}}
 
 -- ==== What a search in a list finds
-
--- the greatest value is the value of a house
-pub greatest_reached : (f : ℕ → ℤ) (xs : List ℕ) → 0 < length xs → (k : ℕ) × Contains xs k × (f k ≡ greatest (map f xs))
-greatest_reached f [] some = absurd (omega arith)
-greatest_reached f (x ∷ xs) some = elim (fold-int_max_reached (f x) (map f xs) _ refl) [
-  | inl start ↦ (x, Contains-head x xs, sym start)
-  | inr later ↦
-      let within : later.0 < length xs = omega (arith, length-map xs f) in (
-        get_or xs _ 0,
-        Contains-tail x xs _ (Contains-get_or xs _ 0 within),
-        sym (get_or-map f xs _ 0 _ within) ∙ later.2,
-      )
-]
 
 -- what a search finds is in the list, and passes
 find_passes : (t : ℕ → Bool) (xs : List ℕ) (k : ℕ) → Contains xs k → t k ≡ true
@@ -60,6 +47,19 @@ find_lowest t g a (suc n) h member passes = elim (cases_Bool (g a)) [
 ]
 
 -- ==== The greatest of some values, and the test whether two numbers are equal
+
+-- the greatest value is the value of a house
+pub greatest_reached : (f : ℕ → ℤ) (xs : List ℕ) → 0 < length xs → (k : ℕ) × Contains xs k × (f k ≡ greatest (map f xs))
+greatest_reached f [] some = absurd (omega arith)
+greatest_reached f (x ∷ xs) some = elim (fold-int_max_reached (f x) (map f xs) _ refl) [
+  | inl start ↦ (x, Contains-head x xs, sym start)
+  | inr later ↦
+      let within : later.0 < length xs = omega (arith, length-map xs f) in (
+        get_or xs _ 0,
+        Contains-tail x xs _ (Contains-get_or xs _ 0 within),
+        sym (get_or-map f xs _ 0 _ within) ∙ later.2,
+      )
+]
 
 -- no value is above the greatest
 greatest_is_most : (f : ℕ → ℤ) (xs : List ℕ) (k : ℕ) → k < length xs → f (get_or xs k 0) ≤ℤ greatest (map f xs)
@@ -147,6 +147,8 @@ worth_of_going p equal going =
     worth_same (moves_left p) (suc (moves_left p)) p equal (omega arith) (omega arith) ∙ worth_within-going _ _ going
     ∙ ap greatest (values_same (worth_within (moves_left p)) worth p equal (λ q even fewer. worth_same _ _ q even (omega arith) (omega arith)))
 
+-- ==== What steps are worth, and how many moves are left after them
+
 final_margin-swept : (q : Position) → final_margin (swept q) ≡ final_margin q
 final_margin-swept q = omega (arith, ints)
 
@@ -178,6 +180,8 @@ turn_fewer p h e equal legal step_is =
     let fewer = after_fewer p h (legal_holds _ _ legal) equal in
     let swapped_fewer = moves_left-swapped (after p h) (after_equal_sides p h) in
     grind arith
+
+-- ==== A game that goes on has a legal move
 
 -- without a legal house the own row of a game that goes on would be empty
 row_empty : (p : Position) → is_over p ≡ false → length (legal_houses p) ≤ 0 → sum p.own ≡ 0

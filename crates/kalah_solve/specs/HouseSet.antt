@@ -1,4 +1,4 @@
--- Sets of houses as masks.
+-- How sets of houses are represented, as masks; no part of what is promised to players.
 use Rattle.std.specs.Prelude.{◌≡◌, ◌↔◌, ℕ, zero, suc, ◌+◌, ◌-◌, ◌/◌, ◌%◌, ◌^◌, ◌≤◌, ◌<◌, min}
 use Rattle.kalah_rules.specs.{Sowing.{row_of, store_distance}, Key.{packed_row}}
 

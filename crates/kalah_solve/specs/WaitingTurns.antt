@@ -1,4 +1,4 @@
--- Turns that wait to be searched.
+-- How turns that wait to be searched are represented; no part of what is promised to players.
 use Rattle.std.specs.Prelude.{◌≡◌, ℕ, ◌%◌, ◌<◌, List, length, slice_index, slice_index_or, slice_set}
 use Rattle.kalah_rules.specs.Position.{HousesState}
 

@@ -70,7 +70,7 @@ impl HouseSet {
 
     /// Returns the mover's houses whose last seed would fall into the store without a lap.
     #[tactic(auto, using(crate::proofs::HouseSetLemmas::in_mask_into_store))]
-    pub(crate) fn into_store(houses: &Houses) -> HouseSet
+    pub(crate) fn ending_in_store(houses: &Houses) -> HouseSet
         ensures members { (i : ℕ) → (0 < cell result i) ↔ ((i < length houses.now.own) × EndsInStore houses.now (i + 1)) }
         ensures limits { AreWithinLimits houses.now }
     {

@@ -284,7 +284,7 @@ impl<A: Allocator + Clone> Search<A> {
         ensures upper { result < beta → (h : ℕ) → Contains (legal_houses (storeless houses.now)) h → EndsInStore houses.now h →
             WinsAtMost houses.now result h }
     {
-        let mut untried = HouseSet::into_store(houses);
+        let mut untried = HouseSet::ending_in_store(houses);
         let mut most = 0u8;
         while let Some(house) = untried.pop_last() {
             let bound = self.bound_step::<VARIANT>(houses.play_into_store(house), beta);

@@ -20,36 +20,31 @@ type Move = (
     u8,
     [u8; 3],
     [u8; 3],
-    &'static str,
+    fn(Board) -> Step,
 );
 
 // Positions of each kind of move.
 #[rattlefmt::skip]
 const MOVES: [Move; 7] = [
-    (2, Classic, [1, 1, 0], [1, 1, 0], 1, [1, 1, 0], [0, 2, 0], "turn"),
-    (2, Classic, [1, 1, 0], [1, 1, 0], 2, [1, 0, 1], [1, 1, 0], "again"),
+    (2, Classic, [1, 1, 0], [1, 1, 0], 1, [1, 1, 0], [0, 2, 0], Step::Turn),
+    (2, Classic, [1, 1, 0], [1, 1, 0], 2, [1, 0, 1], [1, 1, 0], Step::Again),
     // A lap ends in the lifted house and captures, by either rule.
-    (1, Classic, [3, 0, 0], [3, 0, 0], 1, [0, 0, 6], [0, 0, 0], "over"),
-    (1, EmptyCapture, [3, 0, 0], [3, 0, 0], 1, [0, 0, 6], [0, 0, 0], "over"),
+    (1, Classic, [3, 0, 0], [3, 0, 0], 1, [0, 0, 6], [0, 0, 0], Step::Over),
+    (1, EmptyCapture, [3, 0, 0], [3, 0, 0], 1, [0, 0, 6], [0, 0, 0], Step::Over),
     // Many laps.
-    (1, Classic, [8, 0, 0], [8, 0, 0], 1, [11, 0, 0], [2, 0, 3], "turn"),
+    (1, Classic, [8, 0, 0], [8, 0, 0], 1, [11, 0, 0], [2, 0, 3], Step::Turn),
     // An empty house across is captured by one rule alone.
-    (2, Classic, [1, 0, 0], [0, 2, 0], 1, [0, 2, 0], [0, 1, 0], "turn"),
-    (2, EmptyCapture, [1, 0, 0], [0, 2, 0], 1, [0, 0, 1], [0, 0, 2], "over"),
+    (2, Classic, [1, 0, 0], [0, 2, 0], 1, [0, 2, 0], [0, 1, 0], Step::Turn),
+    (2, EmptyCapture, [1, 0, 0], [0, 2, 0], 1, [0, 0, 1], [0, 0, 2], Step::Over),
 ];
 
 #[test]
 fn moves_lead_to_positions(rt: HostRuntime) {
-    for (m, rule, own, other, h, next_own, next_other, word) in MOVES {
+    for (m, rule, own, other, h, next_own, next_other, step) in MOVES {
         let start = board(&rt, m, own, other, rule);
         let next = board(&rt, m, next_own, next_other, rule);
         assert!(rt; start.is_legal(h), "{start:?} {h}");
-        let step = match word {
-            "over" => Step::Over(next),
-            "again" => Step::Again(next),
-            _ => Step::Turn(next),
-        };
-        assert!(rt; start.apply(h) == step, "{start:?} {h}");
+        assert!(rt; start.apply(h) == step(next), "{start:?} {h}");
     }
 }
 

@@ -97,7 +97,7 @@ pub record BestPlayAgainstStrategies : Type 0 where
 
 -- the best moves are the legal houses whose value is the worth
 abbrev pub BestMovesAttain : Type 0
-BestMovesAttain = (p : Position) (h : ℕ) → HasEqualSides p → is_over p ≡ false →
+BestMovesAttain = (p : Position) (h : ℕ) → HasEqualSides p →
     IsBestMove p h (worth p) ↔ (Contains (legal_houses p) h × (value_of_move p h ≡ worth p))
 
 -- only one verdict states best play

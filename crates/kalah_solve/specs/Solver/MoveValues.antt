@@ -1,5 +1,5 @@
 -- What each move of a position is worth, in its numbers and by the strategies of best play.
-use Rattle.std.specs.{Prelude.{◌≡◌, ℕ, zero, suc, ◌+◌, ◌-◌, ◌*◌, ◌/◌, ◌%◌, ◌==◌, ◌≤◌, if◌then◌else◌, false, List, [], ◌∷◌, All, Contains, map, find, option_map, unwrap_or, ℤ, pos, ◌+ℤ◌, ◌-ℤ◌}, Ordering.{int_eq}}
+use Rattle.std.specs.{Prelude.{◌≡◌, ℕ, zero, suc, ◌+◌, ◌-◌, ◌*◌, ◌/◌, ◌%◌, ◌==◌, ◌≤◌, if◌then◌else◌, false, List, [], ◌∷◌, All, map, find, option_map, unwrap_or, ℤ, pos, ◌+ℤ◌, ◌-ℤ◌}, Ordering.{int_eq}}
 use Rattle.kalah_rules.specs.{Limits.{most_houses, most_in_play}, Position.{Position, HasEqualSides, IsMarginInRange, is_over}, Play.{legal_houses}}
 use Rattle.kalah_solve.specs.{Bounds.Won.{nat_or_zero}, Solver.{Worth.{greatest, value_of_move}, BestPlay.{IsWorthOfMove}, Verdict.{verdict_of}}, declared.solver.{move_values.{MoveValue.{MoveValue}, TheConstants.{VALUE_COUNT, DIGIT_BASE}}, Verdict.{Verdict, TheVariants.{Best}}}}
 
@@ -56,13 +56,11 @@ ArePackedValues n k = packed_values (values_in n k) ≡ k
 
 -- the value of a move is what it gets in best play
 abbrev pub ValueIsWorthOfMove : Type 0
-ValueIsWorthOfMove = (p : Position) (h : ℕ) → HasEqualSides p → is_over p ≡ false → Contains (legal_houses p) h →
-    IsWorthOfMove p h (value_of_move p h)
+ValueIsWorthOfMove = (p : Position) (h : ℕ) → IsWorthOfMove p h (value_of_move p h)
 
 -- no other number is the value of a move
 abbrev pub WorthOfMoveIsOne : Type 0
-WorthOfMoveIsOne = (p : Position) (h : ℕ) (v w : ℤ) → HasEqualSides p → is_over p ≡ false → IsWorthOfMove p h v
-    → IsWorthOfMove p h w → v ≡ w
+WorthOfMoveIsOne = (p : Position) (h : ℕ) (v w : ℤ) → IsWorthOfMove p h v → IsWorthOfMove p h w → v ≡ w
 
 -- the greatest value and the first house that has it are the verdict
 abbrev pub ValuesTellVerdict : Type 0

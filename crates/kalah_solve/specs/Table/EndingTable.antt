@@ -1,4 +1,4 @@
--- What the words of endings store.
+-- How endings are represented, in words; no part of what is promised to players.
 use Rattle.std.specs.Prelude.{◌≡◌, ℕ, ◌+◌, ◌*◌, ◌/◌, ◌%◌, ◌^◌, ◌<◌, ◌≤◌, ◌≢◌, suc, List, length, slice_index}
 use Rattle.kalah_rules.specs.{Position.{HousesState, storeless, seeds_in_houses, AreWithinLimits}, Key.{rule_bit}}
 use Rattle.kalah_solve.specs.{Table.RowRank.{choose, rank_of_houses}, declared.table.ending_table.{TheConstants.{MOST_ENDING_SEEDS, COUNTS, CELLS_OF_PAIR}, words.TheConstants.{FIRST_WORDS, RULE_WORDS}}, Bounds.Won.{won}}

@@ -1,4 +1,4 @@
--- What a table of intervals stores.
+-- How a table of intervals is represented, and what it stores; no part of what is promised to players.
 use Rattle.std.specs.Prelude.{◌≡◌, ℕ, List, [], Contains}
 use Rattle.kalah_rules.specs.{Position.{HousesState, AreWithinLimits}, Key.{key_of}}
 use Rattle.kalah_solve.specs.{Solver.Worth.{houses_worth}, Bounds.Intervals.{Encloses}, declared.{bounds.interval.Interval.{Interval}, table.TheConstants.{MOST_ENTRIES}}}

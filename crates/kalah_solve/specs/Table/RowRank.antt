@@ -1,4 +1,4 @@
--- A number for each row of cells with few seeds, so that a short list has room for all such rows.
+-- How a row with few seeds is represented, by a low number, so that a short list has room; no part of what is promised to players.
 use Rattle.std.specs.Prelude.{ℕ, zero, suc, ◌+◌, ◌*◌, List, [], ◌∷◌, ◌++◌, length, sum}
 use Rattle.kalah_rules.specs.Position.{HousesState}
 

@@ -1,4 +1,4 @@
--- What the slots of houses state.
+-- How bounds of houses are represented, in slots; no part of what is promised to players.
 use Rattle.std.specs.Prelude.{◌≡◌, ◌⊎◌, ℕ, ◌-◌, ◌*◌, ◌/◌, ◌%◌, ◌^◌, ◌<◌, ◌≤◌, max, min, List, length, slice_index_or}
 use Rattle.kalah_rules.specs.{Position.{HousesState, AreWithinLimits}, Key.{key_of}}
 use Rattle.kalah_solve.specs.{Bounds.Won.{won}, Table.Entries.{most_entries}, declared.table.{TheConstants.{FIRST_SLOTS}, slot_table.{TheConstants.{LEAST_SLOTS, MIX}, Slot.{Slot}}}}

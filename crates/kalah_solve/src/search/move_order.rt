@@ -13,8 +13,8 @@ const WEIGHT_CELLS: usize = 6 * 1024;
 /// What orders the turns: the weights of the houses, two neighbours at a time.
 #[derive(Drop)]
 pub(crate) struct MoveOrder {
-    // What two neighbouring houses count together, for each of the six pairs and each number of seeds of either. No pair counts more
-    // than 255.
+    // What two neighbouring houses count together, for each of the six pairs and each number of seeds of either, modulo 16. No pair
+    // counts more than 255.
     weights: [u8; WEIGHT_CELLS],
 }
 
@@ -59,8 +59,8 @@ impl MoveOrder {
         ensures some { 0 < result }
         ensures house { result % 8 + 1 ≡ house }
     {
-        let estimate = GAIN_WEIGHT * gained as u32 + self.weight(m, next);
-        (8 * estimate + place_priority(m, house) as u32) as u16
+        let without_place = GAIN_WEIGHT * gained as u32 + self.weight(m, next);
+        (8 * without_place + place_priority(m, house) as u32) as u16
     }
 }
 

@@ -24,8 +24,8 @@ const COUNTS: usize = MOST_ENDING_SEEDS as usize + 1;
 // The cells of the choices: for each house of both players, one for each number of seeds.
 const CHOICES: usize = 12 * COUNTS;
 
-// The cells of the pairs for one number of pairs past them: one for each number of seeds from the second house on, and from the first
-// on, which has the five bits of a sum.
+// The cells of the pairs for one number of pairs past them, indexed by the sum from the second house on and the sum from the first on. The
+// latter has 32 cells, for its five bits.
 const CELLS_OF_PAIR: usize = COUNTS * 32;
 
 // The cells of the pairs of six houses a side.
@@ -91,11 +91,11 @@ fn pair_cell(choices: &[u32; CHOICES], i: usize) -> u32
 {
     let first = i % 32;
     let second = i / 32 % COUNTS;
-    let past = i / CELLS_OF_PAIR * 2;
+    let cells_past = i / CELLS_OF_PAIR * 2;
     if first >= COUNTS {
         return 0;
     }
-    choices[COUNTS * (past + 1) + first] + choices[COUNTS * past + second]
+    choices[COUNTS * (cells_past + 1) + first] + choices[COUNTS * cells_past + second]
 }
 
 // Returns the table of pairs.

@@ -3,7 +3,7 @@ ghost use Rattle.std.specs.Prelude.{◌≡◌, ◌<◌, ◌+◌, ◌*◌, ◌^�
 ghost use Rattle.kalah_rules.specs.Position.{AreWithinLimits};
 ghost use Rattle.kalah_solve.specs.{Table.{RowRank.{rank_of_houses}, EndingTable.{IsEnding, stored_at, word_index}}, declared.table.ending_table.words.TheConstants.{WORDS}};
 
-use atomic_table::{Play, Table, TableRule};
+use atomic_table::{Play, Table as WordTable, TableRule};
 use kalah_rules::{Houses, Rule};
 use std::alloc::{AllocError, Allocator};
 
@@ -19,7 +19,7 @@ const RULE_WORDS: u32 = 26_027;
 pub(super) const WORDS: usize = 2 * RULE_WORDS as usize;
 
 /// The words, which threads share. What a word states is true of the endings that have this word, whichever thread wrote it.
-pub(super) type EndingWords<A> = Table<(), (), (), TrueWords, A>;
+pub(super) type EndingWords<A> = WordTable<(), (), (), TrueWords, A>;
 
 /// The rule of the words between any two steps: what each states is true.
 pub(super) struct TrueWords;
@@ -92,5 +92,5 @@ pub(super) fn empty_words<A: Allocator + Clone>(
     ensures { IfOk result (λ words. words.shared.table_id.words ≡ count) }
 {
     let empty = Vec::from_elem(alloc.clone()?, 0u64, count)?;
-    Ok(Table::of_words(alloc, &empty, &())?.0)
+    Ok(WordTable::of_words(alloc, &empty, &())?.0)
 }

@@ -1,6 +1,6 @@
 -- Each move that was tried wins at most `most` seeds, so best play wins no more once none is left; a move that is enough wins no more than
 -- best play.
-use Rattle.std.proofs.Common.{ℕ, arith, rules, sym, subst, lit≤, ◌+◌}
+use Rattle.std.proofs.Common.{ℕ, arith, rules, sym, subst, lit≤}
 use Rattle.kalah_rules.specs.{Sowing.{EndsInStore}, HousesStep.{houses_step}}
 use Rattle.kalah_solve.{specs.{GoesOn, IsSoftBound, won_by_step}, proofs.search.Search.+bound.Given.{Over}}
 use Rattle.kalah_solve.proofs.{HouseSetLemmas.{without_last_less, last_is_legal, each_at_last}, SearchLemmas.{lower_measure, enough_is_won, soft_if_enough, turn_enough, reply_left, step_is_turn, taken_is_turn, taken_falls, reply_fits, bound_le_max, bound_of_rest, played_at_start, played_and_waits, played_and_bounded, played_enough, all_played, gained_few, tried_at_start, tried_without_last, all_tried, untried_at_start, untried_fewer, none_untried}, WorthLemmas.{goes_on, step_falls}, BoundsLemmas.{won_of_houses}}
@@ -68,7 +68,7 @@ bound_by_moves-returns g t c =
 -- ==== bound_into_store: moves that end in the store without a lap
 pub bound_into_store-loop-house-init : goal.bound_into_store-loop-house-init
 bound_into_store-loop-house-init g t c =
-    let set = c.into_store-untried.ensures in
+    let set = c.ending_in_store-untried.ensures in
     tried_at_start set.limits c.requires.going set.members
 
 pub bound_into_store-play_into_store-requires : goal.bound_into_store-play_into_store-requires
@@ -79,7 +79,7 @@ bound_into_store-play_into_store-requires g t c = record {
 
 pub bound_into_store-bound_step-bound-requires : goal.bound_into_store-bound_step-bound-requires
 bound_into_store-bound_step-bound-requires g t c κs within =
-    let limits = c.into_store-untried.ensures.limits in
+    let limits = c.ending_in_store-untried.ensures.limits in
     let legal = last_is_legal c.loop-house.invariant.movable c.in-Some.ensures.0 in
     let step = c.play_into_store.ensures in (
       lower_measure 8 3 c.decreases (step_falls limits legal step) (lit≤ tt),
@@ -89,7 +89,7 @@ bound_into_store-bound_step-bound-requires g t c κs within =
 pub bound_into_store-returns-then-beta-bound-clause-lower : goal.bound_into_store-returns-then-beta-bound-clause-lower
 bound_into_store-returns-then-beta-bound-clause-lower g t c =
     let legal = last_is_legal c.loop-house.invariant.movable c.in-Some.ensures.0 in
-    enough_is_won c.into_store-untried.ensures.limits legal (rw c.play_into_store.ensures at c.bound_step-bound.ensures)
+    enough_is_won c.ending_in_store-untried.ensures.limits legal (rw c.play_into_store.ensures at c.bound_step-bound.ensures)
 
 pub bound_into_store-loop-house-preserved : goal.bound_into_store-loop-house-preserved
 bound_into_store-loop-house-preserved g t c =

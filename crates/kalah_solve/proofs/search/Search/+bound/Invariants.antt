@@ -4,8 +4,8 @@ use Rattle.std.proofs.Common.{◌+◌, ◌*◌, sum}
 use Rattle.kalah_solve.proofs.{WorthLemmas.{moves_after}, SearchLemmas.{AreTriedIntoStore, ArePlayed, AreUntried}}
 use Rattle.kalah_solve.proofs.search.Search.+bound.Given as goal
 
--- Each function calls only those of a lower number: on the same houses a step (8) calls a turn (7), that calls `bound` (6), and so on down to
--- the functions that play the moves (3). These call the step of houses with fewer moves left, and 9 for each is more than 8.
+-- On the same houses each function calls only those of a lower number: a step (8) calls a turn (7), which calls `bound` (6), and so on. The
+-- functions that play moves (3, 4) call higher ones for houses with fewer moves left, and 9 for each move is more than 8.
 abbrev pub decreases-bound : goal.decreases-bound
 decreases-bound g l = 9 * moves_left (storeless l.houses) + 6
 
