@@ -22,7 +22,7 @@ printed_flushed state given flushed all_flushed =
     record { given = given_then_flush state given flushed; all_flushed = all_flushed }
 
 module _ {O : Type 0} (state : O → SinkState) {status : ExitStatus} where
-  -- nothing was written
+  -- a run that wrote nothing
   pub ends_unchanged : {out : O} → (state out).has_failed ≡ false → FailsOrFlushes state out out status
   ends_unchanged sound = record {
     failed = λ failed. absurd (both_ways _ sound failed);
@@ -30,7 +30,7 @@ module _ {O : Type 0} (state : O → SinkState) {status : ExitStatus} where
     all_flushed = λ _ flushed. flushed;
   }
 
-  -- nor was any text, if it failed
+  -- a run that failed and wrote nothing printed a prefix of any text
   prints_nothing : {out : O} {text : List ℕ} → status ≡ Failed → PrintsByStatus state out out status text
   prints_nothing {out} {text} failed =
       record { start = prefix_none (state out).written text; whole = λ not_failed. absurd (not_failed failed) }

@@ -49,7 +49,7 @@ pub ruleset fronts = (front_within, front_arrived, front_more, front_set)
 
 -- ---- one file is changed
 
--- what holds of the changed file, and of each other as it was, holds of each
+-- what holds of the changed file and of each other file, which stays as it was, holds of each file
 each_file : (files : List ArrivalsState) (f : ℕ) (s : ArrivalsState) → f < length files → (P : ℕ → ArrivalsState → Type 0)
     → P f s → ((g : ℕ) → g ≢ f → P g (state_of files g)) → (g : ℕ) → P g (state_of (set files f s) g)
 each_file files f s low P here others g = elim (cases_eq g f) [
@@ -57,7 +57,7 @@ each_file files f s low P here others g = elim (cases_eq g f) [
   | inr other ↦ rw (get_or-set_other files f g s no_file other) (others g other)
 ]
 
--- after an answer for one line, what holds of that line, and of each other as it was, holds of each
+-- after an answer for one line, what holds of that line and of each other line, which stays as it was, holds of each line
 each_line : (files : List ArrivalsState) (o : Job) (a : Answer) → o.file < length files → o.line < line_count (state_of files o.file)
     → (P : ℕ → ℕ → Option Answer → Type 0) → P o.file o.line (Some a)
     → ((f k : ℕ) → ((f ≡ o.file) × (k ≡ o.line) → ⊥) → P f k (arrived_for (state_of files f) k)) → (f k : ℕ)
@@ -351,7 +351,7 @@ each_arrived {jobs} {got} each_once f k e entry_is =
 -- an offer among the jobs that was not offered before
 module _ {jobs : List (List Entry)} {past : List Job} {files : List ArrivalsState} (o : Job) (rest : List Job)
     (each_once : IsPermutationOfJobs jobs (past ++ o ∷ rest)) (holds : HoldsOffered jobs past files) where
-  -- it is refused for nothing
+  -- this offer is not refused, for any cause
   not_refused : (r : Refusal) → IsRefusedFor jobs files o r → ⊥
   not_refused r refused =
       let once : times_offered o past + times_offered o rest + 1 ≡ hits o.entry (entry_at jobs o.file o.line) =

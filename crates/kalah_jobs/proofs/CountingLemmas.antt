@@ -6,7 +6,7 @@ use Rattle.kalah_jobs.specs.{job, GetsEachJobOnce, times_in, sent_by_worker, Are
 use Rattle.kalah_jobs.proofs.ListLemmas.{count_by-cons, count_map, count_flat}
 
 -- ==== What is got of jobs that were shared out: each job's result, once
--- Both are counted by classes (`by_class`): results by workers, who each sent those of their row, and the numbers of rows one by one.
+-- Elements are counted by classes (`by_class`): results by the worker that sent them, and the numbers of rows by their value.
 
 -- how many of the elements of a class pass a test
 abbrev in_class : {T : Type 0} → (T → ℕ) → (T → Bool) → ℕ → List T → ℕ

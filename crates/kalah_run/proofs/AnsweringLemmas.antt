@@ -32,17 +32,10 @@ counted_tally question files = λ i. record {
   faults = sym (files_are_their_jobs.faults question files) i;
 }
 
--- ==== The result of a batch whose files have no line follows from that of a batch of any files
+-- ==== What a batch promises
 
--- if nothing was added, all was kept
-appends_none : (old new : Option (List ℕ)) (bytes : List ℕ) → bytes ≡ [] → Appends old new bytes → Keeps old new
-appends_none None new bytes none appends = tt
-appends_none (Some xs) None bytes none appends = absurd appends
-appends_none (Some xs) (Some ys) bytes none appends = appends ∙ (ap (xs ++◌) none ∙ append-nil xs)
-
--- what a batch promises
 module _ {W : Type 0} (state : W → SinkState) (question : Question) (files : List NamedBytes) (old : W) where
-  -- if the sink was given the answers to all lines, and either all is flushed or a write failed
+  -- a batch keeps its promise if the sink was given the answers to all lines, and either all is flushed or a write failed
   pub answered : {jobs : List (List Entry)} → MakesJobs question files (Ok jobs) → (new : W) (result : Result Tally RunFault)
       → WasGiven state old new (output_to question files) → IfOk result (λ tally. tally ≡ counts_of jobs)
       → OnOk result (((state new).has_failed ≡ false) × ((state new).is_flushed ≡ true))
@@ -56,6 +49,14 @@ module _ {W : Type 0} (state : W → SinkState) (question : Question) (files : L
     counted = counted ∙ ap counts_of made.1 ∙ counted_tally question files;
   }
   answered made new (Err e) given counted sound fault = rw fault.0 (made.0, given.start, fault.1)
+
+-- ==== The result of a batch whose files have no line follows from that of a batch of any files
+
+-- if nothing was added, all was kept
+appends_none : (old new : Option (List ℕ)) (bytes : List ℕ) → bytes ≡ [] → Appends old new bytes → Keeps old new
+appends_none None new bytes none appends = tt
+appends_none (Some xs) None bytes none appends = absurd appends
+appends_none (Some xs) (Some ys) bytes none appends = appends ∙ (ap (xs ++◌) none ∙ append-nil xs)
 
 -- a sink that is as it was keeps what it has
 left_same : {W : Type 0} (state : W → SinkState) {old new : W} → new ≡ old → Keeps (state old).written (state new).written

@@ -6,7 +6,7 @@ use Rattle.kalah_run.proofs.{OutputLemmas.{new_has_written_nothing, sink_was_giv
 
 -- ==== The calling thread's pass, by which it draws what is left after a failed write
 
--- what holds unless the rest is left does hold if the rest is to be solved, or if the output has not failed
+-- The rest is not left if it is to be solved, or if the output has not failed. Then a statement holds that holds unless the rest is left.
 pub unless_left : {choice : OnFailedWrite} {failed : Bool} {A : Type 0} → A ⊎ IsAbandoned choice failed
     → (choice ≡ Solve) ⊎ (failed ≡ false) → A
 unless_left (inl a) sound = a

@@ -184,7 +184,7 @@ unspent_me me is_pass unspent =
     let view = me.0 in
     is_pass ∙ ap (λ b. (Drawing (total_in view) (number_in view) (drawn_row (row_in view).numbers b), [])) unspent
 
--- so it is with a seat that is known to be such a pass
+-- a draw of a seat that is known to be a pass that is not spent
 pub draw_is_lawful : {S : Type 0} (plan : DeskPlan) (slots seat : ℕ) (me : Me S DeskView) → me ≡ (as_pass_view me.0, [])
     → (row_in me.0).spent ≡ false
     → Allows {S = S} (IsLawful plan) slots seat me 0 (λ n. (n + 1) % 2 ^ 64) (Draws (step slots 0 1 0 none) me)
@@ -226,7 +226,7 @@ draws_rest_at {S} plan slots seat total number numbers limit limit_is = allowed_
     (cases_lt n total) in
     (after, lawful, (refl, refl)))
 
--- so it is with a seat that is known to be such a pass
+-- a seat that is known to be a pass that is not spent draws all that is left
 pub draw_rest_is_lawful : {S : Type 0} (plan : DeskPlan) (slots seat : ℕ) (me : Me S DeskView) (limit : ℕ) → limit ≡ plan.total
     → me ≡ (as_pass_view me.0, []) → (row_in me.0).spent ≡ false
     → Allows {S = S} (IsLawful plan) slots seat me 0 (λ n. max n limit) (DrawsRest (step slots 0 limit 0 none) me)
@@ -331,7 +331,7 @@ reclaims_at {S} plan seat rows other total number r s kept has_view apart has_pa
     each_set (FollowsPlan plan) s.views seat closing (tt, All-append Ascends (r ∷ []) rows theirs own)
     (λ j u apart has_view. following kept j u has_view) i view has_view))
 
--- so it is with seats that are known to be these
+-- a seat that is known to be the closing one takes back the pass of a seat that is known to be a pass
 pub reclaim_is_lawful : {S : Type 0} (plan : DeskPlan) (seat : ℕ) (v : DeskView) (other : ℕ) (w : DeskView)
     → v ≡ Closing (rows_in v) → w ≡ as_pass_view w → Joins {S = S} (IsLawful plan) seat v other w (after_reclaiming v w) Reclaimed
 reclaim_is_lawful plan seat v other w closing is_pass =

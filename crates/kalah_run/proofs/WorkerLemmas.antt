@@ -89,7 +89,7 @@ pub room_for_all : {workers count size len capacity popped left : ℕ} → worke
     → (len ≡ size) × (len ≤ capacity) → size ≡ count + 1 → workers < left
 room_for_all many left_is popped_is held size_is = omega (arith, many, left_is, popped_is, held, size_is)
 
--- so it is with one pass for each worker
+-- a list from which all passes were taken, one for each worker, has room for all again
 pub room_for_each : {workers count len size capacity left : ℕ} → workers ≡ count → left ≡ capacity
     → (len ≡ size) × (len ≤ capacity) → len ≡ count → workers ≤ left
 room_for_each many left_is held len_is = omega (arith, many, left_is, held, len_is)

@@ -9,12 +9,12 @@ command_output (Play command) = play_output command
 command_output (Show command) = show_output command.plain command.lines
 command_output (Count depth) = count_output depth
 
--- it is printed: a game can't begin with a house that may not be moved
+-- the command's output is printed: a game can't begin with a house that may not be moved
 abbrev pub MayPrint : LineCommand → Position → Type 0
 MayPrint (Play command) p = MayBegin command.first p
 MayPrint command p = ⊤
 
--- without a search
+-- the command prints its output without a search
 abbrev pub SearchesNothing : LineCommand → Type 0
 SearchesNothing (Play command) = ⊥
 SearchesNothing (Show command) = command.plain ≡ true

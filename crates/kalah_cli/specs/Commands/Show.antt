@@ -23,7 +23,7 @@ rank_in values v = count_by (λ w. is_better w v) values
 abbrev pub move_of_rank : List MoveValue → ℕ → Option MoveValue
 move_of_rank values rank = find (λ v. rank_in values v == rank) values
 
--- its line
+-- the line of the move of this rank
 abbrev pub ranked_line : Position → ℕ → List ℕ
 ranked_line p rank = option_map_or (variation_line p) (move_of_rank (values_of p) rank) []
 
@@ -31,10 +31,10 @@ ranked_line p rank = option_map_or (variation_line p) (move_of_rank (values_of p
 abbrev pub variation_lines : Position → List ℕ
 variation_lines p = flat_map (ranked_line p) (range_with_len 0 (length (values_of p)))
 
--- these, if they are asked for
+-- the lines of all moves, if they are asked for
 abbrev pub lines_asked : Bool → Position → List ℕ
 lines_asked lines p = if lines then variation_lines p else []
 
--- the picture alone if it is to be plain, otherwise with what each move is worth below it, and then these lines
+-- the picture alone if it is to be plain, otherwise with what each move is worth below it, and then the lines asked for
 abbrev pub show_output : Bool → Bool → Position → List ℕ
 show_output plain lines p = if plain then picture_of p else shown_of p ++ lines_asked lines p

@@ -24,7 +24,8 @@ pub(crate) struct GameSolver<O> {
     sink: Snapshot<O>,
 }
 
-/// Returns a solver with an empty table of this many entries. Fails with `AllocError` only if memory was refused.
+/// Returns a solver with an empty table of this many entries, for a game or for the lines that `ask` reads. Fails with `AllocError` only if
+/// memory was refused.
 pub(crate) fn new_solver(alloc: Global, table_entries: u32) -> Result<Solver, AllocError>
     requires { IsTableSize table_entries }
     ensures { IfOk result (HasTable table_entries) }

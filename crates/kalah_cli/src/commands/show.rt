@@ -19,7 +19,7 @@ use kalah_solve::{MoveValue, MoveValues};
 use std::alloc::Global;
 
 // Draws a board, and flushes.
-fn write_plain<O: Sink>(board: &Board, out: &mut O)
+fn draw_and_flush<O: Sink>(board: &Board, out: &mut O)
     ensures { IsPrinted O.state out.old out.new (picture_of board.now) }
 {
     write_picture(out, board);
@@ -110,7 +110,7 @@ fn write_values_and_lines<O: Sink>(
     requires { begun solver.old ≡ record { form = MoveForm.Houses; first = board.now; sink = out.old } }
     ensures { IsPrinted O.state out.old out.new (show_output false lines board.now) }
 {
-    write_plain(board, out);
+    draw_and_flush(board, out);
     if out.failed() {
         return;
     }
@@ -138,7 +138,7 @@ pub(crate) fn run_show<O: Sink>(
     ensures searchless { command.plain ≡ true → IsErr result → ⊥ }
 {
     if command.plain {
-        write_plain(board, out);
+        draw_and_flush(board, out);
         return Ok(());
     }
     let Ok(mut solver) = GameSolver::new(alloc, command.table_entries, board, MoveForm::Houses, out)

@@ -50,7 +50,8 @@ fn new_chunk(alloc: Global) -> Result<Vec<u8>, AllocError>
 }
 
 /// Returns all that the reader has left, if that is at most `limit` bytes, or why not. It is read until it reports the end, an error, or
-/// more bytes than the limit. Any error counts as the file's, also one of an interrupted call. Fails only if memory was refused.
+/// more bytes than the limit. Any error counts as the file's, also one of an interrupted call. Fails only if memory was refused: the outer
+/// result is the program's own lack of memory, for which no file is to blame, and the inner one is the file's.
 pub(crate) fn read_limited<F: Read>(
     alloc: Global,
     reader: &mut F,

@@ -16,7 +16,7 @@ entry_asked BestMove p = Position p
 entry_asked Values p = ValuesOf p
 entry_asked Steps p = StepsOf p
 
--- of the position that was read, or with the fault that was found
+-- the entry of a line: this question of the position that was read, or the fault that was found
 abbrev pub entry_of_reading : Question → Result position.Position LineFault → Entry
 entry_of_reading question (Ok p) = entry_asked question p
 entry_of_reading question (Err fault) = Bad fault
@@ -25,16 +25,16 @@ entry_of_reading question (Err fault) = Bad fault
 unfoldable pub entry_to : Question → List ℕ → Entry
 entry_to question line = entry_of_reading question (reading_of line)
 
--- with its best move asked
+-- the entry of a line, with the best move asked of its position
 abbrev pub entry_of : List ℕ → Entry
 entry_of line = entry_to BestMove line
 
--- the line with this entry is not read, so that it is answered by its fault
+-- this is the entry of a line that is not read and is answered by its fault
 abbrev pub is_faulty_entry : Entry → Bool
 is_faulty_entry (Bad fault) = true
 is_faulty_entry _ = false
 
--- the line is not read
+-- the line can't be read as a position
 abbrev pub is_faulty : List ℕ → Bool
 is_faulty line = is_faulty_entry (entry_of line)
 

@@ -92,6 +92,6 @@ admitted_if_written None (_ ∷ _) = Err Shape
 abbrev pub reading_of_text : List ℕ → Result Position LineFault
 reading_of_text text = if nat_lt most_line_bytes (length text) then Err Long else admitted_if_written (position_of_text text) text
 
--- the same of a line
+-- the position that a line is read as, or its first fault
 unfoldable pub reading_of : List ℕ → Result Position LineFault
 reading_of line = reading_of_text (without_cr line)

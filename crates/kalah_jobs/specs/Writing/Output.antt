@@ -6,15 +6,15 @@ use Rattle.kalah_jobs.specs.{Files.{Entry.{entry_to, is_faulty}, JobList.{job_li
 abbrev pub line_output : Question → List ℕ → ℕ × List ℕ → List ℕ
 line_output question name p = answer_output name (record { line = p.0; answer = answer_of (entry_to question p.1) })
 
--- for each line of a file in order, what is written for it
+-- what is written for a file: for each of its lines in order
 abbrev pub file_output : Question → NamedBytes → List ℕ
 file_output question file = flat_map (line_output question file.name) (enumerate_from 0 (lines_of file.bytes))
 
--- for each file in order, for each of its lines in order, what is written for it
+-- what is written for the files: for each in order, for each of its lines in order
 unfoldable pub output_to : Question → List NamedBytes → List ℕ
 output_to question files = flat_map (file_output question) files
 
--- if the best move is asked of each position
+-- what is written for all lines of the files, if the best move is asked of each position
 abbrev pub output_of : List NamedBytes → List ℕ
 output_of files = output_to BestMove files
 

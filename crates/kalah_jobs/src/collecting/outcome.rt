@@ -75,7 +75,8 @@ impl Outcome {
         Outcome { job, found }
     }
 
-    /// Answers job `n`, which must be below `total`, and returns its outcome, as `of` does. The entry is copied once, after the search.
+    /// Answers job `n`, which must be below `total`, and returns its outcome, as `of` does. The entry is copied once, after the search;
+    /// a call of `of` would copy it before the search, too.
     #[inline(always)]
     pub fn of_job(jobs: &Jobs, n: u32, solver: &mut Solver) -> Outcome
         requires { n < job_count jobs.now }

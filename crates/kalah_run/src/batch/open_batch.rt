@@ -73,14 +73,14 @@ fn passes_of_workers(
     passes.push_reserved(rest_pass);
 }
 
-/// A batch that is open: what its workers share, the workers, the passes of the calling thread, and what is written of it. The two lists
-/// from which the workers took their passes have room for the return of all passes.
+/// A batch that is open: what its workers share, the workers, the passes of the calling thread, and what is written of it.
 #[derive(Drop)]
 pub(crate) struct OpenBatch<'a, G> {
     shared: SharedWork<'a, G>,
     workers: Vec<Worker>,
     caller: CallerPasses,
     output: OrderedOutput<'a>,
+    // Empty lists, kept for their room: all passes return to them at the end.
     passes: Vec<Pass>,
     puts: Vec<PutPass>,
 }

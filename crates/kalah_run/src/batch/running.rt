@@ -1,4 +1,4 @@
-//! Runs the workers on further threads, while the calling thread accepts what they send.
+//! How the calling thread collects what the workers send, while they run on further threads.
 ghost use Rattle.std.specs.{Prelude.{◌≡◌, ◌⊎◌, [], length, MatchOption}, Thread.{IsSync}};
 ghost use Rattle.kalah_jobs.specs.{Files.Jobs.{job_count}, Writing.Sink.{IsReady, WasGiven}};
 ghost use Rattle.kalah_run.specs.Batch.{AtWork.{CanRun, HaveRun}, Running.{HasCollected, IsAtStart, GetsOrEnds}, Leaving.{NothingRemains}};

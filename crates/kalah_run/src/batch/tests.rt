@@ -1,5 +1,5 @@
 //! Batches with several workers, and what the gate and the output get.
-ghost use Rattle.std.specs.Prelude.{◌<◌, ◌≤◌, false};
+ghost use Rattle.kalah_run.specs.Limits.{IsTableSize, IsWorkerCount};
 
 mod gate;
 mod in_parallel;
@@ -116,7 +116,7 @@ fn request_of(
     workers: u32,
     on_failed_write: OnFailedWrite,
 ) -> BatchRequest<'_>
-    requires workers { (0 < workers) × (workers ≤ 64) }
+    requires workers { IsWorkerCount workers }
 {
     BatchRequest {
         question,
@@ -136,16 +136,16 @@ fn answers<R: Threads + Wait + Sync, G: Gate>(
     table: u32,
     gate: &G,
 ) -> Option<(Tally, Vec<u8>)>
-    requires workers { (0 < workers) × (workers ≤ 64) }
-    requires table { (0 < table) × (table ≤ 1048576) }
+    requires workers { IsWorkerCount workers }
+    requires table { IsTableSize table }
 {
     let mut out = Stream::new(Vec::<u8>::new(alloc));
     let tally = solve_batch(rt, alloc, files, workers, table, gate, &mut out).ok()?;
     Some((tally, out.into_inner()))
 }
 
-// The answers are these bytes, with this tally.
-fn are(answers: Option<(Tally, Vec<u8>)>, text: &str, tally: Tally) -> bool {
+// The batch wrote this text, and this is its tally.
+fn wrote(answers: Option<(Tally, Vec<u8>)>, text: &str, tally: Tally) -> bool {
     match answers {
         Some((of_batch, written)) => of_batch == tally && written.as_slice() == text.as_bytes(),
         None => false,
@@ -160,7 +160,7 @@ fn lines_are_answered<R: Abort + Threads + Wait + Sync, G: Gate>(
     workers: u32,
     gate: &G,
 ) -> bool
-    requires { (0 < workers) × (workers ≤ 64) }
+    requires { IsWorkerCount workers }
 {
     let files = same_lines(rt, alloc, lines);
     let mut text = String::new(alloc);
@@ -170,7 +170,7 @@ fn lines_are_answered<R: Abort + Threads + Wait + Sync, G: Gate>(
         text.push_str(answer.as_str()).expect(rt, "no memory");
     }
     let got = answers(rt, alloc, &files, workers, 16, gate);
-    are(got, text.as_str(), tally_of(lines))
+    wrote(got, text.as_str(), tally_of(lines))
 }
 
 #[test]
@@ -180,11 +180,11 @@ fn lines_are_answered_in_order_by_any_number_of_workers(rt: HostRuntime) {
     for workers in [1, 2, 64] {
         for table in [1, 65_536] {
             let got = answers(&rt, alloc, files.as_slice(), workers, table, &OpenGate);
-            assert!(rt; are(got, ANSWERS, SEVEN_LINES), "{workers} {table}");
+            assert!(rt; wrote(got, ANSWERS, SEVEN_LINES), "{workers} {table}");
         }
     }
     let got = answers(&rt, alloc, &[], 3, 1, &OpenGate);
-    assert!(rt; are(got, "", tally_of(0)), "no file");
+    assert!(rt; wrote(got, "", tally_of(0)), "no file");
 }
 
 // More lines than there are workers, and more than the queue has places.

@@ -1,6 +1,7 @@
 //! Many small batches through queues small and large, which run full and empty in parallel, with many threads: a wake-up
 //! that is lost leaves a thread asleep, and the test has no end.
-ghost use Rattle.std.specs.Prelude.{◌≡◌, ◌<◌, ◌≤◌, ◌*◌, All};
+ghost use Rattle.std.specs.Prelude.{◌≡◌, ◌≤◌, ◌*◌, All};
+ghost use Rattle.kalah_run.specs.Limits.{IsQueueCapacity, IsWorkerCount};
 
 use crate::tests::out_of_memory::two_outcomes;
 use crate::{GetPass, PutPass, ResultsQueue};
@@ -89,8 +90,8 @@ fn run_batch<R: Threads + Wait + Sync>(
     each: u32,
     outcome: Outcome,
 ) -> Result<(), AllocError>
-    requires capacity { (0 < capacity) × (capacity ≤ 1024) }
-    requires workers { (0 < workers) × (workers ≤ 64) }
+    requires capacity { IsQueueCapacity capacity }
+    requires workers { IsWorkerCount workers }
     requires few { each ≤ 200 }
 {
     let (queue, puts, pass) = ResultsQueue::open(alloc, capacity, workers)?;

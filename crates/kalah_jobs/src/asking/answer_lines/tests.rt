@@ -6,7 +6,7 @@ use std::io::{BufReader, ErrorKind, Read};
 use std::process::Abort;
 
 // What is written for the bytes of a reader, and the result.
-fn told(
+fn answered(
     rt: &(impl Abort + AllocGlobal),
     question: Question,
     reader: impl Read + Drop,
@@ -44,7 +44,7 @@ const LINES: &[(Question, &[u8], &str, bool)] = &[
 #[test]
 fn each_line_is_answered(rt: HostRuntime) {
     for (question, bytes, text, all_read) in LINES {
-        let (out, end) = told(&rt, *question, *bytes);
+        let (out, end) = answered(&rt, *question, *bytes);
         assert!(rt;
             out.as_slice() == text.as_bytes() && end == Ok(*all_read),
             "{text}"
@@ -87,7 +87,7 @@ fn lines_before_a_read_that_fails_are_answered(rt: HostRuntime) {
         at: 0,
         interrupts: 100_000,
     };
-    let (out, end) = told(&rt, Question::BestMove, reader);
+    let (out, end) = answered(&rt, Question::BestMove, reader);
     assert!(rt; out.as_slice() == "2 house 2\nfault shape\n".as_bytes());
     assert!(rt; end == Err(AskFault::Read));
 }

@@ -1,7 +1,7 @@
 //! Batches in which workers wait for one another: jobs are solved in parallel, drawn by any free worker, and written
 //! while later ones are under way. The watch learns of an answer once it is written.
 use super::{
-    ONE_AND_TWO, answers, are, comes_to, file_of, lines_are_answered, request_of, tally_of,
+    ONE_AND_TWO, answers, comes_to, file_of, lines_are_answered, request_of, tally_of, wrote,
 };
 use crate::{Gate, OnFailedWrite, Watch, answer_batch};
 use kalah_jobs::{FileText, Question, Stream};
@@ -40,7 +40,7 @@ impl Events {
     }
 
     // No thread gave up waiting.
-    fn came(&self) -> bool {
+    fn nobody_gave_up(&self) -> bool {
         !self.gave_up.load(SeqCst)
     }
 }
@@ -81,8 +81,8 @@ fn a_later_job_is_done_while_an_earlier_one_waits(rt: HostRuntime) {
     };
     let files = two_lines(&rt, rt.alloc());
     let got = answers(&rt, rt.alloc(), &files, 2, 16, &gate);
-    assert!(rt; are(got, TWO, tally_of(2)));
-    assert!(rt; gate.done.came());
+    assert!(rt; wrote(got, TWO, tally_of(2)));
+    assert!(rt; gate.done.nobody_gave_up());
 }
 
 #[test]
@@ -94,7 +94,7 @@ fn a_free_worker_takes_whatever_is_left(rt: HostRuntime) {
             done: Events::none(),
         };
         assert!(rt; lines_are_answered(&rt, rt.alloc(), 4, 2, &gate), "{last}");
-        assert!(rt; gate.done.came(), "{last}");
+        assert!(rt; gate.done.nobody_gave_up(), "{last}");
     }
 }
 
@@ -121,7 +121,7 @@ fn as_many_jobs_are_under_way_at_once_as_there_are_workers(rt: HostRuntime) {
         let gate = AllDrawn { jobs, drawn };
         let answered = lines_are_answered(&rt, rt.alloc(), jobs, jobs, &gate);
         assert!(rt; answered, "{jobs}");
-        assert!(rt; gate.drawn.came(), "{jobs}");
+        assert!(rt; gate.drawn.nobody_gave_up(), "{jobs}");
     }
 }
 
@@ -196,5 +196,5 @@ fn a_line_is_written_before_the_next_job_begins(rt: HostRuntime) {
     let answered = answer_batch(&rt, rt.alloc(), &request, &gate, &mut watch, &mut out);
     assert!(rt; answered == Ok(tally_of(2)) && watch.accepted == 2);
     assert!(rt; out.into_inner().bytes.as_slice() == TWO.as_bytes());
-    assert!(rt; written.came());
+    assert!(rt; written.nobody_gave_up());
 }

@@ -1,5 +1,5 @@
 //! Batches whose writer fails.
-ghost use Rattle.std.specs.Prelude.{◌<◌, ◌≤◌};
+ghost use Rattle.kalah_run.specs.Limits.{IsWorkerCount};
 
 use super::gate::{ROOM, wait_for_begun};
 use super::{ANSWERS, Counting, SEVEN_LINES, four_files, request_of, same_lines};
@@ -79,7 +79,7 @@ fn solve_with<R: AllocGlobal + Threads + Wait + Sync>(
     workers: u32,
     most: u32,
 ) -> Run
-    requires { (0 < workers) × (workers ≤ 64) }
+    requires { IsWorkerCount workers }
 {
     let gate = Counting::new();
     let mut out = Stream::new(Failing::after(rt.alloc(), most));

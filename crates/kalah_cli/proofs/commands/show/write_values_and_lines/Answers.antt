@@ -16,8 +16,8 @@ output_parts lines p = append_assoc (picture_of p) (values_line p ++ line_feed �
 pub returns-then-failed : goal.returns-then-failed
 returns-then-failed g c = record {
   given = rw (output_parts c.args.lines c.args.board.now)
-      (given_more_after_failure _ _ c.write_plain.ensures.given (sym c.failed.ensures ∙ c.if-failed.true));
-  all_flushed = c.write_plain.ensures.all_flushed;
+      (given_more_after_failure _ _ c.draw_and_flush.ensures.given (sym c.failed.ensures ∙ c.if-failed.true));
+  all_flushed = c.draw_and_flush.ensures.all_flushed;
 }
 
 pub returns : goal.returns
@@ -28,15 +28,15 @@ returns g c =
       | else-lines w ↦ rw (w.out-is, w.if-lines.false) (given_none _ _)
     ] in
     rw (output_parts c.args.lines c.args.board.now)
-    (printed_flushed _ (given_then _ c.write_plain.ensures.given (given_then _ c.write_values.ensures lines))
+    (printed_flushed _ (given_then _ c.draw_and_flush.ensures.given (given_then _ c.write_values.ensures lines))
     c.flush_unless_failed.ensures.given c.flush_unless_failed.ensures.all_flushed)
 
 -- the picture is drawn before the search
 pub values-values-requires-clause-shown : goal.values-values-requires-clause-shown
 values-values-requires-clause-shown g c =
-    rw (ap (λ game. game.sink) c.requires) c.write_plain.ensures.given
+    rw (ap (λ game. game.sink) c.requires) c.draw_and_flush.ensures.given
 
 -- the variations are written below the line of values
 pub write_variations-requires-clause-shown : goal.write_variations-requires-clause-shown
 write_variations-requires-clause-shown g c =
-    variations_begin _ c.requires c.values-values.ensures.begun c.write_plain.ensures.given c.write_values.ensures
+    variations_begin _ c.requires c.values-values.ensures.begun c.draw_and_flush.ensures.given c.write_values.ensures
