@@ -3,6 +3,7 @@ ghost use Rattle.std.specs.Prelude.{◌≡◌, ◌<◌, ◌⊎◌, [], false, tr
 ghost use Rattle.kalah_run.specs.{Limits.{IsWorkerCount, IsTableSize}, Batch.Answering.{AnswersBatch, HearsAll, counts_of}, declared.batch.request.OnFailedWrite.TheVariants.{Solve}};
 ghost use Rattle.kalah_jobs.specs.Writing.{Sink.{WasGiven}, Output.{output_of, output_to}};
 
+mod collecting;
 mod crew;
 pub(crate) mod gate;
 pub(crate) mod laws;
@@ -11,7 +12,6 @@ mod ordered_output;
 mod receiver;
 pub(crate) mod request;
 pub(crate) mod run_fault;
-mod running;
 mod shared_work;
 #[cfg(test)]
 mod tests;

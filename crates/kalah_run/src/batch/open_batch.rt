@@ -3,12 +3,12 @@ ghost use Rattle.std.specs.Prelude.{◌≡◌, ◌≤◌, ◌⊎◌, ℕ, ◌<�
 ghost use Rattle.kalah_jobs.specs.{Files.Jobs.{job_count}, Writing.Sink.{WasGiven}};
 ghost use Rattle.kalah_run.specs.{Limits.{IsTableSize}, Batch.{AtWork.{passes_of, puts_of, OnceRun}, Running.{IsAsAsked, IsReadyToRun, HaveOwnTables}, OrderedOutput.{whole_output}}, declared.batch.request.OnFailedWrite.TheVariants.{Solve}};
 
+use crate::batch::collecting::collect_from_crew;
 use crate::batch::crew::Crew;
 use crate::batch::gate::Gate;
 use crate::batch::ordered_output::OrderedOutput;
 use crate::batch::receiver::{CallerPasses, Receiver, RestPass};
 use crate::batch::request::BatchRequest;
-use crate::batch::running::collect_from_crew;
 use crate::batch::shared_work::SharedWork;
 use crate::batch::watch::Watch;
 use crate::batch::worker::Worker;

@@ -2,7 +2,7 @@
 use denote.Param.Send.{sendable}
 use Rattle.std.proofs.{Common.{refl}, Crossing.{crosses}}
 use Rattle.kalah_run.proofs.Crossing.{crew_send, worker_send}
-use Rattle.kalah_run.proofs.batch.running.fn.collect_from_crew.scope.Goals as goal
+use Rattle.kalah_run.proofs.batch.collecting.fn.collect_from_crew.scope.Goals as goal
 
 pub spawn_with-started-requires-send-F : goal.spawn_with-started-requires-send-F
 spawn_with-started-requires-send-F g c κs within = search (sendable, crosses, crew_send) depth 60

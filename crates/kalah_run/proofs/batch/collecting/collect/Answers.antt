@@ -3,9 +3,9 @@
 use Rattle.std.proofs.Common.{◌+◌, inl, inr, length, ap, ◌∙◌, arith, rules, Some}
 use Rattle.kalah_jobs.proofs.SinkLemmas.{given_none}
 use Rattle.kalah_run.specs.{GetsOrEnds}
-use Rattle.kalah_run.proofs.{BatchLemmas.{all_got, failed_still, got_after, has_collected, collected_at_start, one_collected, one_longer, rest_left}, batch.running.collect.Goals.{in-Some, in-None+in-Some-flush_and_get, else-loop-test, then-loop-test+in-None+in-None-flush_and_get}}
-use Rattle.kalah_run.proofs.batch.running.collect.Given as given
-use Rattle.kalah_run.proofs.batch.running.collect.Goals as goal
+use Rattle.kalah_run.proofs.{BatchLemmas.{all_got, failed_still, got_after, has_collected, collected_at_start, one_collected, one_longer, rest_left}, batch.collecting.collect.Goals.{in-Some, in-None+in-Some-flush_and_get, else-loop-test, then-loop-test+in-None+in-None-flush_and_get}}
+use Rattle.kalah_run.proofs.batch.collecting.collect.Given as given
+use Rattle.kalah_run.proofs.batch.collecting.collect.Goals as goal
 
 pub loop-init : goal.loop-init
 loop-init g c = record {

@@ -1,5 +1,5 @@
 use Rattle.std.proofs.{Common.{arith}, lemmas.Grind.{common_steps}}
-use Rattle.kalah_run.proofs.batch.running.flush_and_get.Goals as goal
+use Rattle.kalah_run.proofs.batch.collecting.flush_and_get.Goals as goal
 
 pub returns : goal.returns
 returns g c = record {

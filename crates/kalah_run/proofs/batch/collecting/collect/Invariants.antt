@@ -1,6 +1,6 @@
 use Rattle.std.proofs.Common.{◌≡◌, ◌≤◌, length}
 use Rattle.kalah_run.{proofs.BatchLemmas.{AreCollected}, specs.declared.limits.TheConstants.{MOST_TRIES}}
-use Rattle.kalah_run.proofs.batch.running.collect.Given as goal
+use Rattle.kalah_run.proofs.batch.collecting.collect.Given as goal
 
 abbrev pub invariant-loop : goal.invariant-loop
 invariant-loop g l = record {
