@@ -32,7 +32,7 @@ pub record IsMaskOfFilled (row mask : ℕ) : Type 0 where
 abbrev pub all_into_store : ℕ → ℕ
 all_into_store m = packed_row (row_of m (store_distance m))
 
--- the set has the houses of a row of m that end in the store, and none past them that is empty
+-- the set has the houses of a row of m that end in the store without a lap, and of the places past house m none that is empty
 pub record IsMaskIntoStore (row m mask : ℕ) : Type 0 where
   pub inside : (i : ℕ) → i < m → (0 < cell mask i) ↔ (cell row i + i ≡ m)
   pub past : (i : ℕ) → i < 6 → m ≤ i → cell row i ≡ 0 → cell mask i ≡ 0

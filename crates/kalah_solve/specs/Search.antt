@@ -21,8 +21,8 @@ pub record IsTurnOf (a : HousesState) (h : ℕ) (b : HousesState) : Type 0 where
 abbrev pub AreTurns : HousesState → List ℕ → List HousesState → Type 0
 AreTurns a priorities turns = (k : ℕ) → 0 < slice_index priorities k → (d : HousesState) → IsTurnOf a (k + 1) (slice_index_or turns k d)
 
--- If `most` is enough, best play wins at least `most`. What waits are turns. If `most` isn't enough, no move wins more but those that wait or that
--- end in the store.
+-- If `most` is enough, best play wins at least `most`. What waits are turns. If `most` isn't enough, no move wins more except those that
+-- wait or that end in the store without a lap.
 pub record AreWaiting (a : HousesState) (beta most : ℕ) (priorities : List ℕ) (turns : List HousesState) : Type 0 where
   pub lower : beta ≤ most → most ≤ won a
   pub waiting : AreTurns a priorities turns

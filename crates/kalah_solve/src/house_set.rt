@@ -79,7 +79,7 @@ impl HouseSet {
         }
     }
 
-    /// Returns the mover's remaining houses that have seeds: those that don't end in the store.
+    /// Returns the mover's remaining houses that have seeds: those that don't end in the store without a lap.
     #[tactic(auto, using(crate::proofs::HouseSetLemmas::in_remaining, crate::proofs::HouseSetLemmas::mask_of_remaining))]
     pub(crate) fn remaining(houses: &Houses) -> HouseSet
         ensures members { (i : ℕ) → (0 < cell result i) ↔ ((0 < slice_index houses.now.own i) × ¬ EndsInStore houses.now (i + 1)) }

@@ -115,6 +115,7 @@ impl<A: Allocator + Clone> Search<A> {
         ensures { result ≡ clamped window.lo window.hi (houses_worth houses.now) }
     {
         let seeds = houses.seeds();
+        // Fewer seeds are always looked up, and no nodes are counted for them.
         if seeds > SEEDS_THAT_ALWAYS_PAY {
             self.counts.resume(houses);
             self.set_ending_limit();
@@ -257,7 +258,7 @@ impl<A: Allocator + Clone> Search<A> {
         if beta <= into_store {
             return into_store;
         }
-        let mut waiting = WaitingTurns::none(houses.without_seeds()); // In one variant these houses are a constant.
+        let mut waiting = WaitingTurns::none(houses.without_seeds()); // A filler: in one variant it is a constant.
         let remaining = self.try_remaining::<VARIANT>(&houses, beta, &mut waiting);
         if beta <= remaining {
             return remaining;
@@ -274,8 +275,8 @@ impl<A: Allocator + Clone> Search<A> {
         most
     }
 
-    // Tries the moves that end in the store, the nearest to it first, until one wins enough. Returns a lower bound of what that one wins,
-    // or else, below `beta`, an upper bound for all.
+    // Tries the moves that end in the store without a lap, the nearest to it first, until one wins enough. Returns a lower bound of what
+    // that one wins, or else, below `beta`, an upper bound for all.
     #[inline(always)]
     #[cycle(bound)]
     fn bound_into_store<const VARIANT: u8>(&mut self, houses: &Houses, beta: u8) -> u8

@@ -1,4 +1,4 @@
-//! The tips that follow a refusal if standard error is a terminal. In a tip `{}` stands for an argument.
+//! The tips that follow a message if standard error is a terminal. In a tip `{}` stands for an argument.
 use crate::exit::failure::Failure;
 use crate::system::read_files::ReadFault;
 use crate::system::terminal::{write_escaped, write_text};

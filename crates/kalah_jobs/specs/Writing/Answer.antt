@@ -60,7 +60,7 @@ in_one_line (text ∷ next ∷ texts) = text ++ (codes "; " ++ in_one_line (next
 abbrev pub joined_text : Answer → List ℕ
 joined_text answer = in_one_line (answer_texts answer)
 
--- what stands before each text in the line that has it, of a line given with its number, which counts from 0: `NAME:LINE `
+-- what stands before each text of an answer, `NAME:LINE `. The number counts from 0
 abbrev pub place_text : List ℕ → ℕ → List ℕ
 place_text name number = name ++ (codes ":" ++ (decimal (number + 1) ++ codes " "))
 

@@ -1,4 +1,4 @@
-//! A worker of a batch. No other module can use its solver.
+//! A worker of a batch. No other module can use the solver of a worker.
 ghost use Rattle.std.specs.Prelude.{◌≡◌, ◌<◌, Some, slice_get, true, IfOk};
 ghost use Rattle.kalah_jobs.specs.Files.{JobList.{job_list}, Jobs.{job_count}};
 ghost use Rattle.kalah_run.specs.Limits.{IsTableSize};
@@ -23,8 +23,8 @@ pub(crate) struct Worker {
 }
 
 impl Worker {
-    /// Makes the solver of a worker, with a table of its own. It shares what it learns of endings with that of the other worker, if there is
-    /// one. Fails with `AllocError` only if memory was refused.
+    /// Makes the solver of a worker, with a table of its own. It shares what it learns of endings with that of the other worker, if there
+    /// is one. Fails with `AllocError` only if memory was refused.
     pub(crate) fn new_solver(
         alloc: Global,
         table_entries: u32,

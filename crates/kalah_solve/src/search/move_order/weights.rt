@@ -6,7 +6,7 @@ pub(super) const GAIN_WEIGHT: u32 = 64;
 
 /// What the house of a turn adds to its priority: 8 times one more than what its place counts, and its number less 1. Places count 51, 43,
 /// 36, 26, 25 and 0, from the store on. House `h` of `m` has cell `m + 5 * (h - 1) - 1`, for sides of up to 5 houses in the first row, and
-/// for those of 6 in the second. The place of what is no house of its side counts 0.
+/// for those of 6 in the second. A cell of no house counts 0.
 pub(super) static PLACE_PRIORITIES: [[u16; 31]; 2] = [
     [
         416, 352, 296, 216, 208, 9, 417, 353, 297, 217, 10, 10, 418, 354, 298, 11, 11, 11, 419,
