@@ -1,11 +1,10 @@
 -- How a run ends, and what it has answered: a line, files, or the lines of the standard input.
-use Rattle.std.proofs.{Common.{◌≡◌, ◌≢◌, ◌∙◌, ℕ, List, true, false, refl, sym, subst, [], ◌↔◌, IsErr, Result, Ok, Err, ◌++◌, Bool, Option, ◌∷◌, ap, map, inl, inr, append-nil, All, IfOk, IsErrOf, None, Some, ◌==◌, if◌then◌else◌, Bor}, lemmas.Bool.{both_ways, false_from_ne_true}, KnownBytes.{Keeps-refl}}
+use Rattle.std.proofs.{Common.{◌≡◌, ◌≢◌, ◌∙◌, ℕ, List, true, false, refl, sym, subst, [], ◌↔◌, IsErr, Result, Ok, Err, ◌++◌, Bool, Option, ◌∷◌, ap, map, inl, inr, append-nil, IfOk, IsErrOf, None, Some, ◌==◌, if◌then◌else◌}, lemmas.Bool.{both_ways, false_from_ne_true}, KnownBytes.{Keeps-refl}}
 use Rattle.kalah_rules.specs.Position.{Position}
 use Rattle.kalah_jobs.specs.{Line.Line.{Reads}, Writing.{Sink.{SinkState, WasGiven}, Output.{output_to}}, declared.{asking.ask_fault.AskFault.{AskFault, TheVariants.{Read, Write}}, writing.tally.Tally.{Tally}}, Files.NamedBytes.{NamedBytes}, Asking.{IsAnswered, IsBegun, IsCutOff}}
 use Rattle.kalah_jobs.proofs.{LineLemmas.{no_line_reads_twice}, SinkLemmas.{given_then_flush, prefix_none, prefix_then}, AskingLemmas.{begun_so_far, cut_off, nothing_read}}
 use Rattle.kalah_cli.specs.{FailsOrFlushes, IsPrinted, WritesNoPosition, PrintsByStatus, ExitStatus, Failed, LineFaults, Clean, MayPrint, command_output, AreFilesOf, any_bytes, MayBeLeft, Source, Question, LineCommand, Does, AnswersFiles, has_line_feed, AnswersInput, StopsBetweenLines, about_line}
 use Rattle.std.specs.{List.{list_any}, Io.{Buffered.{reader_buffer, reader_capacity, reader_inner, reader_remaining}, KnownBytes.{Consumes, IsAtEnd, prepend_known}}, declared.io.buffered.BufReader.{BufReader}}
-use Rattle.clap.proofs.WalkLemmas.{list_any-map}
 use Rattle.kalah_run.specs.{Batch.Answering.{AnswersAll, AnswersBatch}, declared.batch.run_fault.RunFault.{RunFault}}
 use Rattle.kalah_run.specs.declared.batch.run_fault.RunFault.TheVariants as fault
 

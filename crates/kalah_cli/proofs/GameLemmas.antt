@@ -1,9 +1,9 @@
 -- The game of best play, move by move.
-use Rattle.std.proofs.{Common.{◌⊎◌, ◌<◌, ◌≤◌, ◌-◌, ◌≡◌, ℕ, zero, suc, List, [], ◌∷◌, ◌++◌, Bool, true, false, inl, inr, of_z, refl, sym, subst, to_z, w32, ap, ◌∙◌, arith, Contains, ℤ, None, Option, Some, if◌then◌else◌, unwrap_or}, lemmas.{Bool.{both_ways, cases_Bool}, Int.{ints, to_z-of_z}, List.Elements.{Contains-push}}}
-use Rattle.kalah_rules.specs.{Position.{Position, HasEqualSides, final_margin, is_over, swapped, swept}, Sowing.{after, moves_again}, Measure.{moves_left}, Play.{legal_houses, position_after, step_of}, declared.step.Step.{Step}}
+use Rattle.std.proofs.{Common.{◌<◌, ◌≤◌, ◌-◌, ◌≡◌, ℕ, zero, suc, List, [], ◌∷◌, ◌++◌, Bool, true, false, inl, inr, of_z, refl, sym, subst, to_z, w32, ap, ◌∙◌, arith, Contains, ℤ, None, Option, Some, if◌then◌else◌, unwrap_or}, lemmas.{Bool.{both_ways, cases_Bool}, Int.{ints, to_z-of_z}}}
+use Rattle.kalah_rules.specs.{Position.{Position, HasEqualSides, is_over, swapped, swept}, Sowing.{after, moves_again}, Measure.{moves_left}, Play.{legal_houses, position_after, step_of}, declared.step.Step.{Step}}
 use Rattle.kalah_rules.proofs.{PlayLemmas.{after_equal_sides, legal_going, row_distance_le, sum-zeros}, PackedLemmas.{is_over-swapped}}
 use Rattle.kalah_rules.specs.declared.step.Step.TheVariants as step
-use Rattle.kalah_solve.specs.{Solver.{BestPlay.{Game, follow, Game.{is_at_end, moves_on, passes_turn}}, Verdict.{IsBestInRange, StatesBestMove, verdict_of}, Worth.{best_house, value_of_move, worth}}, declared.solver.Verdict.TheVariants.{Best, Over}}
+use Rattle.kalah_solve.specs.{Solver.{BestPlay.{Game, follow, Game.{is_at_end, moves_on, passes_turn}}, Verdict.{IsBestInRange, StatesBestMove, verdict_of}, Worth.{best_house, worth}}, declared.solver.Verdict.TheVariants.{Best}}
 use Rattle.kalah_solve.proofs.{SolverLemmas.{a_game_is_played, best_is_strategy, best_plays, game_is_bounded, strategy_within, widened}, WorthLemmas.{final_swapped, value_moving_again, value_passing, again_fewer, over_at_end, swapped_equal_sides, turn_fewer}}
 use Rattle.kalah_cli.specs.{IsNextMove, PlaysBestGames, VariationsEndWithTheirValue, best_game, best_moves, game_played, game_text, move_text, printed_value, MoveForm, MayBegin}
 

@@ -1,9 +1,9 @@
 -- Runs over a disk and a standard input that are known.
-use Rattle.std.proofs.Common.{◌≡◌, ◌≢◌, ◌∷◌, ℕ, List, [], Option, arith, None, Some, ap, inl, inr, length, subst, suc, true, ◌↔◌, IfSome}
+use Rattle.std.proofs.Common.{◌≡◌, ◌≢◌, ◌∷◌, ℕ, List, [], Option, arith, None, Some, ap, inl, inr, length, suc}
 use Rattle.std.specs.Io.KnownBytes.{Appends}
 use Rattle.clap.specs.Words.{Text}
-use Rattle.kalah_jobs.specs.{Asking.{answers_to, are_all_read}, Files.NamedBytes.{NamedBytes}, Writing.Sink.{SinkState}}
-use Rattle.kalah_cli.specs.{AnswersInput, AnswersWhatIsKnown, IsAnswerTo, IsAnswerToLines, Question, DoesWhatIsAsked, AnswersFiles, AreFilesOf, MayBeLeft, known_bytes, ExitStatus, Clean, Failed, about_files, about_input}
+use Rattle.kalah_jobs.specs.{Files.NamedBytes.{NamedBytes}, Writing.Sink.{SinkState}}
+use Rattle.kalah_cli.specs.{AnswersInput, AnswersWhatIsKnown, IsAnswerTo, IsAnswerToLines, Question, DoesWhatIsAsked, AnswersFiles, AreFilesOf, MayBeLeft, known_bytes, ExitStatus, Failed, about_files, about_input}
 
 -- a standard input that may be left is the one that is known
 known_left : (input : List ℕ) (unread : Option (List ℕ)) → MayBeLeft (λ bytes. bytes ≡ input) unread → unread ≡ Some input

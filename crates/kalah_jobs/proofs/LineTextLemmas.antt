@@ -1,5 +1,5 @@
 -- The text of a position is the line that writes it, and is read back.
-use Rattle.std.proofs.{Common.{◌≡◌, ℕ, ◌+◌, ◌<◌, ◌≤◌, List, [], ◌∷◌, ◌++◌, length, refl, sym, ap, ◌∙◌, arith, Result, Ok, Err, append-nil, codes, ap₂, length-append, ◌*◌, lit<, decimal, sum, IfOk, IfErr}, lemmas.{Bool.Decides.{nat_tests}, Fmt.{length-decimal-le}, List.Sums.{sum_by-cons}}}
+use Rattle.std.proofs.{Common.{◌≡◌, ℕ, ◌≤◌, List, [], ◌∷◌, ◌++◌, length, refl, sym, ap, ◌∙◌, arith, Result, Ok, Err, append-nil, codes, ap₂, length-append, ◌*◌, lit<, decimal, sum, IfOk, IfErr}, lemmas.{Bool.Decides.{nat_tests}, Fmt.{length-decimal-le}, List.Sums.{sum_by-cons}}}
 use Rattle.kalah_rules.specs.{Limits.{most_houses, most_in_store}, Position.{Position, IsWithinLimits}}
 use Rattle.kalah_jobs.specs.{most_line_bytes, IsNumber, slash, IsSide, space, suffix_of, without_cr, Reads, HasFault, comma, AreHouses, listed, side_text, line_text_of, EveryLineIsItsText, EveryTextIsReadBack, LineFault, Rule, Classic, EmptyCapture}
 use Rattle.kalah_jobs.proofs.{LineLemmas.{IsReading, without_cr-append}, SideLemmas.{number_has_one_text, number_at_most_99, decimal_writes_number, house_before_others}}

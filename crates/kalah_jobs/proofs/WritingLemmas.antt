@@ -1,5 +1,5 @@
 -- The output of a batch: what it is by its files and by its jobs, and in parts.
-use Rattle.std.proofs.{Common.{zero-add, ℕ, ◌<◌, length, arith, ◌≡◌, suc, List, ◌++◌, sym, refl, ◌+◌, [], ap, ◌∙◌, ◌∷◌, map, get_or, flat_map, cond, append-nil, ◌-◌, length-append, ap₂, inl, inr, sum_by, count_by}, lemmas.{Bool.{cases_eq}, Grind.{flat_map-append}, List.Sums.{sum_by-cons, sum_by-append}}}
+use Rattle.std.proofs.{Common.{zero-add, ℕ, ◌<◌, length, arith, ◌≡◌, suc, List, ◌++◌, sym, refl, ◌+◌, [], ap, ◌∙◌, ◌∷◌, map, get_or, flat_map, cond, append-nil, length-append, ap₂, inl, inr, sum_by, count_by}, lemmas.{Bool.{cases_eq}, Grind.{flat_map-append}, List.Sums.{sum_by-cons, sum_by-append}}}
 use Rattle.std.specs.List.{enumerate_from}
 use Rattle.kalah_jobs.specs.{entry_to, is_faulty, is_faulty_entry, entries_to, jobs_to, lines_in, line_feed, lines_of, EndsWithItsLine, NamedBytes, BestMove, Taken, Question, Tally, answer_of, answer_output, line_output, file_output, output_to, tally_of, text_of_line, text_of_file, taken_output, names_of, FilesAreTheirJobs, OutputSplitsByFiles, FilesSplitBetweenLines}
 use Rattle.kalah_jobs.proofs.{FileLinesLemmas.{lines_of-feed, lines_of-byte, length-lines_of}, FilesLemmas.{all_entries, length-job_list, job_count-jobs_to, asked_fault, faulty_jobs}, ListLemmas.{count_map, onto_first-append, enumerate_from-append}}

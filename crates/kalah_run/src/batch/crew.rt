@@ -1,4 +1,4 @@
-//! How the workers of a batch work, each on a thread.
+//! How the workers of a batch are run, on as many threads as can be started.
 ghost use Rattle.kalah_run.specs.Batch.AtWork.{HasRun, IsAtWork};
 
 use crate::batch::gate::Gate;

@@ -1,5 +1,4 @@
-use Rattle.std.proofs.Common.{refl, subst, sym}
-use Rattle.kalah_jobs.specs.Line.Line.{Reads}
+use Rattle.std.proofs.Common.{refl}
 use Rattle.kalah_cli.proofs.EndsLemmas.{line_answered, line_refused, line_unread}
 use Rattle.kalah_cli.proofs.commands.line_command.run_line.Goals as goal
 

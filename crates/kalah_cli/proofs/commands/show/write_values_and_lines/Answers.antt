@@ -1,9 +1,9 @@
 -- The picture, the line of values and the lines that are asked for are given in turn. If the picture fails, a prefix of all was given.
-use Rattle.std.proofs.Common.{◌≡◌, ◌∷◌, [], ◌++◌, ◌∙◌, Bool, ap, append_assoc, refl, subst, sym, false}
+use Rattle.std.proofs.Common.{◌≡◌, ◌∷◌, [], ◌++◌, ◌∙◌, Bool, ap, append_assoc, sym, false}
 use Rattle.kalah_rules.specs.Position.{Position}
 use Rattle.kalah_jobs.specs.{Files.Lines.{line_feed}, Writing.{Sink.{WasGiven}, Picture.{picture_of}, ValuesLine.{shown_of, values_line}}}
 use Rattle.kalah_jobs.proofs.SinkLemmas.{given_more_after_failure, given_none, given_then}
-use Rattle.kalah_cli.specs.{IsPrinted, lines_asked, show_output}
+use Rattle.kalah_cli.specs.{lines_asked, show_output}
 use Rattle.kalah_cli.proofs.{EndsLemmas.{printed_flushed}, GameSolverLemmas.{variations_begin}, commands.show.write_values_and_lines.Goals.{else-lines, then-lines}}
 use Rattle.kalah_cli.proofs.commands.show.write_values_and_lines.Goals as goal
 

@@ -1,5 +1,5 @@
 -- The move of a rank is one of those with values, so it is legal. Its line is its house and value, and the game from the position after it.
-use Rattle.std.proofs.{Common.{◌≡◌, ◌∷◌, [], ◌∙◌, ℕ, List, Some, IfSome, ◌==◌, ap, refl, subst, sym, Contains}, lemmas.List.Elements.{All-contains_itself, All-map, recursion_from_All}}
+use Rattle.std.proofs.{Common.{◌≡◌, ◌∙◌, ℕ, List, Some, IfSome, ◌==◌, ap, refl, subst, sym, Contains}, lemmas.List.Elements.{All-contains_itself, All-map, recursion_from_All}}
 use Rattle.kalah_rules.specs.{Position.{Position}, Play.{legal_houses, position_after}}
 use Rattle.kalah_solve.specs.{Solver.MoveValues.{move_value, values_of}, declared.solver.move_values.MoveValue.{MoveValue}}
 use Rattle.kalah_cli.{specs.{move_of_rank, rank_in}, proofs.{ClapWalkLemmas.{found_all}, GameSolverLemmas.{variation_is_reached}}}

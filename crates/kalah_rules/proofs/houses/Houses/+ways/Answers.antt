@@ -1,5 +1,5 @@
 -- Each round adds the ways that begin with one more legal house.
-use Rattle.std.proofs.{Common.{arith, inl, inr, sym, ◌≡◌, ◌+◌, ◌-◌, ◌∙◌, if◌then◌else◌}, lemmas.Bool.Decides.{nat_tests}}
+use Rattle.std.proofs.{Common.{arith, inl, inr, sym, ◌≡◌, ◌+◌, ◌-◌, ◌∙◌}, lemmas.Bool.Decides.{nat_tests}}
 use Rattle.kalah_rules.{specs.{storeless, HoldsSeeds}, proofs.houses.Houses.+ways.Goals.{ways-then-own-gt0, ways-else-own-gt0}}
 use Rattle.kalah_rules.proofs.{PlayLemmas.{holds_legal, legal_holds}, WaysLemmas.{ways_none, ways_over, ways_by_step, before_none, before_more, before_same, before_all, before_small, power_fits}}
 use Rattle.kalah_rules.proofs.houses.Houses.+ways.Goals as goal
