@@ -15,6 +15,8 @@ CHANGELOG = "CHANGELOG.md"
 ADDED = {"docs/CALLING.md": {"may_wait", "tests_may"}}
 # What stands for the name of a file, and a file that the reader makes.
 FORMS = {"MODULE.edits", "NAME.edits", "array.sh"}
+# A comment of a line, in any of the languages.
+COMMENT = re.compile(r"(?m)(?:^|(?<=\s))(?://|--|#(?!\[)).*$")
 # Where an implementation or a trait begins, and where a function begins.
 ROOT = re.compile(r"(?:impl(?:<[^{]*?>)? (?:\w+(?:<.*?>)? for )?&?|pub trait )(\w+)")
 FUNCTION = re.compile(r"( *)(pub )?(?:const )?fn (\w+)")
@@ -174,13 +176,13 @@ def files_differ():
 
 
 def names_differ():
-    """Each name that a page has in backticks, and that has the form of a lemma, a type or a call, occurs in the sources. Blocks of code
-    don't count, nor does the changelog."""
+    """Each name that a page has in backticks, and that has the form of a lemma, a type or a call, occurs in the code of the sources, not
+    only in comments. Blocks of code of the page don't count, nor does the changelog."""
     kinds = ("*.rt", "*.antt", "*.py", "*.c", "*.js")
     files = [path for top in ("crates", "tests", "examples", "python", "bench") for kind in kinds for path in (TOP / top).rglob(kind)]
     files += [path for path in (TOP / "tests").iterdir() if path.is_file()]
     files.remove(TOP / "tests/lib/sources.py")  # It has the names that are not there.
-    words = set(re.findall(r"\w+", "\n".join(path.read_text() for path in files if "/out/" not in f"{path}")))
+    words = {word for path in files if "/out/" not in f"{path}" for word in re.findall(r"\w+", COMMENT.sub("", path.read_text()))}
     for page in pages():
         name_of_page = f"{page.relative_to(TOP)}"
         prose = re.sub(r"^```(?s:.*?)^```|^    .*$", "", page.read_text(), flags=re.MULTILINE)

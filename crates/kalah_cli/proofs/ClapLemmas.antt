@@ -1,8 +1,16 @@
 -- The rows of a subcommand satisfy its arguments, if a parse by clap has no fault. Nothing here is of Kalah.
-use Rattle.std.proofs.{Common.{IfSome, find, slice_get, option_and_then, option_map, bytes_eq, ◌≡◌, Bool, true, false, refl, List, [], ◌∷◌, Option, None, Some, is_some, ap, arith, ◌&&◌, ◌∙◌, not}, lemmas.Slice.Eq.{bytes_eq-Decides}}
+use Rattle.std.proofs.Common.{IfSome, find, slice_get, option_and_then, option_map, bytes_eq, ◌≡◌, Bool, true, false, refl, List, [], ◌∷◌}
+use Rattle.std.proofs.Common.{Option, None, Some, is_some, ap, arith, ◌&&◌, ◌∙◌, not}
+use Rattle.std.proofs.lemmas.Slice.Eq.{bytes_eq-Decides}
 use Rattle.std.specs.{List.{AllByRecursion as AllOf}, Option.{option_map_or}}
-use Rattle.clap.specs.{Facts.{parser_of_value, explicit_source}, Kinds.{check_kinds}, Values.{Accepts}, Walk.{Row, Rule, Text, arg_by_id, nothing_held, reading_by, rows_after, settled, walk, walk_from, answers_to, row_text}, Simple.{Shape, App, argument_words, built, entered, label_of, names_of, rows_at, subcommand_of}, Faults.{defaults_fault, level_fault, settle_fault, walk_fault, entered_fault, fault_of}, Takes.{is_given}, declared.builder.value_parser.Reading.TheVariants.{AsWritten}}
-use Rattle.kalah_cli.proofs.ClapWalkLemmas.{Fits, FitsIn, IsUsable, both_none, found_all, found_passes, kept_defaults, kept_settled, kept_walk, none_pass}
+use Rattle.clap.specs.{Facts.{parser_of_value, explicit_source}, Kinds.{check_kinds}, Values.{Accepts}}
+use Rattle.clap.specs.Walk.{Row, Rule, Text, arg_by_id, nothing_held, reading_by, rows_after, settled, walk, walk_from, answers_to}
+use Rattle.clap.specs.Walk.{row_text}
+use Rattle.clap.specs.Simple.{Shape, App, argument_words, built, entered, label_of, names_of, rows_at, subcommand_of}
+use Rattle.clap.specs.{Faults.{defaults_fault, level_fault, settle_fault, walk_fault, entered_fault, fault_of}, Takes.{is_given}}
+use Rattle.clap.specs.declared.builder.value_parser.Reading.TheVariants.{AsWritten}
+use Rattle.kalah_cli.proofs.ClapWalkLemmas.{Fits, FitsIn, IsUsable, both_none, found_all, found_passes, kept_defaults, kept_settled}
+use Rattle.kalah_cli.proofs.ClapWalkLemmas.{kept_walk, none_pass}
 
 -- ---- rows that satisfy arguments
 

@@ -1,7 +1,22 @@
 -- The rows of a walk by clap fit their arguments, if no step has a fault. Nothing here is of Kalah.
-use Rattle.std.proofs.{Common.{IfSome, find, encode_utf8, slice_get, bytes_eq, chars, fold, ◌≡◌, ◌||◌, Bool, cond, true, false, inl, inr, refl, List, [], ◌∷◌, Option, None, Some, ◌++◌, ℕ, zero, suc, ◌<◌, ap, arith, drop, length, nat_lt, ◌&&◌}, lemmas.{Bool.{true_from_ne_false, cases_Bool, cond_both, or_parts, ne_eqb}, Option.{IfSome_then}}}
+use Rattle.std.proofs.Common.{IfSome, find, encode_utf8, slice_get, bytes_eq, chars, fold, ◌≡◌, ◌||◌, Bool, cond, true, false, inl, inr}
+use Rattle.std.proofs.Common.{refl, List, [], ◌∷◌, Option, None, Some, ◌++◌, ℕ, zero, suc, ◌<◌, ap, arith, drop, length, nat_lt, ◌&&◌}
+use Rattle.std.proofs.lemmas.{Bool.{true_from_ne_false, cases_Bool, cond_both, or_parts, ne_eqb}, Option.{IfSome_then}}
 use Rattle.std.specs.{List.{AllByRecursion as AllOf, list_any}, Option.{option_map_or}}
-use Rattle.clap.specs.{Lexer.{long_of, short_of}, Facts.{parser_of_value, unwrap_or_range}, Kinds.{Kinds, or_else, range_kinds, request_kinds}, Values.{Accepts, refused_kind}, Walk.{Held, Outcome, Row, Rule, Step, Text, Waiting, Walk, action_of, after_flag, after_step, arg_by_id, arg_by_index, arg_by_long, arg_by_short, at_row, attached_value, bundle_met, bundle_step, default_rows, done, has_row, is_empty, is_pending, long_met, long_or_other, more_values, most_values, option, option_met, option_word, plain, reacted, reading_by, settled, settled_rows, short_met, short_or_plain, subcommand_met, subcommand_or_other, takes_several, takes_values, to_positional, used_as, used_by_id, value, values_or_missing, waits, walked, walked_from, with_default, with_values, without, word_met}, Simple.{Shape}, Faults.{action_fault, bundle_fault, bundle_step_fault, defaults_fault, flag_word_fault, flags_fault, given_default_fault, long_fault, option_fault, other_fault, positional_fault, react_fault, settle_fault, short_fault, step_fault, stray_fault, turn_fault, use_fault, values_fault, walk_fault, word_fault}, declared.{builder.action.ArgAction.{ArgAction, TheVariants.{Append, Help, Set, SetTrue}}, parser.matches.ValueSource.{ValueSource, TheVariants.{CommandLine, DefaultValue}}}}
+use Rattle.clap.specs.{Lexer.{long_of, short_of}, Facts.{parser_of_value, unwrap_or_range}}
+use Rattle.clap.specs.{Kinds.{Kinds, or_else, range_kinds, request_kinds}, Values.{Accepts, refused_kind}}
+use Rattle.clap.specs.Walk.{Held, Outcome, Row, Rule, Step, Text, Waiting, Walk, action_of, after_flag, after_step, arg_by_id, arg_by_index}
+use Rattle.clap.specs.Walk.{arg_by_long, arg_by_short, at_row, attached_value, bundle_met, bundle_step, default_rows, done, has_row}
+use Rattle.clap.specs.Walk.{is_empty, is_pending, long_met, long_or_other, more_values, most_values, option, option_met, option_word, plain}
+use Rattle.clap.specs.Walk.{reacted, reading_by, settled, settled_rows, short_met, short_or_plain, subcommand_met, subcommand_or_other}
+use Rattle.clap.specs.Walk.{takes_several, takes_values, to_positional, used_as, used_by_id, value, values_or_missing, waits, walked}
+use Rattle.clap.specs.Walk.{walked_from, with_default, with_values, without, word_met}
+use Rattle.clap.specs.Simple.{Shape}
+use Rattle.clap.specs.Faults.{action_fault, bundle_fault, bundle_step_fault, defaults_fault, flag_word_fault, flags_fault}
+use Rattle.clap.specs.Faults.{given_default_fault, long_fault, option_fault, other_fault, positional_fault, react_fault, settle_fault}
+use Rattle.clap.specs.Faults.{short_fault, step_fault, stray_fault, turn_fault, use_fault, values_fault, walk_fault, word_fault}
+use Rattle.clap.specs.declared.builder.action.ArgAction.{ArgAction, TheVariants.{Append, Help, Set, SetTrue}}
+use Rattle.clap.specs.declared.parser.matches.ValueSource.{ValueSource, TheVariants.{CommandLine, DefaultValue}}
 use Rattle.clap.proofs.ValueTestLemmas.{accepts-Accepts}
 
 -- ---- items of lists, and kinds of faults

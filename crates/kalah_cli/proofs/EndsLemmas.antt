@@ -1,10 +1,17 @@
--- How a run ends, and what it has answered: a line, files, or the lines of the standard input.
-use Rattle.std.proofs.{Common.{◌≡◌, ◌≢◌, ◌∙◌, ℕ, List, true, false, refl, sym, subst, [], ◌↔◌, IsErr, Result, Ok, Err, ◌++◌, Bool, Option, ◌∷◌, ap, map, inl, inr, append-nil, IfOk, IsErrOf, None, Some, ◌==◌, if◌then◌else◌}, lemmas.Bool.{both_ways, false_from_ne_true}, KnownBytes.{Keeps-refl}}
+-- How a run ends, and what it has read and answered: a line, files, or the lines of the standard input.
+use Rattle.std.proofs.Common.{◌≡◌, ◌≢◌, ◌∙◌, ℕ, List, true, false, refl, sym, subst, [], ◌↔◌, IsErr, Result, Ok, Err, ◌++◌, Bool, Option}
+use Rattle.std.proofs.Common.{◌∷◌, ap, map, inl, inr, append-nil, IfOk, IsErrOf, None, Some}
+use Rattle.std.proofs.{lemmas.Bool.{both_ways, false_from_ne_true}, KnownBytes.{Keeps-refl}}
 use Rattle.kalah_rules.specs.Position.{Position}
-use Rattle.kalah_jobs.specs.{Line.Line.{Reads}, Writing.{Sink.{SinkState, WasGiven}, Output.{output_to}}, declared.{asking.ask_fault.AskFault.{AskFault, TheVariants.{Read, Write}}, writing.tally.Tally.{Tally}}, Files.NamedBytes.{NamedBytes}, Asking.{IsAnswered, IsBegun, IsCutOff}}
-use Rattle.kalah_jobs.proofs.{LineLemmas.{no_line_reads_twice}, SinkLemmas.{given_then_flush, prefix_none, prefix_then}, AskingLemmas.{begun_so_far, cut_off, nothing_read}}
-use Rattle.kalah_cli.specs.{FailsOrFlushes, IsPrinted, WritesNoPosition, PrintsByStatus, ExitStatus, Failed, LineFaults, Clean, MayPrint, command_output, AreFilesOf, any_bytes, MayBeLeft, Source, Question, LineCommand, Does, AnswersFiles, has_line_feed, AnswersInput, StopsBetweenLines, about_line}
-use Rattle.std.specs.{List.{list_any}, Io.{Buffered.{reader_buffer, reader_capacity, reader_inner, reader_remaining}, KnownBytes.{Consumes, IsAtEnd, prepend_known}}, declared.io.buffered.BufReader.{BufReader}}
+use Rattle.kalah_jobs.specs.{Line.Line.{Reads}, Writing.{Sink.{SinkState, WasGiven}, Output.{output_for}}}
+use Rattle.kalah_jobs.specs.declared.{asking.ask_fault.AskFault.{AskFault, TheVariants.{Read, Write}}, writing.tally.Tally.{Tally}}
+use Rattle.kalah_jobs.specs.{Files.NamedBytes.{NamedBytes}, Asking.{IsAnswered, IsBegun, IsCutOff}}
+use Rattle.kalah_jobs.proofs.{LineLemmas.{no_line_reads_twice}, SinkLemmas.{given_then_flush, prefix_none, prefix_then}}
+use Rattle.kalah_jobs.proofs.AskingLemmas.{begun_so_far, cut_off, nothing_read}
+use Rattle.kalah_cli.specs.{FailsOrFlushes, IsPrinted, WritesNoPosition, PrintsByStatus, ExitStatus, Failed, LineFaults, Clean, MayPrint}
+use Rattle.kalah_cli.specs.{command_output, AreFilesOf, any_bytes, MayBeLeft, Source, Question, LineCommand, Does, AnswersFiles}
+use Rattle.kalah_cli.specs.{has_line_feed, AnswersInput, StopsBetweenLines, about_line}
+use Rattle.std.specs.{List.{list_any}, Io.KnownBytes.{Consumes, IsAtEnd}}
 use Rattle.kalah_run.specs.{Batch.Answering.{AnswersAll, AnswersBatch}, declared.batch.run_fault.RunFault.{RunFault}}
 use Rattle.kalah_run.specs.declared.batch.run_fault.RunFault.TheVariants as fault
 
@@ -88,7 +95,7 @@ module _ {O : Type 0} (state : O → SinkState) {status : ExitStatus} where
       λ p reads. absurd (unread p reads),
     )
 
--- ---- what is answered of files
+-- ---- what is read and answered of files
 
 -- bytes that are all that a reader had left
 pub read_whole : (may_give : List ℕ → Type 0) (old new : Option (List ℕ)) (bytes : List ℕ) → MayBeLeft may_give old
@@ -125,7 +132,7 @@ module _ {O : Type 0} (state : O → SinkState) {status : ExitStatus} {may_give 
 
   module _ {old new : O} (files : List NamedBytes) (read : AreFilesOf may_give names files) where
     -- each line was answered
-    pub files_answered : {tally : Tally} → AnswersAll state (output_to question files) files old new tally
+    pub files_answered : {tally : Tally} → AnswersAll state (output_for question files) files old new tally
         → list_any has_line_feed names ≡ false → status ≢ Failed → (status ≡ Clean) ↔ (tally.faults ≡ 0)
         → AnswersFiles state old new status may_give question names
     files_answered answered no_line_feed not_failed clean = record {
@@ -146,7 +153,7 @@ module _ {O : Type 0} (state : O → SinkState) {status : ExitStatus} {may_give 
     }
 
     -- the batch failed
-    pub files_failed : (cause : RunFault) → AnswersBatch state (output_to question files) files old new (Err cause) → status ≡ Failed
+    pub files_failed : (cause : RunFault) → AnswersBatch state (output_for question files) files old new (Err cause) → status ≡ Failed
         → (state old).has_failed ≡ false → AnswersFiles state old new status may_give question names
     files_failed fault.Write answered failed sound = record {
       files = files;
@@ -166,19 +173,6 @@ module _ {O : Type 0} (state : O → SinkState) {status : ExitStatus} {may_give 
         rw unchanged (files_refused failed sound)
 
 -- ---- what `ask` has answered
-
--- a reader that reads ahead has at first all that the other has
-pub all_unread : {T A : Type 0} (remaining : T → Option (List ℕ)) (r : BufReader T A) (inner : T) → reader_inner r ≡ inner
-    → reader_buffer r ≡ [] → reader_capacity r ≡ 8192 → remaining inner ≡ reader_remaining remaining r
-all_unread {T} {A} remaining r inner same_reader empty capacity =
-    sym (ap (λ n. if n == 0 then None else prepend_known (reader_buffer r) (remaining r.inner)) capacity
-    ∙ ap (λ l. prepend_known l (remaining r.inner)) empty
-    ∙ none_before (remaining r.inner)
-    ∙ ap remaining same_reader)
-  where
-    none_before : (known : Option (List ℕ)) → prepend_known [] known ≡ known
-    none_before None = refl
-    none_before (Some xs) = refl
 
 -- nothing was read
 pub stops_at_once : (question : Question) (old : Option (List ℕ)) → StopsBetweenLines question old old

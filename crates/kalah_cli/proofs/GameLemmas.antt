@@ -1,15 +1,19 @@
 -- The game of best play, move by move.
-use Rattle.std.proofs.{Common.{◌<◌, ◌≤◌, ◌-◌, ◌≡◌, ℕ, zero, suc, List, [], ◌∷◌, ◌++◌, Bool, true, false, inl, inr, of_z, refl, sym, subst, to_z, w32, ap, ◌∙◌, arith, Contains, ℤ, None, Option, Some, if◌then◌else◌, unwrap_or}, lemmas.{Bool.{both_ways, cases_Bool}, Int.{ints, to_z-of_z}}}
-use Rattle.kalah_rules.specs.{Position.{Position, HasEqualSides, is_over, swapped, swept}, Sowing.{after, moves_again}, Measure.{moves_left}, Play.{legal_houses, position_after, step_of}, declared.step.Step.{Step}}
-use Rattle.kalah_rules.proofs.{PlayLemmas.{after_equal_sides, legal_going, row_distance_le, sum-zeros}, PackedLemmas.{is_over-swapped}}
+use Rattle.std.proofs.Common.{◌<◌, ◌≤◌, ◌-◌, ◌≡◌, ℕ, zero, suc, List, [], ◌∷◌, ◌++◌, Bool, true, false, inl, inr, of_z, refl, sym, subst}
+use Rattle.std.proofs.Common.{to_z, w32, ap, ◌∙◌, arith, Contains, ℤ, None, Option, Some, if◌then◌else◌, unwrap_or}
+use Rattle.std.proofs.lemmas.{Bool.{both_ways, cases_Bool}, Int.{ints, to_z-of_z}}
+use Rattle.kalah_rules.specs.{Position.{Position, HasEqualSides, is_over, swapped, swept}, Sowing.{after, moves_again}}
+use Rattle.kalah_rules.specs.{Measure.{moves_left}, Play.{legal_houses, position_after, step_of}, declared.step.Step.{Step}}
+use Rattle.kalah_rules.proofs.{PlayLemmas.{after_equal_sides, legal_going, row_distance_le, sum-zeros}, StepLemmas.{is_over-swapped}}
 use Rattle.kalah_rules.specs.declared.step.Step.TheVariants as step
-use Rattle.kalah_solve.specs.{Solver.{BestPlay.{Game, follow, Game.{is_at_end, moves_on, passes_turn}}, Verdict.{IsBestInRange, StatesBestMove, verdict_of}, Worth.{best_house, worth}}, declared.solver.Verdict.TheVariants.{Best}}
-use Rattle.kalah_solve.proofs.{SolverLemmas.{a_game_is_played, best_is_strategy, best_plays, game_is_bounded, strategy_within, widened}, WorthLemmas.{final_swapped, value_moving_again, value_passing, again_fewer, over_at_end, swapped_equal_sides, turn_fewer}}
-use Rattle.kalah_cli.specs.{IsNextMove, PlaysBestGames, VariationsEndWithTheirValue, best_game, best_moves, game_played, game_text, move_text, printed_value, MoveForm, MayBegin}
-
--- both players always move the lowest best house
-abbrev pub BestGame : Position → List ℕ → Position → Type 0
-BestGame p houses final = Game (follow best_house) (follow best_house) p houses final
+use Rattle.kalah_solve.specs.Solver.BestPlay.{Game, Game.{is_at_end, moves_on, passes_turn}}
+use Rattle.kalah_solve.specs.Solver.{Verdict.{IsBestInRange, StatesBestMove, verdict_of}, Worth.{best_house, worth}}
+use Rattle.kalah_solve.specs.declared.solver.Verdict.TheVariants.{Best}
+use Rattle.kalah_solve.proofs.SolverLemmas.{strategies_play_a_game, best_is_strategy, best_plays, game_is_bounded, strategy_within, widened}
+use Rattle.kalah_solve.proofs.WorthLemmas.{final_swapped, value_moving_again, value_passing, again_fewer, over_at_end, swapped_equal_sides}
+use Rattle.kalah_solve.proofs.WorthLemmas.{turn_fewer}
+use Rattle.kalah_cli.specs.{IsPlayedBest, IsNextMove, PlaysBestGames, VariationsEndWithTheirValue, best_game, best_moves, game_played}
+use Rattle.kalah_cli.specs.{game_text, move_text, printed_value, MoveForm, MayBegin}
 
 -- the solver's verdict has the worth and the best house, if the game goes on
 best_of_verdict : (p : Position) (margin : ℤ) (house : ℕ) → is_over p ≡ false → Best margin house ≡ verdict_of p
@@ -102,11 +106,11 @@ module _ {form : MoveForm} {first : Option ℕ} {p : Position} {value : Option �
   next_text = rw (next.shown, step_is)
 
   -- the text of a game is that of its next move, and the text from the position after it on
-  pub text_goes_on : {of_move of_rest : MoveForm} {q : Position} → HasEqualSides p → of_move ≡ form → of_rest ≡ form → q ≡ position_after s
-      → game_text form p (game_played first p) ≡ move_text of_move value h s ++ game_text of_rest q (best_game q)
-  text_goes_on equal of_move_is of_rest_is after_move =
+  pub text_goes_on : {same : MoveForm} {q : Position} → HasEqualSides p → same ≡ form → q ≡ position_after s
+      → game_text form p (game_played first p) ≡ move_text same value h s ++ game_text same q (best_game q)
+  text_goes_on equal form_is after_move =
       let played = played_next first p h equal (legal_going p h next.legal) next.house in
-      rw (of_move_is, of_rest_is, after_move, next.shown, step_is, played)
+      rw (form_is, after_move, next.shown, step_is, played)
 
 -- if it is over, it has none
 pub no_text : (form : MoveForm) (first : Option ℕ) (p : Position) → MayBegin first p → is_over p ≡ true
@@ -153,7 +157,7 @@ best_then p {h} equal going chosen again rest =
     ∙ sym (game_goes_on p equal going)
 
 -- a game of the lowest best houses has these moves
-game_is_best : {p : Position} {houses : List ℕ} {final : Position} → HasEqualSides p → BestGame p houses final → houses ≡ best_game p
+game_is_best : {p : Position} {houses : List ℕ} {final : Position} → HasEqualSides p → IsPlayedBest p houses final → houses ≡ best_game p
 game_is_best {p} equal (is_at_end over) = sym (no_best_moves _ p over)
 game_is_best {p} equal (moves_on {h = h} going chosen again rest) =
     best_then p equal going chosen again (game_is_best (after_equal_sides p h) rest)
@@ -161,45 +165,39 @@ game_is_best {p} equal (passes_turn {h = h} going chosen turn rest) =
     best_then p equal going chosen turn (game_is_best (swapped_equal_sides _ (after_equal_sides p h)) rest)
 
 -- such a game is played, and ends with the margin of best play
-pub plays_best : PlaysBestGames
-plays_best p equal =
-    let game = a_game_is_played best_house best_house best_is_strategy best_is_strategy p equal in
+pub plays_best_games : PlaysBestGames
+plays_best_games p equal =
+    let game = strategies_play_a_game best_house best_house best_is_strategy best_is_strategy p equal in
     let keeps = strategy_within best_is_strategy in
     let bounded = game_is_bounded keeps keeps equal game.2 in (
       game.1,
-      record {
-        game = subst (λ houses. BestGame p houses game.1) (game_is_best equal game.2) game.2;
-        margin = omega (ints, arith, bounded.low best_plays, bounded.high best_plays);
-      },
+      subst (λ houses. IsPlayedBest p houses game.1) (game_is_best equal game.2) game.2,
+      omega (ints, arith, bounded.low best_plays, bounded.high best_plays),
     )
 
 -- ---- the law on variations
 
 -- a game of the best houses is one by the rules
-by_rules : {p : Position} {houses : List ℕ} {final : Position} → HasEqualSides p → best_game p ≡ houses → BestGame p (best_game p) final
+by_rules : {p : Position} {houses : List ℕ} {final : Position} → HasEqualSides p → best_game p ≡ houses → IsPlayedBest p (best_game p) final
     → Game legal_houses legal_houses p houses final
 by_rules {p} {final = final} equal same game = subst (λ houses. Game legal_houses legal_houses p houses final) same
     (widened (strategy_within best_is_strategy) (strategy_within best_is_strategy) equal game)
 
 -- with a move in front it ends with the value of that move
-pub variations_end : VariationsEndWithTheirValue
-variations_end p h equal legal = elim (cases_Bool (moves_again p h)) [
+pub variations_end_with_their_value : VariationsEndWithTheirValue
+variations_end_with_their_value p h equal legal = elim (cases_Bool (moves_again p h)) [
   | inl again ↦
       let same_sides = after_equal_sides p h in
-      let best = plays_best (after p h) same_sides in (
+      let best = plays_best_games (after p h) same_sides in (
         best.0,
-        record {
-          game = moves_on (legal_going p h legal) legal again (by_rules same_sides (rest_of p h again) best.1.game);
-          margin = best.1.margin ∙ sym (value_moving_again p h again);
-        },
+        moves_on (legal_going p h legal) legal again (by_rules same_sides (rest_of p h again) best.1),
+        best.2 ∙ sym (value_moving_again p h again),
       )
   | inr turn ↦
       let same_sides = swapped_equal_sides (after p h) (after_equal_sides p h) in
-      let best = plays_best (swapped (after p h)) same_sides in (
+      let best = plays_best_games (swapped (after p h)) same_sides in (
         swapped best.0,
-        record {
-          game = passes_turn (legal_going p h legal) legal turn (by_rules same_sides (rest_of p h turn) best.1.game);
-          margin = omega (arith, ints, final_swapped best.0, best.1.margin, value_passing p h turn);
-        },
+        passes_turn (legal_going p h legal) legal turn (by_rules same_sides (rest_of p h turn) best.1),
+        omega (arith, ints, final_swapped best.0, best.2, value_passing p h turn),
       )
 ]

@@ -74,10 +74,10 @@ module _ {O : Type 0} (state : O → SinkState) where
       go (reached_by_move o q h before given) flushed = reached_by_move o q h before (given_then_flush state given flushed)
 
     -- the next position is reached, once its move was given
-    pub next_is_reached : {now : GameStart O} {form : MoveForm} {first : Option ℕ} {value : Option ℤ} {h : ℕ} {s : Step} {q : Position}
-        → form ≡ game.form → IsNextMove game.form first p value h → s ≡ step_of p h → q ≡ position_after s → now ≡ game
-        → WasGiven state between new (move_text form value h s) → IsReached state now new q
-    next_is_reached {form} {first} {value} {h} {s} form_is next step_is after_move same_game given =
-        let text : move_text form value h s ≡ move_text game.form (printed_value game.form (worth p)) h (step_of p h) =
-        ap (λ f. move_text f value h s) form_is ∙ next_text next step_is in
+    pub next_is_reached : {now : GameStart O} {first : Option ℕ} {value : Option ℤ} {h : ℕ} {s : Step} {q : Position} → now ≡ game
+        → IsNextMove game.form first p value h → s ≡ step_of p h → q ≡ position_after s
+        → WasGiven state between new (move_text now.form value h s) → IsReached state now new q
+    next_is_reached {now} {first} {value} {h} {s} same_game next step_is after_move given =
+        let text : move_text now.form value h s ≡ move_text game.form (printed_value game.form (worth p)) h (step_of p h) =
+        ap (λ begun. move_text begun.form value h s) same_game ∙ next_text next step_is in
         rw (same_game, after_move, step_is) (reached_by_move between p h reached (subst (WasGiven state between new) text given))

@@ -1,10 +1,18 @@
 -- What arguments are accepted, and the request that they make.
-use Rattle.std.proofs.{Common.{is_some, ◌≡◌, ◌⊎◌, ◌≤◌, ℕ, true, refl, ap, subst, inl, inr, List, Some, codes, arith, ◌∙◌, ◌<◌, ◌^◌, Bool, false, Option, None, map, sym, [], ◌∷◌, IfSome, option_map, unwrap_or, bytes_eq, Bor}, lemmas.{Option.{IfSome_then, same_Some}, Bool.{and_parts, false_from_ne_true, ne_eqb}, Slice.Eq.{bytes_eq-Decides}}}
+use Rattle.std.proofs.Common.{is_some, ◌≡◌, ◌⊎◌, ◌≤◌, ℕ, true, refl, ap, subst, inl, inr, List, Some, codes, arith, ◌∙◌, ◌<◌, ◌^◌, Bool}
+use Rattle.std.proofs.Common.{false, Option, None, map, sym, [], ◌∷◌, IfSome, option_map, unwrap_or, bytes_eq, Bor}
+use Rattle.std.proofs.lemmas.{Option.{IfSome_then, same_Some}, Bool.{and_parts, false_from_ne_true, ne_eqb}, Slice.Eq.{bytes_eq-Decides}}
 use Rattle.std.specs.{List.{AllByRecursion as AllOf}, Str.Parse.{ExplainsUnsignedError, HasUnsignedDigitsIfOk, ParsesBool, ParsesUnsigned}}
-use Rattle.clap.specs.{Facts.{parser_of_value}, Words.{Accepts, Row, Rule, Text, reading_of, IsUnsignedIn, ReadsOne, all_of, matched_of, one_of, one_text, raw_values, rows_of, App, HasKind, fault_of, is_simple, is_simple_and_free, subcommand_of}, Simple.{Shape, built, filled, with_index}, declared.{builder.value_parser.ValueParser.TheVariants.{Unsigned}, parser.matches.Found.{Found}, error.Error.{Error}}}
+use Rattle.clap.specs.Facts.{parser_of_value}
+use Rattle.clap.specs.Words.{Accepts, Row, Rule, Text, reading_of, IsUnsignedIn, ReadsOne, all_of, matched_of, one_of, one_text, raw_values}
+use Rattle.clap.specs.Words.{rows_of, App, HasKind, fault_of, is_simple, is_simple_and_free, subcommand_of}
+use Rattle.clap.specs.Simple.{Shape, built, filled, with_index}
+use Rattle.clap.specs.declared.{builder.value_parser.ValueParser.TheVariants.{Unsigned}, parser.matches.Found.{Found}, error.Error.{Error}}
 use Rattle.clap.proofs.{OnLiterals.{clap_on_literals}, WalkLemmas.{one_text-rows, raw_values-rows}}
-use Rattle.kalah_cli.specs.{file_rule, kalah_app, table_rule, workers_rule, AreMatches, MayHaveNumber, name_of_question, number_written, is_set, number_given, Task, IsAcceptedAs, Question, BestMove, Steps, Values, Moves, IsNoFlag, about_line}
-use Rattle.kalah_cli.proofs.ClapLemmas.{Given, IsUsableIn, SatisfyAll, accepted_satisfies, arg_in, required_is_given, row_by_id, text_is_accepted}
+use Rattle.kalah_cli.specs.{file_rule, kalah_app, table_rule, workers_rule, AreMatches, MayHaveNumber, name_of_question, number_written}
+use Rattle.kalah_cli.specs.{is_set, number_given, Task, IsAcceptedAs, Question, BestMove, Steps, Values, Moves, IsNoFlag, about_line}
+use Rattle.kalah_cli.proofs.ClapLemmas.{Given, IsUsableIn, SatisfyAll, accepted_satisfies, arg_in, required_is_given, row_by_id}
+use Rattle.kalah_cli.proofs.ClapLemmas.{text_is_accepted}
 use Rattle.kalah_rules.specs.Position.{Position}
 use Rattle.kalah_jobs.specs.Line.{Line.{Reads, without_cr}, Reading.{side_at, position_of_text}}
 use Rattle.kalah_jobs.proofs.LineLemmas.{empty_is_no_line, line_is_read}

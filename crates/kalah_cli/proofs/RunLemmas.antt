@@ -1,7 +1,7 @@
 -- What a run promises of its arguments.
 use Rattle.std.proofs.{Common.{◌≡◌, ◌≢◌, ◌∙◌, ℕ, List, true, false, sym, subst, inl, inr}, lemmas.Bool.{false_from_ne_true}}
 use Rattle.kalah_jobs.specs.Writing.Sink.{SinkState}
-use Rattle.kalah_cli.specs.{FailsOrFlushes, FailsWithoutOutput, ExitStatus, Failed, LineFaults, Clean, Source, StopsBetweenLines, kalah_app, Task, DoesNotAskFor, IsAcceptedAs, Question, Moves, Does, DoesWhatIsAsked, NeedsNoInput, MovesByItsArguments, EndsWithoutRequest, version_line, about_line, about_files, about_input, conflict}
+use Rattle.kalah_cli.specs.{FailsOrFlushes, FailsWithoutOutput, ExitStatus, Failed, LineFaults, Clean, Source, kalah_app, Task, DoesNotAskFor, IsAcceptedAs, Moves, Does, KeepsPromises, DoesWhatIsAsked, NeedsNoInput, MovesByItsArguments, version_line, about_line, about_files, about_input, conflict}
 use Rattle.std.specs.Io.KnownBytes.{Appends}
 use Rattle.clap.specs.{Words.{HasKind, IsAmong, Text, fault_of, kind_of}, declared.error.{Error.{Error}, kind.ErrorKind.{ErrorKind, TheVariants.{DisplayHelp, DisplayVersion, OutOfMemory}}}}
 use Rattle.kalah_cli.proofs.{RequestLemmas.{moves_accepted, accepted_at, accepted_once, read_is_no_flag}, EndsLemmas.{ends_unchanged, stops_at_once}}
@@ -40,19 +40,6 @@ kind_not_asked_for k arguments e other has_kind unasked = λ asked.
 
 -- ---- what a run promises of its arguments
 
-module _ {O : Type 0} (state : O → SinkState) (arguments : List Text) (may_give : Source → List ℕ → Type 0) (old new : O)
-    (status : ExitStatus) where
-  -- what is promised of every run, but for what follows from these
-  pub record KeepsPromises : Type 0 where
-    pub accepted : DoesWhatIsAsked state old new status may_give arguments
-    pub no_request : EndsWithoutRequest state arguments old new status
-    pub failed : (state new).has_failed ≡ true → status ≡ Failed
-    pub unchanged : ((task : Task) → IsAcceptedAs arguments task → NeedsNoInput task) → status ≡ Failed
-        → (state new).has_failed ≡ false → new ≡ old
-    pub stopped : (question : Question) (table_entries : ℕ) → IsAcceptedAs arguments (about_input question table_entries) → status ≡ Failed
-        → (state new).has_failed ≡ false → StopsBetweenLines question (state old).written (state new).written
-    pub all_flushed : status ≢ Failed → (state old).is_flushed ≡ true → (state new).is_flushed ≡ true
-
 module _ {O : Type 0} {state : O → SinkState} {arguments : List Text} {may_give : Source → List ℕ → Type 0} {old new : O}
     {status : ExitStatus} where
   -- what is promised of arguments that are accepted covers those of `moves`
@@ -76,8 +63,10 @@ module _ {O : Type 0} {state : O → SinkState} {arguments : List Text} {may_giv
   run_of_request {b} sound accepted_as done =
       let does : (a : Task) → IsAcceptedAs arguments a → Does state old new status may_give a =
       λ a also_as. rw (accepted_once arguments b a accepted_as also_as) at done in
+      let accepted : DoesWhatIsAsked state old new status may_give arguments = λ a also_as. inl (does a also_as) in
       record {
-        accepted = λ a also_as. inl (does a also_as);
+        accepted = accepted;
+        by_arguments = by_arguments accepted;
         no_request = record {
           usage = λ faulty. absurd (faulty accepted_as.0);
           version = λ faulty. absurd (faulty accepted_as.0);
@@ -104,8 +93,10 @@ module _ {O : Type 0} {state : O → SinkState} {arguments : List Text} {may_giv
       (kind_not_asked_for DisplayVersion arguments error (λ e. cc) has_kind no_version) in
       let fails : (a : Task) → IsAcceptedAs arguments a → FailsWithoutOutput old new status =
       λ a accepted_as. without_output (subst (IsAmong DisplayHelp) accepted_as.0) (subst (IsAmong DisplayVersion) accepted_as.0) in
+      let accepted : DoesWhatIsAsked state old new status may_give arguments = λ a accepted_as. inr (fails a accepted_as) in
       record {
-        accepted = λ a accepted_as. inr (fails a accepted_as);
+        accepted = accepted;
+        by_arguments = by_arguments accepted;
         no_request = record {
           usage = λ _. without_output;
           version = λ _ no_help. version (kind_not_asked_for DisplayHelp arguments error (λ e. cc) has_kind no_help);

@@ -1,9 +1,9 @@
 -- What the program does for each request.
-use Rattle.std.specs.{Prelude.{◌≡◌, ◌≢◌, ◌++◌, ◌∷◌, ◌⊎◌, ℕ, List, [], Option, codes, false, ⊤}, Io.KnownBytes.{Appends}}
+use Rattle.std.specs.{Prelude.{◌≡◌, ◌≢◌, ◌++◌, ◌∷◌, ◌⊎◌, ℕ, List, [], Option, codes, false, true, ⊤}, Io.KnownBytes.{Appends}}
 use Rattle.clap.specs.{Words.{Text}, declared.error.kind.ErrorKind.TheVariants.{DisplayHelp, DisplayVersion}}
 use Rattle.kalah_rules.specs.Position.{Position}
 use Rattle.kalah_jobs.specs.{Files.Lines.{line_feed}, Line.Line.{Reads}, Writing.Sink.{SinkState}}
-use Rattle.kalah_cli.specs.{Commands.{LineCommand.{MayPrint, command_output}, Moves.{moves_output}, Ask.{AnswersInput}, Files.{AnswersFiles}, Printing.{PrintsForLine, WritesNoPosition}}, Arguments.Request.{Task, DoesNotAskFor, MakesNoRequest, IsAcceptedAs, Question, about_line, about_files, about_input, conflict}, System.Sources.{MayBeLeft, Source, standard_input}, Exit.{Ends.{FailsWithoutOutput}, Status.{ExitStatus, Clean, LineFaults, Failed}}}
+use Rattle.kalah_cli.specs.{Commands.{LineCommand.{MayPrint, command_output}, Moves.{moves_output}, Ask.{AnswersInput, StopsBetweenLines}, Files.{AnswersFiles}, Printing.{PrintsForLine, WritesNoPosition}}, Arguments.Request.{Task, DoesNotAskFor, MakesNoRequest, IsAcceptedAs, Question, about_line, about_files, about_input, conflict}, System.Sources.{MayBeLeft, Source, standard_input}, Exit.{Ends.{FailsWithoutOutput}, Status.{ExitStatus, Clean, LineFaults, Failed}}}
 
 -- nothing is asked of the standard input
 abbrev pub NeedsNoInput : Task → Type 0
@@ -62,3 +62,22 @@ module _ {O : Type 0} (state : O → SinkState) (arguments : List Text) (old new
         → Appends (state old).written (state new).written version_line
     -- they have no line
     pub no_line : MakesNoRequest arguments → status ≢ LineFaults
+
+-- What a run promises of its arguments, of what its sources may give, and of its output before and after it.
+module _ {O : Type 0} (state : O → SinkState) (arguments : List Text) (may_give : Source → List ℕ → Type 0) (old new : O)
+    (status : ExitStatus) where
+  pub record KeepsPromises : Type 0 where
+    -- Arguments that make a request: the program does what they ask for (if it fails, in part), or fails and writes nothing.
+    pub accepted : DoesWhatIsAsked state old new status may_give arguments
+    -- The same of `moves LINE`, named by its words.
+    pub by_arguments : MovesByItsArguments state arguments old new status
+    -- Arguments that make no request: the program prints help or the version, or fails.
+    pub no_request : EndsWithoutRequest state arguments old new status
+    -- Any arguments: if a write fails, the program fails. If it fails for another cause, it writes nothing, except for answers of `ask`.
+    pub failed : (state new).has_failed ≡ true → status ≡ Failed
+    pub unchanged : ((task : Task) → IsAcceptedAs arguments task → NeedsNoInput task) → status ≡ Failed
+        → (state new).has_failed ≡ false → new ≡ old
+    pub stopped : (question : Question) (entries : ℕ) → IsAcceptedAs arguments (about_input question entries) → status ≡ Failed
+        → (state new).has_failed ≡ false → StopsBetweenLines question (state old).written (state new).written
+    -- If it doesn't fail, all that it writes is flushed.
+    pub all_flushed : status ≢ Failed → (state old).is_flushed ≡ true → (state new).is_flushed ≡ true

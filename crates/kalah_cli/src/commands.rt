@@ -4,6 +4,7 @@ pub(crate) mod count;
 pub(crate) mod files;
 pub(crate) mod game;
 pub(crate) mod game_solver;
+pub(crate) mod laws;
 pub(crate) mod line_command;
 pub(crate) mod moves;
 pub(crate) mod play;

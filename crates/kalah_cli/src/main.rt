@@ -11,7 +11,6 @@ mod tests;
 
 use exit::failure::{Failure, report_end};
 use exit::status::ExitStatus;
-use kalah_run::RunFault;
 use run::run_words;
 use std::io::{BufWriter, ErrorKind};
 use std::process::ExitCode;
@@ -24,9 +23,9 @@ fn arguments_of(rt: &HostRuntime) -> Result<Vec<String>, Failure<'static>> {
     match env::args(rt) {
         Ok(arguments) => arguments
             .collect(rt.alloc())
-            .or(Err(Failure::Run(RunFault::OutOfMemory))),
+            .or(Err(Failure::OUT_OF_MEMORY)),
         Err(error) => match error.kind() {
-            ErrorKind::OutOfMemory => Err(Failure::Run(RunFault::OutOfMemory)),
+            ErrorKind::OutOfMemory => Err(Failure::OUT_OF_MEMORY),
             _ => Err(Failure::NotText),
         },
     }
@@ -42,7 +41,7 @@ fn main(rt: HostRuntime) -> ExitCode {
                 let mut out = PromptStream::new(out);
                 Ok(run_words(&rt, rt.alloc(), arguments, &mut out, &mut err))
             }
-            Err(_) => Err(Failure::Run(RunFault::OutOfMemory)),
+            Err(_) => Err(Failure::OUT_OF_MEMORY),
         },
         Err(failure) => Err(failure),
     };

@@ -1,8 +1,7 @@
 //! The program, run on its arguments.
-ghost use Rattle.std.specs.{Prelude.{◌≡◌, ◌≢◌, ◌<◌, ℕ, false, true, vec_len}, Io.KnownBytes.{Appends}};
+ghost use Rattle.std.specs.{Prelude.{◌≡◌, ◌≢◌, ◌<◌, false, true, vec_len}, Io.KnownBytes.{Appends}};
 ghost use Rattle.clap.specs.{Values.{kind_of}, declared.error.kind.ErrorKind.TheVariants.{DisplayHelp, DisplayVersion}};
-ghost use Rattle.kalah_jobs.specs.declared.files.question.Question.{Question};
-ghost use Rattle.kalah_cli.specs.{Commands.{Ask.{StopsBetweenLines}, Game.{PlaysBestGames, VariationsEndWithTheirValue}, Printing.{IsPrinted}}, Exit.Ends.{FailsWithoutOutput, exit_status_of}, Arguments.Request.{Task, IsInRange, IsAcceptedAs, about_input, task_of, texts_of}, Runs.{Does, DoesWhatIsAsked, NeedsNoInput, MovesByItsArguments, EndsWithoutRequest, version_line}};
+ghost use Rattle.kalah_cli.specs.{Commands.Printing.{IsPrinted}, Exit.Ends.{FailsWithoutOutput, exit_status_of}, Arguments.Request.{IsInRange, task_of, texts_of}, Runs.{Does, KeepsPromises, version_line}};
 
 use crate::arguments::help::VERSION_LINE;
 use crate::arguments::request::{Request, parse};
@@ -17,7 +16,6 @@ use crate::system::terminal::Terminal;
 use clap::Error;
 use clap::error::ErrorKind;
 use kalah_jobs::{Sink, flush_unless_failed, write_unless_failed};
-use kalah_run::RunFault;
 use std::alloc::Global;
 use std::io::Write;
 use std::rt::Clock;
@@ -52,12 +50,12 @@ fn end_without_request<'a, O: Sink, E: Write>(
     ensures all_flushed { exit_status_of result ≢ ExitStatus.Failed → (O.state out.new).is_flushed ≡ true }
 {
     let Ok(text) = error.to_string(alloc) else {
-        return Err(Failure::Run(RunFault::OutOfMemory));
+        return Err(Failure::OUT_OF_MEMORY);
     };
     match error.kind() {
         ErrorKind::DisplayHelp => print_text(text.as_str(), out),
         ErrorKind::DisplayVersion => print_text(VERSION_LINE, out),
-        ErrorKind::OutOfMemory => return Err(Failure::Run(RunFault::OutOfMemory)),
+        ErrorKind::OutOfMemory => return Err(Failure::OUT_OF_MEMORY),
         _ => {
             report_refused(arguments, text.as_str(), on_terminal, err);
             return Ok(ExitStatus::Failed);
@@ -112,25 +110,8 @@ pub fn run_words<R: Sources + Clock + Terminal + Threads + Wait + Sync, O: Sink,
 ) -> ExitStatus
     requires not_failed { (O.state out.old).has_failed ≡ false }
     requires named { 0 < vec_len words }
-    // Arguments that make a request: the program does what they ask for (if it fails, in part), or fails and writes nothing.
-    ensures accepted { DoesWhatIsAsked O.state out.old out.new result (R.may_give rt.now) (texts_of words.items) }
-    // The same of `moves LINE`, named by its words. It shows that some arguments are accepted, so that `accepted` isn't empty.
-    ensures by_arguments { MovesByItsArguments O.state (texts_of words.items) out.old out.new result }
-    // The game that `play` prints is one of best play, from the second move on if the first is given. A line of `show --lines` ends with
-    // the value of its move.
-    ensures best_play { PlaysBestGames }
-    ensures variations { VariationsEndWithTheirValue }
-    // Arguments that make no request: the program prints help or the version, or fails.
-    ensures no_request { EndsWithoutRequest O.state (texts_of words.items) out.old out.new result }
-    // Any arguments: if a write fails, the program fails. If it fails for another cause, it writes nothing, except for answers of `ask`.
-    ensures failed { (O.state out.new).has_failed ≡ true → result ≡ ExitStatus.Failed }
-    ensures unchanged { ((task : Task) → IsAcceptedAs (texts_of words.items) task → NeedsNoInput task) → result ≡ ExitStatus.Failed
-        → (O.state out.new).has_failed ≡ false → out.new ≡ out.old }
-    ensures stopped { (question : Question) (table_entries : ℕ) → IsAcceptedAs (texts_of words.items) (about_input question table_entries)
-        → result ≡ ExitStatus.Failed → (O.state out.new).has_failed ≡ false
-        → StopsBetweenLines question (O.state out.old).written (O.state out.new).written }
-    // If it doesn't fail, all that it writes is flushed.
-    ensures all_flushed { result ≢ ExitStatus.Failed → (O.state out.old).is_flushed ≡ true → (O.state out.new).is_flushed ≡ true }
+    // What is done for arguments that make a request, how others end, and what a failure leaves.
+    ensures { KeepsPromises O.state (texts_of words.items) (R.may_give rt.now) out.old out.new result }
 {
     let on_terminal = rt.shows_errors(); // Tips go only to a terminal.
     let arguments = words.as_slice();

@@ -1,9 +1,8 @@
 -- Lines that come as a stream: what is answered of them, and how far.
 use Rattle.std.proofs.{Common.{◌≡◌, ◌≢◌, ◌∙◌, ℕ, zero, suc, ◌+◌, ◌≤◌, Bool, true, false, List, [], ◌∷◌, ◌++◌, length, take, inl, inr, refl, sym, ap, ap₂, arith, append-nil, append_assoc, Err, not, ◌||◌, ◌&&◌, subst, length-take-le, take_all, Result, Ok, Option, Some, None, option_to_list}, KnownBytes.{Appends-kept, Appends-nil, Appends-trans, Consumes-kept, Consumes-nil, Consumes-trans, Consumes-whole, Keeps-refl}, Math.Bool.{and-true}, lemmas.{Bool.{cases_lt, cond_both}, Grind.{flat_map-append}, List.{Elements.{All-nil, All-push}, Folds.{list_any-append}}}}
 use Rattle.std.specs.{Io.KnownBytes.{Appends, Consumes, IsAtEnd, Keeps}, List.{flat_map, enumerate_from}}
-use Rattle.kalah_rules.specs.Position as position
-use Rattle.kalah_rules.specs.Position.{is_over}
-use Rattle.kalah_jobs.specs.{kept_bytes, reply, last_reply, is_last_read, answers_to, are_all_read, AnswersAreThoseOfAFile, AnswersLines, AreAnswered, IsAnswered, IsBegun, IsCutOff, LeavesBy, StreamStart, entry_of_reading, entry_to, is_faulty, is_faulty_entry, line_feed, lines_of, EndsWithItsLine, HasNoLineFeed, without_cr, reading_of, AskFault, Question, LineFault, Read, Write, Long, answer_of, joined_text, place_text, HasOneText, line_output, AppendsPrefix, SinkState, declared.files.{entry.Entry.TheVariants.{Bad}, question.Question.TheVariants.{BestMove, Values, Steps}}}
+use Rattle.kalah_rules.specs.Position.{Position, is_over}
+use Rattle.kalah_jobs.specs.{kept_bytes, reply, last_reply, is_last_read, answers_for, are_all_read, AnswersAreThoseOfAFile, AnswersLines, AreAnswered, IsAnswered, IsBegun, IsCutOff, LeavesBy, StreamStart, entry_of_reading, entry_for, is_faulty, is_faulty_entry, line_feed, lines_of, EndsWithItsLine, HasNoLineFeed, without_cr, reading_of, AskFault, Question, LineFault, Read, Write, Long, answer_of, joined_text, place_text, HasOneText, line_output, AppendsPrefix, SinkState, Bad, declared.files.question.Question.TheVariants.{BestMove, Values, Steps}}
 use Rattle.kalah_jobs.proofs.{FileLinesLemmas.{IsNoFeed, lines_of-ended, lines_of-open, lines_of-empty}, LineLemmas.{long_is_read}, TextLemmas.{one_line_parts}, WritingLemmas.{files_split_between_lines}}
 
 -- ==== What is answered, line by line
@@ -26,26 +25,26 @@ one_line (byte ∷ piece) none = rw (rest_is_one_line byte piece none) (omega ar
 
 -- the answers to whole lines and more are those to both, in order
 answers_split : (question : Question) (lines more : List ℕ) → EndsWithItsLine lines
-    → answers_to question (lines ++ more) ≡ answers_to question lines ++ answers_to question more
-unfolding answers_to
+    → answers_for question (lines ++ more) ≡ answers_for question lines ++ answers_for question more
+unfolding answers_for
 answers_split question lines more ends = simp ((files_split_between_lines.parts lines more ends).lines, flat_map-append)
 
 -- an empty text has no answers
-no_answers : (question : Question) → answers_to question [] ≡ []
-unfolding answers_to
+no_answers : (question : Question) → answers_for question [] ≡ []
+unfolding answers_for
 no_answers question = ap (flat_map (reply question)) (lines_of-empty [] refl)
 
 -- the answer to one line
 answers_to_one : (question : Question) (bytes line : List ℕ) → lines_of bytes ≡ line ∷ []
-    → answers_to question bytes ≡ reply question line
-unfolding answers_to
+    → answers_for question bytes ≡ reply question line
+unfolding answers_for
 answers_to_one question bytes line one = ap (flat_map (reply question)) one ∙ append-nil (reply question line)
 
 -- the answers to whole lines and one more
 answers_to_more : (question : Question) (lines more line : List ℕ) → EndsWithItsLine lines → lines_of more ≡ line ∷ []
-    → answers_to question (lines ++ more) ≡ answers_to question lines ++ reply question line
+    → answers_for question (lines ++ more) ≡ answers_for question lines ++ reply question line
 answers_to_more question lines more line ends one =
-    answers_split question lines more ends ∙ ap (answers_to question lines ++◌) (answers_to_one question more line one)
+    answers_split question lines more ends ∙ ap (answers_for question lines ++◌) (answers_to_one question more line one)
 
 both_read : (a b : Bool) → not (a || (b || false)) ≡ (not a && not b)
 both_read a b = grind arith
@@ -63,17 +62,17 @@ cr_is_one (byte ∷ []) = omega arith
 cr_is_one (byte ∷ more ∷ line) = omega (arith, cr_is_one (more ∷ line))
 
 -- a line of `kept_bytes` bytes is too long
-too_long : (question : Question) (line : List ℕ) → kept_bytes ≤ length line → entry_to question line ≡ Bad Long
-unfolding entry_to
+too_long : (question : Question) (line : List ℕ) → kept_bytes ≤ length line → entry_for question line ≡ Bad Long
+unfolding entry_for
 too_long question line long = ap (entry_of_reading question) (long_is_read line (omega (arith, cr_is_one line, long)))
 
 -- the bytes that are kept have the entry of the line
-kept_bytes_have_the_entry : (question : Question) (line : List ℕ) → entry_to question (take kept_bytes line) ≡ entry_to question line
+kept_bytes_have_the_entry : (question : Question) (line : List ℕ) → entry_for question (take kept_bytes line) ≡ entry_for question line
 kept_bytes_have_the_entry question line = elim (cases_lt kept_bytes (length line)) [
   | inl long ↦
       too_long question (take kept_bytes line) (omega (arith, length-take-le kept_bytes line (omega (arith, long))))
       ∙ sym (too_long question line (omega (arith, long)))
-  | inr short ↦ ap (entry_to question) (take_all kept_bytes line short)
+  | inr short ↦ ap (entry_for question) (take_all kept_bytes line short)
 ]
 
 -- the bytes that are kept are answered as the line is
@@ -90,7 +89,7 @@ take_more_kept (suc n) (first ∷ line) byte = ap (first ∷◌) (take_more_kept
 
 -- what stands after the last line feed is answered as its lines are
 last_reply_is : (question : Question) (piece : List ℕ) → HasNoLineFeed piece
-    → answers_to question piece ≡ last_reply question (take kept_bytes piece)
+    → answers_for question piece ≡ last_reply question (take kept_bytes piece)
 last_reply_is question [] none = no_answers question
 last_reply_is question (byte ∷ piece) none =
     answers_to_one question (byte ∷ piece) (byte ∷ piece) (rest_is_one_line byte piece none) ∙ sym (kept_reply question (byte ∷ piece))
@@ -106,7 +105,7 @@ last_read lines (byte ∷ piece) ends none =
 -- ---- the law
 
 -- if no steps are asked, an answer is of one line
-answer_is_of_one_line : (question : Question) → question ≢ Steps → (r : Result position.Position LineFault)
+answer_is_of_one_line : (question : Question) → question ≢ Steps → (r : Result Position LineFault)
     → HasOneText (answer_of (entry_of_reading question r))
 unfolding answer_of
 answer_is_of_one_line BestMove other (Ok p) = cond_both (is_over p) _ _ HasOneText (λ _. tt) (λ _. tt)
@@ -118,9 +117,9 @@ answer_is_of_one_line Steps other r = absurd (other refl)
 -- then an answer line is the place and the answer
 line_output_parts : (question : Question) → question ≢ Steps → (name : List ℕ) (number : ℕ) (line : List ℕ)
     → line_output question name (number, line) ≡ place_text name number ++ reply question line
-unfolding entry_to
+unfolding entry_for
 line_output_parts question other name number line =
-    let answer = answer_of (entry_to question line) in
+    let answer = answer_of (entry_for question line) in
     ap (◌++ (line_feed ∷ [])) (one_line_parts name number answer (answer_is_of_one_line question other (reading_of line)))
     ∙ append_assoc (place_text name number) (joined_text answer) (line_feed ∷ [])
 
@@ -145,7 +144,7 @@ pub record IsAnsweredSoFar (question : Question) (before now old new : Option (L
   pub unended : HasNoLineFeed part
   pub kept : line ≡ take kept_bytes part
   pub taken : Consumes before now (lines ++ part)
-  pub written : Appends old new (answers_to question lines)
+  pub written : Appends old new (answers_for question lines)
   pub status : all_read ≡ are_all_read lines
 
 -- before anything is read, nothing is answered
@@ -167,14 +166,14 @@ nothing_read question before old line empty = record {
 module _ {question : Question} {before now old new : Option (List ℕ)} {line : List ℕ} {all_read : Bool}
     (so_far : IsAnsweredSoFar question before now old new line all_read) where
   -- what was written is kept
-  answers_kept : (kept : Option (List ℕ)) → Keeps new kept → Appends old kept (answers_to question so_far.lines)
-  answers_kept kept keeps = Appends-kept old new kept (answers_to question so_far.lines) so_far.written keeps
+  answers_kept : (kept : Option (List ℕ)) → Keeps new kept → Appends old kept (answers_for question so_far.lines)
+  answers_kept kept keeps = Appends-kept old new kept (answers_for question so_far.lines) so_far.written keeps
 
   -- what was written is kept, and more is written
   more_written : (kept more : Option (List ℕ)) (bytes : List ℕ) → Keeps new kept → Appends kept more bytes
-      → Appends old more (answers_to question so_far.lines ++ bytes)
+      → Appends old more (answers_for question so_far.lines ++ bytes)
   more_written kept more bytes keeps appends =
-      Appends-trans old kept more (answers_to question so_far.lines) bytes (answers_kept kept keeps) appends
+      Appends-trans old kept more (answers_for question so_far.lines) bytes (answers_kept kept keeps) appends
 
   -- more bytes are taken after those of the lines and of the part
   more_taken : (next : Option (List ℕ)) (bytes : List ℕ) → Consumes now next bytes
@@ -190,7 +189,7 @@ module _ {question : Question} {before now old new : Option (List ℕ)} {line : 
   reply_whole : reply question line ≡ reply question so_far.part
   reply_whole = ap (reply question) so_far.kept ∙ kept_reply question so_far.part
 
-  reply_part : last_reply question line ≡ answers_to question so_far.part
+  reply_part : last_reply question line ≡ answers_for question so_far.part
   reply_part = ap (last_reply question) so_far.kept ∙ sym (last_reply_is question so_far.part so_far.unended)
 
   -- what a reader took is a byte that is known, or nothing
@@ -230,7 +229,7 @@ module _ {question : Question} {before now old new : Option (List ℕ)} {line : 
         taken = subst (Consumes before next) (sym (append-nil (so_far.lines ++ whole)))
             (more_taken _ _ (taken_is next (found_is ∙ ap Some feed) taken));
         written = subst (Appends old more)
-            (ap (answers_to question so_far.lines ++◌) reply_whole
+            (ap (answers_for question so_far.lines ++◌) reply_whole
             ∙ sym (answers_to_more question so_far.lines whole so_far.part so_far.ended one))
             (more_written _ _ _ keeps answered);
         status = ap₂ (λ a b. a && b) so_far.status (read ∙ ap (λ l. not (is_faulty l)) so_far.kept ∙ ap not (kept_faulty so_far.part))
@@ -257,12 +256,12 @@ module _ {question : Question} {before now old new : Option (List ℕ)} {line : 
     one = one_line so_far.part so_far.unended;
     taken = Consumes-kept _ _ _ (so_far.lines ++ so_far.part) so_far.taken left;
     count = 0;
-    written = subst (Appends old kept) (sym (append-nil (answers_to question so_far.lines))) (answers_kept kept keeps);
+    written = subst (Appends old kept) (sym (append-nil (answers_for question so_far.lines))) (answers_kept kept keeps);
   }
 
   -- as much was read as makes one line at most, and its answer was begun
   begun : {next more : Option (List ℕ)} (kept : Option (List ℕ)) (last answer : List ℕ) → length (lines_of last) ≤ 1
-      → Consumes before next (so_far.lines ++ last) → answer ≡ answers_to question last → Keeps new kept
+      → Consumes before next (so_far.lines ++ last) → answer ≡ answers_for question last → Keeps new kept
       → AppendsPrefix kept more answer → IsBegun question before next old more
   begun {next} {more} kept last answer one taken answer_is keeps start = record {
     lines = so_far.lines;

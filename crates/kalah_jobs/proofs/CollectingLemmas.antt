@@ -1,7 +1,15 @@
 -- The collector: how far each file has come, and what any list of offers and takes makes of it.
-use Rattle.std.proofs.{Common.{◌≡◌, ℕ, zero, suc, ◌+◌, ◌<◌, ◌≤◌, List, [], ◌∷◌, length, set, get_or, replicate, true, false, refl, arith, ap, eq-eqb, ◌≢◌, inl, inr, cond, ◌++◌, map, ◌∙◌, sym, ne_eqb, length-set, get_or-set_other, get_or-set_same, take, Option, Some, None, is_some, IsSome, Contains, Result, Ok, Err}, lemmas.{Bool.{cases_eq, Decides.{nat_tests}}, List.{length-map, get_or_default, length-replicate, get_or-replicate, get_or_past, append-nil, append_assoc, take_all, take_more, get_or-map, Elements.{Contains-append_left, Contains-push, Contains-push_cases}, FromFn.{length-enumerate_from, get_or-enumerate_from}, Sums.{sum_by-append}}, Option.{slice_get_within, get_or_from_slice_get, slice_get-get_or}}}
+use Rattle.std.proofs.Common.{◌≡◌, ℕ, zero, suc, ◌+◌, ◌<◌, ◌≤◌, List, [], ◌∷◌, length, set, get_or, replicate, true, false, refl, arith, ap}
+use Rattle.std.proofs.Common.{eq-eqb, ◌≢◌, inl, inr, cond, ◌++◌, map, ◌∙◌, sym, ne_eqb, length-set, get_or-set_other, get_or-set_same, take}
+use Rattle.std.proofs.Common.{Option, Some, None, is_some, IsSome, Contains, Result, Ok, Err}
+use Rattle.std.proofs.lemmas.Bool.{cases_eq, Decides.{nat_tests}}
+use Rattle.std.proofs.lemmas.List.{length-map, get_or_default, length-replicate, get_or-replicate, get_or_past, append-nil, append_assoc}
+use Rattle.std.proofs.lemmas.List.{take_all, take_more, get_or-map}
+use Rattle.std.proofs.lemmas.List.Elements.{Contains-append_left, Contains-push, Contains-push_cases}
+use Rattle.std.proofs.lemmas.List.{FromFn.{length-enumerate_from, get_or-enumerate_from}, Sums.{sum_by-append}}
+use Rattle.std.proofs.lemmas.Option.{slice_get_within, get_or_from_slice_get, slice_get-get_or}
 use Rattle.std.specs.List.{enumerate_from}
-use Rattle.kalah_jobs.specs.{IsPermutationOfJobs, AcceptsEachJob, MakesEveryLineReady, Event, Offers, Gives, offered_in, taken_in, with_taken, HasArrived, answered_line, answered_lines, IsAfterEvents, KeepsItsLaw, front_of, ArrivalsState, no_file, state_of, line_count, arrived_for, HasLinesOf, with_answer, with_one_taken, after_offer, after_take, new_files, front, IsNext, HasEnded, IsOffered, HoldsOffered, AgreeWithOffers, IsWanted, IsRefusedFor, AnswersInOneWay, entries_of, entry_at, line_job, no_job, Answer, Job, Entry, Refusal, Taken, answer_of, Offered, Took}
+use Rattle.kalah_jobs.specs.{IsPermutationOfJobs, AcceptsEachJob, MakesEveryLineReady, Event, Offers, Gives, offered_in, taken_in, with_taken, HasArrived, answered_line, answered_lines, IsAfterEvents, KeepsItsLaw, front_of, ArrivalsState, no_file, state_of, line_count, arrived_for, HasLinesOf, with_answer, with_one_taken, after_offer, after_take, new_files, front, IsNext, HasEnded, IsOffered, HoldsOffered, AgreeWithOffers, IsWanted, IsRefusedFor, AnswersInOneWay, entries_of, entry_at, line_job, no_job, Answer, OutcomeState, Entry, Refusal, Taken, answer_of, Offered, Took}
 use Rattle.kalah_jobs.proofs.{CountingLemmas.{same_job, same_entry_itself, times_offered, contains_from_times, times_from_contains, hits, hit, times_in_jobs}, ListLemmas.{count_by-cons, some_value}}
 
 -- ==== How many of the first lines of a file have come without a gap
@@ -58,8 +66,8 @@ each_file files f s low P here others g = elim (cases_eq g f) [
 ]
 
 -- after an answer for one line, what holds of that line and of each other line, which stays as it was, holds of each line
-each_line : (files : List ArrivalsState) (o : Job) (a : Answer) → o.file < length files → o.line < line_count (state_of files o.file)
-    → (P : ℕ → ℕ → Option Answer → Type 0) → P o.file o.line (Some a)
+each_line : (files : List ArrivalsState) (o : OutcomeState) (a : Answer) → o.file < length files
+    → o.line < line_count (state_of files o.file) → (P : ℕ → ℕ → Option Answer → Type 0) → P o.file o.line (Some a)
     → ((f k : ℕ) → ((f ≡ o.file) × (k ≡ o.line) → ⊥) → P f k (arrived_for (state_of files f) k)) → (f k : ℕ)
     → P f k (arrived_for (state_of (after_offer files o.file o.line a) f) k)
 each_line files o a file_low line_low P here others =
@@ -95,7 +103,7 @@ counts_set (x ∷ files) (suc f) s same = ap (line_count x ∷◌) (counts_set f
 -- ---- what has arrived
 
 -- what was offered is offered with one offer more
-still_offered : {jobs : List (List Entry)} {past : List Job} {f k : ℕ} {a : Answer} (o : Job) → IsOffered jobs past f k a
+still_offered : {jobs : List (List Entry)} {past : List OutcomeState} {f k : ℕ} {a : Answer} (o : OutcomeState) → IsOffered jobs past f k a
     → IsOffered jobs (past ++ o ∷ []) f k a
 still_offered {jobs} {past} {f} {k} o old = record {
   entry = old.entry;
@@ -109,9 +117,9 @@ file_there : (files : List ArrivalsState) (f k : ℕ) → k < line_count (state_
 file_there files f k low = grind (arith, get_or_past files f no_file)
 
 -- what had arrived before an offer or a take
-module _ {jobs : List (List Entry)} {past : List Job} {files : List ArrivalsState} (holds : HoldsOffered jobs past files) where
+module _ {jobs : List (List Entry)} {past : List OutcomeState} {files : List ArrivalsState} (holds : HoldsOffered jobs past files) where
   -- an accepted offer keeps what holds
-  holds_accepted : (o : Job) → IsWanted jobs files o
+  holds_accepted : (o : OutcomeState) → IsWanted jobs files o
       → HoldsOffered jobs (past ++ o ∷ []) (after_offer files o.file o.line (answer_of o.entry))
   holds_accepted o wanted =
       let a : Answer = answer_of o.entry in
@@ -143,7 +151,7 @@ module _ {jobs : List (List Entry)} {past : List Job} {files : List ArrivalsStat
       )
 
   -- a refused offer changes nothing, and what holds stays true with one more offer
-  holds_refused : (o : Job) (r : Refusal) → IsRefusedFor jobs files o r → HoldsOffered jobs (past ++ o ∷ []) files
+  holds_refused : (o : OutcomeState) (r : Refusal) → IsRefusedFor jobs files o r → HoldsOffered jobs (past ++ o ∷ []) files
   holds_refused o r refused = record {
     counts = holds.counts;
     arrived = λ f k e entry_is offered. elim (Contains-push_cases past o (line_job f k e) offered) [
@@ -192,7 +200,7 @@ abbrev answered_lines_of : List (List Entry) → ℕ → List Taken
 answered_lines_of jobs f = answered_lines (entries_of jobs f)
 
 -- the list of the first lines grows by the line that is taken
-first_lines_more : {jobs : List (List Entry)} {past : List Job} {files : List ArrivalsState} (f : ℕ) (t : Taken) →
+first_lines_more : {jobs : List (List Entry)} {past : List OutcomeState} {files : List ArrivalsState} (f : ℕ) (t : Taken) →
     HoldsOffered jobs past files → IsNext (state_of files f) t
     → take (state_of files f).taken (answered_lines_of jobs f) ++ t ∷ [] ≡ take ((state_of files f).taken + 1) (answered_lines_of jobs f)
 first_lines_more {jobs} {files = files} f t holds is_next =
@@ -218,9 +226,10 @@ WereTaken jobs files took after = (f : ℕ) →
     take (state_of files f).taken (answered_lines_of jobs f) ++ took f ≡ take (state_of after f).taken (answered_lines_of jobs f)
 
 -- the state is kept by each event
-module _ {jobs : List (List Entry)} {past : List Job} {files after : List ArrivalsState} (kept : AgreeWithOffers jobs past files) where
+module _ {jobs : List (List Entry)} {past : List OutcomeState} {files after : List ArrivalsState}
+    (kept : AgreeWithOffers jobs past files) where
   -- by an offer, accepted or refused, which takes nothing
-  pub kept_by_offer : (o : Job) (result : Result ℕ Refusal) → Offers jobs files o result after
+  pub kept_by_offer : (o : OutcomeState) (result : Result ℕ Refusal) → Offers jobs files o result after
       → AgreeWithOffers jobs (past ++ o ∷ []) after × ((f : ℕ) → (state_of after f).taken ≡ (state_of files f).taken)
   kept_by_offer o (Ok ready) step =
       let low : o.file < length files = step.wanted.file_there in
@@ -253,12 +262,13 @@ module _ {jobs : List (List Entry)} {past : List Job} {files after : List Arriva
   taken_next : (g : ℕ) (t : Taken) → Gives files g t after → WereTaken jobs files (λ f. with_taken f g (Some t) []) after
   taken_next g t step =
       rw step.kept (each_file files g (with_one_taken (state_of files g)) step.file_there
-      (λ f new. take (state_of files f).taken (answered_lines_of jobs f) ++ with_taken f g (Some t) [] ≡ take new.taken (answered_lines_of jobs f))
+      (λ f new.
+      take (state_of files f).taken (answered_lines_of jobs f) ++ with_taken f g (Some t) [] ≡ take new.taken (answered_lines_of jobs f))
       (rw (eq-eqb g g refl) (first_lines_more g t kept.offered step.next_line))
       (λ f other. rw (ne_eqb g f (λ same. other (sym same))) (append-nil (take (state_of files f).taken (answered_lines_of jobs f)))))
 
 -- any list of events
-runs_keep : (jobs : List (List Entry)) (past : List Job) (events : List Event) (files after : List ArrivalsState)
+runs_keep : (jobs : List (List Entry)) (past : List OutcomeState) (events : List Event) (files after : List ArrivalsState)
     → IsAfterEvents jobs files events after → AgreeWithOffers jobs past files
     → AgreeWithOffers jobs (past ++ offered_in events) after × WereTaken jobs files (λ f. taken_in f events) after
 runs_keep jobs past [] files after run kept =
@@ -309,8 +319,8 @@ new_files_agree jobs = record {
 -- ---- the law
 
 -- after these events the offers have come
-offers_held : (jobs : List (List Entry)) (events : List Event) (files : List ArrivalsState) → IsAfterEvents jobs (new_files jobs) events files
-    → HoldsOffered jobs (offered_in events) files
+offers_held : (jobs : List (List Entry)) (events : List Event) (files : List ArrivalsState)
+    → IsAfterEvents jobs (new_files jobs) events files → HoldsOffered jobs (offered_in events) files
 offers_held jobs events files run = (runs_keep jobs [] events (new_files jobs) files run (new_files_agree jobs)).0.offered
 
 pub keeps_its_law : KeepsItsLaw
@@ -342,14 +352,14 @@ pub ruleset new_counts = (new_lines, take_all)
 -- ==== Offers of each job once, in any order
 
 -- each line was offered with its entry
-each_arrived : {jobs : List (List Entry)} {got : List Job} → IsPermutationOfJobs jobs got → (f k : ℕ) (e : Entry)
+each_arrived : {jobs : List (List Entry)} {got : List OutcomeState} → IsPermutationOfJobs jobs got → (f k : ℕ) (e : Entry)
     → entry_at jobs f k ≡ Some e → Contains got (line_job f k e)
 each_arrived {jobs} {got} each_once f k e entry_is =
-    let o : Job = line_job f k e in
+    let o : OutcomeState = line_job f k e in
     contains_from_times o got (grind (arith, each_once.same_counts (same_job o), times_in_jobs o jobs, same_entry_itself e, entry_is))
 
 -- an offer among the jobs that was not offered before
-module _ {jobs : List (List Entry)} {past : List Job} {files : List ArrivalsState} (o : Job) (rest : List Job)
+module _ {jobs : List (List Entry)} {past : List OutcomeState} {files : List ArrivalsState} (o : OutcomeState) (rest : List OutcomeState)
     (each_once : IsPermutationOfJobs jobs (past ++ o ∷ rest)) (holds : HoldsOffered jobs past files) where
   -- this offer is not refused, for any cause
   not_refused : (r : Refusal) → IsRefusedFor jobs files o r → ⊥
@@ -372,7 +382,7 @@ module _ {jobs : List (List Entry)} {past : List Job} {files : List ArrivalsStat
       omega (arith, once, is_hit.1, times_from_contains o past (rw same at offer.offered))
 
 -- if each job was offered, each file has ended
-pub fronts_full : {jobs : List (List Entry)} {past : List Job} {files : List ArrivalsState} → IsPermutationOfJobs jobs past
+pub fronts_full : {jobs : List (List Entry)} {past : List OutcomeState} {files : List ArrivalsState} → IsPermutationOfJobs jobs past
     → HoldsOffered jobs past files → (f : ℕ) → HasEnded (state_of files f)
 fronts_full {jobs} {files = files} each_once holds f =
     let arrived = (state_of files f).arrived in

@@ -1,5 +1,13 @@
 -- Jobs counted by tests: what is got of jobs that were shared out, and how often a job stands in a list.
-use Rattle.std.proofs.{Common.{◌≡◌, ℕ, ◌+◌, ◌<◌, List, [], ◌∷◌, length, set, get_or, true, refl, arith, Bool, ◌&&◌, ◌==◌, ap, eq-eqb, if◌then◌else◌, cond, ◌++◌, map, slice_index_or, ◌∙◌, sym, subst, length-set, get_or-set_other, get_or-set_same, lt-ltb, sum_by, count_by, nat_lt, sum, ◌⊎◌, zero, suc, ◌≤◌, false, ◌≢◌, inl, inr, Option, Some, None, Contains, slice_get}, lemmas.{Bool.{cases_eq, cases_Bool, Decides.{nat_tests}}, List.{length-map, length-append, nil_from_length, get_or_default, append-nil, get_or-map, Elements.{All-head, All-tail, Contains-append_right}, FromFn.{fill_by_all, length-range_with_len, length-map-range_with_len, get_or-map-range_with_len}, Sums.{get_or-le-sum_by, sum_by-le, sum_by-set, sum-map, sum_by-append}}}}
+use Rattle.std.proofs.Common.{◌≡◌, ℕ, ◌+◌, ◌<◌, List, [], ◌∷◌, length, set, get_or, true, refl, arith, Bool, ◌&&◌, ◌==◌, ap, eq-eqb}
+use Rattle.std.proofs.Common.{if◌then◌else◌, cond, ◌++◌, map, slice_index_or, ◌∙◌, sym, subst, length-set, get_or-set_other}
+use Rattle.std.proofs.Common.{get_or-set_same, lt-ltb, sum_by, count_by, nat_lt, sum, ◌⊎◌, zero, suc, ◌≤◌, false, ◌≢◌, inl, inr, Option}
+use Rattle.std.proofs.Common.{Some, None, Contains, slice_get}
+use Rattle.std.proofs.lemmas.Bool.{cases_eq, cases_Bool, Decides.{nat_tests}}
+use Rattle.std.proofs.lemmas.List.{length-map, length-append, nil_from_length, get_or_default, append-nil, get_or-map}
+use Rattle.std.proofs.lemmas.List.Elements.{All-head, All-tail, Contains-append_right}
+use Rattle.std.proofs.lemmas.List.FromFn.{fill_by_all, length-range_with_len, length-map-range_with_len, get_or-map-range_with_len}
+use Rattle.std.proofs.lemmas.List.Sums.{get_or-le-sum_by, sum_by-le, sum_by-set, sum-map, sum_by-append}
 use Rattle.std.specs.{Coded.{Coded, codes}, List.{All, flat_map, range_with_len}}
 use base.Stored.{Gv, gnil, gnum, gcons}
 use Rattle.kalah_jobs.specs.{job, GetsEachJobOnce, times_in, sent_by_worker, AreShared, line_job, no_job, job_list, entry_at, file_jobs, jobs_from, Job, Entry}
@@ -56,7 +64,8 @@ rows_count : (n : ℕ) (rows : List (List ℕ)) (q : ℕ → Bool) → ((x : ℕ
     → sum_by (count_by q) rows ≡ count_by q (range_with_len 0 n)
 rows_count n rows q once =
     let flat : List ℕ = flat_map (λ r. r) rows in
-    let times_in_flat : (x : ℕ) → count_by (λ y. y == x) flat ≡ (if nat_lt x n then 1 else 0) = λ x. count_flat (λ y. y == x) rows ∙ once x in
+    let times_in_flat : (x : ℕ) → count_by (λ y. y == x) flat ≡ (if nat_lt x n then 1 else 0) =
+    λ x. count_flat (λ y. y == x) rows ∙ once x in
     let passes : ℕ → ℕ = λ x. cond (q x) 1 0 in
     let counts : List ℕ = map passes (range_with_len 0 n) in
     let many : length counts ≡ n = length-map-range_with_len passes 0 n in
@@ -115,8 +124,8 @@ gets_each_job_once jobs rows got rest shared whole =
 
 -- ==== A test by which one offer is found in a list: it holds only of that offer
 
--- Counting needs a Boolean test of entries, and equality of values is none. So `codes` finds a code for each entry, no two the same (`inj`):
--- a tree of numbers (`Gv`), and these can be compared.
+-- Counting needs a Boolean test of entries, and equality of values is none. So `codes` finds a code for each entry, no two the same
+-- (`inj`): a tree of numbers (`Gv`), and these can be compared.
 coded_entry : Coded Entry
 coded_entry = hlevel codes
 

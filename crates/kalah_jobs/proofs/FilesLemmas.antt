@@ -1,23 +1,22 @@
 -- The entries of lines, the jobs of a batch, and equal boards.
 use Rattle.std.proofs.{Common.{◌≡◌, ℕ, ◌+◌, ◌<◌, ◌≤◌, List, [], ◌∷◌, ◌++◌, length, get_or, take, drop, refl, ap, sym, ◌∙◌, arith, length-append, Some, count_by, Ok, Err, zero, suc, Bool, true, false, map, slice_get, sum_by, flat_map}, Math.Seq.{get_or-append_seam}, lemmas.{Bool.Decides.{nat_tests}, List.{take_all, take_more, take-append-le, get_or_append_left, length-map, map-append, get_or-map, Concat.{length-flat_map}, Sums.{sum_by-cons, sum_by_push, sum_by-drop_more, get_or-le-sum_by, count_by-le-length}}, Option.{slice_get_within}}}
-use Rattle.kalah_rules.proofs.{KeyLemmas.{key-injective}, PackedLemmas.{houses_within}}
-use Rattle.kalah_rules.specs.Position as position
-use Rattle.kalah_rules.specs.{Position.{IsWithinLimits, houses_in}, contracts.board.BoardEq.TheImpl.Laws.{laws-law}}
+use Rattle.kalah_rules.proofs.{KeyLemmas.{key-injective}, StepLemmas.{houses_within}}
+use Rattle.kalah_rules.specs.{Position.{Position, IsWithinLimits, houses_in}, contracts.board.BoardEq.TheImpl.Laws.{laws-law}}
 use Rattle.kalah_rules.specs.contracts.board.BoardPartialEq.TheImpl as board_eq
-use Rattle.kalah_jobs.specs.{ReadsAs, entry_asked, entry_of_reading, entry_of, entry_to, is_faulty, is_faulty_entry, EntriesAreOne, entries_of, line_job, file_jobs, jobs_from, job_list, is_faulty_job, lines_in_all, lines_in, entries_to, jobs_to, job_count, AreStarts, lines_of, NamedBytes, reading_of, BestMove, Entry, Job, Question, declared.files.entry.Entry.TheVariants.{Position, Bad}}
+use Rattle.kalah_jobs.specs.{ReadsAs, entry_asked, entry_of_reading, entry_of, entry_for, is_faulty, is_faulty_entry, EntriesAreOne, entries_of, line_job, file_jobs, jobs_from, job_list, is_faulty_job, lines_in_all, lines_in, entries_for, jobs_for, job_count, AreStarts, lines_of, NamedBytes, reading_of, BestMove, Entry, BestMoveOf, Bad, Job, Question}
 use Rattle.kalah_jobs.proofs.{LineLemmas.{is_reading, only_reading}, ListLemmas.{count_map, count_flat, slice_get-append_left, slice_get-append_right}}
 
 -- ==== Each line has one entry
 
 -- a line says its entry only
 reads_once : (line : List ℕ) (entry : Entry) → ReadsAs line entry → entry ≡ entry_of line
-unfolding entry_to
-reads_once line (Position p) said = ap (entry_of_reading BestMove) (sym (only_reading line (Ok p) said))
+unfolding entry_for
+reads_once line (BestMoveOf p) said = ap (entry_of_reading BestMove) (sym (only_reading line (Ok p) said))
 reads_once line (Bad fault) said = ap (entry_of_reading BestMove) (sym (only_reading line (Err fault) said))
 reads_once line entry said = absurd said
 
 pub entries_are_one : EntriesAreOne
-unfolding entry_to
+unfolding entry_for
 entries_are_one = record { some = λ line. grind (arith, is_reading line); one = reads_once }
 
 -- ==== The number of jobs before each file, and the place of a line in the list of jobs
@@ -91,20 +90,20 @@ lines_between jobs f within = ap job_count (take_more jobs f [] within) ∙ sum_
 -- ---- while the files are read
 
 -- there is an entry for each line
-pub length-entries_to : (question : Question) (bytes : List ℕ) → length (entries_to question bytes) ≡ length (lines_of bytes)
-unfolding entries_to
-length-entries_to question bytes = length-map (lines_of bytes) (entry_to question)
+pub length-entries_for : (question : Question) (bytes : List ℕ) → length (entries_for question bytes) ≡ length (lines_of bytes)
+unfolding entries_for
+length-entries_for question bytes = length-map (lines_of bytes) (entry_for question)
 
 -- there are as many jobs as the files have lines
-pub job_count-jobs_to : (question : Question) (files : List NamedBytes) → job_count (jobs_to question files) ≡ lines_in_all files
-job_count-jobs_to question [] = refl
-job_count-jobs_to question (file ∷ files) =
+pub job_count-jobs_for : (question : Question) (files : List NamedBytes) → job_count (jobs_for question files) ≡ lines_in_all files
+job_count-jobs_for question [] = refl
+job_count-jobs_for question (file ∷ files) =
     omega (
       arith,
-      sum_by-cons length (entries_to question file.bytes) (jobs_to question files),
+      sum_by-cons length (entries_for question file.bytes) (jobs_for question files),
       sum_by-cons lines_in file files,
-      length-entries_to question file.bytes,
-      job_count-jobs_to question files,
+      length-entries_for question file.bytes,
+      job_count-jobs_for question files,
     )
 
 -- one file more starts after all jobs so far
@@ -130,7 +129,7 @@ starts_more {jobs} {starts} {start} entries so_far start_is = record {
 -- The first files are read: these are their jobs, with the number of jobs before each, the number of all and that of faults.
 pub record AreRead (question : Question) (files : List NamedBytes) (count : ℕ) (jobs : List (List Entry)) (starts : List ℕ)
     (before faults : ℕ) : Type 0 where
-  pub read : jobs ≡ jobs_to question (take count files)
+  pub read : jobs ≡ jobs_for question (take count files)
   pub starts_are : AreStarts jobs starts
   pub before_is : before ≡ job_count jobs
   pub lines : before + lines_in_all (drop count files) ≡ lines_in_all files
@@ -141,18 +140,18 @@ pub record AreRead (question : Question) (files : List NamedBytes) (count : ℕ)
 -- one file more is read
 pub one_more_read : {question : Question} {files : List NamedBytes} {count : ℕ} {jobs : List (List Entry)} {starts : List ℕ}
     {before faults many found : ℕ} {entries : List Entry} (file : NamedBytes) → AreRead question files count jobs starts before faults
-    → count < length files → file ≡ get_or files count file → entries ≡ entries_to question file.bytes → many ≡ length entries
+    → count < length files → file ≡ get_or files count file → entries ≡ entries_for question file.bytes → many ≡ length entries
     → count_by is_faulty_entry entries ≡ found
     → AreRead question files (count + 1) (jobs ++ entries ∷ []) (starts ++ before ∷ []) (before + many) (faults + found)
 one_more_read {question} {files} {count} {jobs} {entries = entries} file so_far low file_is entries_are many_are found_are =
     let all = sum_by_push length jobs entries in
     let next = sum_by-drop_more lines_in files count file low in
-    let lines = ap length entries_are ∙ length-entries_to question file.bytes in
+    let lines = ap length entries_are ∙ length-entries_for question file.bytes in
     record {
       read = ap (◌++ (entries ∷ [])) so_far.read
-          ∙ ap (λ new. jobs_to question (take count files) ++ new ∷ []) (entries_are ∙ ap (λ f. entries_to question f.bytes) file_is)
-          ∙ sym (map-append (λ f. entries_to question f.bytes) (take count files) (get_or files count file ∷ []))
-          ∙ ap (jobs_to question) (sym (take_more files count file low));
+          ∙ ap (λ new. jobs_for question (take count files) ++ new ∷ []) (entries_are ∙ ap (λ f. entries_for question f.bytes) file_is)
+          ∙ sym (map-append (λ f. entries_for question f.bytes) (take count files) (get_or files count file ∷ []))
+          ∙ ap (jobs_for question) (sym (take_more files count file low));
       starts_are = starts_more entries so_far.starts_are so_far.before_is;
       before_is = omega (arith, all, so_far.before_is, many_are);
       lines = omega (arith, so_far.lines, next, lines, ap lines_in file_is, many_are);
@@ -171,12 +170,12 @@ pub ruleset counts_of_jobs = (get_or-map, length-map, length-job_list, lines_bet
 -- ==== The lines that are answered by a fault are those that are not read
 
 -- a position is answered by no fault
-asked_is_no_fault : (question : Question) (p : position.Position) → is_faulty_entry (entry_asked question p) ≡ false
+asked_is_no_fault : (question : Question) (p : Position) → is_faulty_entry (entry_asked question p) ≡ false
 asked_is_no_fault question p = grind arith
 
 -- whether a line is answered by a fault doesn't depend on what is asked
-pub asked_fault : (question : Question) (line : List ℕ) → is_faulty_entry (entry_to question line) ≡ is_faulty line
-unfolding entry_to
+pub asked_fault : (question : Question) (line : List ℕ) → is_faulty_entry (entry_for question line) ≡ is_faulty line
+unfolding entry_for
 asked_fault question line =
     elim (reading_of line) as (λ r. is_faulty_entry (entry_of_reading question r) ≡ is_faulty_entry (entry_of_reading BestMove r)) [
       | Ok p ↦ asked_is_no_fault question p ∙ sym (asked_is_no_fault BestMove p)
@@ -194,11 +193,11 @@ faults_by_file jobs = faulty_jobs jobs ∙ count_flat is_faulty_entry jobs
 -- ==== Two boards are equal by `==` exactly when they show the same position
 
 -- what `==` computes of two boards
-abbrev pub same_board : position.Position → position.Position → Bool
+abbrev pub same_board : Position → Position → Bool
 same_board p q = (board_eq.ghosts).eq p q
 
 -- boards that are equal by `==` show the same position
-pub same_board_means : (p q : position.Position) → IsWithinLimits p → IsWithinLimits q → same_board p q ≡ true → p ≡ q
+pub same_board_means : (p q : Position) → IsWithinLimits p → IsWithinLimits q → same_board p q ≡ true → p ≡ q
 same_board_means p q p_limits q_limits same =
     let rows : houses_in p ≡ houses_in q = key-injective (houses_in p) (houses_in q) (houses_within p p_limits) (houses_within q q_limits)
     (grind (arith, nat_tests)) in
@@ -206,7 +205,7 @@ same_board_means p q p_limits q_limits same =
     let other_store : p.other_store ≡ q.other_store = grind (arith, nat_tests) in
     λ i. record { own = (rows i).own; own_store = own_store i; other = (rows i).other; other_store = other_store i; rule = (rows i).rule }
 
-pub same_board_itself : (p : position.Position) → same_board p p ≡ true
+pub same_board_itself : (p : Position) → same_board p p ≡ true
 same_board_itself p = laws-law.refl p
 
 -- what comparing boards needs

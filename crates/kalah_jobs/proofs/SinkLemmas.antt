@@ -22,7 +22,8 @@ pub prefix_longer : (old new : Option (List ℕ)) (text more : List ℕ) → App
 prefix_longer old new text more start =
     let all : text ++ more ≡ take start.0 text ++ (drop start.0 text ++ more) =
     ap (◌++ more) (sym (take-append-drop start.0 text)) ∙ append_assoc (take start.0 text) (drop start.0 text) more in
-    prefix_then _ _ _ (text ++ more) (take start.0 text) (drop start.0 text ++ more) all start.1 (prefix_none new (drop start.0 text ++ more))
+    prefix_then _ _ _ (text ++ more) (take start.0 text) (drop start.0 text ++ more) all start.1
+    (prefix_none new (drop start.0 text ++ more))
 
 -- what keeps the bytes keeps the prefix
 pub prefix_kept : (old between new : Option (List ℕ)) (text : List ℕ) → AppendsPrefix old between text → Keeps between new

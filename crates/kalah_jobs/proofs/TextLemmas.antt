@@ -1,5 +1,12 @@
 -- How positions, moves and answers are put together as text.
-use Rattle.std.proofs.{Common.{SFits, of_z, to_z, w16, w32, ℕ, ◌<◌, ◌≤◌, ◌^◌, length, arith, ◌≡◌, zero, suc, List, ◌++◌, IsAscii, IsUtf8, subst, sym, refl, ◌+◌, [], ap, ◌∙◌, take, drop, append_assoc, ◌∷◌, map, get_or, flat_map, cond, ◌==◌, append-nil, add-one, Bool, false, codes, ◌-◌, filter, length-append, replicate, Contains, ℤ, pos, negsuc, slice_get, Some, drop_of_length-le}, lemmas.{Bool.{ne_eqb, cond_both}, Fmt.{length-decimal-le, IsAscii-decimal, length_signed_le}, Int.{ints, to_z-of_z}, List.{length-take-le, length-drop, drop_at, drop-drop, drop_more, Elements.{All-head, All-tail, All-map, All-from_get_or, Contains-get_or}}, Str.{IsUtf8-append, IsUtf8-from_ascii, Ascii.{IsAscii-nil, IsAscii-cons}}}}
+use Rattle.std.proofs.Common.{SFits, of_z, to_z, w16, w32, ℕ, ◌<◌, ◌≤◌, ◌^◌, length, arith, ◌≡◌, zero, suc, List, ◌++◌, IsAscii, IsUtf8}
+use Rattle.std.proofs.Common.{subst, sym, refl, ◌+◌, [], ap, ◌∙◌, take, drop, append_assoc, ◌∷◌, map, get_or, flat_map, cond, ◌==◌}
+use Rattle.std.proofs.Common.{append-nil, add-one, Bool, false, codes, ◌-◌, filter, length-append, replicate, Contains, ℤ, pos, negsuc}
+use Rattle.std.proofs.Common.{slice_get, Some, drop_of_length-le}
+use Rattle.std.proofs.lemmas.{Bool.{ne_eqb, cond_both}, Fmt.{length-decimal-le, IsAscii-decimal, length_signed_le}, Int.{ints, to_z-of_z}}
+use Rattle.std.proofs.lemmas.List.{length-take-le, length-drop, drop_at, drop-drop, drop_more}
+use Rattle.std.proofs.lemmas.List.Elements.{All-head, All-tail, All-map, All-from_get_or, Contains-get_or}
+use Rattle.std.proofs.lemmas.Str.{IsUtf8-append, IsUtf8-from_ascii, Ascii.{IsAscii-nil, IsAscii-cons}}
 use Rattle.std.specs.{Fmt.{decimal, signed_decimal}, Int.Signed.{mag}, List.{join_with_byte, range_with_len}}
 use Rattle.kalah_rules.specs.{Play.{legal_houses}, Position.{Position, side_length, IsWithinLimits, IsMarginInRange, is_over}}
 use Rattle.kalah_solve.{proofs.SolverLemmas.{move_value_small}, specs.Solver.MoveValues.{IsMoveValue, move_value, values_of}}
@@ -51,8 +58,8 @@ blanks_before bytes start n many low old_is room blanks_are =
 -- ==== The lines of several moves
 
 -- what stands at a place of the legal houses is legal
-pub legal_at : {legal moves : List ℕ} (i : ℕ) {h : ℕ} → moves ≡ legal → i < length moves → h ≡ get_or moves i 0 → Contains legal h
-legal_at {legal} {moves} i moves_are within h_is =
+pub move_is_legal : {legal moves : List ℕ} (i : ℕ) {h : ℕ} → moves ≡ legal → i < length moves → h ≡ get_or moves i 0 → Contains legal h
+move_is_legal {legal} {moves} i moves_are within h_is =
     rw h_is (subst (λ houses. Contains houses (get_or moves i 0)) moves_are (Contains-get_or moves i 0 within))
 
 suc_is_not_zero : (i : ℕ) → (suc i == 0) ≡ false

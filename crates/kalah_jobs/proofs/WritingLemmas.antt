@@ -1,8 +1,8 @@
 -- The output of a batch: what it is by its files and by its jobs, and in parts.
 use Rattle.std.proofs.{Common.{zero-add, ℕ, ◌<◌, length, arith, ◌≡◌, suc, List, ◌++◌, sym, refl, ◌+◌, [], ap, ◌∙◌, ◌∷◌, map, get_or, flat_map, cond, append-nil, length-append, ap₂, inl, inr, sum_by, count_by}, lemmas.{Bool.{cases_eq}, Grind.{flat_map-append}, List.Sums.{sum_by-cons, sum_by-append}}}
 use Rattle.std.specs.List.{enumerate_from}
-use Rattle.kalah_jobs.specs.{entry_to, is_faulty, is_faulty_entry, entries_to, jobs_to, lines_in, line_feed, lines_of, EndsWithItsLine, NamedBytes, BestMove, Taken, Question, Tally, answer_of, answer_output, line_output, file_output, output_to, tally_of, text_of_line, text_of_file, taken_output, names_of, FilesAreTheirJobs, OutputSplitsByFiles, FilesSplitBetweenLines}
-use Rattle.kalah_jobs.proofs.{FileLinesLemmas.{lines_of-feed, lines_of-byte, length-lines_of}, FilesLemmas.{all_entries, length-job_list, job_count-jobs_to, asked_fault, faulty_jobs}, ListLemmas.{count_map, onto_first-append, enumerate_from-append}}
+use Rattle.kalah_jobs.specs.{entry_for, is_faulty, is_faulty_entry, entries_for, jobs_for, lines_in, line_feed, lines_of, EndsWithItsLine, NamedBytes, BestMove, Taken, Question, Tally, answer_of, answer_output, line_output, file_output, output_for, tally_of, text_of_line, text_of_file, taken_output, names_of, FilesAreTheirJobs, OutputSplitsByFiles, FilesSplitBetweenLines}
+use Rattle.kalah_jobs.proofs.{FileLinesLemmas.{lines_of-feed, lines_of-byte, length-lines_of}, FilesLemmas.{all_entries, length-job_list, job_count-jobs_for, asked_fault, faulty_jobs}, ListLemmas.{count_map, onto_first-append, enumerate_from-append}}
 
 -- ==== What is stated of files and what is stated of their jobs is the same
 
@@ -13,17 +13,17 @@ IsUnder text n name = (taken : Taken) → text n taken ≡ answer_output name ta
 -- the lines of a file from number k on
 lines_by_entries : (question : Question) (text : ℕ → Taken → List ℕ) (n : ℕ) (name : List ℕ) (k : ℕ) (lines : List (List ℕ))
     → IsUnder text n name → flat_map (line_output question name) (enumerate_from k lines) ≡ flat_map (text_of_line text n)
-    (enumerate_from k (map (entry_to question) lines))
+    (enumerate_from k (map (entry_for question) lines))
 lines_by_entries question text n name k [] under = refl
 lines_by_entries question text n name k (line ∷ lines) under =
-    ap₂ (λ (l m : List ℕ). l ++ m) (sym (under (record { line = k; answer = answer_of (entry_to question line) })))
+    ap₂ (λ (l m : List ℕ). l ++ m) (sym (under (record { line = k; answer = answer_of (entry_for question line) })))
     (lines_by_entries question text n name (k + 1) lines under)
 
 -- the files from number n on
 files_by_entries : (question : Question) (text : ℕ → Taken → List ℕ) (n : ℕ) (files : List NamedBytes)
     → ((m i : ℕ) → m ≡ n + i → i < length files → IsUnder text m (get_or (names_of files) i []))
-    → flat_map (file_output question) files ≡ flat_map (text_of_file text) (enumerate_from n (jobs_to question files))
-unfolding entries_to
+    → flat_map (file_output question) files ≡ flat_map (text_of_file text) (enumerate_from n (jobs_for question files))
+unfolding entries_for
 files_by_entries question text n [] under = refl
 files_by_entries question text n (file ∷ files) under =
     ap₂ (λ (l m : List ℕ). l ++ m)
@@ -32,15 +32,15 @@ files_by_entries question text n (file ∷ files) under =
 
 -- a line is answered by a fault for each question
 faults_of_lines : (question : Question) (lines : List (List ℕ))
-    → count_by is_faulty_entry (map (entry_to question) lines) ≡ count_by is_faulty lines
+    → count_by is_faulty_entry (map (entry_for question) lines) ≡ count_by is_faulty lines
 faults_of_lines question lines =
-    count_map is_faulty_entry (entry_to question) lines ∙ (λ i. count_by (λ line. asked_fault question line i) lines)
+    count_map is_faulty_entry (entry_for question) lines ∙ (λ i. count_by (λ line. asked_fault question line i) lines)
 
 -- the faults of files are the faulty entries of their jobs
 faults_of_files : (question : Question) (files : List NamedBytes)
     → sum_by (λ (file : NamedBytes). count_by is_faulty (lines_of file.bytes)) files ≡ count_by is_faulty_entry
-    (all_entries (jobs_to question files))
-unfolding entries_to
+    (all_entries (jobs_for question files))
+unfolding entries_for
 faults_of_files question [] = refl
 faults_of_files question (file ∷ files) =
     omega (
@@ -48,18 +48,18 @@ faults_of_files question (file ∷ files) =
       sum_by-cons (λ (x : NamedBytes). count_by is_faulty (lines_of x.bytes)) file files,
       faults_of_files question files,
       faults_of_lines question (lines_of file.bytes),
-      sum_by-append (λ entry. cond (is_faulty_entry entry) 1 0) (entries_to question file.bytes) (all_entries (jobs_to question files)),
+      sum_by-append (λ entry. cond (is_faulty_entry entry) 1 0) (entries_for question file.bytes) (all_entries (jobs_for question files)),
     )
 
 pub files_are_their_jobs : FilesAreTheirJobs
-unfolding output_to tally_of
+unfolding output_for tally_of
 files_are_their_jobs = record {
   output = λ question files.
       files_by_entries question (taken_output (names_of files)) 0 files
       (λ m i is low taken. ap (λ j. answer_output (get_or (names_of files) j []) taken)
       (let e : m ≡ i = omega arith in e));
-  lines = λ question files. sym (length-job_list (jobs_to question files) ∙ job_count-jobs_to question files);
-  faults = λ question files. faults_of_files question files ∙ sym (faulty_jobs (jobs_to question files));
+  lines = λ question files. sym (length-job_list (jobs_for question files) ∙ job_count-jobs_for question files);
+  faults = λ question files. faults_of_files question files ∙ sym (faulty_jobs (jobs_for question files));
 }
 
 -- ==== Files and parts of files in sequence
@@ -68,7 +68,7 @@ abbrev counts : ℕ → ℕ → Tally
 counts lines faults = record { lines = lines; faults = faults }
 
 pub output_splits_by_files : OutputSplitsByFiles
-unfolding output_to tally_of
+unfolding output_for tally_of
 output_splits_by_files = record {
   asked = λ question first others. flat_map-append (file_output question) first others;
   best_moves = λ first others. flat_map-append (file_output BestMove) first others;
@@ -97,7 +97,7 @@ lines_split first second (inl none) = rw none refl
 lines_split first second (inr ends) = rw ends.1 (lines_of_both ends.0 second)
 
 pub files_split_between_lines : FilesSplitBetweenLines
-unfolding output_to tally_of
+unfolding output_for tally_of
 files_split_between_lines = record {
   whole = λ question file. append-nil (file_output question file);
   counted = λ file. refl;

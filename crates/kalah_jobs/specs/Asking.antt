@@ -2,7 +2,7 @@
 -- sink as those that were written to it, before and after, if these are known.
 use Rattle.std.specs.{Io.{Buffered.{reader_remaining}, KnownBytes.{Appends, Consumes}}, List.{flat_map, enumerate_from, join_with_byte, list_any}, Prelude.{◌≡◌, ◌≢◌, ◌↔◌, ℕ, ◌+◌, ◌<◌, ◌≤◌, List, [], ◌∷◌, ◌++◌, Bool, true, false, not, IfSome, IfOk, IsErrOf, Option, Result, length, take, map}}
 use Rattle.kalah_rules.specs.Position.{seeds_in_houses}
-use Rattle.kalah_jobs.specs.{Files.{Entry.{entry_to, is_faulty}, Lines.{line_feed, lines_of, EndsWithItsLine, HasNoLineFeed}, NamedBytes.{NamedBytes}}, Limits.{most_line_bytes}, Types.{AskFault, Entry, Question, Read, Write}, Writing.{Answer.{answer_of, answer_texts, joined_text, in_one_line, place_text}, Output.{output_to, line_output}, Sink.{SinkState}}, declared.{asking.{prompt_reader.PromptReader.{PromptReader}, prompt_solver.TheConstants.{QUICK_SEEDS}}, files.{entry.Entry.TheVariants.{Position, ValuesOf}, question.Question.TheVariants.{Steps}}}}
+use Rattle.kalah_jobs.specs.{Files.{Entry.{entry_for, is_faulty}, Lines.{line_feed, lines_of, EndsWithItsLine, HasNoLineFeed}, NamedBytes.{NamedBytes}}, Limits.{most_line_bytes}, Types.{AskFault, Entry, BestMoveOf, ValuesOf, Question, Read, Write}, Writing.{Answer.{answer_of, answer_texts, joined_text, in_one_line, place_text}, Output.{output_for, line_output}, Sink.{SinkState}}, declared.{asking.{prompt_reader.PromptReader.{PromptReader}, prompt_solver.TheConstants.{QUICK_SEEDS}}, files.question.Question.TheVariants.{Steps}}}
 
 -- the bytes of a line that are kept, enough to determine its entry: a line with that many, with its CR or not, is too long
 abbrev pub kept_bytes : ℕ
@@ -10,7 +10,7 @@ kept_bytes = most_line_bytes + 2
 
 -- the answer to a line, and a line feed
 abbrev pub reply : Question → List ℕ → List ℕ
-reply question line = joined_text (answer_of (entry_to question line)) ++ line_feed ∷ []
+reply question line = joined_text (answer_of (entry_for question line)) ++ line_feed ∷ []
 
 -- the answer to what stands after the last line feed, if anything does
 abbrev pub last_reply : Question → List ℕ → List ℕ
@@ -23,8 +23,8 @@ is_last_read [] = true
 is_last_read (byte ∷ line) = not (is_faulty (byte ∷ line))
 
 -- for each of the lines of the bytes, in order, its answer
-unfoldable pub answers_to : Question → List ℕ → List ℕ
-answers_to question bytes = flat_map (reply question) (lines_of bytes)
+unfoldable pub answers_for : Question → List ℕ → List ℕ
+answers_for question bytes = flat_map (reply question) (lines_of bytes)
 
 -- no line of the bytes is answered by a fault
 abbrev pub are_all_read : List ℕ → Bool
@@ -35,7 +35,7 @@ pub record IsAnswered (question : Question) (before after old new : Option (List
   pub read : List ℕ
   pub taken : Consumes before after read
   pub all : IfSome before (λ bytes. read ≡ bytes)
-  pub written : Appends old new (answers_to question read)
+  pub written : Appends old new (answers_for question read)
   pub status : all_read ≡ are_all_read read
 
 -- Lines were read, and then a part of the next one. The answers to the lines were written, and nothing else was.
@@ -45,7 +45,7 @@ pub record IsCutOff (question : Question) (before after old new : Option (List �
   pub ended : EndsWithItsLine lines
   pub unended : HasNoLineFeed part
   pub taken : Consumes before after (lines ++ part)
-  pub written : Appends old new (answers_to question lines)
+  pub written : Appends old new (answers_for question lines)
 
 -- what is asked of the lines of a reader, with the reader and the sink as they were then
 pub record StreamStart : Type 0 where
@@ -78,7 +78,7 @@ quick_seeds = QUICK_SEEDS
 
 -- the best move or the values of the position are asked, and it has more seeds in houses
 abbrev pub TakesLong : Entry → Type 0
-TakesLong (Position p) = quick_seeds < seeds_in_houses p
+TakesLong (BestMoveOf p) = quick_seeds < seeds_in_houses p
 TakesLong (ValuesOf p) = quick_seeds < seeds_in_houses p
 TakesLong _ = ⊥
 
@@ -91,7 +91,7 @@ pub record IsBegun (question : Question) (before after old new : Option (List �
   pub one : length (lines_of last) ≤ 1
   pub taken : Consumes before after (lines ++ last)
   pub count : ℕ
-  pub written : Appends old new (answers_to question lines ++ take count (answers_to question last))
+  pub written : Appends old new (answers_for question lines ++ take count (answers_for question last))
 
 -- What is read of a reader, and written to a sink, if its lines are answered.
 pub record AnswersLines (question : Question) (before after : Option (List ℕ)) (old new : SinkState) (result : Result Bool AskFault)
@@ -108,7 +108,7 @@ pub record AnswersLines (question : Question) (before after : Option (List ℕ))
 
 -- the texts of the answer to a line
 abbrev pub reply_texts : Question → List ℕ → List (List ℕ)
-reply_texts question line = answer_texts (answer_of (entry_to question line))
+reply_texts question line = answer_texts (answer_of (entry_for question line))
 
 -- Some lines are answered as a file of them, without the name and number before each answer. If steps are asked, the texts that have a
 -- line each for a file stand in one line, with `; ` between any two. Bytes that begin with whole lines are answered as these lines are,
@@ -117,10 +117,10 @@ pub record AnswersAreThoseOfAFile : Type 0 where
   pub lines : (question : Question) → question ≢ Steps → (name : List ℕ) (number : ℕ) (line : List ℕ) →
       line_output question name (number, line) ≡ place_text name number ++ reply question line
   pub file : (question : Question) → question ≢ Steps → (file : NamedBytes) →
-      output_to question (file ∷ []) ≡ flat_map (λ p. place_text file.name p.0 ++ reply question p.1)
+      output_for question (file ∷ []) ≡ flat_map (λ p. place_text file.name p.0 ++ reply question p.1)
       (enumerate_from 0 (lines_of file.bytes))
   pub texts : (question : Question) (line : List ℕ) → reply question line ≡ in_one_line (reply_texts question line) ++ line_feed ∷ []
   pub placed : (question : Question) (name : List ℕ) (number : ℕ) (line : List ℕ) → line_output question name (number, line)
       ≡ join_with_byte line_feed (map (λ text. place_text name number ++ text) (reply_texts question line)) ++ line_feed ∷ []
   pub parts : (question : Question) (lines more : List ℕ) → EndsWithItsLine lines →
-      answers_to question (lines ++ more) ≡ answers_to question lines ++ answers_to question more
+      answers_for question (lines ++ more) ≡ answers_for question lines ++ answers_for question more

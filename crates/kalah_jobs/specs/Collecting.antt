@@ -1,5 +1,5 @@
 pub mod Found
-pub mod OutcomeJob
+pub mod OutcomeState
 pub mod CollectorState
 pub mod Refusals
 pub mod CollectorEvents

@@ -12,7 +12,7 @@ pub use Collecting.CollectorLaw.*
 pub use Collecting.CollectorState.*
 pub use Collecting.Found.*
 pub use Collecting.Held.*
-pub use Collecting.OutcomeJob.*
+pub use Collecting.OutcomeState.*
 pub use Collecting.Refusals.*
 pub use Collecting.Shares.*
 unfoldable pub use Files.Entry.*

@@ -5,6 +5,7 @@ pub use Rattle.kalah_solve.specs.declared.solver.move_values.MoveValue.{MoveValu
 pub use Rattle.kalah_jobs.specs.declared.files.question.Question.{Question}
 pub use Rattle.kalah_jobs.specs.declared.files.question.Question.TheVariants.{BestMove}
 pub use Rattle.kalah_jobs.specs.declared.files.entry.Entry.{Entry}
+pub use Rattle.kalah_jobs.specs.declared.files.entry.Entry.TheVariants.{Position as BestMoveOf, ValuesOf, StepsOf, Bad}
 pub use Rattle.kalah_jobs.specs.declared.files.job.Job.{Job}
 pub use Rattle.kalah_jobs.specs.declared.line.line_fault.LineFault.{LineFault}
 pub use Rattle.kalah_jobs.specs.declared.line.line_fault.LineFault.TheVariants.{Long, Empty, Shape, Houses, Seeds}

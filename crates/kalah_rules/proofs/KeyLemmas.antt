@@ -1,6 +1,13 @@
 -- Rows as numbers, and what a key determines of its houses.
-use Rattle.std.proofs.{Common.{zero, suc, ◌≡◌, ℕ, ◌+◌, ◌-◌, ◌*◌, ◌/◌, ◌%◌, ◌^◌, ◌<◌, ◌≤◌, inl, inr, List, [], ◌∷◌, ◌++◌, length, get_or, arith, ap, sym, ◌∙◌, refl, add-one, take, drop, replicate, rules, Option, Some, None, length-take-le, length-append, slice_set, sum, nat_lt, min, if◌then◌else◌, ◌==◌, nat_eq, All, IsSome, IfSome, ◌↔◌, length-set}, lemmas.{Nat.{pow-add, mul-le}, List.{map_push, length-drop, length-replicate, get_or-replicate, take-append-drop, Sums.{sum_by-cons, sum_by-append}, Folds.{sum_by-replicate}, Elements.{All-replicate}}, Bool.{cases_eq}, Grind.{same_number_lists}}, Math.{Nat.{pow-succ', mul_assoc, div-div-eq-div-mul}, Seq.{take-append_seam, drop-append_seam}}}
-use Rattle.kalah_rules.specs.{seeds, HousesState, AreWithinLimits, seeds_in_houses, storeless, without_seeds, row_of, lap_length, gain, own_distance, other_distance, packed_row, cells, rule_bit, packed_rows, key_of, variant_of, side_in_key, houses_in_key, IsKey, ones, up_to, houses_of_fields, AreFieldsOf, AreFields, AreRowFields, own_gains, other_gains, store_gains, padded, houses_from, CanBeHouses, declared.{rule.Rule.{Rule, TheVariants.{Classic, EmptyCapture}}, houses.numbers.TheConstants.{MOST_LAPS, ONE_EACH}}}
+use Rattle.std.proofs.Common.{zero, suc, ◌≡◌, ℕ, ◌+◌, ◌-◌, ◌*◌, ◌/◌, ◌%◌, ◌^◌, ◌<◌, ◌≤◌, inl, inr, List, [], ◌∷◌, ◌++◌, length, get_or}
+use Rattle.std.proofs.Common.{arith, ap, sym, ◌∙◌, refl, add-one, take, drop, replicate, rules, Option, Some, None, length-take-le}
+use Rattle.std.proofs.Common.{length-append, slice_set, sum, nat_lt, min, if◌then◌else◌, ◌==◌, nat_eq, All, IsSome, IfSome, ◌↔◌, length-set}
+use Rattle.std.proofs.lemmas.Nat.{pow-add, mul-le}
+use Rattle.std.proofs.lemmas.List.{map_push, length-drop, length-replicate, get_or-replicate, take-append-drop}
+use Rattle.std.proofs.lemmas.List.{Sums.{sum_by-cons, sum_by-append}, Folds.{sum_by-replicate}, Elements.{All-replicate}}
+use Rattle.std.proofs.lemmas.{Bool.{cases_eq}, Grind.{same_number_lists}}
+use Rattle.std.proofs.Math.{Nat.{pow-succ', mul_assoc, div-div-eq-div-mul}, Seq.{take-append_seam, drop-append_seam}}
+use Rattle.kalah_rules.specs.{seeds, HousesState, AreWithinLimits, total_seeds, without_seeds, row_of, lap_length, gain, own_distance, other_distance, packed_row, cells, rule_bit, packed_rows, key_of, variant_of, side_in_key, houses_in_key, IsKey, ones, up_to, houses_of_fields, AreFieldsOf, AreFields, AreRowFields, own_gains, other_gains, store_gains, padded, houses_from, CanBeHouses, declared.{rule.Rule.{Rule, TheVariants.{Classic, EmptyCapture}}, houses.numbers.TheConstants.{MOST_LAPS, ONE_EACH}}}
 use Rattle.kalah_rules.proofs.PlayLemmas.{range-suc, length-row_of, same_as_row, row_of_same, seeds-set_same, seeds-set_other, sum-zeros}
 
 -- ==== Rows as numbers: houses read and written, and rows of seeds added
@@ -348,7 +355,7 @@ key_fits b limits = grind (arith, packed_row-small)
 
 -- the parts of the key of houses, with their number of seeds, are their fields
 pub are_fields : {b : HousesState} {rows seeds variant : ℕ} → AreWithinLimits b → rows ≡ packed_rows b
-    → seeds ≡ seeds_in_houses (storeless b) → variant ≡ variant_of b
+    → seeds ≡ total_seeds b → variant ≡ variant_of b
     → AreFields rows seeds variant × (houses_of_fields rows variant ≡ b)
 are_fields {b} {rows} {variant = variant} limits rows_are seeds_are variant_is =
     let key_is : rows + 2 ^ 60 * variant ≡ key_of b = omega arith in

@@ -1,9 +1,8 @@
--- Moves on the numbers of two rows, the step of a board by that of its houses, and the cells of the table of sowings.
-use Rattle.kalah_rules.specs.declared.step.Step.TheVariants as step
+-- Moves on the numbers of two rows, and the cells of the table of sowings.
 use Rattle.kalah_rules.specs.Position as position
-use Rattle.std.proofs.{Common.{◌≡◌, ◌≢◌, ℕ, zero, suc, ◌+◌, ◌-◌, ◌*◌, ◌/◌, ◌%◌, ◌^◌, ◌<◌, ◌≤◌, inl, inr, length, arith, ap, sym, ◌∙◌, refl, subst, eq-eqb, List, Bool, true, false, sum, ◌==◌, ◌&&◌, Option, Some, MatchBool, Contains, slice_set, bit_and, length-set}, lemmas.{Nat.{mod_below, div-add-mod', and_block, and_mask, and_le_r, pow_pos}, Bool.{cases_Bool, cases_eq, cases_lt, and_parts, cond_both, eqb-true, Decides.{nat_tests}}, List.{length-replicate, get_or-set_same, get_or-set_other}}, Math.{Nat.{div-eq_of_lt, mod-eq_of_lt, div-div-eq-div-mul}, Bool.{or_comm}}}
-use Rattle.kalah_rules.specs.{HousesState, AreWithinLimits, side_length, seeds, opposite, seeds_in_houses, storeless, IsWithinLimits, is_over, swapped, houses_in, with_stores, without_seeds, HoldsSeeds, lifted, lap_length, own_distance, other_distance, store_distance, sow, sown, last_distance, moves_again, captures, can_capture, after_capture, after, packed_row, packed_rows, rule_bit, ShowsPosition, ones, houses_of_fields, AreFieldsOf, AreFields, own_gains, other_gains, store_gains, last_house, last_place, IsLastHouse, IsNoHouse, IsSowing, IsSowingCell, AreSowings, legal_houses, step_to, step_of, position_after, IsNearerEnd, houses_step_to, houses_step, Over, Again, Turn, Position.{Position}, HousesStep.{HousesStep}, declared.{houses.{play.RowNumbers.{RowNumbers}, sowing_table.Sowing.{Sowing}}, rule.Rule.{Rule}, step.Step.{Step}}}
-use Rattle.kalah_rules.proofs.{PlayLemmas.{IsLegal, sum-set_zero, sow_side, sow_keeps, own_distance_past, own_distance_back, last_house_own, last_house_store, last_house_other, after_at, legal_holds, after_nearer, sum-zeros, with_store_seeds, after_of_houses, legal_going}, KeyLemmas.{packed_row-small, pow_five, pow_other, own_house_of_rows, moved_across_fits, placed_small, packed_row-set, packed_row-all, packed_row-up_to, read_seeds, own_sown, other_sown, own_gain, other_gain, ones_le, fields_of, rows_of_fields, are_fields, sum-zero, packed_row-zero}}
+use Rattle.std.proofs.{Common.{◌≡◌, ℕ, zero, suc, ◌+◌, ◌-◌, ◌*◌, ◌/◌, ◌%◌, ◌^◌, ◌<◌, ◌≤◌, inl, inr, length, arith, ap, sym, ◌∙◌, refl, subst, eq-eqb, List, true, false, sum, ◌==◌, ◌&&◌, Option, Some, MatchBool, slice_set, bit_and, length-set}, lemmas.{Nat.{mod_below, div-add-mod', and_block, and_mask, and_le_r, pow_pos}, Bool.{cases_Bool, cases_eq, cases_lt, and_parts, eqb-true}, List.{get_or-set_same, get_or-set_other}}, Math.{Nat.{div-eq_of_lt, mod-eq_of_lt, div-div-eq-div-mul}}}
+use Rattle.kalah_rules.specs.{HousesState, AreWithinLimits, side_length, seeds, opposite, seeds_in_houses, storeless, houses_in, HoldsSeeds, lifted, lap_length, own_distance, other_distance, store_distance, sow, sown, last_distance, moves_again, captures, can_capture, after_capture, after, packed_row, packed_rows, ShowsPosition, ones, AreFieldsOf, own_gains, other_gains, store_gains, last_house, last_place, IsLastHouse, IsNoHouse, IsSowing, IsSowingCell, AreSowings, Position.{Position}, declared.{houses.{play.RowNumbers.{RowNumbers}, sowing_table.Sowing.{Sowing}}, rule.Rule.{Rule}}}
+use Rattle.kalah_rules.proofs.{PlayLemmas.{sum-set_zero, sow_side, sow_keeps, own_distance_past, own_distance_back, last_house_own, last_house_store, last_house_other, after_at}, KeyLemmas.{packed_row-small, pow_five, pow_other, own_house_of_rows, moved_across_fits, placed_small, packed_row-set, packed_row-all, packed_row-up_to, read_seeds, own_sown, other_sown, own_gain, other_gain}}
 
 -- ==== A move on the numbers of two rows
 
@@ -97,12 +96,13 @@ module _ {a : HousesState} {h : ℕ} (can : CanSow a h) where
       }
 
   -- the own row after the sowing
-  packed_row-sown_own : packed_row after_sowing.own + 32 ^ (h - 1) * seeds a.own h ≡ packed_row a.own + own_gains (length a.own) h (seeds a.own h)
+  packed_row-sown_own : packed_row after_sowing.own + 32 ^ (h - 1) * seeds a.own h
+      ≡ packed_row a.own + own_gains (length a.own) h (seeds a.own h)
   unfolding sow
   packed_row-sown_own = own_sown _ _ _ can.holds.first can.holds.last
 
   -- the other row
-  packed_row-sown_other : packed_row after_sowing.other ≡ packed_row a.other + other_gains (length a.own) h (seeds a.own h)
+  pub packed_row-sown_other : packed_row after_sowing.other ≡ packed_row a.other + other_gains (length a.own) h (seeds a.own h)
   unfolding sow
   packed_row-sown_other = rw can.limits.same_side at (other_sown a.other h (seeds a.own h))
 
@@ -111,7 +111,7 @@ module _ {a : HousesState} {h : ℕ} (can : CanSow a h) where
   sown_own_store = omega arith
 
   -- the row without the house's seeds
-  packed_row-lifted : packed_row (lifted (storeless a) h).own + 32 ^ (h - 1) * seeds a.own h ≡ packed_row a.own
+  pub packed_row-lifted : packed_row (lifted (storeless a) h).own + 32 ^ (h - 1) * seeds a.own h ≡ packed_row a.own
   packed_row-lifted = omega (arith, packed_row-set)
 
   few : sum after_sowing.own + sum after_sowing.other ≤ 31
@@ -242,7 +242,7 @@ module _ (p : Position) (h : ℕ) (holds : HoldsSeeds p h) where
   last_high = omega arith
 
   -- of fewer seeds than a lap has cells the last goes as far as their number
-  short_distance : seeds p.own h ≤ lap_length (side_length p) → last_distance p h ≡ seeds p.own h
+  pub short_distance : seeds p.own h ≤ lap_length (side_length p) → last_distance p h ≡ seeds p.own h
   short_distance few = omega (arith, mod-eq_of_lt)
 
   -- the place of a last seed that doesn't come round
@@ -272,7 +272,7 @@ module _ (p : Position) (h : ℕ) (holds : HoldsSeeds p h) where
   place_past past = grind (arith, place_round)
 
   -- it falls into the store or beyond
-  after_past : (r : RowNumbers) → side_length p < place → ShowsPosition r (sown p h) → ShowsPosition r (after p h)
+  pub after_past : (r : RowNumbers) → side_length p < place → ShowsPosition r (sown p h) → ShowsPosition r (after p h)
   after_past r past shows =
       let at = place_past past in
       elim (cases_eq (h + last_distance p h) (side_length p + 1)) [
@@ -308,8 +308,9 @@ rows_sown rows s = record { rows = (rows + (2 ^ 64 - s.loses)) % 2 ^ 64; store =
 
 -- the rows after the move are those of the sowing, less what is captured
 pub move_leaves : {a : HousesState} {h rows seeds variant : ℕ} {s : Sowing} {rule : Rule} {taken count : ℕ}
-    → AreFieldsOf a rows seeds variant → HoldsSeeds (storeless a) h → IsSowing (length a.own) h (position.seeds a.own h) s → s.loses < 2 ^ 64
-    → rule ≡ a.rule → HasCaptured rule (rows_sown rows s) s taken count → LeavesRows (rows_sown rows s) taken count (after (storeless a) h)
+    → AreFieldsOf a rows seeds variant → HoldsSeeds (storeless a) h → IsSowing (length a.own) h (position.seeds a.own h) s
+    → s.loses < 2 ^ 64 → rule ≡ a.rule → HasCaptured rule (rows_sown rows s) s taken count
+    → LeavesRows (rows_sown rows s) taken count (after (storeless a) h)
 move_leaves {a} {h} {rows} {s = s} fields holds sowing fits same has_captured =
     let r = rows_sown rows s in
     let can : CanSow a h = record { limits = fields.limits; holds = holds } in
@@ -338,213 +339,6 @@ captured_fits {m} h c x s sowing side small = elim (cases_lt m (last_place m h c
       rw (at.across, pow_other (m - i)) (moved_across_fits _ _ (omega arith) small) in
       omega (arith, placed_small (m - i) x (omega arith) small)
 ]
-
--- ==== The result of a move on houses, as a board reports it
-
-pub is_over-swapped : (q : Position) → is_over (swapped q) ≡ is_over q
-is_over-swapped q = or_comm (sum q.other == 0) (sum q.own == 0)
-
-pub houses_within : (p : Position) → IsWithinLimits p → AreWithinLimits (houses_in p)
-houses_within p limits = omega arith
-
--- a move keeps the houses within the limits
-pub after_within : (a : HousesState) (h : ℕ) → AreWithinLimits a → HoldsSeeds (storeless a) h
-    → AreWithinLimits (houses_in (after (storeless a) h))
-after_within a h limits holds = grind (arith, after_keeps)
-
--- also as the opponent sees them
-pub swapped_within : (q : Position) → AreWithinLimits (houses_in q) → AreWithinLimits (houses_in (swapped q))
-swapped_within q limits = omega arith
-
--- ---- what `play` computes
--- the move of house h leads to this step with the houses of these fields
-pub record IsStepOfFields (a : HousesState) (h rows seeds variant : ℕ) (step : HousesState → HousesStep) : Type 0 where
-  pub fields : AreFields rows seeds variant
-  pub step_is : step (houses_of_fields rows variant) ≡ houses_step a h
-
--- a move brings at most 31 seeds to the store
-pub store_small : {a : HousesState} {h : ℕ} {r : RowNumbers} → AreWithinLimits a → IsLegal a h
-    → ShowsPosition r (after (storeless a) h) → r.store ≤ 31
-store_small {a} {h} {r} limits legal shows =
-    let keeps = after_keeps _ _ limits (legal_holds _ _ legal) in
-    omega (arith, keeps.play)
-
-module _ {a : HousesState} {h rows seeds variant : ℕ} {r : RowNumbers} (fields : AreFields rows seeds variant) (view_is : houses_of_fields rows variant ≡ a)
-    (legal : IsLegal a h) (shows : ShowsPosition r (after (storeless a) h)) where
-  fields_are : AreFieldsOf a rows seeds variant
-  fields_are = fields_of fields view_is
-
-  -- the position after the move
-  abbrev moved : Position
-  moved = after (storeless a) h
-
-  move_keeps : KeepsSeeds (storeless a) moved
-  move_keeps = after_keeps _ _ fields_are.limits (legal_holds _ _ legal)
-
-  moved_within : AreWithinLimits (houses_in moved)
-  moved_within = after_within _ _ fields_are.limits (legal_holds _ _ legal)
-
-  pub store_within : r.store ≤ seeds
-  store_within = omega (arith, move_keeps.play, fields_are.seeds_are)
-
-  -- without own seeds the game is over
-  pub over_own : r.rows % 2 ^ 30 ≡ 0 → Over r.store (seeds - r.store) ≡ houses_step a h
-  over_own none =
-      let empty = sum-zero moved.own (sym shows.own ∙ none) in
-      let mine : r.store ≡ moved.own_store + sum moved.own = omega (arith, shows.store) in
-      let theirs : seeds - r.store ≡ moved.other_store + sum moved.other =
-      omega (arith, shows.store, move_keeps.play, move_keeps.other_store, fields_are.seeds_are) in
-      let over : is_over moved ≡ true = rw empty refl in
-      cc
-
-  -- without seeds of the opponent it is over
-  pub over_other : r.rows / 2 ^ 30 ≡ 0 → Over seeds 0 ≡ houses_step a h
-  over_other none =
-      let empty = sum-zero moved.other (sym shows.other ∙ none) in
-      let mine : seeds ≡ moved.own_store + sum moved.own = omega (arith, move_keeps.play, fields_are.seeds_are) in
-      let theirs : 0 ≡ moved.other_store + sum moved.other = omega (arith, move_keeps.other_store) in
-      let over : is_over moved ≡ true = grind (arith, nat_tests) in
-      cc
-
-  module _ (own_some : r.rows % 2 ^ 30 ≢ 0) (other_some : r.rows / 2 ^ 30 ≢ 0) where
-    moved_going : is_over moved ≡ false
-    moved_going = grind (arith, packed_row-zero)
-
-    -- if the mover moves again, the rows stay in place
-    pub again_fields : moves_again (storeless a) h ≡ true → IsStepOfFields a h r.rows (seeds - r.store) variant (Again r.store)
-    again_fields more =
-        let rule = ap rule_bit move_keeps.rule in
-        let step : Again moved.own_store (houses_in moved) ≡ houses_step a h = cc moved_going in
-        let there = are_fields {variant = variant} moved_within (omega (arith, shows.own, shows.other))
-        (omega (arith, move_keeps.play, fields_are.seeds_are)) (omega (arith, fields_are.variant_is, move_keeps.side)) in
-        record { fields = there.0; step_is = rw (shows.store, there.1) step }
-
-    -- if the turn passes, they change places
-    pub turn_fields : moves_again (storeless a) h ≡ false
-        → IsStepOfFields a h (r.rows / 2 ^ 30 + 2 ^ 30 * (r.rows % 2 ^ 30)) (seeds - r.store) variant (Turn r.store)
-    turn_fields passed =
-        let rule = ap rule_bit move_keeps.rule in
-        let step : Turn moved.own_store (houses_in (swapped moved)) ≡ houses_step a h = cc moved_going in
-        let there = are_fields {seeds = seeds - r.store} {variant = variant} (swapped_within moved moved_within)
-        (omega (arith, shows.own, shows.other)) (omega (arith, move_keeps.play, fields_are.seeds_are))
-        (omega (arith, fields_are.variant_is, move_keeps.other_side, fields_are.limits.same_side)) in
-        record { fields = there.0; step_is = rw (shows.store, there.1) step }
-
--- ---- a step on houses, applied to a position
--- the step of a position whose houses make this one
-abbrev pub with_board_stores : Position → HousesStep → Step
-with_board_stores p (Over own other) = step.Over (with_stores (without_seeds (houses_in p)) (p.own_store + own) (p.other_store + other))
-with_board_stores p (Again gained b) = step.Again (with_stores b (p.own_store + gained) p.other_store)
-with_board_stores p (Turn gained b) = step.Turn (with_stores b p.other_store (p.own_store + gained))
-
--- the position that it leads to is within the limits
-abbrev pub IsStepWithin : Position → HousesStep → Type 0
-IsStepWithin p s = IsWithinLimits (position_after (with_board_stores p s))
-
--- the step with the stores is that of the position with the stores
-with_board_stores-step_to : (p q : Position) (again : Bool) → side_length q ≡ side_length p → q.rule ≡ p.rule
-    → q.other_store ≡ 0
-    → with_board_stores p (houses_step_to q again) ≡ step_to (with_store_seeds p.own_store p.other_store q) again
-with_board_stores-step_to p q again side rule none = grind (arith, cases_Bool)
-
--- the step of a board is that of its houses
-step_of_houses : (p : Position) (h : ℕ) → AreWithinLimits (houses_in p) → HoldsSeeds (storeless (houses_in p)) h
-    → with_board_stores p (houses_step (houses_in p) h) ≡ step_of p h
-step_of_houses p h limits holds =
-    let q = after _ h in
-    let keeps = after_keeps _ _ limits holds in
-    with_board_stores-step_to p q _ keeps.side keeps.rule keeps.other_store
-    ∙ ap (λ x. step_to x (moves_again p h)) (sym (after_of_houses p h))
-
--- the step of a board is within the limits
-step_within : {p : Position} (h : ℕ) → IsWithinLimits p → HoldsSeeds (storeless (houses_in p)) h
-    → IsStepWithin p (houses_step (houses_in p) h)
-step_within {p} h limits holds =
-    let a = houses_in p in
-    let q = after _ h in
-    let limits_of_houses = houses_within p limits in
-    let keeps = after_keeps a h limits_of_houses holds in
-    let on = after_within a h limits_of_houses holds in
-    cond_both (is_over q) _ _ (IsStepWithin p) (λ over. omega (arith, keeps.play, sum-zeros, length-replicate {A = ℕ}))
-    (λ going. cond_both (moves_again (storeless a) h) _ _ (IsStepWithin p) (omega arith) (omega arith))
-
--- all that a board needs of a step of its houses
-pub record IsStepOf (p : Position) (h : ℕ) (s : HousesStep) : Type 0 where
-  pub same : with_board_stores p s ≡ step_of p h
-  pub within : IsStepWithin p s
-  pub nearer : IsNearerEnd (after p h) p
-
--- a step of a board's houses is the board's, within the limits
-pub step_of_board : {b : HousesState} {own_store other_store h : ℕ} {p : Position} {s t : HousesStep}
-    → IsWithinLimits (with_stores b own_store other_store) → with_stores b own_store other_store ≡ p → Contains (legal_houses p) h
-    → t ≡ s → t ≡ houses_step b h → IsStepOf (with_stores b own_store other_store) h s
-step_of_board {b} {own_store} {other_store} {h} limits view_is legal same step_is =
-    let p = with_stores b own_store _ in
-    let holds = legal_holds _ _ (subst (λ (x : Position). Contains (legal_houses x) h) (sym view_is) legal) in
-    record {
-      same = ap (with_board_stores p) (sym same ∙ step_is) ∙ step_of_houses _ _ (houses_within _ limits) holds;
-      within = subst (IsStepWithin p) (sym step_is ∙ same) (step_within _ limits holds);
-      nearer = after_nearer _ _ (omega arith) (omega arith);
-    }
-
--- ==== Moves whose last seed falls into the store without a lap
-
-module _ {a : HousesState} {h rows seeds variant : ℕ} {r : RowNumbers} (fields : AreFields rows seeds variant) (view_is : houses_of_fields rows variant ≡ a)
-    (legal : IsLegal a h) (ends : position.seeds a.own h + h ≡ length a.own + 1) (shows : ShowsPosition r (sown (storeless a) h)) where
-  can_sow : CanSow a h
-  can_sow = record { limits = (fields_of fields view_is).limits; holds = legal_holds _ _ legal }
-
-  distance_is_seeds : last_distance (storeless a) h ≡ position.seeds a.own h
-  distance_is_seeds = short_distance _ h can_sow.holds (omega arith)
-
-  again_after : moves_again (storeless a) h ≡ true
-  again_after = omega (arith, eq-eqb, distance_is_seeds)
-
-  ends_at_store : last_place (length a.own) h (position.seeds a.own h) ≡ length a.own + 1
-  ends_at_store = eqb-true _ _ (sym (again_at _ h can_sow.holds) ∙ again_after)
-
-  -- nothing is captured
-  store_shows : ShowsPosition r (after (storeless a) h)
-  store_shows = after_past _ h can_sow.holds r (omega (arith, ends_at_store)) shows
-
-  -- the opponent has seeds as before
-  other_some : r.rows / 2 ^ 30 ≢ 0
-  other_some none = grind (arith, legal_going, sum-zero, packed_row-sown_other can_sow)
-
-  -- the game goes on with the mover, if the mover has seeds left
-  store_fields : 0 < r.rows % 2 ^ 30 → IsStepOfFields a h r.rows (seeds - r.store) variant (Again r.store)
-  store_fields some = again_fields fields view_is legal store_shows (omega arith) other_some again_after
-
--- what comes of a move, by the rows after it, if its last seed falls into the store without a lap
-pub record MovesIntoStore (a : HousesState) (h seeds variant now : ℕ) : Type 0 where
-  pub goes_on : 0 < now % 2 ^ 30 → IsStepOfFields a h now (seeds - 1) variant (Again 1)
-  pub over : now % 2 ^ 30 ≡ 0 → Over 1 (seeds - 1) ≡ houses_step a h
-
--- it adds a seed in each later house, less the seeds of the house
-pub moves_into_store : {a : HousesState} {h rows seeds variant : ℕ} (more : ℕ) → AreFields rows seeds variant
-    → houses_of_fields rows variant ≡ a → IsLegal a h → position.seeds a.own h + h ≡ length a.own + 1
-    → (more + 32 ^ (h - 1) * (length a.own + 1 - h)) % 2 ^ 64 ≡ ones (length a.own) - ones h
-    → MovesIntoStore a h seeds variant ((rows + more) % 2 ^ 64)
-moves_into_store {a} {h} {rows} {seeds} {variant} more fields view_is legal ends more_is =
-    let are = fields_of fields view_is in
-    let can : CanSow a h = record { limits = are.limits; holds = legal_holds _ _ legal } in
-    let house = 32 ^ (h - 1) * position.seeds a.own h in
-    let later = ones (length a.own) - ones h in
-    let few : length a.own + 1 - h ≡ position.seeds a.own h = omega arith in
-    let small : ones (length a.own) ≤ ones 6 = ones_le (length a.own) 6 can.limits.at_most_six in
-    let same : (rows + more) % 2 ^ 64 ≡ rows - house + later = omega (
-      arith,
-      rw few at more_is,
-      small,
-      are.rows_are,
-      (rows_of_fields are).fit,
-      packed_row-lifted can,
-    ) in
-    let shows = into_store can _ house later ends (sym are.rows_are) refl (omega (arith, ones_le h (length a.own) can.holds.last)) in
-    rw same (record {
-      goes_on = store_fields fields view_is legal ends shows;
-      over = over_own fields view_is legal (store_shows fields view_is legal ends shows);
-    })
 
 -- ==== The cells of the table of sowings
 

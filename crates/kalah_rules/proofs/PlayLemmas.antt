@@ -1,5 +1,17 @@
 -- Moves, house by house: how seeds are sown and captured, which moves there are, and how each nears the end.
-use Rattle.std.proofs.{Common.{get_or, slice_get, zero, suc, ◌≡◌, ◌≢◌, ℕ, ◌+◌, ◌-◌, ◌*◌, ◌<◌, ◌≤◌, inl, inr, List, [], ◌∷◌, zero-le, length, replicate, arith, ap, ◌∙◌, refl, ◌/◌, ◌%◌, ◌⊎◌, sym, add-one, ◌++◌, eq-eqb, lt-ltb, slice_set, slice_index, sum, sum_by, Bool, true, false, cond, Option, Some, None, find, filter, Contains, All, nat_lt, length-set, mod-eq_of_lt}, lemmas.{Nat.{mul-le}, Bool.{cases_eq, cases_lt, cond_both, ltb-true, ne_eqb}, List.{get_or_past, set_past, get_or-set_same, get_or-set_other, Folds.{find_at, sum_by-replicate}, Sums.{position_or_len_is, sum_by-set, sum_by-cons, length-filter, count_by-le-length}, FromFn.{length-map-range_with_len, get_or-map-range_with_len, length-range_with_len, get_or-range_with_len}, Elements.{filter-append, filter_passes, All-filter, All-contains, Contains-append_left, Contains-append_right, Contains-push}}, Option.{slice_get-get_or}, Grind.{same_number_lists}}}
+use Rattle.std.proofs.Common.{get_or, slice_get, zero, suc, ◌≡◌, ◌≢◌, ℕ, ◌+◌, ◌-◌, ◌*◌, ◌<◌, ◌≤◌, inl, inr, List, [], ◌∷◌, zero-le, length}
+use Rattle.std.proofs.Common.{replicate, arith, ap, ◌∙◌, refl, ◌/◌, ◌%◌, ◌⊎◌, sym, add-one, ◌++◌, eq-eqb, lt-ltb, slice_set, slice_index}
+use Rattle.std.proofs.Common.{sum, sum_by, Bool, true, false, cond, Option, Some, None, find, filter, Contains, All, nat_lt, length-set}
+use Rattle.std.proofs.Common.{mod-eq_of_lt}
+use Rattle.std.proofs.lemmas.{Nat.{mul-le}, Bool.{cases_eq, cases_lt, cond_both, ltb-true, ne_eqb}}
+use Rattle.std.proofs.lemmas.List.{get_or_past, set_past, get_or-set_same, get_or-set_other}
+use Rattle.std.proofs.lemmas.List.Folds.{find_at, sum_by-replicate}
+use Rattle.std.proofs.lemmas.List.Sums.{position_or_len_is, sum_by-set, sum_by-cons, length-filter, count_by-le-length}
+use Rattle.std.proofs.lemmas.List.FromFn.{length-map-range_with_len, get_or-map-range_with_len, length-range_with_len}
+use Rattle.std.proofs.lemmas.List.FromFn.{get_or-range_with_len}
+use Rattle.std.proofs.lemmas.List.Elements.{filter-append, filter_passes, All-filter, All-contains, Contains-append_left}
+use Rattle.std.proofs.lemmas.List.Elements.{Contains-append_right, Contains-push}
+use Rattle.std.proofs.lemmas.{Option.{slice_get-get_or}, Grind.{same_number_lists}}
 use Rattle.std.specs.List.{range_with_len}
 use Rattle.kalah_rules.specs.{own_distance, gain, row_of, lap_length, store_distance, other_distance, sow, last_distance, last_house, sown, after, after_capture, with_capture, HousesState, seeds, side_length, seeds_in_houses, is_over, houses_in, storeless, HasEqualSides, swapped, Cell, Own, Store, Other, distance, IsCellOf, with_seed, lifted, HoldsSeeds, legal_houses, row_distance, distance_to_stores, IsNearerEnd, moves_left, position_after, Position.{Position}, declared.step.Step.{Step, TheVariants.{Again, Turn, Over}}}
 
@@ -414,8 +426,8 @@ distance-with_seed : (q : Position) (i : ℕ) → 1 ≤ i → i ≤ length q.own
 distance-with_seed q i low high = omega (arith, row_distance-more)
 
 -- the cell of the next seed, while sowing has not reached the store
-next_house : (m h k : ℕ) → k + 1 + h ≤ m → own_distance m h (h + (k + 1)) ≡ k % lap_length m + 1
-next_house m h k near = grind (arith, mod-eq_of_lt)
+next_house_distance : (m h k : ℕ) → k + 1 + h ≤ m → own_distance m h (h + (k + 1)) ≡ k % lap_length m + 1
+next_house_distance m h k near = grind (arith, mod-eq_of_lt)
 
 -- a sowing brings its seeds nearer to the store, or leaves fewer in houses
 module _ (p : Position) (h : ℕ) (holds : HoldsSeeds p h) (same : length p.other ≡ side_length p) where
@@ -427,7 +439,7 @@ module _ (p : Position) (h : ℕ) (holds : HoldsSeeds p h) (same : length p.othe
       let low : 1 ≤ h + _ = omega arith in
       let high : h + _ ≤ side_length p = omega arith in
       let high' : h + _ ≤ length (sow p h k).own = omega arith in
-      ap distance_to_stores (sow_suc p h holds.first holds.last k (Own _) (low, high) (next_house _ h k near))
+      ap distance_to_stores (sow_suc p h holds.first holds.last k (Own _) (low, high) (next_house_distance _ h k near))
       ∙ distance-with_seed (sow p h k) _ low high' ∙ ap (λ x. distance_to_stores (sow p h k) + (x + 1 - (h + (k + 1)))) side
 
   -- k seeds sown before the store bring each nearer by one or more

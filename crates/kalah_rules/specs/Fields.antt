@@ -1,6 +1,6 @@
 -- How houses, rows, and rows after a move are represented; no part of what is promised to players.
 use Rattle.std.{proofs.Common.{arith}, specs.Prelude.{◌≡◌, ℕ, ◌≤◌, ◌+◌, ◌-◌, ◌*◌, ◌/◌, ◌%◌, ◌^◌, if◌then◌else◌, nat_le, sum}}
-use Rattle.kalah_rules.specs.{Position.{Position, HousesState, seeds_in_houses, storeless, AreWithinLimits}, Sowing.{row_of}, Limits.{most_houses, most_seeds}, Key.{packed_row, cells, packed_rows, variant_of, houses_in_key}, declared.houses.play.RowNumbers.{RowNumbers}}
+use Rattle.kalah_rules.specs.{Position.{Position, HousesState, total_seeds, AreWithinLimits}, Sowing.{row_of}, Limits.{most_houses, most_seeds}, Key.{packed_row, cells, packed_rows, variant_of, houses_in_key}, declared.houses.play.RowNumbers.{RowNumbers}}
 
 -- the houses whose key has these rows, and this variant above them
 abbrev pub houses_of_fields : ℕ → ℕ → HousesState
@@ -10,7 +10,7 @@ houses_of_fields rows variant = houses_in_key (rows + 2 ^ 60 * variant)
 pub record AreFieldsOf (a : HousesState) (rows seeds variant : ℕ) : Type 0 where
   pub limits : AreWithinLimits a
   pub rows_are : packed_rows a ≡ rows
-  pub seeds_are : seeds_in_houses (storeless a) ≡ seeds
+  pub seeds_are : total_seeds a ≡ seeds
   pub variant_is : variant_of a ≡ variant
 
 -- these three numbers are the fields of some houses

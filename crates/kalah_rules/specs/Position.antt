@@ -93,6 +93,10 @@ with_stores a own_store other_store = record {
 abbrev pub storeless : HousesState → Position
 storeless a = with_stores a 0 0
 
+-- the seeds in these houses, of both players
+abbrev pub total_seeds : HousesState → ℕ
+total_seeds a = seeds_in_houses (storeless a)
+
 -- the same houses with no seeds in them
 abbrev pub without_seeds : HousesState → HousesState
 without_seeds a = record { own = replicate (length a.own) 0; other = replicate (length a.own) 0; rule = a.rule }

@@ -46,8 +46,8 @@ abbrev pub moves_again : Position → ℕ → Bool
 moves_again p h = last_distance p h == store_distance (side_length p) h
 
 -- the last seed of house h of these houses falls into the store without a lap
-abbrev pub EndsInStore : HousesState → ℕ → Type 0
-EndsInStore a h = seeds a.own h + h ≡ length a.own + 1
+abbrev pub EndsDirectlyInStore : HousesState → ℕ → Type 0
+EndsDirectlyInStore a h = seeds a.own h + h ≡ length a.own + 1
 
 -- the own house into which the last seed falls, if it is one
 abbrev pub last_house : Position → ℕ → Option ℕ

@@ -1,6 +1,6 @@
 //! The houses of a board without the stores, as numbers.
 ghost use Rattle.std.specs.Prelude.{◌≡◌, ◌<◌, ◌≤◌, ◌^◌, ◌↔◌, length, sum, IsSome, IfSome, IsTrue, Some};
-ghost use Rattle.kalah_rules.specs.{Position.{HousesState, seeds, seeds_in_houses, is_over, storeless, without_seeds, AreWithinLimits}, Play.{legal_houses}, Cells.{CanBeHouses, houses_from}, Key.{packed_row, key_of, variant_of, IsKey}};
+ghost use Rattle.kalah_rules.specs.{Position.{HousesState, seeds, total_seeds, is_over, storeless, without_seeds, AreWithinLimits}, Play.{legal_houses}, Cells.{CanBeHouses, houses_from}, Key.{packed_row, key_of, variant_of, IsKey}};
 
 pub(crate) mod house;
 pub(crate) mod house_row;
@@ -39,14 +39,14 @@ impl Model for Houses {
 
     ghost Value = { HousesState };
 
-    ghost use Rattle.kalah_rules.specs.{Position.{storeless, seeds_in_houses}, Key.{packed_rows, variant_of}};
+    ghost use Rattle.kalah_rules.specs.{Position.{total_seeds}, Key.{packed_rows, variant_of}};
     ghost use Rattle.kalah_rules.specs.Fields.{AreFields, houses_of_fields};
 
     ghost view = { λ a. houses_of_fields a.rows a.variant };
 
     ghost invariant = { λ a. AreFields a.rows a.seeds a.variant };
 
-    ghost inverse = { λ a. record { rows = packed_rows a; seeds = seeds_in_houses (storeless a); variant = variant_of a } };
+    ghost inverse = { λ a. record { rows = packed_rows a; seeds = total_seeds a; variant = variant_of a } };
 
     ghost inverse_ok = { λ a h i. record { rows = h.rows_are i; seeds = h.seeds_are i; variant = h.variant_is i } };
 }
@@ -115,7 +115,7 @@ impl Houses {
 
     /// Returns the number of seeds in the houses of both players, at most 31.
     pub fn seeds(&self) -> u8
-        ensures seeds { result ≡ seeds_in_houses (storeless self.now) }
+        ensures seeds { result ≡ total_seeds self.now }
         ensures limits { AreWithinLimits self.now }
     {
         self.seeds as u8
@@ -187,17 +187,6 @@ impl Houses {
         ensures small { result < 32 }
     {
         seeds_at(self.own_row(), House::new(i)) as u8
-    }
-
-    // Returns the number of seeds in a house of the mover.
-    #[inline(always)]
-    #[tactic(auto, using(crate::proofs::KeyLemmas::read_seeds))]
-    fn own_seeds_in(&self, house: House) -> u8
-        requires { house ≤ length self.now.own }
-        ensures value { result ≡ seeds self.now.own house }
-        ensures small { result < 32 }
-    {
-        seeds_at(self.own_row(), house) as u8
     }
 
     /// Returns the number of seeds in the opponent's house `i`, which is 1 to `m`.

@@ -1,21 +1,21 @@
 -- What a batch answers: the output of its files, each result, and a batch whose files have no line.
 use Rattle.std.proofs.{Common.{[], IfErr, ◌≡◌, ◌≤◌, ℕ, List, ◌++◌, arith, sym, ap, ◌∙◌, true, false, refl, length, take, inl, inr, Some, Option, None, Result, Ok, Err, OnOk, count_by, IfOk, flat_map}, lemmas.List.{nil_from_length, append-nil}, Math.Seq.{take-nil}, KnownBytes.{Keeps-refl}}
 use Rattle.kalah_run.specs.{Entry, Job, Tally, Question, text_of_job, whole_output, AnswersBatch, counts_of, AnswersNothing, declared.batch.{ordered_output.OrderedOutput.{OrderedOutput}, run_fault.RunFault.{RunFault, TheVariants.{TooManyFiles, TooManyLines, OutOfMemory, NoWorker, Write}}}}
-use Rattle.kalah_jobs.specs.{Files.{JobList.{job_list, is_faulty_job}, NamedBytes.{NamedBytes}, Jobs.{MakesJobs, job_count, jobs_to, lines_in_all}}, Writing.{Sink.{SinkState, WasGiven}, Output.{taken_output, output_to, output_of_jobs, names_of, tally_of}}}
+use Rattle.kalah_jobs.specs.{Files.{JobList.{job_list, is_faulty_job}, NamedBytes.{NamedBytes}, Jobs.{MakesJobs, job_count, jobs_for, lines_in_all}}, Writing.{Sink.{SinkState, WasGiven}, Output.{taken_output, output_for, output_of_jobs, names_of, tally_of}}}
 use Rattle.std.specs.Io.KnownBytes.{Appends, Keeps}
-use Rattle.kalah_jobs.proofs.{WritingLemmas.{files_are_their_jobs}, FilesLemmas.{length-job_list, job_count-jobs_to}}
+use Rattle.kalah_jobs.proofs.{WritingLemmas.{files_are_their_jobs}, FilesLemmas.{length-job_list, job_count-jobs_for}}
 use Rattle.kalah_run.proofs.OutputLemmas.{texts_from}
 
 -- the output of the jobs of the files is that of the files
 pub whole_output_is : (question : Question) (files : List NamedBytes) (r : OrderedOutput) → r.files.now ≡ files
-    → r.jobs.now ≡ jobs_to question files → whole_output r ≡ output_to question files
+    → r.jobs.now ≡ jobs_for question files → whole_output r ≡ output_for question files
 whole_output_is question files r of_files of_jobs =
     (λ i. output_of_jobs (names_of (of_files i)) (of_jobs i)) ∙ sym (files_are_their_jobs.output question files)
 
 -- there are as many jobs as lines
-pub as_many_jobs : (question : Question) (files : List NamedBytes) (jobs : List (List Entry)) → jobs ≡ jobs_to question files
+pub as_many_jobs : (question : Question) (files : List NamedBytes) (jobs : List (List Entry)) → jobs ≡ jobs_for question files
     → job_count jobs ≡ lines_in_all files
-as_many_jobs question files jobs value = ap job_count value ∙ job_count-jobs_to question files
+as_many_jobs question files jobs value = ap job_count value ∙ job_count-jobs_for question files
 
 -- this sink was given this text
 pub given_as : {W : Type 0} (state : W → SinkState) {old new out : W} {text given : List ℕ} → out ≡ new → given ≡ text
@@ -26,7 +26,7 @@ given_as state out_is text_is was_given = rw (out_is, ← text_is) was_given
 pub no_line : {total lines : ℕ} → total ≤ 0 → total ≡ lines → lines ≡ 0
 no_line none total_is = omega (arith, none, total_is)
 
-counted_tally : (question : Question) (files : List NamedBytes) → counts_of (jobs_to question files) ≡ tally_of files
+counted_tally : (question : Question) (files : List NamedBytes) → counts_of (jobs_for question files) ≡ tally_of files
 counted_tally question files = λ i. record {
   lines = sym (files_are_their_jobs.lines question files) i;
   faults = sym (files_are_their_jobs.faults question files) i;
@@ -37,10 +37,10 @@ counted_tally question files = λ i. record {
 module _ {W : Type 0} (state : W → SinkState) (question : Question) (files : List NamedBytes) (old : W) where
   -- a batch keeps its promise if the sink was given the answers to all lines, and either all is flushed or a write failed
   pub answered : {jobs : List (List Entry)} → MakesJobs question files (Ok jobs) → (new : W) (result : Result Tally RunFault)
-      → WasGiven state old new (output_to question files) → IfOk result (λ tally. tally ≡ counts_of jobs)
+      → WasGiven state old new (output_for question files) → IfOk result (λ tally. tally ≡ counts_of jobs)
       → OnOk result (((state new).has_failed ≡ false) × ((state new).is_flushed ≡ true))
       → IfErr result (λ e. (e ≡ Write) × ((state new).has_failed ≡ true))
-      → AnswersBatch state (output_to question files) files old new result
+      → AnswersBatch state (output_for question files) files old new result
   answered made new (Ok tally) given counted sound fault = record {
     few = made.0;
     written = (given.whole sound.0).1;
@@ -64,20 +64,20 @@ left_same state {old} same = rw same (Keeps-refl (state old).written)
 
 module _ (question : Question) (files : List NamedBytes) (none : lines_in_all files ≡ 0) where
   -- there is no job
-  no_jobs : job_list (jobs_to question files) ≡ []
-  no_jobs = nil_from_length (job_list (jobs_to question files))
-      (length-job_list (jobs_to question files) ∙ job_count-jobs_to question files ∙ none)
+  no_jobs : job_list (jobs_for question files) ≡ []
+  no_jobs = nil_from_length (job_list (jobs_for question files))
+      (length-job_list (jobs_for question files) ∙ job_count-jobs_for question files ∙ none)
 
   -- so nothing is to be written
-  pub no_output : output_to question files ≡ []
+  pub no_output : output_for question files ≡ []
   no_output =
       files_are_their_jobs.output question files
-      ∙ sym (texts_from (taken_output (names_of files)) (jobs_to question files) 0 (jobs_to question files))
+      ∙ sym (texts_from (taken_output (names_of files)) (jobs_for question files) 0 (jobs_for question files))
       ∙ ap (flat_map (text_of_job (taken_output (names_of files)))) no_jobs
 
   -- the result is one of a batch without a line
   pub nothing_answered : {W : Type 0} (state : W → SinkState) (old new : W) (result : Result Tally RunFault)
-      → AnswersBatch state (output_to question files) files old new result → AnswersNothing (state old).written (state new).written result
+      → AnswersBatch state (output_for question files) files old new result → AnswersNothing (state old).written (state new).written result
   nothing_answered state old new (Ok tally) answers = record {
     unwritten = appends_none _ _ _ no_output answers.written;
     uncounted = answers.counted ∙ sym (counted_tally question files)

@@ -2,7 +2,6 @@
 use denote.RattleType.{RattleType}
 use denote.Param.Send.{IsSend, IsSync, sendable}
 use denote.Ref.{NamedLft}
-use Rattle.std.specs.declared.sync.atomic.Rule as rule
 use Rattle.std.proofs.Crossing.{crosses}
 use Rattle.atomic_table.specs.contracts.shared.Seat as Seat
 use Rattle.atomic_table.proofs.Sent.{seat_keyless}
@@ -42,5 +41,5 @@ pub worker_send : IsSend Worker.the_row
 worker_send = search (sendable, crosses, seat_send, outcome_send, Solver-send) depth 60
 
 -- all workers with what they share may be handed over
-pub crew_send : (κ κ' : NamedLft) (G E : RattleType) (g : rule.Ghosts E.Denot) → IsSync G → IsSend (Crew.the_row κ κ' G E g)
-crew_send κ κ' G E g s = search (sendable, crosses, shared_work_sync, worker_send) depth 60
+pub crew_send : (κ κ' : NamedLft) (G : RattleType) → IsSync G → IsSend (Crew.the_row κ κ' G)
+crew_send κ κ' G s = search (sendable, crosses, shared_work_sync, worker_send) depth 60

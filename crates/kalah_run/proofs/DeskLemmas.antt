@@ -1,5 +1,5 @@
 -- The desk: each step keeps its protocol, and what the rows are at the end.
-use Rattle.std.proofs.{Common.{◌≡◌, ⊎_elim, inl, inr, ℕ, zero, suc, ◌+◌, ◌≤◌, List, [], ◌∷◌, ◌++◌, length, set, refl, sym, ap, ◌∙◌, subst, arith, length-append, append-nil, append_assoc, ◌%◌, ◌^◌, ◌<◌, get_or, true, false, cond, ◌-◌, ◌==◌, sum_by, count_by, All, nat_lt, AllPairs, if◌then◌else◌, slice_index, max, min, IsTrue, ◌↔◌, mod-eq_of_lt}, lemmas.{List.{set-set, Sums.{sum_by-cons, sum_by_push, count_by-le-length, get_or-le-sum_by}, Elements.{All-append, All-nil, All-cons, All-head}, Quantifiers.{all_pairs_push}}, Bool.{lt-ltb, le-ltb, cases_lt, Decides.{nat_tests}}}}
+use Rattle.std.proofs.{Common.{◌≡◌, ⊎_elim, inl, inr, ℕ, zero, suc, ◌+◌, ◌≤◌, List, [], ◌∷◌, ◌++◌, length, set, refl, sym, ap, ◌∙◌, subst, arith, length-append, append-nil, append_assoc, ◌%◌, ◌^◌, ◌<◌, get_or, true, false, cond, ◌-◌, ◌==◌, sum_by, count_by, All, nat_lt, AllPairs, if◌then◌else◌, slice_index, max, min, IsTrue, ◌↔◌, mod-eq_of_lt}, lemmas.{List.{set-set, FromFn.{length-range_with_len}, Sums.{sum_by-cons, sum_by_push, count_by-le-length, get_or-le-sum_by}, Elements.{All-append, All-nil, All-cons, All-head}, Quantifiers.{all_pairs_push}}, Bool.{lt-ltb, le-ltb, cases_lt, Decides.{nat_tests}}}}
 use mathlib.Core.Option.{some, some-injective, some-ne-none, none}
 use lib.ListN.{get_elem?}
 use Rattle.atomic_table.proofs.Lists.{set_again, set_here}
@@ -233,6 +233,19 @@ pub draw_rest_is_lawful : {S : Type 0} (plan : DeskPlan) (slots seat : ℕ) (me 
 draw_rest_is_lawful {S} plan slots seat me limit limit_is is_pass unspent =
     let view = me.0 in
     rw (unspent_me me is_pass unspent) (draws_rest_at plan slots seat (total_in view) (number_in view) (row_in view).numbers limit limit_is)
+
+-- so many numbers are in a row more once all from n on are drawn
+pub rest_counted : (before : DrawnRow) (n total : ℕ) {after : DrawnRow} {drawn : ℕ}
+    → after ≡ drawn_row (before.numbers ++ range_with_len n (total - n)) before.spent → drawn ≡ total - n
+    → length after.numbers ≡ length before.numbers + drawn
+rest_counted before n total after_is drawn_is =
+    omega (
+      arith,
+      drawn_is,
+      ap (λ (r : DrawnRow). length r.numbers) after_is,
+      length-append before.numbers (range_with_len n (total - n)),
+      length-range_with_len n (total - n),
+    )
 
 -- ==== The seats that come and go keep the protocol: the first one, that of a pass handed out, the closing one, that of a pass that ends
 

@@ -1,6 +1,6 @@
 -- The output of a batch: the loop that writes each line once it is ready.
 use Rattle.std.proofs.{Common.{[], add-one, ◌≡◌, ◌≤◌, ◌<◌, ◌+◌, ℕ, suc, List, ◌∷◌, ◌++◌, arith, sym, ap, ◌∙◌, true, refl, ⊎_elim, length, get_or, get_or-set_other, get_or-set_same, take, drop, subst, Some, slice_get, None, Result}, lemmas.{List.{take-append-drop, take_all, take_more, flat_map_more, get_or-map}, Option.{get_or_from_slice_get, slice_get_within}, Bool.{cases_eq, cases_lt}, Grind.{flat_map-append}}}
-use Rattle.kalah_run.specs.{Entry, Job, Taken, Refusal, text_of_job, written_up_to, CollectingState, taken_of, written_so_far, IsUnderWay, IsNew, HasBeenOffered, HasWritten, WritesOn, declared.batch.ordered_output.OrderedOutput.{OrderedOutput}}
+use Rattle.kalah_run.specs.{Entry, OutcomeState, Taken, Refusal, text_of_job, written_up_to, CollectingState, taken_of, written_so_far, IsUnderWay, IsNew, HasBeenOffered, HasWritten, WritesOn, declared.batch.ordered_output.OrderedOutput.{OrderedOutput}}
 use Rattle.kalah_jobs.specs.{Files.{JobList.{job_list, jobs_from, file_jobs, line_job, entries_of, entry_at}, Lines.{line_feed}, NamedBytes.{NamedBytes}, Jobs.{job_count}}, Collecting.{AnyOrder.{IsPermutationOfJobs}, CollectorState.{ArrivalsState, no_file, state_of, front, HasEnded, HasNoNext, with_one_taken, new_files, after_take}, CollectorEvents.{Offers, Takes, answered_line}, Held.{AgreeWithOffers}}, Writing.{Sink.{SinkState, WasGiven}, Answer.{answer_line}, Output.{text_of_line, text_of_file, text_of_jobs, taken_output, names_of}}}
 use Rattle.kalah_jobs.proofs.{SinkLemmas.{given_none, given_then, given_then_flush, given_more_after_failure}, CollectingLemmas.{files_many, lines_are, new_files_agree, taken_is, new_taken, fronts_full, kept_by_offer, kept_by_take}, FilesLemmas.{length-job_list, lines_between, slice_get-job_list}}
 use Rattle.std.specs.List.{flat_map, enumerate_from}
@@ -29,7 +29,7 @@ module _ (text : ℕ → Taken → List ℕ) (jobs : List (List Entry)) where
   unfolding written_up_to
   written_with_next_line f n e entry_is =
       let m : ℕ = job_count (take f jobs) + n in
-      let o : Job = line_job f n e in
+      let o : OutcomeState = line_job f n e in
       let job_is : slice_get (job_list jobs) m ≡ Some o = slice_get-job_list jobs f n m e refl entry_is in
       let next : m + 1 ≡ job_count (take f jobs) + (n + 1) = omega arith in
       flat_map_more (text_of_job text) [] (take m (job_list jobs)) o
@@ -140,7 +140,7 @@ module _ {W : Type 0} {state : W → SinkState} {text : ℕ → Taken → List �
       }
 
   -- an outcome is offered, and accepted or refused: what was written stays
-  pub under_way_after_offer : (o : Job) (after : List ArrivalsState) (result : Result ℕ Refusal) → Offers jobs files o result after
+  pub under_way_after_offer : (o : OutcomeState) (after : List ArrivalsState) (result : Result ℕ Refusal) → Offers jobs files o result after
       → IsUnderWay state text (record p { past = past ++ o ∷ []; files = after }) begun out
   under_way_after_offer o after result step =
       let now = kept_by_offer under_way.kept o result step in
@@ -192,7 +192,7 @@ module _ {W : Type 0} {state : W → SinkState} where
   -- what became ready is written, and then more of it
   pub writes_then : {first between last : OrderedOutput} {begun out more : W} → WritesOn state first begun between out
       → last.files.now ≡ between.files.now → last.jobs.now ≡ between.jobs.now
-      → ((past : List Job) (b : W) → HasWritten state past b out between → HasWritten state past b more last)
+      → ((past : List OutcomeState) (b : W) → HasWritten state past b out between → HasWritten state past b more last)
       → WritesOn state first begun last more
   writes_then so_far files jobs step = record {
     same_files = files ∙ so_far.same_files;
@@ -201,8 +201,8 @@ module _ {W : Type 0} {state : W → SinkState} where
   }
 
   -- an outcome is offered: what was written stays
-  pub written_after_offer : {past : List Job} {begun out : W} {old new : OrderedOutput} (outcome : Job) → HasBeenOffered old outcome new
-      → HasWritten state past begun out old → HasWritten state (past ++ outcome ∷ []) begun out new
+  pub written_after_offer : {past : List OutcomeState} {begun out : W} {old new : OrderedOutput} (outcome : OutcomeState)
+      → HasBeenOffered old outcome new → HasWritten state past begun out old → HasWritten state (past ++ outcome ∷ []) begun out new
   written_after_offer {new = new} outcome offered was =
       rw (offered.files, offered.jobs, offered.current)
       (under_way_after_offer was outcome new.collector offered.offers.0 offered.offers.1)

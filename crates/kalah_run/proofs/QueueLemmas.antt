@@ -1,6 +1,6 @@
 -- The results queue: its pairs, and each step keeps its protocol.
 use Rattle.std.proofs.{Common.{◌≡◌, ◌≢◌, ℕ, suc, ◌+◌, ◌<◌, ◌≤◌, ◌==◌, if◌then◌else◌, Bool, List, [], ◌∷◌, ◌++◌, length, All, slice_index_or, refl, sym, ap, ◌∙◌, eq-eqb, ne_eqb, arith, set, append_assoc, inl, inr, length-append}, lemmas.{List.{append-nil, length-map, length-set, length_push, map-append, get_or_at, get_or_append_left, get_or_push, Elements.{All-push}}, Bool.{cases_lt}}}
-use Rattle.kalah_run.specs.{Job, QueueView, Accounts, outcomes_in, declared.queue.protocol.QueueView.TheVariants.{Getting, Putting, Reclaimed}, Queue.Protocol.{FitsPairs, FitsPut, IsLawful, IsWholeAndInOrder, opening_view, after_handing_out, pass_handed_out, after_put, after_reclaiming, IsGot, KnowsSent}}
+use Rattle.kalah_run.specs.{OutcomeState, WorkerOutcome, QueueView, Accounts, outcomes_in, declared.queue.protocol.QueueView.TheVariants.{Getting, Putting, Reclaimed}, Queue.Protocol.{FitsPairs, FitsPut, IsLawful, IsWholeAndInOrder, opening_view, after_handing_out, pass_handed_out, after_put, after_reclaiming, IsGot, KnowsSent}}
 use Rattle.kalah_jobs.specs.Collecting.Shares.{sent_by_worker}
 use mathlib.Core.Option.{some, some-injective, some-ne-none}
 use lib.ListN.{get_elem?}
@@ -11,29 +11,29 @@ use Rattle.crossbeam_queue.specs.Fifo.{Pushes, Pops, Forks, Held, Merges, Learns
 -- ==== What the pairs determine of one worker, and of all
 
 -- what a worker sent by two lists of pairs is what it sent by the first, and then by the second
-sent_by_worker-append : (w : ℕ) (xs ys : List (ℕ × Job)) → sent_by_worker w (xs ++ ys) ≡ sent_by_worker w xs ++ sent_by_worker w ys
+sent_by_worker-append : (w : ℕ) (xs ys : List WorkerOutcome) → sent_by_worker w (xs ++ ys) ≡ sent_by_worker w xs ++ sent_by_worker w ys
 sent_by_worker-append w [] ys = refl
 sent_by_worker-append w (t ∷ ts) ys = grind (arith, sent_by_worker-append w ts ys)
 
 -- a first pair of another worker is left out
-other_pair : (w : ℕ) (t : ℕ × Job) (l : List Job) → t.0 ≢ w → (if t.0 == w then t.1 ∷ l else l) ≡ l
+other_pair : (w : ℕ) (t : WorkerOutcome) (l : List OutcomeState) → t.0 ≢ w → (if t.0 == w then t.1 ∷ l else l) ≡ l
 other_pair w t l apart = ap (λ (b : Bool). if b then t.1 ∷ l else l) (ne_eqb t.0 w apart)
 
 -- one pair more, of the worker itself
-own_pair_goes_last : (w : ℕ) (xs : List (ℕ × Job)) (t : ℕ × Job) → t.0 ≡ w
+own_pair_goes_last : (w : ℕ) (xs : List WorkerOutcome) (t : WorkerOutcome) → t.0 ≡ w
     → sent_by_worker w (xs ++ t ∷ []) ≡ sent_by_worker w xs ++ t.1 ∷ []
 own_pair_goes_last w xs t own = sent_by_worker-append w xs (t ∷ [])
     ∙ ap (λ (b : Bool). sent_by_worker w xs ++ (if b then t.1 ∷ [] else [])) (eq-eqb t.0 w own)
 
 -- one pair more, of another worker
-other_pair_changes_nothing : (w : ℕ) (xs : List (ℕ × Job)) (t : ℕ × Job) → t.0 ≢ w
+other_pair_changes_nothing : (w : ℕ) (xs : List WorkerOutcome) (t : WorkerOutcome) → t.0 ≢ w
     → sent_by_worker w (xs ++ t ∷ []) ≡ sent_by_worker w xs
 other_pair_changes_nothing w xs t apart =
     sent_by_worker-append w xs (t ∷ [])
     ∙ (ap (sent_by_worker w xs ++◌) (other_pair w t [] apart) ∙ append-nil (sent_by_worker w xs))
 
 -- there is nothing of a worker who isn't among them
-no_pair_beyond_workers : (workers w : ℕ) (xs : List (ℕ × Job)) → All (λ (t : ℕ × Job). t.0 < workers) xs → workers ≤ w
+no_pair_beyond_workers : (workers w : ℕ) (xs : List WorkerOutcome) → All (λ (t : WorkerOutcome). t.0 < workers) xs → workers ≤ w
     → sent_by_worker w xs ≡ []
 no_pair_beyond_workers workers w [] below le = refl
 no_pair_beyond_workers workers w (t ∷ ts) below le =
@@ -42,13 +42,13 @@ no_pair_beyond_workers workers w (t ∷ ts) below le =
     ∙ no_pair_beyond_workers workers w ts (λ k d lt. below (suc k) d (omega arith)) le
 
 -- of pairs that are all of workers, the one that comes next is
-next_below : (workers : ℕ) (got : List (ℕ × Job)) (t : ℕ × Job) (rest : List (ℕ × Job))
-    → All (λ (u : ℕ × Job). u.0 < workers) (got ++ t ∷ rest) → t.0 < workers
+next_below : (workers : ℕ) (got : List WorkerOutcome) (t : WorkerOutcome) (rest : List WorkerOutcome)
+    → All (λ (u : WorkerOutcome). u.0 < workers) (got ++ t ∷ rest) → t.0 < workers
 next_below workers got t rest below =
     rw (get_or_at got t rest t _ refl) at (below (length got) t (omega (arith, length-append got (t ∷ rest))))
 
 -- if the lists are those that are given, in order, so they are with the next one at the end
-next_goes_last : (ended : List (List Job)) (s : List Job) (given : ℕ → List Job)
+next_goes_last : (ended : List (List OutcomeState)) (s : List OutcomeState) (given : ℕ → List OutcomeState)
     → ((k : ℕ) → k < length ended → given k ≡ slice_index_or ended k []) → given (length ended) ≡ s → (k : ℕ)
     → k < length (ended ++ s ∷ []) → given k ≡ slice_index_or (ended ++ s ∷ []) k []
 next_goes_last ended s given same next k lt = elim (cases_lt k (length ended)) [
@@ -61,7 +61,7 @@ next_goes_last ended s given same next k lt = elim (cases_lt k (length ended)) [
 -- ==== What the pass to get knows
 
 -- what the workers sent whose passes were reclaimed
-abbrev pub ended_in : QueueView → List (List Job)
+abbrev pub ended_in : QueueView → List (List OutcomeState)
 ended_in (Getting workers got ended) = ended
 ended_in _ = []
 
@@ -82,32 +82,34 @@ opening_is_lawful = record {
 }
 
 -- the oldest outcome is that of the first pair inside
-record IsOldest (x : Job) (items : List Job) (inside : List (ℕ × Job)) : Type 0 where
+record IsOldest (x : OutcomeState) (items : List OutcomeState) (inside : List WorkerOutcome) : Type 0 where
   worker : ℕ
-  rest : List (ℕ × Job)
+  rest : List WorkerOutcome
   first : inside ≡ (worker, x) ∷ rest
   held : outcomes_in rest ≡ items
 
 -- it is there if the pairs inside have the outcomes that the queue holds
-oldest : (x : Job) (items : List Job) (inside : List (ℕ × Job)) → outcomes_in inside ≡ x ∷ items → IsOldest x items inside
+oldest : (x : OutcomeState) (items : List OutcomeState) (inside : List WorkerOutcome) → outcomes_in inside ≡ x ∷ items
+    → IsOldest x items inside
 oldest x items [] held = absurd (cc)
 oldest x items (p ∷ ps) held =
-    let outcome_is : p.1 ≡ x = cc in record { worker = p.0; rest = ps; first = ap (λ (o : Job). (p.0, o) ∷ ps) outcome_is; held = cc }
+    let outcome_is : p.1 ≡ x = cc in
+    record { worker = p.0; rest = ps; first = ap (λ (o : OutcomeState). (p.0, o) ∷ ps) outcome_is; held = cc }
 
-module _ {items : List Job} {views : List QueueView} (kept : IsLawful items views) where
+module _ {items : List OutcomeState} {views : List QueueView} (kept : IsLawful items views) where
   -- the pairs that were taken out, followed by those inside
-  abbrev pairs : List (ℕ × Job)
+  abbrev pairs : List WorkerOutcome
   pairs = kept.got ++ kept.inside
 
   -- the pass to get stands first, and knows what the protocol states
-  getter_is_first : (place : ℕ) {v : QueueView} {workers : ℕ} {got : List (ℕ × Job)} {ended : List (List Job)} → v ≡ Getting workers got ended
-      → get_elem? views place ≡ some v → (place ≡ 0) × (v ≡ Getting kept.workers kept.got kept.ended)
+  getter_is_first : (place : ℕ) {v : QueueView} {workers : ℕ} {got : List WorkerOutcome} {ended : List (List OutcomeState)}
+      → v ≡ Getting workers got ended → get_elem? views place ≡ some v → (place ≡ 0) × (v ≡ Getting kept.workers kept.got kept.ended)
   getter_is_first place getting has_view =
       let first : place ≡ 0 = kept.fits place _ (has_view ∙ ap some getting) in
       (first, some-injective _ _ (sym has_view ∙ ap (get_elem? views) first ∙ kept.getter))
 
   -- the view of another pass fits if one pair more was sent, by a worker that has not ended
-  fits_more : {place : ℕ} (x : ℕ × Job) → place ≡ suc x.0 → (j : ℕ) (u : QueueView) → j ≢ place
+  fits_more : {place : ℕ} (x : WorkerOutcome) → place ≡ suc x.0 → (j : ℕ) (u : QueueView) → j ≢ place
       → get_elem? views j ≡ some u → FitsPairs (pairs ++ x ∷ []) kept.ended j u
   fits_more x place_is j (Putting number sent) apart has_view =
       let fit : FitsPut pairs kept.ended j number sent = kept.fits j _ has_view in
@@ -117,7 +119,7 @@ module _ {items : List Job} {views : List QueueView} (kept : IsLawful items view
   fits_more x place_is j Reclaimed apart has_view = tt
 
   -- the view of another pass fits if one worker more has ended
-  fits_ended : {other : ℕ} (list : List Job) → other ≡ suc (length kept.ended) → (j : ℕ) (u : QueueView) → j ≢ other
+  fits_ended : {other : ℕ} (list : List OutcomeState) → other ≡ suc (length kept.ended) → (j : ℕ) (u : QueueView) → j ≢ other
       → get_elem? views j ≡ some u → FitsPairs pairs (kept.ended ++ list ∷ []) j u
   fits_ended list other_is j (Putting number sent) apart has_view =
       let fit : FitsPut pairs kept.ended j number sent = kept.fits j _ has_view in
@@ -127,10 +129,10 @@ module _ {items : List Job} {views : List QueueView} (kept : IsLawful items view
   fits_ended list other_is j Reclaimed apart has_view = tt
 
   -- the pass of a worker that has not ended puts an outcome
-  lawful_with_put : (place : ℕ) (x : Job) {number : ℕ} {sent : List Job} → get_elem? views place ≡ some (Putting number sent)
-      → IsLawful (items ++ x ∷ []) (set views place (Putting number (sent ++ x ∷ [])))
+  lawful_with_put : (place : ℕ) (x : OutcomeState) {number : ℕ} {sent : List OutcomeState}
+      → get_elem? views place ≡ some (Putting number sent) → IsLawful (items ++ x ∷ []) (set views place (Putting number (sent ++ x ∷ [])))
   lawful_with_put place x {number} {sent} has_view =
-      let pair : ℕ × Job = (number, x) in
+      let pair : WorkerOutcome = (number, x) in
       let after : QueueView = Putting number (sent ++ x ∷ []) in
       let fit : FitsPut pairs kept.ended place number sent = kept.fits place _ has_view in
       let fits : FitsPut (pairs ++ pair ∷ []) kept.ended place number (sent ++ x ∷ []) = record {
@@ -145,9 +147,9 @@ module _ {items : List Job} {views : List QueueView} (kept : IsLawful items view
         inside = kept.inside ++ pair ∷ [];
         getter = set_else views place 0 after (λ q. omega (arith, q, fit.place_is)) ∙ kept.getter;
         count = length-set views place after ∙ kept.count;
-        held = map-append (λ (p : ℕ × Job). p.1) kept.inside (pair ∷ []) ∙ ap (◌++ (x ∷ [])) kept.held;
+        held = map-append (λ (p : WorkerOutcome). p.1) kept.inside (pair ∷ []) ∙ ap (◌++ (x ∷ [])) kept.held;
         accounts = rw (← append_assoc kept.got kept.inside (pair ∷ [])) (record {
-          below = All-push (λ (t : ℕ × Job). t.0 < kept.workers) pairs pair kept.accounts.below
+          below = All-push (λ (t : WorkerOutcome). t.0 < kept.workers) pairs pair kept.accounts.below
               (omega (arith, fit.place_is, kept.count, in_views views place has_view));
           whole = λ w low. other_pair_changes_nothing w pairs pair (λ q. omega (arith, q, low, fit.running)) ∙ kept.accounts.whole w low;
         });
@@ -181,7 +183,7 @@ module _ {items : List Job} {views : List QueueView} (kept : IsLawful items view
       }
 
   -- the pass of the next worker to end is reclaimed
-  lawful_with_end : (other : ℕ) {sent : List Job} → other ≢ 0 → get_elem? views other ≡ some (Putting (length kept.ended) sent)
+  lawful_with_end : (other : ℕ) {sent : List OutcomeState} → other ≢ 0 → get_elem? views other ≡ some (Putting (length kept.ended) sent)
       → IsLawful items (set (set views 0 (Getting kept.workers kept.got (kept.ended ++ sent ∷ []))) other Reclaimed)
   lawful_with_end other {sent} apart has_view =
       let getter : QueueView = Getting kept.workers kept.got (kept.ended ++ sent ∷ []) in
@@ -206,11 +208,11 @@ module _ {items : List Job} {views : List QueueView} (kept : IsLawful items view
       }
 
 -- the oldest outcome is got, which is of one of the workers
-lawful_with_get : {x : Job} {items : List Job} {views : List QueueView} (kept : IsLawful (x ∷ items) views)
+lawful_with_get : {x : OutcomeState} {items : List OutcomeState} {views : List QueueView} (kept : IsLawful (x ∷ items) views)
     → (worker : ℕ) × (worker < kept.workers) × IsLawful items (set views 0 (Getting kept.workers (kept.got ++ (worker, x) ∷ []) kept.ended))
 lawful_with_get {x} {items} {views} kept =
     let first = oldest x items kept.inside kept.held in
-    let pair : ℕ × Job = (first.worker, x) in
+    let pair : WorkerOutcome = (first.worker, x) in
     let getter : QueueView = Getting kept.workers (kept.got ++ pair ∷ []) kept.ended in
     let same : (kept.got ++ pair ∷ []) ++ first.rest ≡ pairs kept =
     append_assoc kept.got (pair ∷ []) first.rest ∙ ap (kept.got ++◌) (sym first.first) in (
@@ -232,12 +234,12 @@ lawful_with_get {x} {items} {views} kept =
 -- ---- the same, as a queue asks for it
 
 -- a pass to put puts
-pub put_is_lawful : (n place : ℕ) {v : QueueView} (x : Job) {number : ℕ} {sent : List Job} → v ≡ Putting number sent
+pub put_is_lawful : (n place : ℕ) {v : QueueView} (x : OutcomeState) {number : ℕ} {sent : List OutcomeState} → v ≡ Putting number sent
     → Pushes IsLawful n place v x (λ w. w ≡ after_put v x)
 put_is_lawful n place x putting = rw putting (λ items views room kept has_view. (_, lawful_with_put kept place x has_view, refl))
 
 -- the pass to get gets
-pub get_is_lawful : (place : ℕ) {v : QueueView} {workers : ℕ} {got : List (ℕ × Job)} {ended : List (List Job)}
+pub get_is_lawful : (place : ℕ) {v : QueueView} {workers : ℕ} {got : List WorkerOutcome} {ended : List (List OutcomeState)}
     → v ≡ Getting workers got ended → Pops IsLawful place v (IsGot v)
 get_is_lawful place getting = λ x items views kept has_view.
     let getter = getter_is_first kept place getting has_view in
@@ -245,15 +247,15 @@ get_is_lawful place getting = λ x items views kept has_view.
     rw (getter.0, getter.1) (_, now.2, (now.0, now.1, refl))
 
 -- the pass to get hands out a pass to put
-pub hand_out_is_lawful : (place : ℕ) {v : QueueView} {workers : ℕ} {got : List (ℕ × Job)} → v ≡ Getting workers got []
+pub hand_out_is_lawful : (place : ℕ) {v : QueueView} {workers : ℕ} {got : List WorkerOutcome} → v ≡ Getting workers got []
     → Forks IsLawful place v (after_handing_out v) (pass_handed_out v)
 hand_out_is_lawful place getting = λ items views kept has_view.
     let getter = getter_is_first kept place getting has_view in
     rw (getter.0, getter.1) (lawful_with_pass kept (ap ended_in (sym getter.1 ∙ getting)))
 
 -- the pass to get reclaims a pass to put
-pub reclaim_is_lawful : (place other : ℕ) {v u : QueueView} {workers : ℕ} {got : List (ℕ × Job)} {ended : List (List Job)}
-    {number : ℕ} {sent : List Job} → v ≡ Getting workers got ended → u ≡ Putting number sent → number ≡ length ended
+pub reclaim_is_lawful : (place other : ℕ) {v u : QueueView} {workers : ℕ} {got : List WorkerOutcome} {ended : List (List OutcomeState)}
+    {number : ℕ} {sent : List OutcomeState} → v ≡ Getting workers got ended → u ≡ Putting number sent → number ≡ length ended
     → Merges IsLawful place v other u (after_reclaiming v u) Reclaimed
 reclaim_is_lawful place other {sent = sent} getting putting next = λ items views kept has_view apart has_other.
     let getter = getter_is_first kept place getting has_view in
@@ -262,34 +264,34 @@ reclaim_is_lawful place other {sent = sent} getting putting next = λ items view
     rw (getter.0, getter.1, putting) (lawful_with_end kept other (λ q. apart (q ∙ sym getter.0)) here)
 
 -- what the pass to get learns of the queue
-pub getter_knows_sent : (place : ℕ) {v : QueueView} {workers : ℕ} {got : List (ℕ × Job)} {ended : List (List Job)}
+pub getter_knows_sent : (place : ℕ) {v : QueueView} {workers : ℕ} {got : List WorkerOutcome} {ended : List (List OutcomeState)}
     → v ≡ Getting workers got ended → Learns IsLawful place v (KnowsSent v)
 getter_knows_sent place getting = λ items views kept has_view. rw (getter_is_first kept place getting has_view).1 (kept.inside, kept.held, kept.accounts)
 
 -- ==== What the pass to get knows once it has reclaimed the others
 
 -- the pass to get has reclaimed one pass more
-pub reclaimed : {v u after : QueueView} {workers : ℕ} {got : List (ℕ × Job)} {ended : List (List Job)} {number : ℕ} {sent : List Job}
-    → v ≡ Getting workers got ended → u ≡ Putting number sent → after ≡ after_reclaiming v u
+pub reclaimed : {v u after : QueueView} {workers : ℕ} {got : List WorkerOutcome} {ended : List (List OutcomeState)} {number : ℕ}
+    {sent : List OutcomeState} → v ≡ Getting workers got ended → u ≡ Putting number sent → after ≡ after_reclaiming v u
     → after ≡ Getting workers got (ended ++ sent ∷ [])
 reclaimed getting putting after_is = after_is ∙ λ i. after_reclaiming (getting i) (putting i)
 
 -- once it has reclaimed all, it learns what all workers have sent
-pub whole_when_reclaimed : {v : QueueView} {workers left : ℕ} {got : List (ℕ × Job)} {ended all : List (List Job)}
-    (rest : List (List Job)) → v ≡ Getting workers got ended → length rest ≡ 0 → ended ++ rest ≡ all → Held left (KnowsSent v)
-    → (inside : List (ℕ × Job)) × (length inside ≡ left) × Accounts workers all (got ++ inside)
+pub whole_when_reclaimed : {v : QueueView} {workers left : ℕ} {got : List WorkerOutcome} {ended all : List (List OutcomeState)}
+    (rest : List (List OutcomeState)) → v ≡ Getting workers got ended → length rest ≡ 0 → ended ++ rest ≡ all → Held left (KnowsSent v)
+    → (inside : List WorkerOutcome) × (length inside ≡ left) × Accounts workers all (got ++ inside)
 whole_when_reclaimed (x ∷ xs) getting none whole held = absurd (omega arith)
 whole_when_reclaimed {workers = workers} {got = got} {ended} [] getting none whole held =
     let told : KnowsSent (Getting workers got ended) held.0 = rw getting at held.2 in (
       told.0,
-      sym (length-map told.0 (λ (p : ℕ × Job). p.1)) ∙ ap length told.1 ∙ held.1,
+      sym (length-map told.0 (λ (p : WorkerOutcome). p.1)) ∙ ap length told.1 ∙ held.1,
       rw (sym (append-nil ended) ∙ whole) at told.2,
     )
 
 -- ==== The protocol of the results queue, in plain words
 
 -- a lawful queue is whole and in order
-pub queue_is_lawful : (items : List Job) (views : List QueueView) → IsLawful items views → IsWholeAndInOrder items views
+pub queue_is_lawful : (items : List OutcomeState) (views : List QueueView) → IsLawful items views → IsWholeAndInOrder items views
 queue_is_lawful items views kept = record {
   workers = kept.workers;
   got = kept.got;

@@ -1,12 +1,11 @@
 //! A batch: the lines of position files, solved by many workers and answered in order.
 ghost use Rattle.std.specs.Prelude.{◌≡◌, ◌<◌, ◌⊎◌, [], false, true, IfErr, IfOk, OnOk};
 ghost use Rattle.kalah_run.specs.{Limits.{IsWorkerCount, IsTableSize}, Batch.Answering.{AnswersBatch, HearsAll, counts_of}, declared.batch.request.OnFailedWrite.TheVariants.{Solve}};
-ghost use Rattle.kalah_jobs.specs.Writing.{Sink.{WasGiven}, Output.{output_of, output_to}};
+ghost use Rattle.kalah_jobs.specs.Writing.{Sink.{WasGiven}, Output.{output_of, output_for}};
 
 mod collecting;
 mod crew;
 pub(crate) mod gate;
-pub(crate) mod laws;
 mod open_batch;
 mod ordered_output;
 mod receiver;
@@ -26,16 +25,7 @@ use crate::batch::watch::{NoWatch, Watch};
 use kalah_jobs::{FileText, Jobs, Question, Sink, Tally, flush_unless_failed};
 use std::alloc::Global;
 use std::sync::Wait;
-use std::sync::atomic::Rule;
 use std::thread::Threads;
-
-// The rule of the word that is 1 once the workers of a batch have ended. `OpenBatch::answer` is proved for every rule, so this one states
-// nothing.
-struct NoFact;
-
-impl Rule for NoFact {
-    ghost invariant = { λ _. Unit {0} };
-}
 
 /// Answers what is asked of every line of the files. It writes the answer to each, in the order of files and lines, once it is ready
 /// and all earlier ones are written. Then it flushes the output. If there is no line, no worker is started.
@@ -63,7 +53,7 @@ pub fn answer_batch<R: Threads + Wait + Sync, G: Gate, V: Watch, W: Sink>(
     requires not_failed { (W.state out.old).has_failed ≡ false }
 
     // What Ok means, what was written in any case, and when each fault comes: a case for each result.
-    ensures answers { AnswersBatch W.state (output_to request.now.question request.now.files.now)
+    ensures answers { AnswersBatch W.state (output_for request.now.question request.now.files.now)
         request.now.files.now out.old out.new result }
 
     // The gate hears of each job, unless the rest is left.
@@ -72,11 +62,7 @@ pub fn answer_batch<R: Threads + Wait + Sync, G: Gate, V: Watch, W: Sink>(
 {
     let jobs = Jobs::with_question(alloc, request.question, request.files)?;
     if jobs.total() > 0 {
-        let Some(()) = OpenBatch::open(alloc, request, &jobs, gate)?.answer::<R, V, W, NoFact>(
-            rt, watch, out,
-        ) else {
-            return Err(RunFault::NoWorker);
-        };
+        OpenBatch::open(alloc, request, &jobs, gate)?.answer(rt, watch, out)?;
     }
     flush_and_count(&jobs, out)
 }

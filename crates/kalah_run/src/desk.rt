@@ -1,9 +1,8 @@
 //! The desk: its passes draw the numbers below a total from one word, each number once.
-ghost use Rattle.std.specs.Prelude.{◌≡◌, ◌<◌, ◌≤◌, ◌↔◌, [], ◌∷◌, ◌++◌, length, true, false, All, IfOk, IfSome, IfNone, IsTrue};
+ghost use Rattle.std.specs.Prelude.{◌≡◌, ◌+◌, ◌<◌, ◌≤◌, ◌↔◌, [], ◌∷◌, ◌++◌, length, true, false, All, IfOk, IfSome, IfNone, IsTrue};
 ghost use Rattle.kalah_jobs.specs.Limits.{most_lines};
 ghost use Rattle.kalah_run.specs.{Limits.{most_passes}, Desk.{Rows.{drawn_row, spent_in, DealsEachOnce}, States.{IsPassAt, AreNewPasses, drawn_rows}}};
 
-pub(crate) mod laws;
 pub(crate) mod pass;
 pub(crate) mod protocol;
 
@@ -18,8 +17,8 @@ use std::marker::Model;
 #[cfg(test)]
 mod tests;
 
-/// Deals the numbers below a total, each once, to the passes that draw them. Contracts see it as its
-/// identity, its total and its number of passes.
+/// Deals the numbers below a total, each once, to the passes that draw them. Contracts see it as its identity, its total and its number
+/// of passes.
 #[derive(Drop)]
 pub struct Desk {
     table: Table<(), DeskView, DeskPlan, DeskProtocol, Global>,
@@ -47,8 +46,8 @@ pub struct ClosedDesk {
 }
 
 impl Desk {
-    /// Opens a desk for the numbers below `total`, at most 1,000,000, with `passes` passes, at most 65.
-    /// Each has an empty row, and none is spent. Fails with `AllocError` only if memory was refused.
+    /// Opens a desk for the numbers below `total`, at most 1,000,000, with `passes` passes, at most 65. Each has an empty row, and none is
+    /// spent. Fails with `AllocError` only if memory was refused.
     #[tactic(auto, using(crate::proofs::DeskLemmas::opening_is_lawful))]
     pub fn open(alloc: Global, total: u32, passes: u32) -> Result<(Desk, Vec<Pass>), AllocError>
         requires total { total ≤ most_lines }
@@ -69,10 +68,9 @@ impl Desk {
         Ok((Desk { table, total }, handed_out))
     }
 
-    /// Draws a number below the total, which goes to the end of the pass's row and stands in no other
-    /// row. Returns `None` if none is left; then the pass is spent and its row stays. A spent pass
-    /// does not step on the word again, and every later draw returns `None`. A draw is one step on the word:
-    /// it allocates nothing and never blocks.
+    /// Draws a number below the total, which goes to the end of the pass's row and stands in no other row. Returns `None` if none is left;
+    /// then the pass is spent and its row stays. A spent pass does not step on the word again, and every later draw returns `None`. A draw
+    /// is one step on the word: it allocates nothing and never blocks.
     pub fn draw(&self, pass: &mut Pass) -> Option<u32>
         requires { IsPassAt self.now pass.old }
 
@@ -107,23 +105,30 @@ impl Desk {
         None
     }
 
-    /// Draws all numbers that are left, in one step, so that none is left for any other pass. Then the pass is spent.
+    /// Draws all numbers that are left, so that none is left for any other pass. Then the pass is spent. Returns how many these are.
     #[cold]
     #[inline(never)]
-    pub(crate) fn draw_rest(&self, pass: &mut Pass)
+    pub(crate) fn draw_rest(&self, pass: &mut Pass) -> u32
         requires { IsPassAt self.now pass.old }
         ensures own { IsPassAt self.now pass.new }
         ensures number { pass.new.number ≡ pass.old.number }
         ensures spent { pass.new.row.spent ≡ true }
+        ensures drawn { length pass.new.row.numbers ≡ length pass.old.row.numbers + result }
     {
         if pass.is_spent {
-            return;
+            return 0;
         }
-        self.table
+        let total = self.total as u64;
+        let found = self
+            .table
             .shared
-            .fetch_max::<DrawRest>(&mut pass.seat, 0, self.total as u64);
+            .fetch_max::<DrawRest>(&mut pass.seat, 0, total);
+        let mut drawn = total.saturating_sub(found) as u32;
         // A draw finds none, so the pass is spent. It is a loop, since the contract of `draw` doesn't promise that.
-        while let Some(_) = self.draw(pass) {}
+        while self.draw(pass).is_some() {
+            drawn += 1;
+        }
+        drawn
     }
 
     /// Closes the desk, which reclaims all its passes. Returns how many numbers were drawn, and whether some pass is spent: if one is, all

@@ -1,33 +1,22 @@
 //! The results queue: outcomes on their way from many workers to one thread.
 ghost use Rattle.std.specs.Prelude.{◌≡◌, ◌≤◌, ◌<◌, ℕ, false, List, [], ◌∷◌, ◌++◌, length, All, IfNone, IfOk, MatchOption, vec_len};
-ghost use Rattle.kalah_jobs.specs.declared.files.job.Job.{Job};
-ghost use Rattle.kalah_run.specs.{Limits.{IsQueueCapacity, IsWorkerCount}, Queue.States.{ArePassesFrom, HasGot, MayGet, sent_by, Accounts}};
+ghost use Rattle.kalah_run.specs.{Limits.{IsQueueCapacity, IsWorkerCount}, Queue.States.{WorkerOutcome, ArePassesFrom, HasGot, MayGet, sent_by, Accounts}};
 
-pub(crate) mod laws;
 pub(crate) mod passes;
 pub(crate) mod protocol;
 mod waiting;
 
 use crate::queue::passes::{GetPass, PutPass};
 use crate::queue::protocol::{GetOutcome, HandOut, LearnSent, PutOutcome, Reclaim, RuledQueue};
-use crate::queue::waiting::{Sent, Waiters, Waiting, WakeUp};
+use crate::queue::waiting::{Waiters, Waiting, WakeUp};
 use crossbeam_utils::{Backoff, CachePadded};
 use kalah_jobs::Outcome;
 use std::alloc::{AllocError, Global};
 use std::marker::Model;
 use std::sync::Wait;
-use std::sync::atomic::Ordering::SeqCst;
-use std::sync::atomic::{AtomicIn, Rule};
 
 #[cfg(test)]
 mod tests;
-
-// The rule of a word that is never 1.
-struct NeverEnds;
-
-impl Rule for NeverEnds {
-    ghost invariant = { λ word. word ≡ 0 };
-}
 
 /// A queue of fixed capacity that threads share: workers put outcomes, and one thread gets them. Contracts see it as its
 /// identity and its capacity.
@@ -88,9 +77,7 @@ impl ResultsQueue {
         ensures { pass.new ≡ record pass.old { sent = pass.old.sent ++ outcome ∷ [] } }
     {
         match self.try_put(pass, &outcome) {
-            Some(wake_up) => {
-                wake_up.send();
-            }
+            Some(wake_up) => wake_up.send(),
             None => {
                 // A copy, so that an outcome that is put at once may be kept in registers.
                 let late = outcome;
@@ -139,11 +126,16 @@ impl ResultsQueue {
         requires { pass.old.queue ≡ self.now.id }
         ensures { HasGot pass.old result pass.new }
     {
-        let never = AtomicIn::<NeverEnds>::new(0);
-        let Some(outcome) = self.get_until_end(rt, pass, &never) else {
-            unreachable!()
-        };
-        outcome
+        let mut waiting = Waiting::new(&self.getters);
+        for _ in rt.forever() {
+            if let Some((outcome, wake_up)) = self.try_get(pass) {
+                drop(waiting);
+                wake_up.send();
+                return outcome;
+            }
+            waiting.pause(rt);
+        }
+        unreachable!()
     }
 
     // Gets an outcome, if there is one, and returns it with the wake-up that is owed for its place.
@@ -154,42 +146,6 @@ impl ResultsQueue {
     {
         let outcome = self.outcomes.try_pop_as::<GetOutcome>(&mut pass.ruled)?;
         Some((outcome, WakeUp::owed_to(&self.putters)))
-    }
-
-    /// Signals to the thread that gets that the workers have ended. The word is 1 from then on, and its rule has what is known of them
-    /// then.
-    pub(crate) fn signal_end<E: Rule>(&self, ended: &AtomicIn<E>) -> EndSignal
-        requires { E.invariant 1 }
-    {
-        ended.store(1, SeqCst);
-        EndSignal(WakeUp::owed_to(&self.getters).send())
-    }
-
-    /// Like `get`, but returns `None`, with nothing got, once the workers have ended and no outcome is left. The word is then 1.
-    pub(crate) fn get_until_end<R: Wait, E: Rule>(
-        &self,
-        rt: &R,
-        pass: &mut GetPass,
-        ended: &AtomicIn<E>,
-    ) -> Option<Outcome>
-        requires { pass.old.queue ≡ self.now.id }
-        ensures got { MayGet pass.old result pass.new }
-        ensures ended { IfNone result (E.invariant 1) }
-    {
-        let mut waiting = Waiting::new(&self.getters);
-        for _ in rt.forever() {
-            let has_ended = ended.load(SeqCst) == 1;
-            if let Some((outcome, wake_up)) = self.try_get(pass) {
-                drop(waiting);
-                wake_up.send();
-                return Some(outcome);
-            }
-            if has_ended {
-                return None;
-            }
-            waiting.pause(rt);
-        }
-        unreachable!()
     }
 
     /// Like `get`, but never sleeps: returns `None`, with nothing got, if `tries` tries find no outcome. Each such try is spent. Only
@@ -221,7 +177,8 @@ impl ResultsQueue {
     pub fn close<R: Wait>(self, rt: &R, puts: Vec<PutPass>, pass: GetPass) -> ClosedQueue
         requires puts { (vec_len puts ≡ pass.workers) × ArePassesFrom self.id 0 puts.items }
         requires get { pass.queue ≡ self.id }
-        ensures whole { (rest : List (ℕ × Job)) × (length rest ≡ result.left) × Accounts pass.workers (sent_by puts.items) (pass.got ++ rest) }
+        ensures whole { (rest : List WorkerOutcome) × (length rest ≡ result.left)
+            × Accounts pass.workers (sent_by puts.items) (pass.got ++ rest) }
         ensures few { result.left ≤ self.capacity }
     {
         let ResultsQueue {
@@ -238,10 +195,6 @@ impl ResultsQueue {
         ClosedQueue { left: left as u32 }
     }
 }
-
-/// The end of the workers was signalled. Only `ResultsQueue::signal_end` makes it.
-#[derive(Drop)]
-pub(crate) struct EndSignal(Sent);
 
 /// The result of closing a queue.
 #[derive(Clone, Copy, Debug, PartialEq, Eq)]

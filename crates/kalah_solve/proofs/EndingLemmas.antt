@@ -1,6 +1,6 @@
 -- What the words of endings state is what the mover wins, and stays so: each ending has digits of its own in its word.
 use Rattle.std.proofs.{Common.{ℕ, ◌≡◌, ◌≢◌, zero, suc, ◌+◌, ◌*◌, ◌/◌, ◌%◌, ◌^◌, ◌-◌, ◌<◌, ◌≤◌, arith, refl, ap, List, [], ◌∷◌, ◌++◌, length, get_or, length-append, ◌∙◌, lit<, lit≤, pow_mono, sum, slice_set, slice_index, false, max, ◌↔◌}, Math.{Nat.{add-mul-div_right, div-div-eq-div-mul}, ListN.{replicate, length-replicate, length-set}}, lemmas.{Nat.{pow_pos, pow-add, mul-le}, Bool.{cases_lt, cases_eq}, List.{get_or-set_same, get_or-set_other, get_or-replicate, get_or_past, Sums.{sum_by-append}}}}
-use Rattle.kalah_rules.specs.{Position.{HousesState, AreWithinLimits, storeless, is_over, seeds_in_houses}, HousesStep.{houses_step}}
+use Rattle.kalah_rules.specs.{Position.{HousesState, AreWithinLimits, storeless, is_over, total_seeds}, HousesStep.{houses_step}}
 use Rattle.kalah_rules.proofs.{KeyLemmas.{rule_bit-small}, PlayLemmas.{IsLegal, legal_holds}}
 use Rattle.kalah_solve.specs.{choose, rank_of_houses, most_ending_seeds, IsEnding, HoldsWon, AreTrueWords, word_index, stored_at, won, won_by_step, cell, IsLastIn, without_house, declared.table.ending_table.words.TheConstants.{FIRST_WORDS, WORDS}}
 use Rattle.atomic_table.specs.Table.{State, Arrives, keeps}
@@ -33,7 +33,8 @@ same_digits_before : (j k n d : ℕ) → j < k → stored_at (n + d * 2 ^ (4 * k
 same_digits_before j k n d before =
     let past = k - suc j in
     let exponent : 4 * k ≡ 4 * suc past + 4 * j = omega arith in
-    let worth : 2 ^ (4 * k) ≡ 16 * 2 ^ (4 * past) * 2 ^ (4 * j) = rw (exponent, pow-add 2 (4 * suc past) (4 * j), power_of_next_place past) refl in
+    let worth : 2 ^ (4 * k) ≡ 16 * 2 ^ (4 * past) * 2 ^ (4 * j) =
+    rw (exponent, pow-add 2 (4 * suc past) (4 * j), power_of_next_place past) refl in
     let all : d * 2 ^ (4 * k) ≡ d * (16 * 2 ^ (4 * past)) * 2 ^ (4 * j) = rw worth (omega arith) in
     rw (all, add-mul-div_right n (d * (16 * 2 ^ (4 * past))) (pow_pos (4 * j))) (omega arith)
 
@@ -213,7 +214,7 @@ most_with_last {a} {most = most} {h} {new = new} limits most_is last legal v_is 
 
 -- if all seeds are won, best play wins as many
 pub most_is_all : {a : HousesState} {mask most : ℕ} → AreWithinLimits a → IsMostOutside a mask most
-    → seeds_in_houses (storeless a) ≤ most → most ≡ won a
+    → total_seeds a ≤ most → most ≡ won a
 most_is_all limits most_is full = omega (arith, (won_of_houses limits).few)
 
 -- once the set is empty, best play wins the most of those tried

@@ -16,8 +16,8 @@ found_encloses_worth es a k entries limits key (Some i) found =
     let same = key-injective _ a entry.1 limits (entry.2 ∙ sym (eqb-true _ _ at.2) ∙ key) in
     rw same at entry.3
 
-module _ (c : LruCache ℕ Interval) (a : HousesState) (k : ℕ) (i : Interval) (entries : AreTrueEntries c.entries) (limits : AreWithinLimits a)
-    (key : k ≡ key_of a) (holds : Encloses i (houses_worth a)) where
+module _ (c : LruCache ℕ Interval) (a : HousesState) (k : ℕ) (i : Interval) (entries : AreTrueEntries c.entries)
+    (limits : AreWithinLimits a) (key : k ≡ key_of a) (holds : Encloses i (houses_worth a)) where
   put_entry : (e : ℕ × Interval) → e.1 ≡ i → e.0 ≡ k → IsTrueEntry e
   put_entry e value key_is = grind arith
 
@@ -40,14 +40,14 @@ pub put_leaves : {X E : Type 0} (r : Result X E) (c new : LruCache ℕ Interval)
     → OnOk r (new ≡ lru_cache es c.cap) → OnErr r (new ≡ c) → new.cap ≡ c.cap
 put_leaves r c new es ok err = grind arith
 
--- a cache as its table is known
-abbrev pub state_of : LruCache ℕ Interval → TableState
-state_of c = record { entries = c.entries; capacity = c.cap }
+-- the table whose entries a cache has
+abbrev pub table_of : LruCache ℕ Interval → TableState
+table_of c = record { entries = c.entries; capacity = c.cap }
 
 -- after a put the entry is there, or all is as before
 pub put_or_same : {X E : Type 0} (r : Result X E) (c new : LruCache ℕ Interval) (k : ℕ) (i : Interval)
     → OnOk r (new ≡ lru_cache (put_entries nat_eq c k i) c.cap) → OnErr r (new ≡ c)
-    → (lookup (nat_eq k) new.entries ≡ Some i) ⊎ (state_of new ≡ state_of c)
+    → (lookup (nat_eq k) new.entries ≡ Some i) ⊎ (table_of new ≡ table_of c)
 put_or_same r c new k i ok err = let found = lookup-put_entries nat_eq c k i nat_eq_equiv in grind arith
 
 -- if there was one, the put succeeds

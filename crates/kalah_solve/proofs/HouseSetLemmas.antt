@@ -1,7 +1,7 @@
 -- Sets of houses, read off the cells of their masks, and the moves of their houses.
 use Rattle.std.proofs.{Common.{◌≡◌, ◌≢◌, ℕ, zero, suc, ◌+◌, ◌*◌, ◌/◌, ◌%◌, ◌^◌, ◌-◌, ◌<◌, ◌≤◌, inl, inr, List, [], ◌∷◌, get_or, arith, sym, refl, ap, ◌∙◌, length, subst, min, sum, ◌↔◌, slice_index, false, Contains, pow_mono}, lemmas.{Nat.{leading_top, xor_lt, and_block, or_block, and_mask, and_le_l, and_le_r, or_lt, le_or_l, le_or_r, xor_mod, xor_shr}, List.{get_or_past, Sums.{get_or-le-sum_by}, FromFn.{get_or-map-range_with_len}}, Bool.{cases_lt, cases_eq}}}
 use Rattle.std.specs.Int.{Bits.{bit_and, bit_or, bit_xor, xor_add_and, xor_self}, Count.{count_leading_zeros}}
-use Rattle.kalah_rules.specs.{Position.{HousesState, AreWithinLimits, is_over, storeless}, Sowing.{row_of, EndsInStore}, Key.{packed_row}, Fields.{BeginsHouse, ones}}
+use Rattle.kalah_rules.specs.{Position.{HousesState, AreWithinLimits, is_over, storeless}, Sowing.{row_of, EndsDirectlyInStore}, Key.{packed_row}, Fields.{BeginsHouse, ones}}
 use Rattle.kalah_rules.proofs.{KeyLemmas.{pow_five, ones_le}, PlayLemmas.{IsLegal, holds_legal, legal_holds, length-row_of}}
 use Rattle.kalah_solve.specs.{cell, IsMask, IsLastIn, IsMaskOfFilled, IsMaskIntoStore, all_into_store, without_house}
 
@@ -270,7 +270,7 @@ module _ {a : HousesState} {row : ℕ} (limits : AreWithinLimits a) (row_is : ro
   own_past i past = simp (get_or_past)
 
   -- the last seed of a house falls into the store if its number of seeds equals its distance
-  ends_at : (i : ℕ) → EndsInStore a (i + 1) ↔ (slice_index a.own i + i ≡ length a.own)
+  ends_at : (i : ℕ) → EndsDirectlyInStore a (i + 1) ↔ (slice_index a.own i + i ≡ length a.own)
   ends_at i = grind arith
 
   -- what is in the set has seeds
@@ -285,7 +285,7 @@ module _ {a : HousesState} {row : ℕ} (limits : AreWithinLimits a) (row_is : ro
 
   module _ {m ending : ℕ} (side : m ≡ length a.own) (mask : IsMaskIntoStore row m ending) where
     -- what is in the set ends in the store
-    pub in_mask_into_store : (i : ℕ) → (0 < cell ending i) ↔ ((i < length a.own) × EndsInStore a (i + 1))
+    pub in_mask_into_store : (i : ℕ) → (0 < cell ending i) ↔ ((i < length a.own) × EndsDirectlyInStore a (i + 1))
     in_mask_into_store i = elim (cases_lt i m) [
       | inl is_inside ↦
           let marked = mask.inside i is_inside in (
@@ -302,7 +302,7 @@ module _ {a : HousesState} {row : ℕ} (limits : AreWithinLimits a) (row_is : ro
 
     module _ {filled : ℕ} (with_seeds : IsMaskOfFilled row filled) where
       -- what is among the filled houses and not among those that end in the store has seeds and doesn't end there
-      pub in_remaining : (i : ℕ) → (0 < cell (bit_xor filled ending) i) ↔ ((0 < slice_index a.own i) × ¬ EndsInStore a (i + 1))
+      pub in_remaining : (i : ℕ) → (0 < cell (bit_xor filled ending) i) ↔ ((0 < slice_index a.own i) × ¬ EndsDirectlyInStore a (i + 1))
       in_remaining i =
           let seeds = in_filled with_seeds i in
           let ends = in_mask_into_store i in
@@ -336,7 +336,7 @@ seeded_is_legal {a} i limits going some = elim (cases_lt i (length a.own)) [
 
 -- each house that ends in the store may be moved
 pub into_store_legal : {a : HousesState} (i : ℕ) → AreWithinLimits a → is_over (storeless a) ≡ false → i < length a.own
-    → EndsInStore a (i + 1) → IsLegal a (i + 1)
+    → EndsDirectlyInStore a (i + 1) → IsLegal a (i + 1)
 into_store_legal {a} i limits going inside ends =
     holds_legal (storeless a) (i + 1) (omega arith) going
 

@@ -27,7 +27,8 @@ value_of_its_digit v small =
 
 digit_of_its_value : (d : ℕ) → 1 ≤ d → d < DIGIT_BASE → digit_of (value_at d) ≡ d
 digit_of_its_value d some few =
-    let up : (pos ((d - 1) % VALUE_COUNT) -ℤ pos most_in_play) +ℤ pos (most_in_play + 1) ≡ pos ((d - 1) % VALUE_COUNT + 1) = omega (arith, ints) in
+    let up : (pos ((d - 1) % VALUE_COUNT) -ℤ pos most_in_play) +ℤ pos (most_in_play + 1) ≡ pos ((d - 1) % VALUE_COUNT + 1) =
+    omega (arith, ints) in
     rw up (omega arith)
 
 -- ==== The values in a number, digit by digit
@@ -73,7 +74,8 @@ values_in-fewer_digits (suc n) k few = elim (cases_eq k 0) [
   | inr other ↦
       let some : 0 < k = omega arith in
       rw (values_in-positive (suc n) k some, values_in-positive n k some)
-      (ap (λ vs. value_at (k % DIGIT_BASE) ∷ vs) (values_in-fewer_digits n _ (omega (arith, ap length (values_in-positive (suc n) k some)))))
+      (ap (λ vs. value_at (k % DIGIT_BASE) ∷ vs)
+      (values_in-fewer_digits n _ (omega (arith, ap length (values_in-positive (suc n) k some)))))
 ]
 
 -- a packed number with no value is 0
@@ -92,7 +94,8 @@ packed_le_power (suc m) (suc n) k packed few = elim (cases_eq k 0) [
   | inl none ↦ rw pow-succ' (omega (arith, packed_le_power m zero 0 refl (omega arith)))
   | inr other ↦
       let some : 0 < k = omega arith in
-      let rest = packed_le_power m n (k / DIGIT_BASE) (rest_packed n k some packed).1 (omega (arith, ap length (values_in-positive n k some))) in
+      let rest = packed_le_power m n (k / DIGIT_BASE) (rest_packed n k some packed).1
+      (omega (arith, ap length (values_in-positive n k some))) in
       rw pow-succ' (omega arith)
 ]
 

@@ -1,10 +1,10 @@
--- The rank of a row of cells determines the row, and is added up from the choices and pairs of cells.
+-- The rank of a row of cells determines the row, and is added up from binomial coefficients and pairs of cells.
 use Rattle.std.proofs.{Common.{ℕ, ◌≡◌, ◌≢◌, zero, suc, ◌+◌, ◌*◌, ◌/◌, ◌%◌, ◌^◌, ◌-◌, ◌<◌, ◌≤◌, arith, refl, ap, List, [], ◌∷◌, ◌++◌, length, get_or, drop, length-append, pow_mono, sum, slice_set, mul_comm, take}, lemmas.{Nat.{pow_pos, mul-le}, Bool.{cases_eq}, List.{append_cancel_left, drop_more, length-drop, get_or-set_same, get_or-set_other, Sums.{sum_by-cons, sum_by-take-drop}}}, Math.Seq.{take-append_seam}}
 use Rattle.kalah_rules.specs.{Position.{HousesState, AreWithinLimits}, Key.{packed_row, variant_of}}
 use Rattle.kalah_rules.proofs.KeyLemmas.{key-injective, packed_row-append, pow_five}
-use Rattle.kalah_solve.specs.{choose, row_rank, packed_sums, rank_of_houses, most_ending_seeds, choice_at, AreChoices, pair_at, ArePairs, declared.table.ending_table.TheConstants.{COUNTS, CHOICES, INVERSE_OF_31}}
+use Rattle.kalah_solve.specs.{choose, row_rank, packed_sums, rank_of_houses, most_ending_seeds, binomial_at, AreBinomials, pair_at, ArePairs, declared.table.ending_table.TheConstants.{COUNTS, BINOMIALS, INVERSE_OF_31}}
 
--- ==== The numbers of choices
+-- ==== Binomial coefficients
 
 choose_le_suc : (n k : ℕ) → choose n k ≤ choose (suc n) k
 unfolding choose
@@ -133,8 +133,8 @@ two_sums : (x y : ℕ) (ys : List ℕ) → sum (x ∷ y ∷ ys) ≤ most_ending_
 two_sums x y ys few = omega (arith, sum_by-cons)
 
 -- two cells more of a row
-module _ (row : List ℕ) (few : sum row ≤ most_ending_seeds) (m passed sums added : ℕ) (long : length row ≡ 2 * m) (most : m ≤ 6) (more : passed < m)
-    (ranked : IsRanked row passed sums added) where
+module _ (row : List ℕ) (few : sum row ≤ most_ending_seeds) (m passed sums added : ℕ) (long : length row ≡ 2 * m) (most : m ≤ 6)
+    (more : passed < m) (ranked : IsRanked row passed sums added) where
   -- the next two cells, and those past them
   abbrev two_first : ℕ
   two_first = get_or row (2 * passed) 0
@@ -194,18 +194,18 @@ pub ranked_all : (row : List ℕ) {passed sums added : ℕ} → length row ≤ 2
     → added ≡ row_rank row
 ranked_all row {passed} all ranked = grind (arith, rank_none, drop, length-drop)
 
--- ==== The lists of choices and pairs, cell by cell
+-- ==== The tables of binomials and pairs, cell by cell
 
 -- the cells of rows of one cell
-pub choice_first : (i : ℕ) → i < COUNTS → choice_at i ≡ i
-choice_first i few =
+pub binomial_first : (i : ℕ) → i < COUNTS → binomial_at i ≡ i
+binomial_first i few =
     let total : i % 10 + i / 10 ≡ i = omega arith in
     let one : suc (i / 10) ≡ 1 = omega arith in
     rw (total, one) (choose_one i)
 
 -- each other is the sum of two before it
-pub choice_next : (i : ℕ) → COUNTS ≤ i → i % COUNTS ≢ 0 → choice_at i ≡ choice_at (i - COUNTS) + choice_at (i - 1)
-choice_next i past some =
+pub binomial_next : (i : ℕ) → COUNTS ≤ i → i % COUNTS ≢ 0 → binomial_at i ≡ binomial_at (i - COUNTS) + binomial_at (i - 1)
+binomial_next i past some =
     let n = i % 10 + i / 10 - 1 in
     let here : i % 10 + i / 10 ≡ suc n = omega arith in
     let left : (i - 10) % 10 + (i - 10) / 10 ≡ n = omega arith in
@@ -214,13 +214,13 @@ choice_next i past some =
     let up_cells : suc ((i - 1) / 10) ≡ suc _ = omega arith in
     rw (here, left, left_cells, up, up_cells) (choose_next n _)
 
-pub choice_small : (i : ℕ) → i < CHOICES → choice_at i ≤ 2 ^ 20
-choice_small i few = choose_small _ 20 _ (omega arith)
+pub binomial_small : (i : ℕ) → i < BINOMIALS → binomial_at i ≤ 2 ^ 20
+binomial_small i few = choose_small _ 20 _ (omega arith)
 
 -- one cell more is right
-pub choices_more : (choices : List ℕ) (i v : ℕ) → i < length choices → AreChoices i choices → v ≡ choice_at i
-    → AreChoices (i + 1) (slice_set choices i v)
-choices_more choices i v inside before v_is k below = grind (arith, cases_eq, get_or-set_same, get_or-set_other)
+pub binomials_more : (binomials : List ℕ) (i v : ℕ) → i < length binomials → AreBinomials i binomials → v ≡ binomial_at i
+    → AreBinomials (i + 1) (slice_set binomials i v)
+binomials_more binomials i v inside before v_is k below = grind (arith, cases_eq, get_or-set_same, get_or-set_other)
 
 -- one pair more is right
 pub pairs_more : (pairs : List ℕ) (i v : ℕ) → i < length pairs → ArePairs i pairs → (i % 32 < COUNTS → v ≡ pair_at i)

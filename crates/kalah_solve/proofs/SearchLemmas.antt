@@ -7,12 +7,13 @@
 use Rattle.std.proofs.{Common.{◌≡◌, ℕ, ◌+◌, ◌*◌, ◌-◌, ◌<◌, ◌≤◌, inl, inr, List, get_or, arith, refl, sym, ap, ◌∙◌, length, subst, ◌↔◌, Bool, false, IsTrue, Contains, ◌%◌, max, slice_set, sum}, lemmas.{Bool.{cases_lt, cases_eq}, List.{get_or-set_same, get_or-set_other, get_or_default, get_or_past, set_past}}}
 use Rattle.kalah_solve.specs.{cell, IsLastIn, without_house, IsSoftBound, WinsAtMost, IsTurnOf, AreTurns, AreWaiting, ArePlaced, IsEmpty, IsTaken, won, won_by_step}
 use Rattle.kalah_solve.proofs.{HouseSetLemmas.{AreMovable, EachOutside, cell_of_zero, into_store_legal, seeded_is_legal, movable_before_last, each_before_last, each_outside_without_last}, WorthLemmas.{LeadsOnAt, played_leads_on}, BoundsLemmas.{won_at_most, won_of_houses, won_reached}}
-use Rattle.kalah_rules.specs.{Limits.{most_seeds}, Position.{HousesState, AreWithinLimits, seeds_in_houses, is_over, storeless}, Sowing.{EndsInStore}, HousesStep.{houses_step}, declared.step.HousesStep.TheVariants.{Turn}}
+use Rattle.kalah_rules.specs.{Limits.{most_seeds}, Position.{HousesState, AreWithinLimits, total_seeds, is_over, storeless}, Sowing.{EndsDirectlyInStore}, HousesStep.{houses_step}, declared.step.HousesStep.TheVariants.{Turn}}
 use Rattle.kalah_rules.proofs.PlayLemmas.{IsLegal, legal_holds, sum-set_zero}
 
 -- ==== The measure of a call (`Invariants.antt` of the search)
 
--- nine times fewer moves, and up to eight more, are less than nine times the moves
+-- A call to the function of number i, for houses with fewer moves left, by the function of number j, has a lower measure: nine times fewer
+-- moves, and up to eight more, are less than nine times the moves.
 pub lower_measure : {m n t : ℕ} (i j : ℕ) → 9 * n + j ≡ t → m < n → i ≤ 8 → 9 * m + i < t
 lower_measure i j measure fewer few = omega arith
 
@@ -51,14 +52,14 @@ enough_is_won {a} {h = h} limits legal bounded enough = omega (arith, won_at_mos
 
 -- a turn leads on to the houses that it leaves
 turn_leads : {a b : HousesState} {h : ℕ} → AreWithinLimits a → IsTurnOf a h b
-    → LeadsOnAt a (seeds_in_houses (storeless a) - seeds_in_houses (storeless b)) b
+    → LeadsOnAt a (total_seeds a - total_seeds b) b
 turn_leads limits turn = played_leads_on limits turn.legal (sym turn.step)
 
 -- a turn that waited, of all `seeds`, by a bound of what the opponent wins after it; `left` and one more were asked of that player
 module _ {a b : HousesState} {h bound seeds left : ℕ} (beta : ℕ) (limits : AreWithinLimits a) (turn : IsTurnOf a h b)
-    (seeds_are : seeds ≡ seeds_in_houses (storeless a)) (left_is : left ≡ seeds - beta) (bounded : IsSoftBound (left + 1) (won b) bound) where
+    (seeds_are : seeds ≡ total_seeds a) (left_is : left ≡ seeds - beta) (bounded : IsSoftBound (left + 1) (won b) bound) where
   -- the opponent wins at most what is in houses
-  reply_few : won b ≤ seeds_in_houses (storeless b)
+  reply_few : won b ≤ total_seeds b
   reply_few = (won_of_houses (turn_leads limits turn).limits).few
 
   -- what the reply leaves is a bound of the turn
@@ -77,7 +78,7 @@ module _ {a b : HousesState} {h bound seeds left : ℕ} (beta : ℕ) (limits : A
 pub step_is_turn : {a b : HousesState} {h gained : ℕ} → AreWithinLimits a → IsLegal a h → Turn gained b ≡ houses_step a h → IsTurnOf a h b
 step_is_turn {a} {b} {h} {gained} limits legal step_is =
     let on = played_leads_on limits legal step_is in
-    let brought : gained ≡ seeds_in_houses (storeless a) - seeds_in_houses (storeless b) = omega arith in
+    let brought : gained ≡ total_seeds a - total_seeds b = omega arith in
     record { legal = legal; step = sym step_is ∙ ap (λ g. Turn g b) brought }
 
 -- a turn brings few seeds to the store
@@ -94,18 +95,19 @@ place_inside {priority = priority} placed found some =
     let at = get_or_default _ found.0 0 priority found.1 ∙ found.2 in
     omega (arith, at, placed.inside found.0 (omega (arith, at)), placed.named found.0 (omega (arith, at)))
 
+-- a cell that was set to 0 holds 0
 none_at : (xs : List ℕ) (at : ℕ) → get_or (slice_set xs at 0) at 0 ≡ 0
 none_at xs at = elim (cases_lt at (length xs)) [
   | inl inside ↦ get_or-set_same xs at 0 0 inside
   | inr past ↦ rw (set_past xs at 0 past) (get_or_past xs at 0 past)
 ]
 
--- with one more
+-- the turns that wait, with one more
 turns_with_one_more : {a b : HousesState} (at v : ℕ) {priorities : List ℕ} {turns : List HousesState} → AreTurns a priorities turns
     → ArePlaced priorities turns → at < 6 → IsTurnOf a (at + 1) b → AreTurns a (slice_set priorities at v) (slice_set turns at b)
 turns_with_one_more at v waiting placed inside turn k some d = grind (arith, cases_eq, get_or-set_same, get_or-set_other)
 
--- without one that was taken out
+-- the turns that wait, without one that was taken out
 turns_without_one : (a : HousesState) (priorities : List ℕ) (turns : List HousesState) (at : ℕ) → AreTurns a priorities turns
     → AreTurns a (slice_set priorities at 0) turns
 turns_without_one a priorities turns at waiting k some d = elim (cases_eq k at) [
@@ -125,18 +127,18 @@ taken_falls {priorities = priorities} taken = rw taken.rest_is (omega (arith, ta
 
 -- ==== The remaining moves, played one by one
 
--- the houses of the set may be moved. What waits are turns, and each other move of a house outside the set wins at most `most` seeds, or ends
--- in the store
+-- the houses of the set may be moved. What waits are turns, and each other move of a house outside the set wins at most `most` seeds, or
+-- ends in the store
 pub record ArePlayed (a : HousesState) (beta most mask : ℕ) (priorities : List ℕ) (turns : List HousesState) : Type 0 where
   pub short_or_zero : beta ≤ most → most ≡ 0
   pub movable : AreMovable a mask
   pub waiting : AreTurns a priorities turns
-  pub others : EachOutside a mask (λ i. get_or priorities (i - 1) 0 ≡ 0 → ¬ EndsInStore a i → WinsAtMost a most i)
+  pub others : EachOutside a mask (λ i. get_or priorities (i - 1) 0 ≡ 0 → ¬ EndsDirectlyInStore a i → WinsAtMost a most i)
 
 -- before any was played
 pub played_at_start : {a : HousesState} {beta mask : ℕ} {priorities : List ℕ} {turns : List HousesState} → AreWithinLimits a
     → is_over (storeless a) ≡ false → IsEmpty priorities
-    → ((i : ℕ) → (0 < cell mask i) ↔ ((0 < get_or a.own i 0) × ¬ EndsInStore a (i + 1)))
+    → ((i : ℕ) → (0 < cell mask i) ↔ ((0 < get_or a.own i 0) × ¬ EndsDirectlyInStore a (i + 1)))
     → ArePlayed a beta 0 mask priorities turns
 played_at_start {a} limits going empty members = record {
   short_or_zero = λ enough. refl;
@@ -145,7 +147,7 @@ played_at_start {a} limits going empty members = record {
   others = λ i legal outside none apart. absurd (
       let holds = legal_holds (storeless a) i legal in
       let at : i - 1 + 1 ≡ i = omega arith in
-      let some = (members _).1 (holds.some, λ ends. apart (subst (EndsInStore a) at ends)) in
+      let some = (members _).1 (holds.some, λ ends. apart (subst (EndsDirectlyInStore a) at ends)) in
       omega arith);
 }
 
@@ -166,7 +168,7 @@ module _ {a : HousesState} {beta most mask : ℕ} {priorities : List ℕ} {turns
           movable = movable_before_last played.movable popped.0;
           waiting = turns_with_one_more at v played.waiting placed low (rw (sym place) at turn);
           others = each_outside_without_last a
-              (λ i. get_or (slice_set priorities at v) (i - 1) 0 ≡ 0 → ¬ EndsInStore a i → WinsAtMost a most i) popped.0
+              (λ i. get_or (slice_set priorities at v) (i - 1) 0 ≡ 0 → ¬ EndsDirectlyInStore a i → WinsAtMost a most i) popped.0
               (λ none apart. absurd (omega (arith, rw at_is at none, get_or-set_same priorities at v 0 inside)))
               (λ i legal other outside none apart. played.others i legal outside
               (rw (get_or-set_other priorities at _ v 0 (rw at_is at other)) at none) apart);
@@ -179,7 +181,7 @@ module _ {a : HousesState} {beta most mask : ℕ} {priorities : List ℕ} {turns
       short_or_zero = short_stays played.short_or_zero short new_is;
       movable = movable_before_last played.movable popped.0;
       waiting = played.waiting;
-      others = each_outside_without_last a (λ i. get_or priorities (i - 1) 0 ≡ 0 → ¬ EndsInStore a i → WinsAtMost a new i) popped.0
+      others = each_outside_without_last a (λ i. get_or priorities (i - 1) 0 ≡ 0 → ¬ EndsDirectlyInStore a i → WinsAtMost a new i) popped.0
           (λ none apart. omega arith) (λ i legal place outside none apart. omega (arith, played.others i legal outside none apart));
     })
 
@@ -201,12 +203,12 @@ module _ {a : HousesState} {beta most mask : ℕ} {priorities : List ℕ} {turns
 pub record AreTriedIntoStore (a : HousesState) (beta most mask : ℕ) : Type 0 where
   pub short_or_zero : beta ≤ most → most ≡ 0
   pub movable : AreMovable a mask
-  pub ends : (i : ℕ) → 0 < cell mask i → EndsInStore a (i + 1)
-  pub tried : EachOutside a mask (λ h. EndsInStore a h → WinsAtMost a most h)
+  pub ends : (i : ℕ) → 0 < cell mask i → EndsDirectlyInStore a (i + 1)
+  pub tried : EachOutside a mask (λ h. EndsDirectlyInStore a h → WinsAtMost a most h)
 
 -- before any was tried
 pub tried_at_start : {a : HousesState} {beta mask : ℕ} → AreWithinLimits a → is_over (storeless a) ≡ false
-    → ((i : ℕ) → (0 < cell mask i) ↔ ((i < length a.own) × EndsInStore a (i + 1))) → AreTriedIntoStore a beta 0 mask
+    → ((i : ℕ) → (0 < cell mask i) ↔ ((i < length a.own) × EndsDirectlyInStore a (i + 1))) → AreTriedIntoStore a beta 0 mask
 tried_at_start {a} limits going members = record {
   short_or_zero = λ enough. refl;
   movable = record { legal = λ i some. let both = (members i).0 some in into_store_legal i limits going both.0 both.1 };
@@ -214,7 +216,7 @@ tried_at_start {a} limits going members = record {
   tried = λ h legal outside ends. absurd (
       let holds = legal_holds (storeless a) h legal in
       let at : h ≡ h - 1 + 1 = omega arith in
-      let some = (members _).1 (omega arith, subst (EndsInStore a) at ends) in
+      let some = (members _).1 (omega arith, subst (EndsDirectlyInStore a) at ends) in
       omega arith);
 }
 
@@ -225,14 +227,14 @@ pub tried_without_last : {a : HousesState} {beta most mask h rest : ℕ} (bound 
 tried_without_last {a} bound new before popped at_most short new_is = rw popped.1 (record {
   short_or_zero = short_stays before.short_or_zero short new_is;
   movable = movable_before_last before.movable popped.0;
-  ends = each_before_last (EndsInStore a) popped.0 before.ends;
-  tried = each_outside_without_last a (λ i. EndsInStore a i → WinsAtMost a new i) popped.0 (λ ends. omega arith)
+  ends = each_before_last (EndsDirectlyInStore a) popped.0 before.ends;
+  tried = each_outside_without_last a (λ i. EndsDirectlyInStore a i → WinsAtMost a new i) popped.0 (λ ends. omega arith)
       (λ i legal place outside ends. omega (arith, before.tried i legal outside ends));
 })
 
 -- once the set is empty, all were tried
 pub all_tried : {a : HousesState} {beta most mask : ℕ} → AreTriedIntoStore a beta most mask → mask ≡ 0 → (h : ℕ) → IsLegal a h
-    → EndsInStore a h → WinsAtMost a most h
+    → EndsDirectlyInStore a h → WinsAtMost a most h
 all_tried tried none h legal = tried.tried h legal (rw none (cell_of_zero (h - 1)))
 
 -- ==== The turns that waited, tried by their priority
@@ -245,7 +247,7 @@ pub record AreUntried (a : HousesState) (beta most : ℕ) (priorities : List ℕ
 
 -- before any of them was tried: all others were
 pub untried_at_start : {a : HousesState} {beta others new : ℕ} {priorities : List ℕ} {turns : List HousesState} (into_store : ℕ)
-    → AreWaiting a beta others priorities turns → ((h : ℕ) → IsLegal a h → EndsInStore a h → WinsAtMost a into_store h)
+    → AreWaiting a beta others priorities turns → ((h : ℕ) → IsLegal a h → EndsDirectlyInStore a h → WinsAtMost a into_store h)
     → into_store < beta → others < beta → new ≡ max into_store others → AreUntried a beta new priorities turns
 untried_at_start into_store waiting ends into_short short new_is = grind arith
 

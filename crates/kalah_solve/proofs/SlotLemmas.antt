@@ -37,7 +37,8 @@ slot_inside s n few small =
 houses_by_slot_and_tag : (s : ℕ) (a b : HousesState) → s ≤ 54 → AreWithinLimits a → AreWithinLimits b
     → tag_of (mixed (key_of a)) ≡ tag_of (mixed (key_of b)) → slot_index s (mixed (key_of a)) ≡ slot_index s (mixed (key_of b))
     → a ≡ b
-houses_by_slot_and_tag s a b enough limits_a limits_b rest place = grind (arith, key-injective, mixed-injective, key_fits, slot_and_tag-injective)
+houses_by_slot_and_tag s a b enough limits_a limits_b rest place =
+    grind (arith, key-injective, mixed-injective, key_fits, slot_and_tag-injective)
 
 -- a power of two that is more than half of a number of at least 1,024 is at least 2^10
 pub ten_bits : (bits n : ℕ) → 1024 ≤ n → n < 2 * 2 ^ bits → 10 ≤ bits

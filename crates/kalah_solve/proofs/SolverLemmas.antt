@@ -1,8 +1,17 @@
 -- Games, best play, and what a solver says of it.
 use Rattle.std.proofs.{Common.{zero, suc, ◌≡◌, ℕ, ◌<◌, ◌≤◌, inl, inr, List, [], ◌∷◌, length, get_or, arith, ap, sym, subst, ◌∙◌, refl, ◌+◌, w32, to_z, of_z, FitsSigned, false, Contains, ℤ, ◌≤ℤ◌, nat_lt, neg_ℤ, true, map, pos, ◌<ℤ◌, find, option_map, ◌+ℤ◌, ◌-ℤ◌, int_eq}, lemmas.{Bool.{both_ways, cases_Bool, cases_eq, cond_both}, Int.{ints, clamps}, List.{get_or_default, map-id, Elements.{All-map, All-from_get_or, Contains-get_or}}, Simd.{map-map}}}
 use Rattle.kalah_rules.specs.{Limits.{most_houses}, Position.{Position, HasEqualSides, is_over, swapped, final_margin, side_length, seeds, IsWithinLimits, IsMarginInRange, HousesState, AreWithinLimits, houses_in, storeless}, Play.{legal_houses}, Measure.{moves_left}, HousesStep.{houses_step}}
-use Rattle.kalah_rules.proofs.{PlayLemmas.{IsLegal, legal_holds, after_equal_sides, after_fewer, find_first, moves_left-swapped}, PackedLemmas.{houses_within, is_over-swapped}}
-use Rattle.kalah_solve.specs.{Strategy, IsStrategy, Policy, follow, Game, Secures, HoldsTo, IsBestPlay, IsBestMove, IsWorthOfMove, EndsInTime, StrategiesPlayAGame, StrategiesPlayOneGame, GamesEnd, WorthIsBestPlay, BestPlayIsOne, BestHouseIsBestPlay, EndsWithAtLeast, EndsWithAtMost, BestPlayAgainstStrategies, BestHouseIsLowest, BestMovesAttain, BestVerdictIsOne, worth, value_of_move, best_house, houses_worth, verdict_of, IsBestInRange, StatesBestPlay, AreValuesByBestPlay, ValueIsWorthOfMove, WorthOfMoveIsOne, ValuesTellVerdict, move_value, values_of, IsMoveValue, least_margin, most_margin, clamped, won, won_by_step, Solver.BestPlay.Game.{is_at_end, moves_on, passes_turn}, declared.solver.{Verdict.{Verdict, TheVariants.{Best, Over}}, move_values.MoveValue.{MoveValue}}}
+use Rattle.kalah_rules.proofs.{PlayLemmas.{IsLegal, legal_holds, after_equal_sides, after_fewer, find_first, moves_left-swapped}, StepLemmas.{houses_within, is_over-swapped}}
+use Rattle.kalah_solve.specs.{worth, value_of_move, best_house, houses_worth}
+use Rattle.kalah_solve.specs.{Strategy, IsStrategy, Policy, follow, Game, Secures, HoldsTo, IsBestPlay, IsBestMove, IsWorthOfMove}
+use Rattle.kalah_solve.specs.{verdict_of, IsBestInRange, StatesBestPlay}
+use Rattle.kalah_solve.specs.{EndsInTime, StrategiesPlayAGame, StrategiesPlayOneGame, GamesEnd, WorthIsBestPlay, BestPlayIsOne}
+use Rattle.kalah_solve.specs.{BestHouseIsBestPlay, EndsWithAtLeast, EndsWithAtMost, BestPlayAgainstStrategies, BestHouseIsLowest}
+use Rattle.kalah_solve.specs.{BestMovesAttain, BestVerdictIsOne}
+use Rattle.kalah_solve.specs.{AreValuesByBestPlay, ValueIsWorthOfMove, WorthOfMoveIsOne, ValuesTellVerdict, move_value, values_of}
+use Rattle.kalah_solve.specs.{IsMoveValue, least_margin, most_margin, clamped, won, won_by_step}
+use Rattle.kalah_solve.specs.Solver.BestPlay.Game.{is_at_end, moves_on, passes_turn}
+use Rattle.kalah_solve.specs.declared.solver.{Verdict.{Verdict, TheVariants.{Best, Over}}, move_values.MoveValue.{MoveValue}}
 use Rattle.kalah_solve.proofs.{WorthLemmas.{swapped_equal_sides, over_at_end, worth_of_over, final_swapped, value_moving_again, value_passing, best_found, best_attains, value_most, int_eq-same, find_lowest, worth_of_going, int_eq-lower, greatest_reached, worth_of_houses, value_of_houses}, BoundsLemmas.{worth_low, worth_high, won_of_houses, won_of_move, won_at_most}}
 use Rattle.lru.proofs.Splits.{Contains-head}
 
@@ -26,20 +35,21 @@ ends_within (suc n) mine theirs mine_lawful theirs_lawful p equal few = elim (ca
   | inl over ↦ ([], p, is_at_end over)
   | inr going ↦
       let fewer = after_fewer p (mine p) (legal_holds p (mine p) (mine_lawful.moves p equal going)) equal in
-      let next_even = after_equal_sides p _ in
+      let next_equal = after_equal_sides p _ in
       elim (cases_Bool _) [
         | inl again ↦
-            let rest = ends_within n mine theirs mine_lawful theirs_lawful _ next_even (omega arith) in
+            let rest = ends_within n mine theirs mine_lawful theirs_lawful _ next_equal (omega arith) in
             (mine p ∷ rest.0, rest.1, moves_on going (Contains-head _ []) again rest.2)
         | inr turn ↦
-            let turned = moves_left-swapped _ next_even in
+            let turned = moves_left-swapped _ next_equal in
             let rest = ends_within n theirs mine theirs_lawful mine_lawful _ (omega arith) (omega arith) in
             (mine p ∷ rest.0, swapped rest.1, passes_turn going (Contains-head _ []) turn rest.2)
       ]
 ]
 
-pub a_game_is_played : StrategiesPlayAGame
-a_game_is_played mine theirs mine_lawful theirs_lawful p equal = ends_within (moves_left p) mine theirs mine_lawful theirs_lawful p equal (omega arith)
+pub strategies_play_a_game : StrategiesPlayAGame
+strategies_play_a_game mine theirs mine_lawful theirs_lawful p equal =
+    ends_within (moves_left p) mine theirs mine_lawful theirs_lawful p equal (omega arith)
 
 -- each move leaves fewer, and the last position is over
 ends_in_time : {mine theirs : Policy} {p : Position} {houses : List ℕ} {final : Position} → IsWithin mine legal_houses
@@ -87,8 +97,8 @@ game_is_one mine_forced theirs_forced (passes_turn _ chosen turn rest) (passes_t
     let same = game_is_one theirs_forced mine_forced rest (rw e at rest') in
     (cc same.0, ap swapped same.1)
 
-pub one_game_is_played : StrategiesPlayOneGame
-one_game_is_played mine theirs p houses others final other one two = game_is_one (follow_one mine) (follow_one theirs) one two
+pub strategies_play_one_game : StrategiesPlayOneGame
+strategies_play_one_game mine theirs p houses others final other one two = game_is_one (follow_one mine) (follow_one theirs) one two
 
 -- a game is one of wider policies, too
 pub widened : {mine theirs mine' theirs' : Policy} {p : Position} {houses : List ℕ} {final : Position} → IsWithin mine mine'
@@ -152,21 +162,22 @@ pub worth_is_best_play : WorthIsBestPlay
 worth_is_best_play p equal = grind (arith, best_is_strategy, best_secures, best_holds)
 
 -- a game of two strategies is one of either against any play
-module _ (mine theirs : Strategy) (mine_lawful : IsStrategy mine) (theirs_lawful : IsStrategy theirs) (p : Position) (equal : HasEqualSides p) (v : ℤ) where
+module _ (mine theirs : Strategy) (mine_lawful : IsStrategy mine) (theirs_lawful : IsStrategy theirs) (p : Position)
+    (equal : HasEqualSides p) (v : ℤ) where
   -- what a strategy secures, the game brings
   ends_at_least : Secures mine p v → EndsWithAtLeast mine theirs p v
   ends_at_least secures =
-      let game = a_game_is_played mine _ mine_lawful theirs_lawful p equal in
+      let game = strategies_play_a_game mine _ mine_lawful theirs_lawful p equal in
       (game.0, game.1, game.2, secures _ game.1 (widened (same_policy _) (strategy_within theirs_lawful) equal game.2))
 
   -- what a strategy of the opponent allows is the most that the game brings
   ends_at_most : HoldsTo theirs p v → EndsWithAtMost mine theirs p v
   ends_at_most holds =
-      let game = a_game_is_played mine _ mine_lawful theirs_lawful p equal in
+      let game = strategies_play_a_game mine _ mine_lawful theirs_lawful p equal in
       (game.0, game.1, game.2, holds _ game.1 (widened (strategy_within mine_lawful) (same_policy _) equal game.2))
 
-pub best_against_strategies : BestPlayAgainstStrategies
-best_against_strategies = record {
+pub best_play_against_strategies : BestPlayAgainstStrategies
+best_play_against_strategies = record {
   secured = λ p equal.
       (best_house, best_is_strategy, λ theirs lawful. ends_at_least _ theirs best_is_strategy lawful p equal _ (best_secures _ equal));
   held = λ p equal.
@@ -178,7 +189,7 @@ secured_at_most : (p : Position) (v w : ℤ) → HasEqualSides p → IsBestPlay 
 secured_at_most p v w equal a b =
     let low = ends_at_least _ b.held.0 a.secured.1 b.held.1 p equal v a.secured.2 in
     let high = ends_at_most _ b.held.0 a.secured.1 b.held.1 p equal w b.held.2 in
-    let same = ap final_margin (one_game_is_played _ b.held.0 p low.0 _ low.1 _ low.2 high.2).1 in
+    let same = ap final_margin (strategies_play_one_game _ b.held.0 p low.0 _ low.1 _ low.2 high.2).1 in
     omega (arith, ints, low.3)
 
 pub best_play_is_one : BestPlayIsOne
@@ -186,8 +197,8 @@ best_play_is_one p v w equal a b = omega (arith, ints, secured_at_most p v w equ
 
 -- ==== Which moves are best
 
-move_worth : (p : Position) (h : ℕ) → IsWorthOfMove p h (value_of_move p h)
-move_worth p h = record {
+pub value_is_worth_of_move : ValueIsWorthOfMove
+value_is_worth_of_move p h = record {
   again = λ more. subst (IsBestPlay _) (sym (value_moving_again _ _ more)) (worth_is_best_play _ (after_equal_sides p h));
   turn = λ passed.
       let other = swapped _ in
@@ -195,9 +206,8 @@ move_worth p h = record {
       subst (IsBestPlay other) same (worth_is_best_play other (swapped_equal_sides _ (after_equal_sides p h)));
 }
 
--- no other number is the margin of best play after a move
-move_worth_is_one : {p : Position} {h : ℕ} {v w : ℤ} → IsWorthOfMove p h v → IsWorthOfMove p h w → v ≡ w
-move_worth_is_one {p} {h} {v} {w} a b = elim (cases_Bool _) [
+pub worth_of_move_is_one : WorthOfMoveIsOne
+worth_of_move_is_one p h v w a b = elim (cases_Bool _) [
   | inl more ↦ best_play_is_one _ v w (after_equal_sides p h) (a.again more) (b.again more)
   | inr passed ↦
       let same = best_play_is_one _ (neg_ℤ v) _ (swapped_equal_sides _ (after_equal_sides p h)) (a.turn passed) (b.turn passed) in
@@ -207,34 +217,34 @@ move_worth_is_one {p} {h} {v} {w} a b = elim (cases_Bool _) [
 -- a legal house that attains the worth is a best move
 attaining_is_best : (p : Position) (h : ℕ) → HasEqualSides p → Contains (legal_houses p) h → value_of_move p h ≡ worth p
     → IsBestMove p h (worth p)
-attaining_is_best p h equal legal attains = grind (arith, worth_is_best_play, worth, move_worth)
+attaining_is_best p h equal legal attains = grind (arith, worth_is_best_play, worth, value_is_worth_of_move)
 
 -- each best move attains the worth
 attains_if_best : (p : Position) (h : ℕ) → IsBestMove p h (worth p) → value_of_move p h ≡ worth p
-attains_if_best p h best = move_worth_is_one (move_worth p h) best.worth
+attains_if_best p h best = worth_of_move_is_one _ _ _ _ (value_is_worth_of_move p h) best.worth
 
 -- the best house is a best move
 best_move : (p : Position) → HasEqualSides p → is_over p ≡ false → IsBestMove p (best_house p) (worth p)
 best_move p equal going = attaining_is_best _ _ equal (best_found _ equal going).0 (best_attains equal going)
 
 -- no lower legal house attains the worth
-best_lowest : (p : Position) (h : ℕ) → is_over p ≡ false → Contains (legal_houses p) h → value_of_move p h ≡ worth p
+none_lower_attains : (p : Position) (h : ℕ) → is_over p ≡ false → Contains (legal_houses p) h → value_of_move p h ≡ worth p
     → best_house p ≤ h
-best_lowest p h going legal attains =
+none_lower_attains p h going legal attains =
     let lowest = find_lowest (λ k. int_eq (value_of_move p k) (worth p)) (λ i. nat_lt 0 (seeds p.own i)) 1 (side_length p) h
     (rw going at legal) (int_eq-same _ _ attains) in
     rw going lowest
 
-pub best_is_lowest : BestHouseIsLowest
-best_is_lowest p equal going = record {
+pub best_house_is_lowest : BestHouseIsLowest
+best_house_is_lowest p equal going = record {
   is_legal = (best_found _ equal going).0;
   attains = best_attains equal going;
-  lowest = λ h is_legal attains. best_lowest _ _ going is_legal attains;
+  lowest = λ h is_legal attains. none_lower_attains _ _ going is_legal attains;
 }
 
--- the best house is the lowest best move
-best_house_lowest : (p : Position) (h : ℕ) → is_over p ≡ false → IsBestMove p h (worth p) → best_house p ≤ h
-best_house_lowest p h going best = best_lowest _ _ going best.legal (attains_if_best _ _ best)
+-- no lower house is a best move
+none_lower_is_best : (p : Position) (h : ℕ) → is_over p ≡ false → IsBestMove p h (worth p) → best_house p ≤ h
+none_lower_is_best p h going best = none_lower_attains _ _ going best.legal (attains_if_best _ _ best)
 
 pub best_moves_attain : BestMovesAttain
 best_moves_attain p h equal = (λ best. (best.legal, attains_if_best _ _ best), λ legal. attaining_is_best _ _ equal legal.0 legal.1)
@@ -262,14 +272,14 @@ pub verdict_states : (p : Position) (v : Verdict) → HasEqualSides p → v ≡ 
 verdict_states p v equal v_is =
     let states = cond_both (is_over p) _ _ (StatesBestPlay p)
     (λ over. record { over = over; final = refl; best_play = rw (worth_of_over p over) at (worth_is_best_play p equal) })
-    (λ going. record { going = going; best = best_move p equal going; lowest = λ h best. best_house_lowest p h going best }) in
+    (λ going. record { going = going; best = best_move p equal going; lowest = λ h best. none_lower_is_best p h going best }) in
     subst (StatesBestPlay p) (sym v_is) states
 
 -- each verdict that states how best play ends is the verdict
 stated_is_verdict : (p : Position) (v : Verdict) → HasEqualSides p → StatesBestPlay p v → v ≡ verdict_of p
 stated_is_verdict p (Best margin house) equal states =
     let margin_is = best_play_is_one p margin _ equal states.best.best_play (worth_is_best_play p equal) in
-    let low = best_house_lowest p house states.going (rw margin_is at states.best) in
+    let low = none_lower_is_best p house states.going (rw margin_is at states.best) in
     let high = states.lowest (best_house p) (rw margin_is (best_move p equal states.going)) in
     let house_is : house ≡ best_house p = omega arith in
     cc (margin_is, house_is)
@@ -278,26 +288,14 @@ stated_is_verdict p (Over margin) equal states = cc
 pub best_verdict_is_one : BestVerdictIsOne
 best_verdict_is_one p v w equal one other = grind (arith, stated_is_verdict)
 
--- ==== What a move secures, and that the values of the moves determine the verdict
-
-pub value_is_worth : ValueIsWorthOfMove
-value_is_worth = move_worth
-
-pub worth_of_move_is_one : WorthOfMoveIsOne
-worth_of_move_is_one p h v w a b = move_worth_is_one a b
-
--- ---- the values of all moves
-
--- the houses are the legal ones
-houses_of : (p : Position) (xs : List ℕ) → map (λ v. v.house) (map (move_value p) xs) ≡ xs
-houses_of p xs = map-map (λ (v : MoveValue). v.house) (move_value p) xs ∙ map-id xs
+-- ==== The values of the moves determine the verdict
 
 -- the values of the moves are what these secure; if the game is over there are none
 pub values_state : (p : Position) → AreValuesByBestPlay p (values_of p)
 values_state p = record {
-  houses = houses_of p _;
+  houses = map-map (λ (v : MoveValue). v.house) (move_value p) _ ∙ map-id _;
   worth = All-map (λ (v : MoveValue). IsWorthOfMove p v.house v.value) (move_value p) _
-      (All-from_get_or (λ h. IsWorthOfMove p h (value_of_move p h)) _ 0 (λ i within. move_worth p _));
+      (All-from_get_or (λ h. IsWorthOfMove p h (value_of_move p h)) _ 0 (λ i within. value_is_worth_of_move p _));
 }
 
 -- the first house with a value

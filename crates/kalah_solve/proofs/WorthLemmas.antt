@@ -4,8 +4,8 @@ use Rattle.std.proofs.{Common.{zero, suc, ◌≡◌, ℕ, ◌+◌, ◌<◌, ◌�
 use Rattle.std.specs.{List.{range_with_len}, Int.{int_max}}
 use Rattle.lru.proofs.Splits.{Contains-head, Contains-tail, Contains-cons}
 use Rattle.kalah_solve.specs.{greatest, worth, best_house, value_by, worth_within, value_of_move, houses_worth, CountPlaysNoPart, WorthIsMostOfMoves, GoesOn}
-use Rattle.kalah_rules.specs.{Position.{Position, IsWithinLimits, is_over, final_margin, HasEqualSides, seeds_in_houses, swapped, swept, houses_in, storeless, HousesState, AreWithinLimits}, Sowing.{after, moves_again}, Play.{legal_houses, step_of}, Measure.{moves_left}, HousesStep.{houses_step_to, houses_step}, declared.step.{HousesStep.{HousesStep, TheVariants.{Over, Again, Turn}}}, Key.{variant_of, rule_bit}}
-use Rattle.kalah_rules.proofs.{PlayLemmas.{IsLegal, all_range, legal_holds, holds_legal, sum-zeros, after_equal_sides, after_fewer, moves_left-swapped, with_store_seeds, after-store_seeds, storeless-store_seeds}, PackedLemmas.{after_keeps, is_over-swapped, after_within, swapped_within}}
+use Rattle.kalah_rules.specs.{Position.{Position, IsWithinLimits, is_over, final_margin, HasEqualSides, total_seeds, swapped, swept, houses_in, storeless, HousesState, AreWithinLimits}, Sowing.{after, moves_again}, Play.{legal_houses, step_of}, Measure.{moves_left}, HousesStep.{houses_step_to, houses_step}, declared.step.{HousesStep.{HousesStep, TheVariants.{Over, Again, Turn}}}, Key.{variant_of, rule_bit}}
+use Rattle.kalah_rules.proofs.{PlayLemmas.{IsLegal, all_range, legal_holds, holds_legal, sum-zeros, after_equal_sides, after_fewer, moves_left-swapped, with_store_seeds, after-store_seeds, storeless-store_seeds}, PackedLemmas.{after_keeps}, StepLemmas.{is_over-swapped, after_within, swapped_within}}
 
 -- ==== What a search in a list finds
 
@@ -117,7 +117,8 @@ values_same : (v w : Position → ℤ) (p : Position) → HasEqualSides p
 values_same v w p equal agree = map_same _ _ (legal_houses p) (λ h legal.
     let fewer = after_fewer p h (legal_holds _ _ legal) equal in
     let next_equal = after_equal_sides p h in
-    value_same v w p h (agree _ next_equal fewer) (agree _ (swapped_equal_sides _ next_equal) (omega (arith, fewer, moves_left-swapped _ next_equal))))
+    value_same v w p h (agree _ next_equal fewer)
+    (agree _ (swapped_equal_sides _ next_equal) (omega (arith, fewer, moves_left-swapped _ next_equal))))
 
 -- two counts that are high enough give the same worth
 worth_same : (n k : ℕ) (p : Position) → HasEqualSides p → moves_left p ≤ n → moves_left p ≤ k
@@ -127,13 +128,13 @@ worth_same (suc n) zero p equal n_high k_high = grind (arith, over_at_end, worth
 worth_same (suc n) (suc k) p equal n_high k_high = elim (cases_Bool _) [
   | inl over ↦ worth_within-over _ p over ∙ sym (worth_within-over _ p over)
   | inr going ↦ worth_within-going n p going
-      ∙ ap greatest (values_same _ _ p equal (λ q even fewer. worth_same n k q even (omega arith) (omega arith)))
+      ∙ ap greatest (values_same _ _ p equal (λ q is_equal fewer. worth_same n k q is_equal (omega arith) (omega arith)))
       ∙ sym (worth_within-going k p going)
 ]
 
-pub worth_count : CountPlaysNoPart
+pub count_plays_no_part : CountPlaysNoPart
 unfolding worth
-worth_count p n equal high = worth_same _ _ _ equal high (omega arith)
+count_plays_no_part p n equal high = worth_same _ _ _ equal high (omega arith)
 
 pub worth_of_over : (p : Position) → is_over p ≡ true → worth p ≡ final_margin p
 unfolding worth
@@ -145,9 +146,10 @@ pub worth_of_going : (p : Position) → HasEqualSides p → is_over p ≡ false
 unfolding worth
 worth_of_going p equal going =
     worth_same (moves_left p) (suc (moves_left p)) p equal (omega arith) (omega arith) ∙ worth_within-going _ _ going
-    ∙ ap greatest (values_same (worth_within (moves_left p)) worth p equal (λ q even fewer. worth_same _ _ q even (omega arith) (omega arith)))
+    ∙ ap greatest (values_same (worth_within (moves_left p)) worth p equal
+    (λ q is_equal fewer. worth_same _ _ q is_equal (omega arith) (omega arith)))
 
--- ==== What steps are worth, and how many moves are left after them
+-- ==== What steps of positions are worth, and how many moves are left after them
 
 final_margin-swept : (q : Position) → final_margin (swept q) ≡ final_margin q
 final_margin-swept q = omega (arith, ints)
@@ -228,8 +230,8 @@ value_most p h equal going legal =
     let at = get_or_default _ legal.0 0 h legal.1 ∙ legal.2 in
     rw (worth_of_going p equal going) (rw at at (greatest_is_most (value_of_move p) _ legal.0 legal.1))
 
-pub worth_is_most : WorthIsMostOfMoves
-worth_is_most p equal going = record {
+pub worth_is_most_of_moves : WorthIsMostOfMoves
+worth_is_most_of_moves p equal going = record {
   reached = (best_house p, (best_found _ equal going).0, best_attains equal going);
   most = λ h legal. value_most _ _ equal going legal;
 }
@@ -327,7 +329,7 @@ value_of_houses p h =
     ap (λ (o : Position). value_of_move o h) (storeless-store_seeds p)
     ∙ value-store_seeds worth worth a b _ h (worth_shift a b q) (worth_shift b a _)
 
--- ==== What a step is worth, and where it leads
+-- ==== What a step of houses is worth, and where it leads
 
 -- what a step is worth to the mover, if best play follows
 abbrev pub worth_of_step : HousesStep → ℤ
@@ -337,7 +339,7 @@ worth_of_step (Turn gained b) = pos gained -ℤ houses_worth b
 
 -- the houses b go on from a, with `gained` seeds fewer
 pub record LeadsOnAt (a : HousesState) (gained : ℕ) (b : HousesState) : Type 0 where
-  pub kept : gained + seeds_in_houses (storeless b) ≡ seeds_in_houses (storeless a)
+  pub kept : gained + total_seeds b ≡ total_seeds a
   pub fewer : moves_left (storeless b) < moves_left (storeless a)
   pub going : is_over (storeless b) ≡ false
   pub limits : AreWithinLimits b
@@ -345,7 +347,7 @@ pub record LeadsOnAt (a : HousesState) (gained : ℕ) (b : HousesState) : Type 0
 
 -- the houses to which a step leads go on from a, and at the end of the game no seed is lost
 abbrev pub LeadsOn : HousesState → HousesStep → Type 0
-LeadsOn a (Over own other) = own + other ≡ seeds_in_houses (storeless a)
+LeadsOn a (Over own other) = own + other ≡ total_seeds a
 LeadsOn a (Again gained b) = LeadsOnAt a gained b
 LeadsOn a (Turn gained b) = LeadsOnAt a gained b
 
@@ -355,7 +357,7 @@ moves_after (Over own other) = 0
 moves_after (Again gained b) = moves_left (storeless b)
 moves_after (Turn gained b) = moves_left (storeless b)
 
--- ==== The result of a move on houses, and its worth
+-- ==== The step that a move of a house makes, and what it is worth
 
 -- ---- what a move is worth
 -- if the other store is empty, a position is worth the own store and its houses

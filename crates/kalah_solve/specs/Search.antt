@@ -1,6 +1,6 @@
 -- What a search is asked, where its steps lead, and what is known of some moves while the others are still to be tried.
 use Rattle.std.specs.Prelude.{◌≡◌, ℕ, ◌+◌, ◌-◌, ◌<◌, ◌≤◌, false, List, Contains, slice_index, slice_index_or}
-use Rattle.kalah_rules.specs.{Limits.{most_seeds}, Position.{HousesState, AreWithinLimits, storeless, seeds_in_houses, is_over}, Sowing.{EndsInStore}, Play.{legal_houses}, HousesStep.{houses_step}, Key.{variant_of}, declared.step.HousesStep.{HousesStep, TheVariants.{Over, Again, Turn}}}
+use Rattle.kalah_rules.specs.{Limits.{most_seeds}, Position.{HousesState, AreWithinLimits, storeless, total_seeds, is_over}, Sowing.{EndsDirectlyInStore}, Play.{legal_houses}, HousesStep.{houses_step}, Key.{variant_of}, declared.step.HousesStep.{HousesStep, TheVariants.{Over, Again, Turn}}}
 use Rattle.kalah_solve.specs.Bounds.Won.{won, won_by_step}
 
 -- a fail-soft bound of a number: from `beta` on the number is no less than the bound, and below `beta` no more
@@ -15,7 +15,7 @@ WinsAtMost a most h = won_by_step (houses_step a h) ≤ most
 -- house h may be moved, and its move is a turn after which the opponent has b
 pub record IsTurnOf (a : HousesState) (h : ℕ) (b : HousesState) : Type 0 where
   pub legal : Contains (legal_houses (storeless a)) h
-  pub step : houses_step a h ≡ Turn (seeds_in_houses (storeless a) - seeds_in_houses (storeless b)) b
+  pub step : houses_step a h ≡ Turn (total_seeds a - total_seeds b) b
 
 -- what waits are turns, those of house 1 at place 0
 abbrev pub AreTurns : HousesState → List ℕ → List HousesState → Type 0
@@ -27,7 +27,7 @@ pub record AreWaiting (a : HousesState) (beta most : ℕ) (priorities : List ℕ
   pub lower : beta ≤ most → most ≤ won a
   pub waiting : AreTurns a priorities turns
   pub others : most < beta → (h : ℕ) → Contains (legal_houses (storeless a)) h → slice_index priorities (h - 1) ≡ 0
-      → ¬ EndsInStore a h →
+      → ¬ EndsDirectlyInStore a h →
       WinsAtMost a most h
 
 -- ---- where a step leads
@@ -40,7 +40,7 @@ pub record IsOngoing (variant : ℕ) (a : HousesState) : Type 0 where
 -- a step that brought `gained` seeds to the store leads on to these houses
 pub record GoesOnAt (variant gained : ℕ) (b : HousesState) : Type 0 where
   pub ongoing : IsOngoing variant b
-  pub few : gained + seeds_in_houses (storeless b) ≤ most_seeds
+  pub few : gained + total_seeds b ≤ most_seeds
   pub limits : AreWithinLimits b
 
 -- the houses to which a step leads are of this variant, and the game goes on there; at its end no player has too many seeds

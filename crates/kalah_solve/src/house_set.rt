@@ -1,7 +1,7 @@
 //! Sets of houses as masks: five bits for each house, house 1 lowest, with the value 1 if the house is in the set and 0 if not.
 ghost use Rattle.std.specs.Prelude.{◌≡◌, ◌↔◌, ◌+◌, ◌≤◌, ◌<◌, ℕ, length, slice_index, MatchOption};
-ghost use Rattle.kalah_rules.specs.{Position.{AreWithinLimits}, Sowing.{EndsInStore}};
-ghost use Rattle.kalah_solve.specs.HouseSet.{cell, IsLastIn, without_house, IsMaskOfFilled, IsMaskIntoStore, all_into_store};
+ghost use Rattle.kalah_rules.specs.{Position.{AreWithinLimits}, Sowing.{EndsDirectlyInStore}};
+ghost use Rattle.kalah_solve.specs.HouseSet.{cell, IsLastIn, without_house, IsMaskOfFilled, IsMaskIntoStore};
 
 use kalah_rules::{House, Houses, ONE_EACH, one_each};
 use std::marker::Model;
@@ -11,14 +11,6 @@ const FIFTEEN_EACH: u64 = 15 * ONE_EACH;
 
 // The row whose houses all end in the store, by the number of houses a side.
 static ALL_INTO_STORE: [u64; 7] = [0, 1, 0x22, 0x443, 0x8864, 0x11_0C85, 0x221_90A6];
-
-// Returns the row of `m` houses that all end in the store.
-fn all_into_store(m: u8) -> u64
-    requires { m ≤ 6 }
-    ensures { result ≡ all_into_store m }
-{
-    ALL_INTO_STORE[m as usize]
-}
 
 // Returns the mask of the houses of a row that have seeds. 15 more in the lower four bits of a cell carries into its fifth bit, unless they
 // are 0.
@@ -34,7 +26,7 @@ fn into_store(row: u64, m: u8) -> u64
     requires { m ≤ 6 }
     ensures { IsMaskIntoStore row m result }
 {
-    filled(row ^ all_into_store(m)) ^ one_each(m)
+    filled(row ^ ALL_INTO_STORE[m as usize]) ^ one_each(m)
 }
 
 /// A set of the mover's houses, seen as its mask.
@@ -71,7 +63,7 @@ impl HouseSet {
     /// Returns the mover's houses whose last seed would fall into the store without a lap.
     #[tactic(auto, using(crate::proofs::HouseSetLemmas::in_mask_into_store))]
     pub(crate) fn ending_in_store(houses: &Houses) -> HouseSet
-        ensures members { (i : ℕ) → (0 < cell result i) ↔ ((i < length houses.now.own) × EndsInStore houses.now (i + 1)) }
+        ensures members { (i : ℕ) → (0 < cell result i) ↔ ((i < length houses.now.own) × EndsDirectlyInStore houses.now (i + 1)) }
         ensures limits { AreWithinLimits houses.now }
     {
         HouseSet {
@@ -82,7 +74,7 @@ impl HouseSet {
     /// Returns the mover's remaining houses that have seeds: those that don't end in the store without a lap.
     #[tactic(auto, using(crate::proofs::HouseSetLemmas::in_remaining, crate::proofs::HouseSetLemmas::mask_of_remaining))]
     pub(crate) fn remaining(houses: &Houses) -> HouseSet
-        ensures members { (i : ℕ) → (0 < cell result i) ↔ ((0 < slice_index houses.now.own i) × ¬ EndsInStore houses.now (i + 1)) }
+        ensures members { (i : ℕ) → (0 < cell result i) ↔ ((0 < slice_index houses.now.own i) × ¬ EndsDirectlyInStore houses.now (i + 1)) }
         ensures limits { AreWithinLimits houses.now }
     {
         let row = houses.own_row();

@@ -1,7 +1,7 @@
 //! The search: fail-soft alpha-beta with null windows. Each test asks whether the mover wins at least `beta` seeds, and `won_within` closes
 //! in on the number by such tests, as an MTD driver does. Margins are used at the root and among the entries.
 ghost use Rattle.std.specs.Prelude.{◌≡◌, ◌↔◌, ℕ, ◌+◌, ◌-◌, ◌≤◌, ◌<◌, false, IsTrue, max, min, Contains};
-ghost use Rattle.kalah_rules.specs.{Position.{is_over, storeless, seeds_in_houses}, Sowing.{EndsInStore}, Play.{legal_houses}, HousesStep.{houses_step}, Key.{variant_of}};
+ghost use Rattle.kalah_rules.specs.{Position.{is_over, storeless, total_seeds}, Sowing.{EndsDirectlyInStore}, Play.{legal_houses}, HousesStep.{houses_step}, Key.{variant_of}};
 ghost use Rattle.kalah_solve.specs.{Solver.Worth.{houses_worth}, Bounds.{Intervals.{clamped}, Won.{won, won_by_step}}, WaitingTurns.{IsEmpty}, Search.{IsSoftBound, WinsAtMost, AreWaiting, IsOngoing, GoesOn, GoesOnAt}};
 
 mod growth;
@@ -30,8 +30,8 @@ const MOST_SLOT_SEEDS: u8 = 24;
 /// An answer that took fewer nodes is not worth an entry.
 const LEAST_ENTRY_NODES: u64 = 60;
 
-// Calls a method that has the number of the variant of some houses as its constant parameter. It is compiled for each variant. The number is
-// that of houses a side, and 8 more under the empty-capture rule.
+// Calls a method that has the number of the variant of some houses as its constant parameter. It is compiled for each variant. The number
+// is that of houses a side, and 8 more under the empty-capture rule.
 macro_rules! in_its_variant {
     ($self:ident.$method:ident($houses:ident, $($more:expr),*)) => {
         match $houses.variant() {
@@ -46,7 +46,8 @@ macro_rules! in_its_variant {
             11 => $self.$method::<11>($houses, $($more),*),
             12 => $self.$method::<12>($houses, $($more),*),
             13 => $self.$method::<13>($houses, $($more),*),
-            _ => $self.$method::<14>($houses, $($more),*),
+            14 => $self.$method::<14>($houses, $($more),*),
+            _ => unreachable!(),
         }
     };
 }
@@ -199,7 +200,8 @@ impl<A: Allocator + Clone> Search<A> {
         beta <= self.bound_step::<VARIANT>(step, beta)
     }
 
-    // Returns a fail-soft bound of how many seeds the mover wins. From `beta` on it is a lower bound, and below `beta` an upper one.
+    // Returns a fail-soft bound of how many seeds the mover wins: from `beta` on it is a lower bound, and below `beta` an upper one. An
+    // ending is looked up, and of other houses the moves are searched.
     #[inline(always)]
     #[cycle(bound)]
     fn bound<const VARIANT: u8>(&mut self, houses: Houses, beta: u8) -> u8
@@ -212,7 +214,8 @@ impl<A: Allocator + Clone> Search<A> {
         self.bound_by_search::<VARIANT>(&houses, beta)
     }
 
-    // Returns a fail-soft bound of how many seeds the mover wins. The houses are no ending that is looked up.
+    // As `bound`, of houses that are not looked up as an ending. Returns what the table knows if that is enough. Otherwise tries the moves,
+    // and keeps what is learned.
     #[cycle(bound)]
     #[inline(never)]
     fn bound_by_search<const VARIANT: u8>(&mut self, houses: &Houses, beta: u8) -> u8
@@ -245,7 +248,8 @@ impl<A: Allocator + Clone> Search<A> {
         bound
     }
 
-    // Returns a fail-soft bound of how many seeds the mover wins, found by trying the moves.
+    // As `bound`, by trying the moves alone: first those that end in the store without a lap, then the others. A turn whose houses must be
+    // searched waits until the rest is tried.
     #[inline(always)]
     #[cycle(bound)]
     fn bound_by_moves<const VARIANT: u8>(&mut self, houses: &Houses, beta: u8) -> u8
@@ -282,7 +286,7 @@ impl<A: Allocator + Clone> Search<A> {
     fn bound_into_store<const VARIANT: u8>(&mut self, houses: &Houses, beta: u8) -> u8
         requires { IsOngoing VARIANT houses.now }
         ensures lower { beta ≤ result → result ≤ won houses.now }
-        ensures upper { result < beta → (h : ℕ) → Contains (legal_houses (storeless houses.now)) h → EndsInStore houses.now h →
+        ensures upper { result < beta → (h : ℕ) → Contains (legal_houses (storeless houses.now)) h → EndsDirectlyInStore houses.now h →
             WinsAtMost houses.now result h }
     {
         let mut untried = HouseSet::ending_in_store(houses);
@@ -359,7 +363,7 @@ impl<A: Allocator + Clone> Search<A> {
     #[cycle(bound)]
     fn bound_turn<const VARIANT: u8>(&mut self, gained: u8, next: Houses, beta: u8) -> u8
         requires on { GoesOnAt VARIANT gained next }
-        ensures { IsSoftBound beta (gained + (seeds_in_houses (storeless next) - won next)) result }
+        ensures { IsSoftBound beta (gained + (total_seeds next - won next)) result }
     {
         let all = gained + next.seeds();
         if beta <= gained {

@@ -26,15 +26,15 @@ pub enum Verdict {
     Over { margin: i32 },
 }
 
-// Returns the margin of best play of the position, whose houses are worth `best`.
+// Returns the margin of best play of the position, whose houses have this worth.
 #[inline(always)]
-fn worth_of_board(best: i32, board: &Board) -> i32
-    requires best { best ≡ houses_worth (houses_in board.now) }
+fn worth_of_board(of_houses: i32, board: &Board) -> i32
+    requires houses { of_houses ≡ houses_worth (houses_in board.now) }
     requires limits { IsWithinLimits board.now }
     ensures worth { result ≡ worth board.now }
     ensures small { IsMarginInRange result }
 {
-    best + (board.own_store() as i32 - board.other_store() as i32)
+    of_houses + (board.own_store() as i32 - board.other_store() as i32)
 }
 
 /// Computes what positions are worth, by a search that keeps what it learns in a table.
@@ -83,10 +83,10 @@ impl<A: Allocator + Clone> Solver<A> {
             };
         }
         let houses = board.houses();
-        let best = self.houses_worth(&houses);
-        let beta = won_of(best, houses.seeds());
+        let worth = self.houses_worth(&houses);
+        let beta = won_of(worth, houses.seeds());
         let house = self.best_house(&houses, beta);
-        let margin = worth_of_board(best, board);
+        let margin = worth_of_board(worth, board);
         Verdict::Best { margin, house }
     }
 
@@ -104,7 +104,7 @@ impl<A: Allocator + Clone> Solver<A> {
     #[inline(always)]
     fn best_house(&mut self, houses: &Houses, beta: u8) -> u8
         requires going { is_over (storeless houses.now) ≡ false }
-        requires best { beta ≡ won houses.now }
+        requires beta { beta ≡ won houses.now }
         ensures { result ≡ best_house (storeless houses.now) }
     {
         let moves = houses.legal();

@@ -105,7 +105,7 @@ impl<A: Allocator + Clone> Table<A> {
         }
     }
 
-    /// Returns how many seeds the mover wins of an ending. Out of line, so that the functions of the search stay small enough to be inlined.
+    /// Returns how many seeds the mover wins of an ending. Out of line, so that functions of the search stay small enough to be inlined.
     #[inline(never)]
     pub(crate) fn won<const VARIANT: u8>(&self, houses: Houses) -> u8
         requires ongoing { IsOngoing VARIANT houses }

@@ -63,7 +63,7 @@ table_entries rows = unwrap_or (number_given (codes "table") rows) default_entri
 abbrev pub is_set : Text → List Row → Bool
 is_set id rows = option_map_or (λ t. bytes_eq t (codes "true")) (one_of id rows) false
 
--- what the matches of a subcommand with a LINE ask for of the line. There is no other such subcommand, so the last is `count`
+-- what the matches of a subcommand with a LINE ask for of the line
 abbrev pub command_asked : Text → List Row → Option LineCommand
 command_asked name rows =
     if bytes_eq name (codes "moves") then Some (Moves (is_set (codes "boards") rows))
@@ -78,24 +78,25 @@ command_asked name rows =
       plain = is_set (codes "plain") rows;
       lines = is_set (codes "lines") rows;
     }))
-    else option_map Count (number_given (codes "depth") rows)
+    else if bytes_eq name (codes "count") then option_map Count (number_given (codes "depth") rows) else None
 
 -- the entries of the tables that the matches of a subcommand with files ask for: steps need none, and the least is one
-abbrev pub entries_asked : Question → List Row → ℕ
-entries_asked Steps rows = 1
-entries_asked question rows = table_entries rows
+abbrev pub table_entries_asked : Question → List Row → ℕ
+table_entries_asked Steps rows = 1
+table_entries_asked question rows = table_entries rows
 
 -- the task of these matches
 abbrev pub task_of_files : Question → List Row → Option Task
 task_of_files question rows = option_map
-    (about_files question (worker_count rows) (entries_asked question rows) (is_set (codes "progress") rows)) (all_of (codes "file") rows)
+    (about_files question (worker_count rows) (table_entries_asked question rows) (is_set (codes "progress") rows))
+    (all_of (codes "file") rows)
 
 -- the task of `ask` with `--values` and `--steps` set or not, and with this number of entries, if one is given: steps exclude the others
 abbrev pub task_of_flags : Bool → Bool → Option ℕ → Task
 task_of_flags false false given = about_input BestMove (unwrap_or given default_entries)
 task_of_flags true false given = about_input Values (unwrap_or given default_entries)
 task_of_flags false true None = about_input Steps 1
-task_of_flags false true (Some entries) = conflict
+task_of_flags false true (Some given) = conflict
 task_of_flags true true given = conflict
 
 -- the task of the matches of `ask`

@@ -47,23 +47,17 @@ game_text form p (h ∷ houses) =
 
 -- ---- the laws on this game
 
--- a game from p in which both players always move the lowest-numbered best house: the moves of `houses` lead by the rules to the end at
--- `final`, with the margin of best play for the player who moves first
-pub record IsBestGame (p : Position) (houses : List ℕ) (final : Position) : Type 0 where
-  pub game : Game (follow best_house) (follow best_house) p houses final
-  pub margin : final_margin final ≡ worth p
+-- a game in which both players always move the lowest-numbered best house
+abbrev pub IsPlayedBest : Position → List ℕ → Position → Type 0
+IsPlayedBest p houses final = Game (follow best_house) (follow best_house) p houses final
 
--- from each position `best_game` is a game of best play
+-- from each position `best_game` is such a game, and ends with the margin of best play for the player who moves first
 abbrev pub PlaysBestGames : Type 0
-PlaysBestGames = (p : Position) → HasEqualSides p → (final : Position) × IsBestGame p (best_game p) final
+PlaysBestGames = (p : Position) → HasEqualSides p
+    → (final : Position) × IsPlayedBest p (best_game p) final × (final_margin final ≡ worth p)
 
--- a game from p that begins with house h: the moves of `houses` lead by the rules to the end at `final`, with the value of the move of h
--- for the player who makes it
-pub record IsVariation (p : Position) (h : ℕ) (houses : List ℕ) (final : Position) : Type 0 where
-  pub game : Game legal_houses legal_houses p houses final
-  pub margin : final_margin final ≡ value_of_move p h
-
--- the game after any move, with best play after it, has the value of that move
+-- a game that begins with a legal move and goes on with best play is played by the rules, and ends with the value of that move for the
+-- player who makes it
 abbrev pub VariationsEndWithTheirValue : Type 0
 VariationsEndWithTheirValue = (p : Position) (h : ℕ) → HasEqualSides p → Contains (legal_houses p) h
-    → (final : Position) × IsVariation p h (game_played (Some h) p) final
+    → (final : Position) × Game legal_houses legal_houses p (game_played (Some h) p) final × (final_margin final ≡ value_of_move p h)

@@ -90,7 +90,7 @@ fn worker_count(matches: &ArgMatches<'_>) -> u32
 }
 
 // Returns the number of entries that `--table` gives.
-fn entries_given(matches: &ArgMatches<'_>) -> Option<u32>
+fn table_entries_given(matches: &ArgMatches<'_>) -> Option<u32>
     requires { MayHaveNumber (codes "table") 1 most_entries (rows_in matches.now) }
     ensures given { result ≡ number_given (codes "table") (rows_in matches.now) }
     ensures range { IfSome result IsTableSize }
@@ -104,7 +104,7 @@ fn table_entries(matches: &ArgMatches<'_>) -> u32
     ensures number { result ≡ table_entries (rows_in matches.now) }
     ensures range { IsTableSize result }
 {
-    entries_given(matches).unwrap_or(DEFAULT_ENTRIES)
+    table_entries_given(matches).unwrap_or(DEFAULT_ENTRIES)
 }
 
 // Returns the small number of an argument, if it has one.
@@ -161,7 +161,7 @@ fn ask_request<'a>(matches: &ArgMatches<'a>) -> Request<'a>
     ensures range { IsInRange result }
 {
     let (values, steps) = (is_set(matches, "values"), is_set(matches, "steps"));
-    let (question, table_entries) = match (values, steps, entries_given(matches)) {
+    let (question, table_entries) = match (values, steps, table_entries_given(matches)) {
         (false, false, given) => (Question::BestMove, given.unwrap_or(DEFAULT_ENTRIES)),
         (true, false, given) => (Question::Values, given.unwrap_or(DEFAULT_ENTRIES)),
         (false, true, None) => (Question::Steps, 1),

@@ -1,26 +1,25 @@
 //! `kalah ask`.
-ghost use Rattle.std.specs.{Prelude.{◌≡◌, ◌↔◌, IfOk, IsErr, false, true}, Io.Buffered.{reader_remaining}};
+ghost use Rattle.std.specs.Prelude.{◌≡◌, ◌↔◌, IfOk, IsErr, false, true};
 ghost use Rattle.kalah_run.specs.Limits.{IsTableSize};
-ghost use Rattle.kalah_cli.specs.{Commands.Ask.{AnswersInput}, Exit.Ends.{exit_status_of}};
+ghost use Rattle.kalah_cli.specs.{Commands.{Ask.{AnswersInput}, GameSolver.{HasTable}}, Exit.Ends.{exit_status_of}};
 
-use crate::commands::game_solver::new_solver;
 use crate::exit::failure::Failure;
 use crate::exit::status::ExitStatus;
 use kalah_jobs::{AskFault, Question, Sink, answer_lines};
 use kalah_run::RunFault;
-use std::alloc::Global;
-use std::io;
+use kalah_solve::{Solver, Table};
+use std::alloc::{AllocError, Global};
 use std::io::{BufReader, Read, Write};
 
 // What is written to a terminal before lines are typed.
 const HINT: &str = "kalah: waits for positions, one a line, as 1,1/0 1,1/0; Ctrl-D ends\n";
 
-// Returns a reader that reads ahead, with all that the reader has left.
-#[tactic(auto, using(crate::proofs::EndsLemmas::all_unread))]
-fn reading_ahead<I: Read + Drop>(alloc: Global, input: I) -> io::Result<BufReader<I>>
-    ensures { IfOk result (λ r. I.remaining input ≡ reader_remaining I.remaining r) }
+// Returns a solver with an empty table of this many entries.
+fn new_solver(alloc: Global, table_entries: u32) -> Result<Solver, AllocError>
+    requires { IsTableSize table_entries }
+    ensures { IfOk result (HasTable table_entries) }
 {
-    BufReader::new(alloc, input)
+    Ok(Solver::new(Table::new(alloc, table_entries)?))
 }
 
 // Returns how the program ends after such an answer to all lines.
@@ -55,14 +54,14 @@ pub(crate) fn run_ask<I: Read + Drop, O: Sink, E: Write>(
     requires not_failed { (O.state out.old).has_failed ≡ false }
     ensures { AnswersInput O.state out.old out.new (exit_status_of result) question (I.remaining input) }
 {
-    let Ok(mut input) = reading_ahead(alloc, input) else {
-        return Err(Failure::Run(RunFault::OutOfMemory));
+    let Ok(mut reader) = BufReader::new(alloc, input) else {
+        return Err(Failure::OUT_OF_MEMORY);
     };
     let Ok(mut solver) = new_solver(alloc, table_entries) else {
-        return Err(Failure::Run(RunFault::OutOfMemory));
+        return Err(Failure::OUT_OF_MEMORY);
     };
     if is_typed {
         let _ = err.write_all(HINT.as_bytes());
     }
-    status_of_answers(answer_lines(&mut input, question, &mut solver, out))
+    status_of_answers(answer_lines(&mut reader, question, &mut solver, out))
 }

@@ -79,7 +79,6 @@ fn next_move<O: Sink>(
 
 /// Writes the moves of a game from a board on, each as soon as it is found: the move of house `first`, if there is one, and then those of
 /// best play. If the output has failed, none is sought.
-#[cycle(game)]
 pub(crate) fn write_game<O: Sink>(
     solver: &mut GameSolver<O>,
     board: &Board,
@@ -91,10 +90,11 @@ pub(crate) fn write_game<O: Sink>(
     ensures begun { begun solver.new ≡ begun solver.old }
     ensures printed { IsPrinted O.state out.old out.new (game_text (begun solver.old).form board.now (game_played first board.now)) }
 {
-    let Some(NextMove { house, value }) = next_move(solver, board, first, out) else {
-        return;
-    };
-    let step = board.apply(house);
-    write_in_form(solver.form, value, house, &step, out);
-    write_game(solver, step.board(), None, out);
+    let (mut reached, mut first) = (*board, first);
+    while let Some(NextMove { house, value }) = next_move(solver, &reached, first, out) {
+        let step = reached.apply(house);
+        write_in_form(solver.form, value, house, &step, out);
+        reached = *step.board();
+        first = None;
+    }
 }

@@ -1,4 +1,4 @@
-//! The solvers of `ask`, `play` and `show`.
+//! The solver of `play` and `show`.
 ghost use Rattle.std.specs.Prelude.{◌≡◌, IfOk, true};
 ghost use Rattle.kalah_solve.specs.Solver.{MoveValues.{values_of}, Verdict.{IsVerdictInRange, StatesBestPlay, verdict_of}};
 ghost use Rattle.kalah_jobs.specs.Writing.{Sink.{WasGiven}, Picture.{picture_of}};
@@ -24,18 +24,9 @@ pub(crate) struct GameSolver<O> {
     sink: Snapshot<O>,
 }
 
-/// Returns a solver with an empty table of this many entries, for a game or for the lines that `ask` reads. Fails with `AllocError` only if
-/// memory was refused.
-pub(crate) fn new_solver(alloc: Global, table_entries: u32) -> Result<Solver, AllocError>
-    requires { IsTableSize table_entries }
-    ensures { IfOk result (HasTable table_entries) }
-{
-    Ok(Solver::new(Table::new(alloc, table_entries)?))
-}
-
 impl<O: Sink> GameSolver<O> {
-    /// Returns a solver, as `new_solver` does, of a game that begins with this board and is written in this form. Nothing of it is written
-    /// yet.
+    /// Returns a solver with an empty table of this many entries, for a game that begins with this board and is written in this form.
+    /// Nothing of it is written yet. Fails with `AllocError` only if memory was refused.
     pub(crate) fn new(
         alloc: Global,
         table_entries: u32,
@@ -48,7 +39,7 @@ impl<O: Sink> GameSolver<O> {
         ensures begun { IfOk result (λ s. begun s ≡ record { form = form; first = board.now; sink = out.now }) }
     {
         Ok(GameSolver {
-            solver: new_solver(alloc, table_entries)?,
+            solver: Solver::new(Table::new(alloc, table_entries)?),
             form,
             first: Snapshot::of(board),
             sink: Snapshot::of(out),

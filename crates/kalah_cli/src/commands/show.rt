@@ -14,7 +14,6 @@ use kalah_jobs::{
     write_variation_start,
 };
 use kalah_rules::Board;
-use kalah_run::RunFault;
 use kalah_solve::{MoveValue, MoveValues};
 use std::alloc::Global;
 
@@ -143,7 +142,7 @@ pub(crate) fn run_show<O: Sink>(
     }
     let Ok(mut solver) = GameSolver::new(alloc, command.table_entries, board, MoveForm::Houses, out)
     else {
-        return Err(Failure::Run(RunFault::OutOfMemory));
+        return Err(Failure::OUT_OF_MEMORY);
     };
     write_values_and_lines(&mut solver, board, command.lines, out);
     Ok(())

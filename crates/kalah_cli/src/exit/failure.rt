@@ -14,7 +14,7 @@ use std::io::Write;
 /// Why the program failed, except for arguments that clap refuses.
 #[derive(Clone, Copy)]
 pub(crate) enum Failure<'a> {
-    /// A fault that a batch can have, though not only a batch: memory was refused, or a write failed, among others.
+    /// The fault of a batch, or the same of another run: memory was refused, or a write failed.
     Run(RunFault),
     /// The name of a file has a line feed in it.
     LineFeed,
@@ -31,6 +31,9 @@ pub(crate) enum Failure<'a> {
 }
 
 impl Failure<'_> {
+    /// Memory was refused.
+    pub(crate) const OUT_OF_MEMORY: Failure<'static> = Failure::Run(RunFault::OutOfMemory);
+
     /// Writes the message of the failure. What can't be written is dropped.
     pub(crate) fn report<E: Write>(self, on_terminal: bool, err: &mut E) {
         let message = match self {

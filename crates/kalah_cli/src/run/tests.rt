@@ -107,15 +107,15 @@ fn assert_answers(
 }
 
 // Runs with these arguments are clean, and write these texts.
-fn assert_written(rt: &impl Host, rows: &[(&[&str], &str)]) {
-    for (arguments, text) in rows {
+fn assert_written(rt: &impl Host, cases: &[(&[&str], &str)]) {
+    for (arguments, text) in cases {
         assert_answers(rt, *arguments, ExitStatus::Clean, (*text, ""));
     }
 }
 
 // Runs with these arguments end so, with these texts on standard error only.
-fn assert_said(rt: &impl Host, status: ExitStatus, rows: &[(&[&str], &str)]) {
-    for (arguments, text) in rows {
+fn assert_said(rt: &impl Host, status: ExitStatus, cases: &[(&[&str], &str)]) {
+    for (arguments, text) in cases {
         assert_answers(rt, *arguments, status, ("", *text));
     }
 }

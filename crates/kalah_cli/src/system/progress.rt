@@ -125,7 +125,7 @@ impl<R: Clock + Terminal, E: Write> Watch for Progress<'_, R, E> {
         }
     }
 
-    fn before_wait(&mut self) {
+    fn on_waiting(&mut self) {
         if self.in_place && self.answered > self.shown {
             self.show();
         }

@@ -6,7 +6,6 @@ ghost use Rattle.kalah_cli.specs.{Exit.Failure.{FailsToRead}, System.Sources.{Ar
 use crate::exit::failure::Failure;
 use crate::system::sources::Sources;
 use kalah_jobs::{FileText, MOST_FILE_BYTES};
-use kalah_run::RunFault;
 use std::alloc::{AllocError, Global};
 use std::io;
 use std::io::{ErrorKind, Read};
@@ -107,14 +106,14 @@ pub(crate) fn read_files<'a, R: Sources>(
         match read_file(rt, alloc, *name) {
             Ok(Ok(bytes)) => {
                 let Ok(name) = String::from_str(alloc, *name) else {
-                    return Err(Failure::Run(RunFault::OutOfMemory));
+                    return Err(Failure::OUT_OF_MEMORY);
                 };
                 if files.push(FileText { name, bytes }).is_err() {
-                    return Err(Failure::Run(RunFault::OutOfMemory));
+                    return Err(Failure::OUT_OF_MEMORY);
                 }
             }
             Ok(Err(fault)) => return Err(Failure::Unreadable { name: *name, fault }),
-            Err(_) => return Err(Failure::Run(RunFault::OutOfMemory)),
+            Err(_) => return Err(Failure::OUT_OF_MEMORY),
         }
     }
     Ok(files)

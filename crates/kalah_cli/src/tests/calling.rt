@@ -81,7 +81,7 @@ fn a_caller_solves(rt: HostRuntime) -> Result<(), Fail> {
 }
 
 // Writes the answer to a line, as a batch does for the first line of a file `line`.
-#[tactic(auto, unfolding(kalah_jobs::specs::Files::Entry::entry_to))]
+#[tactic(auto, unfolding(kalah_jobs::specs::Files::Entry::entry_for))]
 fn write_answer_to<W: Sink>(line: &[u8], solver: &mut Solver, out: &mut W) -> io::Result<()>
     requires { (W.state out.old).has_failed ≡ false }
     ensures fails { IsErr result ↔ ((W.state out.new).has_failed ≡ true) }

@@ -1,20 +1,22 @@
 -- What offers and takes do, and what a list of them determines without the collector.
 use Rattle.std.specs.{List.{enumerate_from}, Prelude.{◌≡◌, ℕ, ◌+◌, ◌<◌, ◌≤◌, ◌==◌, if◌then◌else◌, List, [], ◌∷◌, length, map, Option, Some, None, Result, MatchOption, MatchResult, IsSomeAnd, Contains}}
-use Rattle.kalah_jobs.specs.{Collecting.{CollectorState.{ArrivalsState, state_of, front, IsNext, HasNoNext, after_offer, after_take}, Refusals.{IsWanted, IsRefusedFor}}, Files.JobList.{entries_of, entry_at, line_job}, Types.{Entry, Taken, Refusal, Job}, Writing.Answer.{answer_of}}
+use Rattle.kalah_jobs.specs.{Collecting.{CollectorState.{ArrivalsState, state_of, front, IsNext, HasNoNext, after_offer, after_take}, OutcomeState.{OutcomeState}, Refusals.{IsWanted, IsRefusedFor}}, Files.JobList.{entries_of, entry_at, line_job}, Types.{Entry, Taken, Refusal}, Writing.Answer.{answer_of}}
 
 -- an offer is accepted: the answer of its entry is kept, and `ready` lines of its file became ready
-pub record Accepts (jobs : List (List Entry)) (files : List ArrivalsState) (o : Job) (ready : ℕ) (after : List ArrivalsState) : Type 0 where
+pub record Accepts (jobs : List (List Entry)) (files : List ArrivalsState) (o : OutcomeState) (ready : ℕ) (after : List ArrivalsState)
+    : Type 0 where
   pub wanted : IsWanted jobs files o
   pub kept : after ≡ after_offer files o.file o.line (answer_of o.entry)
   pub more_ready : front (state_of after o.file) ≡ front (state_of files o.file) + ready
 
 -- an offer is refused: for the first refusal that holds, and nothing is changed
-pub record Refuses (jobs : List (List Entry)) (files : List ArrivalsState) (o : Job) (refusal : Refusal) (after : List ArrivalsState) : Type 0 where
+pub record Refuses (jobs : List (List Entry)) (files : List ArrivalsState) (o : OutcomeState) (refusal : Refusal)
+    (after : List ArrivalsState) : Type 0 where
   pub cause : IsRefusedFor jobs files o refusal
   pub unchanged : after ≡ files
 
 -- the result of an offer, and the files after it
-abbrev pub Offers : List (List Entry) → List ArrivalsState → Job → Result ℕ Refusal → List ArrivalsState → Type 0
+abbrev pub Offers : List (List Entry) → List ArrivalsState → OutcomeState → Result ℕ Refusal → List ArrivalsState → Type 0
 Offers jobs files o result after = MatchResult result (λ ready. Accepts jobs files o ready after)
     (λ refusal. Refuses jobs files o refusal after)
 
@@ -35,11 +37,11 @@ Takes files f result after = MatchOption result (GivesNothing files f after) (λ
 
 -- an offer with the answer to it, or a take of a file with its result
 pub data Event : Type 0 where
-  Offered : Job → Result ℕ Refusal → Event
+  Offered : OutcomeState → Result ℕ Refusal → Event
   Took : ℕ → Option Taken → Event
 
 -- what was offered, in order, accepted or refused
-abbrev pub offered_in : List Event → List Job
+abbrev pub offered_in : List Event → List OutcomeState
 offered_in [] = []
 offered_in (Offered o result ∷ events) = o ∷ offered_in events
 offered_in (Took f result ∷ events) = offered_in events

@@ -1,6 +1,6 @@
 -- The jobs of a batch: of each file the entries of its lines, and all of them in one list.
 use Rattle.std.specs.Prelude.{ℕ, suc, List, [], ◌∷◌, ◌++◌, Bool, Option, slice_get, slice_index_or}
-use Rattle.kalah_jobs.specs.{Files.Entry.{is_faulty_entry}, Types.{Entry, Job, Empty}, declared.files.entry.Entry.TheVariants.{Bad}}
+use Rattle.kalah_jobs.specs.{Files.Entry.{is_faulty_entry}, Types.{Entry, Bad, Job, Empty}}
 
 -- the entries of file f; none if there is no such file
 abbrev pub entries_of : List (List Entry) → ℕ → List Entry

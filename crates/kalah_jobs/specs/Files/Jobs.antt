@@ -1,6 +1,6 @@
 -- The jobs of a batch, from its files.
 use Rattle.std.specs.Prelude.{◌≡◌, ◌<◌, ◌≤◌, ℕ, List, length, map, take, sum_by, count_by, slice_index, Result, Ok, Err}
-use Rattle.kalah_jobs.specs.{Files.{Entry.{entry_to, is_faulty_entry}, Lines.{lines_of}, NamedBytes.{NamedBytes}}, Limits.{most_files, most_lines}, Types.{Entry, Question}, declared.files.jobs.{FileJobs.{FileJobs}, JobsFault.{JobsFault, TheVariants.{TooManyFiles, TooManyLines, OutOfMemory}}}}
+use Rattle.kalah_jobs.specs.{Files.{Entry.{entry_for, is_faulty_entry}, Lines.{lines_of}, NamedBytes.{NamedBytes}}, Limits.{most_files, most_lines}, Types.{Entry, Question}, declared.files.jobs.{FileJobs.{FileJobs}, JobsFault.{JobsFault, TheVariants.{TooManyFiles, TooManyLines, OutOfMemory}}}}
 
 -- the number of lines of a file
 abbrev pub lines_in : NamedBytes → ℕ
@@ -11,12 +11,12 @@ abbrev pub lines_in_all : List NamedBytes → ℕ
 lines_in_all files = sum_by lines_in files
 
 -- the entries of the lines of some bytes, in order, with this asked of their positions
-unfoldable pub entries_to : Question → List ℕ → List Entry
-entries_to question bytes = map (entry_to question) (lines_of bytes)
+unfoldable pub entries_for : Question → List ℕ → List Entry
+entries_for question bytes = map (entry_for question) (lines_of bytes)
 
 -- the entries of the lines of each file, in order, with this asked of their positions
-abbrev pub jobs_to : Question → List NamedBytes → List (List Entry)
-jobs_to question files = map (λ file. entries_to question file.bytes) files
+abbrev pub jobs_for : Question → List NamedBytes → List (List Entry)
+jobs_for question files = map (λ file. entries_for question file.bytes) files
 
 -- the number of jobs
 abbrev pub job_count : List (List Entry) → ℕ
@@ -47,7 +47,7 @@ AreWithinBatchLimits files = (length files ≤ most_files) × (lines_in_all file
 
 -- what is made of files: their jobs, with this asked of their positions, or the first of the faults that holds
 abbrev pub MakesJobs : Question → List NamedBytes → Result (List (List Entry)) JobsFault → Type 0
-MakesJobs question files (Ok jobs) = AreWithinBatchLimits files × (jobs ≡ jobs_to question files)
+MakesJobs question files (Ok jobs) = AreWithinBatchLimits files × (jobs ≡ jobs_for question files)
 MakesJobs question files (Err TooManyFiles) = most_files < length files
 MakesJobs question files (Err TooManyLines) = (length files ≤ most_files) × (most_lines < lines_in_all files)
 MakesJobs question files (Err OutOfMemory) = AreWithinBatchLimits files

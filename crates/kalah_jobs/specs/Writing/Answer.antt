@@ -1,18 +1,17 @@
 -- The answer to a line, and how it is printed.
 use Rattle.std.specs.{Fmt.{signed_decimal}, List.{join_with_byte}, Prelude.{ℕ, ◌+◌, List, [], ◌∷◌, ◌++◌, map, if◌then◌else◌, codes, decimal, ⊤}}
-use Rattle.kalah_rules.specs.{Play.{legal_houses, step_of}, Position.{is_over, final_margin}}
-use Rattle.kalah_rules.specs.Position as position
+use Rattle.kalah_rules.specs.{Play.{legal_houses, step_of}, Position.{Position, is_over, final_margin}}
 use Rattle.kalah_solve.specs.Solver.{MoveValues.{values_of}, Worth.{worth, best_house}}
-use Rattle.kalah_jobs.specs.{Files.Lines.{line_feed}, Line.{Line.{space, step_text_of}, LineFault.{fault_word}}, Types.{Entry, Answer, Taken, MoveValue}, declared.{files.entry.Entry.TheVariants.{Position, ValuesOf, StepsOf, Bad}, writing.answer.Answer.TheVariants.{Best, Over, Values, Steps, Fault}}}
+use Rattle.kalah_jobs.specs.{Files.Lines.{line_feed}, Line.{Line.{space, step_text_of}, LineFault.{fault_word}}, Types.{Entry, BestMoveOf, ValuesOf, StepsOf, Bad, Answer, Taken, MoveValue}, declared.writing.answer.Answer.TheVariants.{Best, Over, Values, Steps, Fault}}
 
 -- the final margin of a game that is over, otherwise this answer
-abbrev pub unless_over : position.Position → Answer → Answer
+abbrev pub unless_over : Position → Answer → Answer
 unless_over p answer = if is_over p then Over (final_margin p) else answer
 
 -- The answer to what a line says, and is asked: the margin of best play and the lowest-numbered best house, each legal house with the
 -- value of its move, or the steps of the position.
 unfoldable pub answer_of : Entry → Answer
-answer_of (Position p) = unless_over p (Best (worth p) (best_house p))
+answer_of (BestMoveOf p) = unless_over p (Best (worth p) (best_house p))
 answer_of (ValuesOf p) = unless_over p (Values (values_of p))
 answer_of (StepsOf p) = unless_over p (Steps p)
 answer_of (Bad fault) = Fault fault
@@ -26,11 +25,11 @@ abbrev pub values_text : List MoveValue → List ℕ
 values_text values = join_with_byte space (map value_text values)
 
 -- the text of the step of a house: `H POSITION again`, `H POSITION turn` or `H POSITION over`
-abbrev pub house_step_text : position.Position → ℕ → List ℕ
+abbrev pub house_step_text : Position → ℕ → List ℕ
 house_step_text p house = step_text_of house (step_of p house)
 
 -- the texts of the steps of the legal houses, in ascending order
-abbrev pub steps_texts : position.Position → List (List ℕ)
+abbrev pub steps_texts : Position → List (List ℕ)
 steps_texts p = map (house_step_text p) (legal_houses p)
 
 -- the texts of an answer, each for a line of its own: those of steps, otherwise one, `MARGIN house H`, `MARGIN over`, `H:V H:V ..`

@@ -1,22 +1,22 @@
 -- What a batch writes, and what it counts.
 use Rattle.std.specs.{List.{flat_map, enumerate_from}, Prelude.{◌≡◌, ℕ, List, [], length, map, sum_by, count_by, slice_index_or}}
-use Rattle.kalah_jobs.specs.{Files.{Entry.{entry_to, is_faulty}, JobList.{job_list, is_faulty_job}, Jobs.{jobs_to, lines_in_all}, Lines.{lines_of}, NamedBytes.{NamedBytes}}, Types.{BestMove, Entry, Taken, Tally, Question}, Writing.Answer.{answer_of, answer_output}}
+use Rattle.kalah_jobs.specs.{Files.{Entry.{entry_for, is_faulty}, JobList.{job_list, is_faulty_job}, Jobs.{jobs_for, lines_in_all}, Lines.{lines_of}, NamedBytes.{NamedBytes}}, Types.{BestMove, Entry, Taken, Tally, Question}, Writing.Answer.{answer_of, answer_output}}
 
 -- what is written for a line of a file, given with its number, which counts from 0, if this is asked of its position
 abbrev pub line_output : Question → List ℕ → ℕ × List ℕ → List ℕ
-line_output question name p = answer_output name (record { line = p.0; answer = answer_of (entry_to question p.1) })
+line_output question name p = answer_output name (record { line = p.0; answer = answer_of (entry_for question p.1) })
 
 -- what is written for a file: for each of its lines in order
 abbrev pub file_output : Question → NamedBytes → List ℕ
 file_output question file = flat_map (line_output question file.name) (enumerate_from 0 (lines_of file.bytes))
 
 -- what is written for the files: for each in order, for each of its lines in order
-unfoldable pub output_to : Question → List NamedBytes → List ℕ
-output_to question files = flat_map (file_output question) files
+unfoldable pub output_for : Question → List NamedBytes → List ℕ
+output_for question files = flat_map (file_output question) files
 
 -- what is written for all lines of the files, if the best move is asked of each position
 abbrev pub output_of : List NamedBytes → List ℕ
-output_of files = output_to BestMove files
+output_of files = output_for BestMove files
 
 -- the number of lines answered, and the number of faults among them
 unfoldable pub tally_of : List NamedBytes → Tally
@@ -54,7 +54,7 @@ names_of files = map (λ file. file.name) files
 -- what is stated of files and what is stated of their jobs is the same, for each question
 pub record FilesAreTheirJobs : Type 0 where
   pub output : (question : Question) (files : List NamedBytes) →
-      output_to question files ≡ output_of_jobs (names_of files) (jobs_to question files)
-  pub lines : (question : Question) (files : List NamedBytes) → (tally_of files).lines ≡ length (job_list (jobs_to question files))
+      output_for question files ≡ output_of_jobs (names_of files) (jobs_for question files)
+  pub lines : (question : Question) (files : List NamedBytes) → (tally_of files).lines ≡ length (job_list (jobs_for question files))
   pub faults : (question : Question) (files : List NamedBytes) →
-      (tally_of files).faults ≡ count_by is_faulty_job (job_list (jobs_to question files))
+      (tally_of files).faults ≡ count_by is_faulty_job (job_list (jobs_for question files))

@@ -1,6 +1,6 @@
 -- How a batch can be split over machines: by its files, and within a file between two lines.
 use Rattle.std.specs.{List.{flat_map, enumerate_from}, Prelude.{◌≡◌, ℕ, ◌+◌, List, [], ◌∷◌, ◌++◌, length}}
-use Rattle.kalah_jobs.specs.{Files.{Lines.{lines_of, EndsWithItsLine}, NamedBytes.{NamedBytes}}, Types.{Question, Tally}, Writing.Output.{line_output, output_of, output_to, tally_of}}
+use Rattle.kalah_jobs.specs.{Files.{Lines.{lines_of, EndsWithItsLine}, NamedBytes.{NamedBytes}}, Types.{Question, Tally}, Writing.Output.{line_output, output_of, output_for, tally_of}}
 
 -- what two batches count together
 abbrev pub counted_together : Tally → Tally → Tally
@@ -10,7 +10,7 @@ counted_together one other = record { lines = one.lines + other.lines; faults = 
 -- and faults are the sums of both
 pub record OutputSplitsByFiles : Type 0 where
   pub asked : (question : Question) (first others : List NamedBytes) →
-      output_to question (first ++ others) ≡ output_to question first ++ output_to question others
+      output_for question (first ++ others) ≡ output_for question first ++ output_for question others
   pub best_moves : (first others : List NamedBytes) → output_of (first ++ others) ≡ output_of first ++ output_of others
   pub counts : (first others : List NamedBytes) → tally_of (first ++ others) ≡ counted_together (tally_of first) (tally_of others)
 
@@ -33,6 +33,6 @@ pub record IsSplit (first second : List ℕ) : Type 0 where
 
 -- a file has its lines from number 0 on, is counted by its bytes alone, and can be cut between any two lines
 pub record FilesSplitBetweenLines : Type 0 where
-  pub whole : (question : Question) (file : NamedBytes) → output_to question (file ∷ []) ≡ output_from 0 question file.name file.bytes
+  pub whole : (question : Question) (file : NamedBytes) → output_for question (file ∷ []) ≡ output_from 0 question file.name file.bytes
   pub counted : (file : NamedBytes) → tally_of (file ∷ []) ≡ tally_in file.bytes
   pub parts : (first second : List ℕ) → EndsWithItsLine first → IsSplit first second

@@ -55,19 +55,12 @@ impl Arrivals {
         self.taken as usize == self.arrived.len()
     }
 
-    /// Returns whether there is a line of this number.
-    pub(crate) fn has_line(&self, line: u32) -> bool
-        ensures { IsTrue result ↔ line < line_count self.now }
+    /// Returns whether the answer of a line has arrived, or `None` if there is no line of this number.
+    pub(crate) fn has_arrived(&self, line: u32) -> Option<bool>
+        ensures { MatchOption result (line_count self.now ≤ line) (λ arrived. (line < line_count self.now)
+            × MatchBool arrived (IsSome (arrived_for self.now line)) (arrived_for self.now line ≡ None)) }
     {
-        (line as usize) < self.arrived.len()
-    }
-
-    /// Returns whether the answer of a line has arrived.
-    pub(crate) fn has_arrived(&self, line: u32) -> bool
-        requires { line < line_count self.now }
-        ensures { MatchBool result (IsSome (arrived_for self.now line)) (arrived_for self.now line ≡ None) }
-    {
-        self.arrived[line as usize].is_some()
+        Some(self.arrived.get(line as usize)?.is_some())
     }
 
     /// Keeps the answer of a line, and returns how many lines became ready.

@@ -80,13 +80,13 @@ impl Collector {
         if file.ended() {
             return Some(Refusal::FileEnded);
         }
-        if !file.has_line(line) {
+        let Some(has_arrived) = file.has_arrived(line) else {
             return Some(Refusal::NoSuchLine);
-        }
+        };
         if !is_same_entry(jobs.entry(f, line), &outcome.entry()) {
             return Some(Refusal::WrongPosition);
         }
-        if file.has_arrived(line) {
+        if has_arrived {
             return Some(Refusal::Double);
         }
         None

@@ -22,11 +22,9 @@ pub struct Outcome {
 
 impl Model for Outcome {
     ghost use Rattle.std.specs.Prelude.{◌≡◌};
-    ghost use Rattle.kalah_jobs.specs.declared.files.job.Job.{Job};
+    ghost use Rattle.kalah_jobs.specs.Collecting.{Found.{found_of}, OutcomeState.{OutcomeState, outcome_of, outcome_again}};
 
-    ghost Value = { Job };
-
-    ghost use Rattle.kalah_jobs.specs.Collecting.{Found.{found_of}, OutcomeJob.{outcome_of, outcome_again}};
+    ghost Value = { OutcomeState };
 
     ghost view = { λ o. o.job };
 

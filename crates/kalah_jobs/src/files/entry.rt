@@ -1,6 +1,6 @@
 //! The entry of a line of a file: what the line says, and what is asked of it.
 ghost use Rattle.std.specs.Prelude.{◌≡◌, ◌↔◌, IsTrue};
-ghost use Rattle.kalah_jobs.specs.Files.Entry.{entry_asked, entry_to, is_faulty_entry};
+ghost use Rattle.kalah_jobs.specs.Files.Entry.{entry_asked, entry_for, is_faulty_entry};
 
 use crate::files::question::Question;
 use crate::line::line_fault::LineFault;
@@ -34,10 +34,10 @@ impl Entry {
     }
 
     /// Returns the entry of the line, with this question.
-    #[tactic(auto, unfolding(crate::specs::Files::Entry::entry_to))]
+    #[tactic(auto, unfolding(crate::specs::Files::Entry::entry_for))]
     #[inline(always)]
     pub(crate) fn of_line(question: Question, line: &[u8]) -> Entry
-        ensures { result ≡ entry_to question line.now }
+        ensures { result ≡ entry_for question line.now }
     {
         match read_line(line) {
             Ok(board) => Entry::of_board(question, board),

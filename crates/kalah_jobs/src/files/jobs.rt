@@ -1,6 +1,6 @@
 //! The jobs of a batch: the lines of its files.
 ghost use Rattle.std.specs.Prelude.{◌≡◌, ◌<◌, ◌≤◌, ◌++◌, ◌+◌, length, count_by, IfOk, MatchBool, slice_get, Some};
-ghost use Rattle.kalah_jobs.specs.{Files.{Entry.{is_faulty_entry}, JobList.{entries_of, is_faulty_job, line_job, job_list}, Jobs.{MakesJobs, entries_to, job_count, lines_in_all}}, Limits.{most_files, most_lines}, declared.files.question.Question.TheVariants.{BestMove}};
+ghost use Rattle.kalah_jobs.specs.{Files.{Entry.{is_faulty_entry}, JobList.{entries_of, is_faulty_job, line_job, job_list}, Jobs.{MakesJobs, entries_for, job_count, lines_in_all}}, Limits.{most_files, most_lines}, declared.files.question.Question.TheVariants.{BestMove}};
 
 use crate::files::entry::Entry;
 use crate::files::file_lines::{count_lines, first_line};
@@ -219,13 +219,13 @@ fn are_lines_within_limit(files: &[FileText]) -> bool
 }
 
 // Returns the entries of the lines of a file, with this question, and how many of these lines are answered by a fault.
-#[tactic(auto, using(crate::proofs::FileLinesLemmas::no_line), unfolding(crate::specs::Files::Jobs::entries_to))]
+#[tactic(auto, using(crate::proofs::FileLinesLemmas::no_line), unfolding(crate::specs::Files::Jobs::entries_for))]
 fn read_entries(
     alloc: Global,
     question: Question,
     file: &FileText,
 ) -> Result<(Vec<Entry>, usize), AllocError>
-    ensures read { IfOk result (λ read. read.0.items ≡ entries_to question file.now.bytes) }
+    ensures read { IfOk result (λ read. read.0.items ≡ entries_for question file.now.bytes) }
     ensures faults { IfOk result (λ read. read.1 ≡ count_by is_faulty_entry read.0.items) }
 {
     let mut entries = Vec::with_capacity(alloc, file.lines())?;

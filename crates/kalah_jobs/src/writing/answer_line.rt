@@ -1,6 +1,7 @@
 //! Answer lines, as text and written to a sink.
 ghost use Rattle.std.specs.{Prelude.{◌≡◌, ◌+◌, ◌*◌, ◌≤◌, ◌↔◌, ◌∷◌, [], ◌++◌, true, false, IfOk, IsErr, OnOk, drop, length, codes, decimal, string_bytes}, Io.KnownBytes.{Appends}};
 ghost use Rattle.kalah_jobs.specs.{Files.Lines.{line_feed}, Writing.{Answer.{answer_line, answer_output, joined_text, value_text, values_text, HasOneText}, Sink.{AppendsPrefix, WasGiven}}};
+ghost use Rattle.kalah_jobs.specs.declared.writing.answer_line.TheConstants.{MOST_ANSWER_BYTES, MOST_PLACE_BYTES, MOST_VALUE_BYTES};
 
 use crate::writing::answer::{Answer, Taken};
 use crate::writing::named_text::write_named;
@@ -11,25 +12,33 @@ use kalah_solve::{MoveValue, MoveValues};
 use std::alloc::{AllocError, Global};
 use std::io;
 
+// The most bytes of a value with its house, by their types: 3 for a `u8`, 11 for an `i32`, and a colon.
+const MOST_VALUE_BYTES: usize = 15;
+
+// The most bytes of an answer in one line: six values, with a byte for a space after each.
+const MOST_ANSWER_BYTES: usize = 96;
+
+// The most bytes between the name of a file and the answer: 20 for a `u64`, a colon and a space.
+const MOST_PLACE_BYTES: usize = 22;
+
 // Puts the value of a move, with its house before it, in front of the text.
 fn prepend_value(text: &mut StackText, value: MoveValue)
-    requires { length text.old + 15 ≤ ROOM }
+    requires { length text.old + MOST_VALUE_BYTES ≤ ROOM }
     ensures value { text.new ≡ value_text value ++ text.old }
-    ensures short { length text.new ≤ length text.old + 15 }
+    ensures short { length text.new ≤ length text.old + MOST_VALUE_BYTES }
 {
     text.prepend_margin(i32::from(value.value));
     text.prepend(":");
-    text.prepend_byte(value.house);
+    text.prepend_u8(value.house);
 }
 
-// Puts the values of the moves from place `i` on, with a space between any two, in front of the text. A value takes at most 16 bytes with
-// its space.
+// Puts the values of the moves from place `i` on, with a space between any two, in front of the text.
 #[tactic(auto, using(crate::proofs::TextLemmas::last_value))]
 fn prepend_values(text: &mut StackText, values: &MoveValues, i: u8)
     requires within { i ≤ length values.now }
-    requires room { length text.old + 96 ≤ ROOM }
+    requires room { length text.old + MOST_ANSWER_BYTES ≤ ROOM }
     ensures values { text.new ≡ values_text (drop i values.now) ++ text.old }
-    ensures short { length text.new + 16 * i ≤ length text.old + 96 }
+    ensures short { length text.new + (MOST_VALUE_BYTES + 1) * i ≤ length text.old + MOST_ANSWER_BYTES }
 {
     let count = values.len();
     if i == count {
@@ -47,14 +56,14 @@ fn prepend_values(text: &mut StackText, values: &MoveValues, i: u8)
 // Puts the text of an answer in one line in front of the text.
 #[inline(always)]
 fn prepend_joined_text(text: &mut StackText, answer: &Answer)
-    requires room { length text.old + 96 ≤ ROOM }
+    requires room { length text.old + MOST_ANSWER_BYTES ≤ ROOM }
     requires one_line { HasOneText answer.now }
     ensures joined { text.new ≡ joined_text answer.now ++ text.old }
-    ensures short { length text.new ≤ length text.old + 96 }
+    ensures short { length text.new ≤ length text.old + MOST_ANSWER_BYTES }
 {
     match *answer {
         Answer::Best { margin, house } => {
-            text.prepend_byte(house);
+            text.prepend_u8(house);
             text.prepend(" house ");
             text.prepend_margin(margin);
         }
@@ -75,9 +84,9 @@ fn prepend_joined_text(text: &mut StackText, answer: &Answer)
 #[tactic(auto, using(crate::proofs::TextLemmas::u64_length))]
 #[inline]
 fn prepend_place(text: &mut StackText, line: u32)
-    requires { length text.old + 22 ≤ ROOM }
+    requires { length text.old + MOST_PLACE_BYTES ≤ ROOM }
     ensures place { text.new ≡ codes ":" ++ (decimal (line + 1) ++ (codes " " ++ text.old)) }
-    ensures short { length text.new ≤ length text.old + 22 }
+    ensures short { length text.new ≤ length text.old + MOST_PLACE_BYTES }
 {
     text.prepend(" ");
     text.prepend_number(u64::from(line) + 1);

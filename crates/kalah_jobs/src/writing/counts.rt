@@ -15,7 +15,7 @@ pub fn write_ways<W: Sink>(out: &mut W, house: u8, ways: u64)
     let mut text = StackText::of("\n");
     text.prepend_number(ways);
     text.prepend(" ");
-    text.prepend_byte(house);
+    text.prepend_u8(house);
     text.write_to(out);
 }
 

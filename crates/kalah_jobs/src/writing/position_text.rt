@@ -1,6 +1,6 @@
 //! Positions and steps as text.
 ghost use Rattle.std.specs.Prelude.{◌≡◌, ◌<◌, ◌≤◌, ◌+◌, ◌*◌, ◌∷◌, [], ◌++◌, IfOk, drop, length, string_bytes};
-ghost use Rattle.kalah_jobs.specs.{Writing.{Sink.{WasGiven}, Player.{houses_of, store_of}, Variation.{value_suffix}}, Files.Lines.{line_feed}, Line.Line.{Reads, suffix_of, side_text, line_text_of, word_of_step, step_text_of}};
+ghost use Rattle.kalah_jobs.specs.{Writing.{Sink.{WasGiven}, Player.{houses_of, store_of}, Variation.{value_suffix}}, Files.Lines.{line_feed}, Line.Line.{Reads, side_text, line_text_of, word_of_step, step_text_of}};
 ghost use Rattle.kalah_rules.specs.{Limits.{most_in_store}, Position.{IsWithinLimits, side_length}};
 
 use crate::writing::player::Player;
@@ -19,24 +19,13 @@ fn prepend_side(text: &mut StackText, board: &Board, player: Player, i: u8)
     let m = board.m();
     let seeds = player.seeds(board, i + 1);
     if i + 1 == m {
-        text.prepend_byte(player.store(board));
+        text.prepend_u8(player.store(board));
         text.prepend("/");
-        return text.prepend_byte(seeds);
+        return text.prepend_u8(seeds);
     }
     prepend_side(text, board, player, i + 1);
     text.prepend(",");
-    text.prepend_byte(seeds);
-}
-
-// Returns the suffix of a line, which names its rule.
-fn suffix(rule: Rule) -> &'static str
-    ensures suffix { result.now ≡ suffix_of rule }
-    ensures short { length result.now ≤ 2 }
-{
-    match rule {
-        Rule::Classic => "",
-        Rule::EmptyCapture => " e",
-    }
+    text.prepend_u8(seeds);
 }
 
 // Puts the line that writes a board in front of the text.
@@ -47,7 +36,9 @@ fn prepend_board(text: &mut StackText, board: &Board)
     ensures line { text.new ≡ line_text_of board.now ++ text.old }
     ensures short { length text.new ≤ length text.old + 57 }
 {
-    text.prepend(suffix(board.rule()));
+    if let Rule::EmptyCapture = board.rule() {
+        text.prepend(" e");
+    }
     prepend_side(text, board, Player::Other, 0);
     text.prepend(" ");
     prepend_side(text, board, Player::Mover, 0);
@@ -91,7 +82,7 @@ fn prepend_step(text: &mut StackText, h: u8, step: &Step)
     text.prepend(" ");
     prepend_board(text, step.board());
     text.prepend(" ");
-    text.prepend_byte(h);
+    text.prepend_u8(h);
 }
 
 /// Returns the text of a move, followed by `end`.

@@ -122,7 +122,7 @@ impl StackText {
 
     /// Puts a small number in digits in front of the text.
     #[tactic(auto, using(crate::proofs::TextLemmas::u8_length))]
-    pub(crate) fn prepend_byte(&mut self, n: u8)
+    pub(crate) fn prepend_u8(&mut self, n: u8)
         requires { length self.old + 3 ≤ ROOM }
         ensures number { self.new ≡ decimal n ++ self.old }
         ensures short { length self.new ≤ length self.old + 3 }

@@ -1,7 +1,7 @@
 //! The steps of a position, a line each or all in one line.
 ghost use Rattle.std.specs.{Prelude.{◌≡◌, ◌≤◌, ◌∷◌, [], ◌++◌, if◌then◌else◌, Contains, IfOk, OnOk, codes, length, map, string_bytes}, List.{join_with_byte}};
 ghost use Rattle.kalah_rules.specs.Play.{legal_houses};
-ghost use Rattle.kalah_jobs.specs.{Files.Lines.{line_feed}, Writing.{Answer.{house_step_text, in_one_line, steps_texts}, Sink.{WasGiven}}};
+ghost use Rattle.kalah_jobs.specs.{Files.Lines.{line_feed}, Writing.{Answer.{house_step_text, in_one_line, steps_texts}, Sink.{WasGiven}}, declared.writing.answer_line.TheConstants.{MOST_PLACE_BYTES}};
 
 use crate::writing::named_text::write_named;
 use crate::writing::position_text::text_of_step;
@@ -13,7 +13,7 @@ use std::alloc::{AllocError, Global};
 /// Writes a line for each legal house of a board, in ascending order: the name, the place and the text of its move. If there is none,
 /// it writes an empty line.
 pub(crate) fn write_steps<W: Sink>(out: &mut W, name: &str, place: &str, board: &Board)
-    requires { length place.now ≤ 22 }
+    requires { length place.now ≤ MOST_PLACE_BYTES }
     ensures { WasGiven W.state out.old out.new
         (join_with_byte line_feed (map (λ text. (name.now ++ place.now) ++ text) (steps_texts board.now)) ++ line_feed ∷ []) }
 {
@@ -55,7 +55,7 @@ pub(crate) fn text_of_steps(
     place: &str,
     board: &Board,
 ) -> Result<String, AllocError>
-    requires { length place.now ≤ 22 }
+    requires { length place.now ≤ MOST_PLACE_BYTES }
     ensures { IfOk result (λ text. string_bytes text
         ≡ join_with_byte line_feed (map (λ text. (name.now ++ place.now) ++ text) (steps_texts board.now))) }
 {

@@ -10,11 +10,11 @@ pub fn write_variation_start<W: Sink>(out: &mut W, value: MoveValue)
     ensures { WasGiven W.state out.old out.new (variation_start value) }
 {
     let mut text = StackText::new();
-    text.prepend_byte(value.house);
+    text.prepend_u8(value.house);
     text.prepend("  ");
     text.prepend_margin(i32::from(value.value));
     text.prepend("  ");
-    text.prepend_byte(value.house);
+    text.prepend_u8(value.house);
     text.write_to(out);
 }
 
@@ -23,7 +23,7 @@ pub fn write_next_house<W: Sink>(out: &mut W, house: u8)
     ensures { WasGiven W.state out.old out.new (next_house house) }
 {
     let mut text = StackText::new();
-    text.prepend_byte(house);
+    text.prepend_u8(house);
     text.prepend(" ");
     text.write_to(out);
 }

@@ -50,7 +50,7 @@ impl House {
     /// Returns the number of the house, 1 to 6.
     #[inline(always)]
     pub fn number(self) -> u8
-        ensures is { result ≡ self }
+        ensures value { result ≡ self }
         ensures first { 1 ≤ result }
         ensures last { result ≤ 6 }
     {
@@ -64,7 +64,7 @@ impl House {
     pub(crate) fn index_in(self, m: u8) -> usize
         requires last { self ≤ m }
         requires side { m ≤ 6 }
-        ensures is { result ≡ m + 5 * (self - 1) - 1 }
+        ensures value { result ≡ m + 5 * (self - 1) - 1 }
         ensures first { 1 ≤ self }
         ensures small { result < 31 }
     {
@@ -74,7 +74,7 @@ impl House {
     /// Returns the bit at which the house begins in a row's number.
     #[inline(always)]
     pub fn bit(self) -> u8
-        ensures is { result ≡ 5 * (self - 1) }
+        ensures value { result ≡ 5 * (self - 1) }
         ensures first { 1 ≤ self }
         ensures last { self ≤ 6 }
     {

@@ -79,7 +79,7 @@ impl HouseRow {
     /// Returns the number of houses, at most 6.
     #[tactic(auto, using(crate::proofs::KeyLemmas::cells_read))]
     pub fn len(&self) -> u8
-        ensures is { result ≡ length self.now }
+        ensures value { result ≡ length self.now }
         ensures few { result ≤ most_houses }
     {
         self.count

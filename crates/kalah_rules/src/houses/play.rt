@@ -1,10 +1,10 @@
 //! Moves on houses, by whole rows.
 ghost use Rattle.std.specs.Prelude.{◌≡◌, ◌+◌, ◌-◌, ◌*◌, ◌<◌, ◌≤◌, ◌==◌, ◌&&◌, length, Contains, MatchBool};
-ghost use Rattle.kalah_rules.specs.{Position.{storeless, seeds, AreWithinLimits}, Lap.{HoldsSeeds}, Play.{legal_houses}, Sowing.{captures, after, moves_again, EndsInStore}, SowingTable.{IsSowing}};
+ghost use Rattle.kalah_rules.specs.{Position.{storeless, seeds, AreWithinLimits}, Lap.{HoldsSeeds}, Play.{legal_houses}, Sowing.{captures, after, moves_again, EndsDirectlyInStore}, SowingTable.{IsSowing}};
 
 use crate::houses::Houses;
 use crate::houses::house::House;
-use crate::houses::numbers::{OTHER_ROW_UNIT, into_store};
+use crate::houses::numbers::{OTHER_ROW_UNIT, into_store, seeds_at};
 use crate::houses::sowing_table::{Sowing, SowingTable};
 use crate::rule::Rule;
 use crate::step::HousesStep;
@@ -67,7 +67,7 @@ impl Houses {
     #[inline(always)]
     pub fn play_into_store(&self, house: House) -> HousesStep
         requires legal { Contains (legal_houses (storeless self.now)) house }
-        requires ends { EndsInStore self.now house }
+        requires ends { EndsDirectlyInStore self.now house }
         ensures { result ≡ houses_step self.now house }
     {
         let rows = self.rows.wrapping_add(into_store(self.m(), house));
@@ -166,9 +166,7 @@ impl Houses {
         ensures step { result ≡ houses_step self.now house }
         ensures limits { AreWithinLimits self.now }
     {
-        self.play_sown(
-            house,
-            sowings.get(self.m(), house, self.own_seeds_in(house)),
-        )
+        let count = seeds_at(self.own_row(), house) as u8;
+        self.play_sown(house, sowings.get(self.m(), house, count))
     }
 }

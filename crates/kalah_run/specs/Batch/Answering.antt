@@ -1,6 +1,6 @@
 -- What a batch promises, for each question.
 use Rattle.std.specs.{Prelude.{◌≡◌, ◌<◌, ◌≤◌, ℕ, List, Bool, Result, Ok, Err, length, count_by, true, false, IfErr, ◌⊎◌, Option, IfOk}, Io.KnownBytes.{Appends, Keeps}}
-use Rattle.kalah_jobs.specs.{Writing.{Sink.{AppendsPrefix, SinkState}, Output.{tally_of, output_to}}, Limits.{most_files, most_lines}, Files.{Jobs.{AreWithinBatchLimits, lines_in_all}, JobList.{job_list, is_faulty_job}, NamedBytes.{NamedBytes}}, declared.files.jobs.JobsFault.{JobsFault}}
+use Rattle.kalah_jobs.specs.{Writing.{Sink.{AppendsPrefix, SinkState}, Output.{tally_of, output_for}}, Limits.{most_files, most_lines}, Files.{Jobs.{AreWithinBatchLimits, lines_in_all}, JobList.{job_list, is_faulty_job}, NamedBytes.{NamedBytes}}, declared.files.jobs.JobsFault.{JobsFault}}
 use Rattle.kalah_run.specs.{Types.{Entry, Tally, Question}, declared.batch.run_fault.RunFault.{RunFault, TheVariants.{TooManyFiles, TooManyLines, OutOfMemory, NoWorker, Write}}}
 use Rattle.kalah_jobs.specs.declared.files.jobs.JobsFault.TheVariants as jobs
 
@@ -54,5 +54,5 @@ pub record AnswersNothing (old new : Option (List ℕ)) (result : Result Tally R
 -- So it is with every batch that keeps its promises, for each question and a sink of any kind.
 abbrev pub NoLineIsAnswered : {W : Type 0} → (W → SinkState) → Type 0
 NoLineIsAnswered {W} state = (question : Question) (files : List NamedBytes) (old new : W) (result : Result Tally RunFault)
-    → AnswersBatch state (output_to question files) files old new result → lines_in_all files ≡ 0
+    → AnswersBatch state (output_for question files) files old new result → lines_in_all files ≡ 0
     → AnswersNothing (state old).written (state new).written result

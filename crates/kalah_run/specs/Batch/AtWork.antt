@@ -36,12 +36,3 @@ module _ {G : Type 0} (knows : G → ℕ → Bool) where
   pub record HaveRun (shared : SharedWork G) (before after : List Worker) : Type 0 where
     pub as_many : length after ≡ length before
     pub each : (k : ℕ) (d : Worker) → k < length before → HasRun shared (slice_index_or before k d) (slice_index_or after k d)
-
-  -- a fact that holds once each worker has run
-  abbrev pub OnceRun : SharedWork G → List Worker → Type 0 → Type 0
-  OnceRun shared before fact = (after : List Worker) → HaveRun shared before after → fact
-
-  -- workers that are at work can be run, for a fact that holds once each has
-  pub record CanRun (shared : SharedWork G) (workers : List Worker) (AtEnd : Type 0) : Type 0 where
-    pub at_work : AreAtWork shared workers
-    pub ends : OnceRun shared workers AtEnd

@@ -1,6 +1,6 @@
 -- What is known of the output of a batch: what has come, and what was written of it.
 use Rattle.std.specs.Prelude.{◌≡◌, ℕ, ◌+◌, ◌<◌, List, Result, length, take, flat_map}
-use Rattle.kalah_run.specs.{Types.{Entry, Taken, Job, Refusal}, declared.batch.ordered_output.OrderedOutput.{OrderedOutput}}
+use Rattle.kalah_run.specs.{Types.{Entry, Taken, Job, OutcomeState, Refusal}, declared.batch.ordered_output.OrderedOutput.{OrderedOutput}}
 use Rattle.kalah_jobs.specs.{Files.{JobList.{entries_of, job_list}, Jobs.{job_count}}, Collecting.{CollectorState.{ArrivalsState, state_of, new_files, HasEnded}, CollectorEvents.{Offers}, Held.{AgreeWithOffers}}, Writing.{Output.{text_of_line, names_of, output_of_jobs, taken_output}, Sink.{SinkState, WasGiven}}}
 
 -- the text of a job, if `text` gives the text of what is taken of a file
@@ -20,7 +20,7 @@ abbrev pub whole_output : OrderedOutput → List ℕ
 whole_output r = output_of_jobs (names_of r.files.now) r.jobs.now
 
 -- an outcome was offered to its collector, and nothing else changed
-pub record HasBeenOffered (old : OrderedOutput) (outcome : Job) (new : OrderedOutput) : Type 0 where
+pub record HasBeenOffered (old : OrderedOutput) (outcome : OutcomeState) (new : OrderedOutput) : Type 0 where
   pub files : new.files.now ≡ old.files.now
   pub jobs : new.jobs.now ≡ old.jobs.now
   pub current : new.current ≡ old.current
@@ -35,7 +35,7 @@ AwaitsLine r = r.current < length r.collector → HasEnded (state_of r.collector
 -- how far the output of some jobs has come: which were offered, what each file has, and the file whose lines are written next
 pub record CollectingState : Type 0 where
   pub jobs : List (List Entry)
-  pub past : List Job
+  pub past : List OutcomeState
   pub files : List ArrivalsState
   pub current : ℕ
 
@@ -48,7 +48,7 @@ abbrev pub written_so_far : (ℕ → Taken → List ℕ) → CollectingState →
 written_so_far text p = written_up_to text p.jobs p.current (taken_of p p.current)
 
 -- the state of an output, once these outcomes were offered
-abbrev pub collecting_state_of : List Job → OrderedOutput → CollectingState
+abbrev pub collecting_state_of : List OutcomeState → OrderedOutput → CollectingState
 collecting_state_of past r = record { jobs = r.jobs.now; past = past; files = r.collector; current = r.current }
 
 module _ {W : Type 0} (state : W → SinkState) where
@@ -61,11 +61,11 @@ module _ {W : Type 0} (state : W → SinkState) where
     pub written : WasGiven state begun out (written_so_far text p)
 
   -- With these outcomes offered, the output has written what is ready of its files, in order, after what the sink had when it began.
-  abbrev pub HasWritten : List Job → W → W → OrderedOutput → Type 0
+  abbrev pub HasWritten : List OutcomeState → W → W → OrderedOutput → Type 0
   HasWritten past begun out r = IsUnderWay (taken_output (names_of r.files.now)) (collecting_state_of past r) begun out
 
   -- The output is of the same files and jobs. Whatever it had written to its sink, it has written that and what became ready of it.
   pub record WritesOn (old : OrderedOutput) (old_sink : W) (new : OrderedOutput) (new_sink : W) : Type 0 where
     pub same_files : new.files.now ≡ old.files.now
     pub same_jobs : new.jobs.now ≡ old.jobs.now
-    pub writes : {past : List Job} {begun : W} → HasWritten past begun old_sink old → HasWritten past begun new_sink new
+    pub writes : {past : List OutcomeState} {begun : W} → HasWritten past begun old_sink old → HasWritten past begun new_sink new

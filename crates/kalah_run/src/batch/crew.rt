@@ -5,9 +5,7 @@ use crate::batch::gate::Gate;
 use crate::batch::shared_work::SharedWork;
 use crate::batch::worker::Worker;
 use crate::limits::MOST_WORKERS;
-use crate::queue::EndSignal;
 use std::sync::Wait;
-use std::sync::atomic::{AtomicIn, Rule};
 use std::thread;
 use std::thread::Threads;
 
@@ -24,34 +22,25 @@ fn work<R: Wait, G: Gate>(rt: &R, shared: &SharedWork<'_, G>, worker: &mut Worke
     }
 }
 
-/// The workers of a crew that has run. Their end is signalled.
+/// The workers of a batch and what they share, handed over to be run.
 #[derive(Drop)]
-pub(crate) struct EndedCrew {
-    pub(crate) workers: Vec<Worker>,
-    _signal: EndSignal,
-}
-
-/// The workers of a batch and what they share, handed over to be run. The word is 1 once they have ended.
-#[derive(Drop)]
-pub(crate) struct Crew<'a, 'b, G, E: Rule> {
+pub(crate) struct Crew<'a, 'b, G> {
     pub(crate) shared: &'a SharedWork<'b, G>,
     pub(crate) workers: Vec<Worker>,
-    pub(crate) ended: &'a AtomicIn<E>,
 }
 
-impl<'a, 'b, G: Gate, E: Rule> Crew<'a, 'b, G, E> {
-    ghost use Rattle.kalah_run.specs.Batch.AtWork.{CanRun, HasRun, HaveRun, IsAtWork};
+impl<'a, 'b, G: Gate> Crew<'a, 'b, G> {
+    ghost use Rattle.kalah_run.specs.Batch.AtWork.{AreAtWork, HasRun, HaveRun, IsAtWork};
 
     /// Runs each worker, one in this thread and the others in new ones, and returns the workers. A worker for which no thread can be
-    /// started runs in this thread or another worker's, once that one is done. The receiver learns that they have ended.
-    pub(crate) fn run<R: Threads + Wait + Sync>(self, rt: &R) -> EndedCrew
-        requires { CanRun G.knows self.shared.now self.workers.items (E.invariant 1) }
-        ensures { HaveRun G.knows self.entry.shared.now self.entry.workers.items result.workers.items }
+    /// started runs in this thread or another worker's, once that one is done.
+    pub(crate) fn run<R: Threads + Wait + Sync>(self, rt: &R) -> Vec<Worker>
+        requires { AreAtWork G.knows self.shared.now self.workers.items }
+        ensures { HaveRun G.knows self.entry.shared.now self.entry.workers.items result.items }
     {
         let Crew {
             shared,
             mut workers,
-            ended,
         } = self;
         thread::for_each_mut(
             rt,
@@ -62,9 +51,6 @@ impl<'a, 'b, G: Gate, E: Rule> Crew<'a, 'b, G, E> {
                 ensures { HasRun G.knows shared.entry.now worker.old worker.new }
             { work(rt, shared, worker) },
         );
-        EndedCrew {
-            _signal: shared.queue.signal_end(ended),
-            workers,
-        }
+        workers
     }
 }

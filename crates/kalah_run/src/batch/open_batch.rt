@@ -1,14 +1,15 @@
 //! A batch that is opened, answered and closed.
-ghost use Rattle.std.specs.Prelude.{◌≡◌, ◌≤◌, ◌⊎◌, ℕ, ◌<◌, [], ◌∷◌, ◌++◌, length, vec_len, vec_capacity, false, true, IfOk, IfNone, IfSome};
+ghost use Rattle.std.specs.Prelude.{◌≡◌, ◌≤◌, ◌⊎◌, ℕ, ◌<◌, [], ◌∷◌, ◌++◌, length, vec_len, vec_capacity, false, true, IfOk, IfErr};
 ghost use Rattle.kalah_jobs.specs.{Files.Jobs.{job_count}, Writing.Sink.{WasGiven}};
-ghost use Rattle.kalah_run.specs.{Limits.{IsTableSize}, Batch.{AtWork.{passes_of, puts_of, OnceRun}, Running.{IsAsAsked, IsReadyToRun, HaveOwnTables}, OrderedOutput.{whole_output}}, declared.batch.request.OnFailedWrite.TheVariants.{Solve}};
+ghost use Rattle.kalah_run.specs.{Limits.{IsTableSize}, Batch.{AtWork.{passes_of, puts_of}, Running.{IsAsAsked, IsReadyToRun, HasRoom, HaveOwnTables}, OrderedOutput.{whole_output}}, declared.batch.request.OnFailedWrite.TheVariants.{Solve}};
 
 use crate::batch::collecting::collect_from_crew;
 use crate::batch::crew::Crew;
 use crate::batch::gate::Gate;
 use crate::batch::ordered_output::OrderedOutput;
-use crate::batch::receiver::{CallerPasses, Receiver, RestPass};
-use crate::batch::request::BatchRequest;
+use crate::batch::receiver::{CallerPasses, Receiver};
+use crate::batch::request::{BatchRequest, OnFailedWrite};
+use crate::batch::run_fault::RunFault;
 use crate::batch::shared_work::SharedWork;
 use crate::batch::watch::Watch;
 use crate::batch::worker::Worker;
@@ -20,57 +21,55 @@ use crate::queue::passes::PutPass;
 use kalah_jobs::{Jobs, Sink};
 use std::alloc::{AllocError, Global};
 use std::sync::Wait;
-use std::sync::atomic::{AtomicIn, Rule};
 use std::thread::Threads;
 
-// Makes a worker for each pair of passes, in their order, and leaves the lists empty. All workers share what they learn of endings.
-fn workers_of_passes(
-    alloc: Global,
-    passes: &mut Vec<Pass>,
-    puts: &mut Vec<PutPass>,
-    table_entries: u32,
-) -> Result<Vec<Worker>, AllocError>
-    requires as_many { vec_len passes.old ≡ vec_len puts.old }
-    requires table { IsTableSize table_entries }
-    ensures passes { IfOk result (λ workers. passes_of workers.items ≡ passes.old.items) }
-    ensures puts { IfOk result (λ workers. puts_of workers.items ≡ puts.old.items) }
-    ensures tables { IfOk result (λ workers. HaveOwnTables table_entries workers.items) }
-    ensures empty { IfOk result (λ _. (passes.new.items ≡ []) × (puts.new.items ≡ [])) }
-    ensures room { (vec_capacity passes.new ≡ vec_capacity passes.old) × (vec_capacity puts.new ≡ vec_capacity puts.old) }
-{
-    let mut workers: Vec<Worker> = Vec::with_capacity(alloc, passes.len())?;
-    for _ in 0..passes.len() {
-        let solver = Worker::new_solver(alloc, table_entries, workers.last())?;
-        let Some(pass) = passes.pop() else {
-            unreachable!()
-        };
-        let Some(put_pass) = puts.pop() else {
-            unreachable!()
-        };
-        workers.push_reserved(Worker::new(pass, put_pass, solver));
-    }
-    workers.reverse();
-    Ok(workers)
+/// The lists in which the desk and the queue hand out the passes of the workers. While the workers have the passes, the lists are empty
+/// and keep their room, so all passes can return without a request for memory.
+#[derive(Drop)]
+struct PassLists {
+    passes: Vec<Pass>,
+    puts: Vec<PutPass>,
 }
 
-// Moves the passes of the workers, in their order, and then that of the calling thread, into two lists that have room for them.
-fn passes_of_workers(
-    workers: Vec<Worker>,
-    rest_pass: Pass,
-    passes: &mut Vec<Pass>,
-    puts: &mut Vec<PutPass>,
-)
-    requires empty { (passes.old.items ≡ []) × (puts.old.items ≡ []) }
-    requires passes_room { vec_len workers < vec_capacity passes.old }
-    requires puts_room { vec_len workers ≤ vec_capacity puts.old }
-    ensures passes { passes.new.items ≡ passes_of workers.items ++ rest_pass ∷ [] }
-    ensures puts { puts.new.items ≡ puts_of workers.items }
-{
-    for worker in workers {
-        passes.push_reserved(worker.pass);
-        puts.push_reserved(worker.put_pass);
+impl PassLists {
+    // Makes a worker for each pair of passes, in their order, and leaves the lists empty. All workers share what they learn of endings.
+    fn make_workers(&mut self, alloc: Global, table_entries: u32) -> Result<Vec<Worker>, AllocError>
+        requires as_many { vec_len self.old.passes ≡ vec_len self.old.puts }
+        requires table { IsTableSize table_entries }
+        ensures passes { IfOk result (λ workers. passes_of workers.items ≡ self.old.passes.items) }
+        ensures puts { IfOk result (λ workers. puts_of workers.items ≡ self.old.puts.items) }
+        ensures tables { IfOk result (λ workers. HaveOwnTables table_entries workers.items) }
+        ensures empty { IfOk result (λ _. (self.new.passes.items ≡ []) × (self.new.puts.items ≡ [])) }
+        ensures room { (vec_capacity self.new.passes ≡ vec_capacity self.old.passes)
+            × (vec_capacity self.new.puts ≡ vec_capacity self.old.puts) }
+    {
+        let mut workers: Vec<Worker> = Vec::with_capacity(alloc, self.passes.len())?;
+        for _ in 0..self.passes.len() {
+            let solver = Worker::new_solver(alloc, table_entries, workers.last())?;
+            let Some(pass) = self.passes.pop() else {
+                unreachable!()
+            };
+            let Some(put_pass) = self.puts.pop() else {
+                unreachable!()
+            };
+            workers.push_reserved(Worker::new(pass, put_pass, solver));
+        }
+        workers.reverse();
+        Ok(workers)
     }
-    passes.push_reserved(rest_pass);
+
+    // Takes the passes of the workers back, in their order, and then that of the calling thread.
+    fn take_back(&mut self, workers: Vec<Worker>, rest_pass: Pass)
+        requires { HasRoom (vec_len workers) self.old }
+        ensures passes { self.new.passes.items ≡ passes_of workers.items ++ rest_pass ∷ [] }
+        ensures puts { self.new.puts.items ≡ puts_of workers.items }
+    {
+        for worker in workers {
+            self.passes.push_reserved(worker.pass);
+            self.puts.push_reserved(worker.put_pass);
+        }
+        self.passes.push_reserved(rest_pass);
+    }
 }
 
 /// A batch that is open: what its workers share, the workers, the passes of the calling thread, and what is written of it.
@@ -79,10 +78,9 @@ pub(crate) struct OpenBatch<'a, G> {
     shared: SharedWork<'a, G>,
     workers: Vec<Worker>,
     caller: CallerPasses,
+    on_failed_write: OnFailedWrite,
     output: OrderedOutput<'a>,
-    // Empty lists, kept for their room: all passes return to them at the end.
-    passes: Vec<Pass>,
-    puts: Vec<PutPass>,
+    lists: PassLists,
 }
 
 impl<'a, G: Gate> OpenBatch<'a, G> {
@@ -102,77 +100,70 @@ impl<'a, G: Gate> OpenBatch<'a, G> {
         let total = jobs.total();
         let count = request.workers.min(total).max(1);
         let (desk, mut passes) = Desk::open(alloc, total, count + 1)?;
-        let (queue, mut puts, get_pass) = ResultsQueue::open(alloc, QUEUE_CAPACITY, count)?;
+        let (queue, puts, get_pass) = ResultsQueue::open(alloc, QUEUE_CAPACITY, count)?;
         let shared = SharedWork {
             desk,
             queue,
             jobs,
             gate,
         };
-        let Some(pass) = passes.pop() else {
+        let Some(rest_pass) = passes.pop() else {
             unreachable!()
         };
         let caller = CallerPasses {
             get_pass,
-            rest_pass: RestPass {
-                pass,
-                on_failed_write: request.on_failed_write,
-            },
+            rest_pass,
         };
-        let workers = workers_of_passes(alloc, &mut passes, &mut puts, request.table)?;
+        let mut lists = PassLists { passes, puts };
+        let workers = lists.make_workers(alloc, request.table)?;
         Ok(OpenBatch {
             shared,
             workers,
             caller,
+            on_failed_write: request.on_failed_write,
             output,
-            passes,
-            puts,
+            lists,
         })
     }
 
     /// Answers the jobs: runs the workers, and writes each answer line once it is ready and all earlier ones are written. Then it closes
-    /// the batch. Returns `None` if no thread could be started; then nothing is written.
-    pub(crate) fn answer<R: Threads + Wait + Sync, V: Watch, W: Sink, E: Rule + Sync>(
+    /// the batch. Fails with `NoWorker` if no thread could be started; then nothing is written.
+    pub(crate) fn answer<R: Threads + Wait + Sync, V: Watch, W: Sink>(
         self,
         rt: &R,
         watch: &mut V,
         out: &mut W,
-    ) -> Option<()>
-        requires ready { IsReadyToRun G.knows self }
-        // `E` stands for any fact. The word `ended` may become 1 only where that fact is known, which is once each worker has run. So
-        // whoever reads a 1 learns it.
-        requires begins { E.invariant 0 }
-        requires ends { OnceRun G.knows self.shared self.workers.items (E.invariant 1) }
-        ensures given { IfSome result (λ _. WasGiven W.state out.old out.new (whole_output self.entry.output)) }
-        ensures untouched { IfNone result (out.new ≡ out.old) }
-        ensures gate_hears_all { (self.entry.caller.rest_pass.on_failed_write ≡ Solve) ⊎ ((W.state out.new).has_failed ≡ false)
-            → IfSome result (λ _. (job : ℕ) → job < job_count self.entry.shared.jobs.now → G.knows self.entry.shared.gate.now job ≡ true) }
+    ) -> Result<(), RunFault>
+        requires { IsReadyToRun G.knows self }
+        ensures given { IfOk result (λ _. WasGiven W.state out.old out.new (whole_output self.entry.output)) }
+        ensures fault { IfErr result (λ e. (e ≡ RunFault.NoWorker) × (out.new ≡ out.old)) }
+        ensures gate_hears_all { (self.entry.on_failed_write ≡ Solve) ⊎ ((W.state out.new).has_failed ≡ false)
+            → IfOk result (λ _. (job : ℕ) → job < job_count self.entry.shared.jobs.now → G.knows self.entry.shared.gate.now job ≡ true) }
     {
         let OpenBatch {
             shared,
             workers,
             caller,
+            on_failed_write,
             output,
-            mut passes,
-            mut puts,
+            mut lists,
         } = self;
-        let ended = AtomicIn::<E>::new(0);
         let crew = Crew {
             shared: &shared,
             workers,
-            ended: &ended,
         };
-        let receiver = Receiver::new(&shared.desk, &shared.queue, caller, &ended);
+        let receiver = Receiver::new(&shared, caller, on_failed_write);
         let Some((workers, caller)) = collect_from_crew(rt, crew, receiver, output, watch, out)
         else {
-            return None;
+            return Err(RunFault::NoWorker);
         };
         // Closing has no effect that a caller sees: here the desk proves that each number was drawn once, and the queue that each outcome
         // sent was got once. New lists of passes could be refused memory, now that the answers are written.
-        passes_of_workers(workers, caller.rest_pass.pass, &mut passes, &mut puts);
+        lists.take_back(workers, caller.rest_pass);
+        let PassLists { passes, puts } = lists;
         let SharedWork { desk, queue, .. } = shared;
         desk.close(passes);
         queue.close(rt, puts, caller.get_pass);
-        Some(())
+        Ok(())
     }
 }

@@ -10,7 +10,7 @@ use std::alloc::{AllocError, Global};
 #[derive(Drop)]
 pub(crate) struct OrderedOutput<'a> {
     files: &'a [FileText],
-    pub(crate) jobs: &'a Jobs,
+    jobs: &'a Jobs,
     collector: Collector,
     current: u32,
     ghost as_many: { length jobs.now ≡ length files.now },
@@ -41,7 +41,7 @@ impl<'a> OrderedOutput<'a> {
 
     /// Offers the outcome of a job to the collector. One that is refused changes nothing; if each job is offered once, none is.
     #[inline(always)]
-    pub(crate) fn accept(&mut self, outcome: Outcome)
+    pub(crate) fn offer(&mut self, outcome: Outcome)
         ensures { HasBeenOffered self.old outcome self.new }
     {
         let _ = self.collector.offer(self.jobs, outcome);

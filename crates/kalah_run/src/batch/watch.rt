@@ -2,10 +2,9 @@
 ghost use Rattle.std.specs.Prelude.{◌≡◌, Bool, true};
 
 /// An observer of a batch, called on the calling thread: `on_accepted` after each accepted outcome, once the answers that became ready
-/// are written; `before_wait` before each wait for an outcome, except while the rest is left after a failed write. A watch that blocks
-/// delays the batch.
+/// are written; `on_waiting` before each wait for an outcome. A watch that blocks delays the batch.
 pub trait Watch {
-    /// Whether the watch knows that the next outcome has not come yet. `before_wait` ensures it, and the call that waits requires it.
+    /// Whether the watch knows that the next outcome has not come yet. `on_waiting` ensures it, and the call that waits requires it.
     /// By default it is true.
     ghost is_waiting: { Self → Bool } = { λ _. true };
 
@@ -13,7 +12,7 @@ pub trait Watch {
     fn on_accepted(&mut self);
 
     /// The next outcome has not come yet.
-    fn before_wait(&mut self)
+    fn on_waiting(&mut self)
         ensures known { is_waiting self.new ≡ true };
 }
 
@@ -24,5 +23,5 @@ pub struct NoWatch;
 impl Watch for NoWatch {
     fn on_accepted(&mut self) {}
 
-    fn before_wait(&mut self) {}
+    fn on_waiting(&mut self) {}
 }

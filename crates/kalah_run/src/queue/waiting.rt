@@ -21,7 +21,7 @@ use std::sync::atomic::Ordering::SeqCst;
 /// A pause before a sleep takes this many steps of its backoff. The first pause spins, each step twice as long as the one before; the
 /// second mostly yields the processor. Each try reads what the other side changes, and so delays it: a full queue moves on faster if it
 /// isn't tried after each outcome.
-const PAUSE_SPINS: u32 = 6;
+const PAUSE_STEPS: u32 = 6;
 
 /// The threads that wait for the same event, such as room in a queue. They are woken sequentially, so room for one doesn't wake all: a
 /// wake-up wakes one, and none if one is under way. A thread that was woken, and got what it waited for, wakes the next.
@@ -54,18 +54,13 @@ impl<'a> WakeUp<'a> {
 
     /// Wakes one of the threads that wait, if there is any. A thread that has announced itself and then found nothing is woken, or
     /// another one is that will wake it.
-    pub(crate) fn send(self) -> Sent {
+    pub(crate) fn send(self) {
         let WakeUp { waiters } = self;
         if waiters.announced.load(SeqCst) == 1 && waiters.announced.swap(0, SeqCst) == 1 {
             waiters.announced.wake_one();
         }
-        Sent(())
     }
 }
-
-/// A wake-up was sent: only `WakeUp::send` makes it.
-#[derive(Drop)]
-pub(crate) struct Sent(());
 
 /// One thread's wait, which ends when it is dropped: the thread then has what it waited for. Between two pauses it tries.
 pub(crate) struct Waiting<'a> {
@@ -94,7 +89,7 @@ impl<'a> Waiting<'a> {
             self.was_announced = true;
             self.waiters.announced.store(1, SeqCst);
         } else {
-            for _ in 0..PAUSE_SPINS {
+            for _ in 0..PAUSE_STEPS {
                 self.backoff.snooze();
             }
         }

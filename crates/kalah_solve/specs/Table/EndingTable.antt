@@ -1,6 +1,6 @@
 -- How endings are represented, in words; no part of what is promised to players.
 use Rattle.std.specs.Prelude.{◌≡◌, ℕ, ◌+◌, ◌*◌, ◌/◌, ◌%◌, ◌^◌, ◌<◌, ◌≤◌, ◌≢◌, suc, List, length, slice_index}
-use Rattle.kalah_rules.specs.{Position.{HousesState, storeless, seeds_in_houses, AreWithinLimits}, Key.{rule_bit}}
+use Rattle.kalah_rules.specs.{Position.{HousesState, total_seeds, AreWithinLimits}, Key.{rule_bit}}
 use Rattle.kalah_solve.specs.{Table.RowRank.{choose, rank_of_houses}, declared.table.ending_table.{TheConstants.{MOST_ENDING_SEEDS, COUNTS, CELLS_OF_PAIR}, words.TheConstants.{FIRST_WORDS, RULE_WORDS}}, Bounds.Won.{won}}
 
 -- the most seeds of an ending
@@ -9,15 +9,15 @@ most_ending_seeds = MOST_ENDING_SEEDS
 
 -- houses with so few seeds are an ending
 abbrev pub IsEnding : HousesState → Type 0
-IsEnding a = seeds_in_houses (storeless a) ≤ most_ending_seeds
+IsEnding a = total_seeds a ≤ most_ending_seeds
 
--- cell k of the choices: the number of ways to choose j + 1 of s + j things, where k is COUNTS * j + s
-abbrev pub choice_at : ℕ → ℕ
-choice_at k = choose (k % COUNTS + k / COUNTS) (suc (k / COUNTS))
+-- cell k of the binomials: the number of ways to choose j + 1 of s + j things (a binomial coefficient), where k is COUNTS * j + s
+abbrev pub binomial_at : ℕ → ℕ
+binomial_at k = choose (k % COUNTS + k / COUNTS) (suc (k / COUNTS))
 
 -- the first n cells hold that
-abbrev pub AreChoices : ℕ → List ℕ → Type 0
-AreChoices n choices = (k : ℕ) → k < n → slice_index choices k ≡ choice_at k
+abbrev pub AreBinomials : ℕ → List ℕ → Type 0
+AreBinomials n binomials = (k : ℕ) → k < n → slice_index binomials k ≡ binomial_at k
 
 -- cell k of the pairs: what two cells of a row add to its rank, with `past` pairs past them and given numbers of seeds from
 -- either on, where k is CELLS_OF_PAIR * past + 32 * from the second on + from the first on

@@ -19,7 +19,7 @@ pub(crate) struct Interval {
 impl Interval {
     /// Returns the interval of all margins that houses can be worth.
     pub(crate) fn whole() -> Interval
-        ensures is { result ≡ from_to least_margin most_margin }
+        ensures value { result ≡ from_to least_margin most_margin }
         ensures held { (z : ℤ) → least_margin ≤ℤ z → z ≤ℤ most_margin → Encloses result z }
     {
         Interval {

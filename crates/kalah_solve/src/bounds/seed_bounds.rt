@@ -1,6 +1,6 @@
 //! Bounds on the number of seeds that a player wins.
 ghost use Rattle.std.specs.Prelude.{◌≡◌, max, min, ◌≤◌, ◌≤ℤ◌, ◌+ℤ◌, ℕ, ℤ, pos};
-ghost use Rattle.kalah_rules.specs.{Limits.{most_seeds}, Position.{storeless, seeds_in_houses}};
+ghost use Rattle.kalah_rules.specs.{Limits.{most_seeds}, Position.{total_seeds}};
 ghost use Rattle.kalah_solve.specs.Bounds.Intervals.{Encloses, IsHalf, clamped, margin_of};
 
 use crate::bounds::interval::Interval;
@@ -10,8 +10,8 @@ use kalah_rules::{Houses, MOST_SEEDS};
 /// Bounds on the number of seeds in houses that a player wins, both inclusive.
 #[derive(Clone, Copy)]
 pub(crate) struct SeedBounds {
-    pub least: u8,
-    pub most: u8,
+    pub(crate) least: u8,
+    pub(crate) most: u8,
     ghost few: { most ≤ most_seeds },
 }
 
@@ -39,7 +39,7 @@ impl SeedBounds {
     #[tactic(auto, using(crate::proofs::BoundsLemmas::won_of_houses))]
     pub(crate) fn unknown(houses: &Houses) -> SeedBounds
         ensures least { result.least ≡ 0 }
-        ensures most { result.most ≡ seeds_in_houses (storeless houses.now) }
+        ensures most { result.most ≡ total_seeds houses.now }
         ensures held { IsWithinBounds result (won houses.now) }
     {
         SeedBounds {

@@ -8,8 +8,8 @@ use crate::bounds::interval::{Interval, MOST_MARGIN};
 /// end, and a worth above its upper end as the upper end.
 #[derive(Clone, Copy)]
 pub struct Window {
-    pub lo: i32,
-    pub hi: i32,
+    pub(crate) lo: i32,
+    pub(crate) hi: i32,
     ghost low: { least_margin ≤ℤ lo },
     ghost ordered: { lo <ℤ hi },
     ghost high: { hi ≤ℤ most_margin },

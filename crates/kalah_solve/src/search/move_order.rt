@@ -60,18 +60,7 @@ impl MoveOrder {
         ensures house { result % 8 + 1 ≡ house }
     {
         let without_place = GAIN_WEIGHT * gained as u32 + self.weight(m, next);
-        (8 * without_place + place_priority(m, house) as u32) as u16
+        let of_place = PLACE_PRIORITIES[(m / 6) as usize][(m + house.bit() - 1) as usize];
+        (8 * without_place + of_place as u32) as u16
     }
-}
-
-// Returns what this house of `m` adds to the priority of its turn.
-#[inline(always)]
-fn place_priority(m: u8, house: House) -> u16
-    requires first { 1 ≤ m }
-    requires last { m ≤ 6 }
-    ensures house { result % 8 + 1 ≡ house }
-    ensures some { 0 < result }
-    ensures small { result ≤ 421 }
-{
-    PLACE_PRIORITIES[(m / 6) as usize][(m + house.bit() - 1) as usize]
 }

@@ -9,7 +9,7 @@ use std::process::Abort;
 type Position = (u8, [u8; 6], [u8; 6], i32);
 
 // Games as they begin.
-static VARIANTS: [Position; 5] = [
+static STARTS: [Position; 5] = [
     (2, [7, 7, 0, 0, 0, 0], [7, 7, 0, 0, 0, 0], 8),
     (3, [5, 5, 5, 0, 0, 0], [5, 5, 5, 0, 0, 0], 6),
     (4, [3, 3, 3, 3, 0, 0], [3, 3, 3, 3, 0, 0], 6),
@@ -64,7 +64,7 @@ fn search_all(
 
 #[test]
 fn games_as_they_begin_take_few_nodes(rt: HostRuntime) {
-    search_all(&rt, &VARIANTS, 58_977);
+    search_all(&rt, &STARTS, 58_977);
 }
 
 #[test]

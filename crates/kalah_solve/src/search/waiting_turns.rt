@@ -8,8 +8,8 @@ use kalah_rules::Houses;
 #[derive(Clone, Copy)]
 pub(super) struct WaitingTurns {
     // As many as the processor compares at once. They are 0 if no turn waits there.
-    pub priorities: [u16; 8],
-    pub turns: [Houses; 6],
+    pub(super) priorities: [u16; 8],
+    pub(super) turns: [Houses; 6],
     ghost placed: { ArePlaced priorities turns },
 }
 

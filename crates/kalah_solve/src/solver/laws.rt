@@ -26,7 +26,7 @@ pub fn stores_only_shift()
 
 /// Two players that follow strategies play a game to its end, and only one. No game by the rules has more moves than
 /// `moves_left`, and each ends in a position that is over.
-#[tactic(auto, using(crate::proofs::SolverLemmas::a_game_is_played, crate::proofs::SolverLemmas::one_game_is_played, crate::proofs::SolverLemmas::games_end))]
+#[tactic(auto, using(crate::proofs::SolverLemmas::strategies_play_a_game, crate::proofs::SolverLemmas::strategies_play_one_game, crate::proofs::SolverLemmas::games_end))]
 pub fn players_play_one_game()
     ensures game { StrategiesPlayAGame }
     ensures one { StrategiesPlayOneGame }
@@ -55,7 +55,7 @@ pub fn best_verdict_is_one()
 {}
 
 /// The value of a move is the margin of best play of the position after it, seen by the player who moved. No other margin is.
-#[tactic(auto, using(crate::proofs::SolverLemmas::value_is_worth, crate::proofs::SolverLemmas::worth_of_move_is_one))]
+#[tactic(auto, using(crate::proofs::SolverLemmas::value_is_worth_of_move, crate::proofs::SolverLemmas::worth_of_move_is_one))]
 pub fn value_is_worth_of_move()
     ensures worth { ValueIsWorthOfMove }
     ensures one { WorthOfMoveIsOne }

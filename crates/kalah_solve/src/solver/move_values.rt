@@ -102,7 +102,7 @@ impl MoveValues {
 
     /// Returns the number of values: 0 if the game is over, otherwise 1 to 6.
     pub fn len(&self) -> u8
-        ensures is { result ≡ length self.now }
+        ensures value { result ≡ length self.now }
         ensures few { result ≤ 6 }
     {
         match self.split_first() {

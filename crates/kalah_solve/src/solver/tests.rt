@@ -17,10 +17,10 @@ pub(crate) fn solver_with(table: Table, keeps_all: bool) -> Solver {
     }
 }
 
-// A solver with a table of this size.
-fn solver_of(rt: &impl Abort, alloc: Global, entries: u32, keeps_all: bool) -> Solver {
-    assert!(rt; 1 <= entries && entries <= MOST_ENTRIES);
-    let table = Table::new(alloc, entries).expect(rt, "no memory for a table");
+// A solver with a table of this capacity.
+fn solver_of(rt: &impl Abort, alloc: Global, capacity: u32, keeps_all: bool) -> Solver {
+    assert!(rt; 1 <= capacity && capacity <= MOST_ENTRIES);
+    let table = Table::new(alloc, capacity).expect(rt, "no memory for a table");
     solver_with(table, keeps_all)
 }
 
@@ -87,14 +87,14 @@ pub(crate) fn solves_worked_positions(rt: &impl Abort, solver: &mut Solver) {
 
 #[test]
 fn solves_worked_positions_with_each_table(rt: HostRuntime) {
-    for (entries, keeps_all) in [
+    for (capacity, keeps_all) in [
         (1, false),
         (4, false),
         (65_536, false),
         (1, true),
         (65_536, true),
     ] {
-        let mut solver = solver_of(&rt, rt.alloc(), entries, keeps_all);
+        let mut solver = solver_of(&rt, rt.alloc(), capacity, keeps_all);
         solves_worked_positions(&rt, &mut solver);
     }
 }
@@ -127,8 +127,8 @@ fn agrees_with_plain(rt: &impl Abort, solver: &mut Solver, rule: Rule) {
 
 #[test]
 fn agrees_with_plain_with_each_table(rt: HostRuntime) {
-    for (entries, keeps_all) in [(1, false), (65_536, false), (65_536, true)] {
-        let mut solver = solver_of(&rt, rt.alloc(), entries, keeps_all);
+    for (capacity, keeps_all) in [(1, false), (65_536, false), (65_536, true)] {
+        let mut solver = solver_of(&rt, rt.alloc(), capacity, keeps_all);
         agrees_with_plain(&rt, &mut solver, Classic);
         agrees_with_plain(&rt, &mut solver, EmptyCapture);
     }

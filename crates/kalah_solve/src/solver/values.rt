@@ -58,7 +58,7 @@ impl<A: Allocator + Clone> Solver<A> {
         if board.is_over() {
             return board.returns();
         }
-        let best = self.houses_worth(&board.houses());
-        worth_of_board(best, board)
+        let worth = self.houses_worth(&board.houses());
+        worth_of_board(worth, board)
     }
 }

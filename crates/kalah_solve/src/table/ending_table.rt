@@ -1,7 +1,7 @@
 //! The exact number of seeds that the mover wins of houses with few seeds, mostly kept once it is known.
 ghost use Rattle.std.specs.Prelude.{◌≡◌, ◌<◌, ◌+◌, ◌*◌, ◌/◌, ◌%◌, ◌^◌, ◌++◌, IfSome};
 ghost use Rattle.kalah_rules.specs.{Position.{AreWithinLimits}, Key.{packed_row}};
-ghost use Rattle.kalah_solve.specs.{Table.{RowRank.{choose, packed_sums, rank_of_houses}, EndingTable.{IsEnding, AreChoices, choice_at, ArePairs, pair_at}}, Bounds.Won.{won}, declared.table.ending_table.TheConstants.{COUNTS, CHOICES, PAIRS}};
+ghost use Rattle.kalah_solve.specs.{Table.{RowRank.{packed_sums, rank_of_houses}, EndingTable.{IsEnding, AreBinomials, binomial_at, ArePairs, pair_at}}, Bounds.Won.{won}, declared.table.ending_table.TheConstants.{COUNTS, BINOMIALS, PAIRS}};
 
 mod exact;
 #[cfg(test)]
@@ -21,8 +21,8 @@ pub(crate) const MOST_ENDING_SEEDS: u8 = 9;
 // How many numbers of seeds houses of an ending can have: 0 to the most.
 const COUNTS: usize = MOST_ENDING_SEEDS as usize + 1;
 
-// The cells of the choices: for each house of both players, one for each number of seeds.
-const CHOICES: usize = 12 * COUNTS;
+// The cells of the binomial coefficients: for each house of both players, one for each number of seeds.
+const BINOMIALS: usize = 12 * COUNTS;
 
 // The cells of the pairs for one number of pairs past them, indexed by the sum from the second house on and the sum from the first on. The
 // latter has 32 cells, for its five bits.
@@ -55,12 +55,12 @@ impl<A: Allocator> Model for EndingTable<A> {
     ghost invariant = { λ e. ArePairs PAIRS e.pairs × (e.words.shared.table_id.words ≡ WORDS) };
 }
 
-// Returns cell `i` of the choices, from the cells before it.
-#[tactic(auto, using(crate::proofs::RankLemmas::choice_first, crate::proofs::RankLemmas::choice_next, crate::proofs::RankLemmas::choice_small))]
-fn choice(choices: &[u32; CHOICES], i: usize) -> u32
-    requires inside { i < CHOICES }
-    requires before { AreChoices i choices.now }
-    ensures { result ≡ choice_at i }
+// Returns cell `i` of the binomials, from the cells before it.
+#[tactic(auto, using(crate::proofs::RankLemmas::binomial_first, crate::proofs::RankLemmas::binomial_next, crate::proofs::RankLemmas::binomial_small))]
+fn binomial(binomials: &[u32; BINOMIALS], i: usize) -> u32
+    requires inside { i < BINOMIALS }
+    requires before { AreBinomials i binomials.now }
+    ensures { result ≡ binomial_at i }
 {
     if i < COUNTS {
         return i as u32;
@@ -68,25 +68,25 @@ fn choice(choices: &[u32; CHOICES], i: usize) -> u32
     if i % COUNTS == 0 {
         return 0;
     }
-    choices[i - COUNTS] + choices[i - 1]
+    binomials[i - COUNTS] + binomials[i - 1]
 }
 
-// Returns the table of choices.
-#[tactic(auto, using(crate::proofs::RankLemmas::choices_more))]
-fn choices() -> [u32; CHOICES]
-    ensures { AreChoices CHOICES result }
+// Returns the table of binomial coefficients.
+#[tactic(auto, using(crate::proofs::RankLemmas::binomials_more))]
+fn binomials() -> [u32; BINOMIALS]
+    ensures { AreBinomials BINOMIALS result }
 {
-    let mut choices = [0u32; CHOICES];
-    for i in 0..CHOICES {
-        choices[i] = choice(&choices, i);
+    let mut binomials = [0u32; BINOMIALS];
+    for i in 0..BINOMIALS {
+        binomials[i] = binomial(&binomials, i);
     }
-    choices
+    binomials
 }
 
-// Returns cell `i` of the pairs, from the choices.
-fn pair_cell(choices: &[u32; CHOICES], i: usize) -> u32
+// Returns cell `i` of the pairs, from the binomials.
+fn pair_cell(binomials: &[u32; BINOMIALS], i: usize) -> u32
     requires inside { i < PAIRS }
-    requires choices { AreChoices CHOICES choices.now }
+    requires binomials { AreBinomials BINOMIALS binomials.now }
     ensures { i % 32 < COUNTS → result ≡ pair_at i }
 {
     let first = i % 32;
@@ -95,7 +95,7 @@ fn pair_cell(choices: &[u32; CHOICES], i: usize) -> u32
     if first >= COUNTS {
         return 0;
     }
-    choices[COUNTS * (cells_past + 1) + first] + choices[COUNTS * cells_past + second]
+    binomials[COUNTS * (cells_past + 1) + first] + binomials[COUNTS * cells_past + second]
 }
 
 // Returns the table of pairs.
@@ -103,30 +103,22 @@ fn pair_cell(choices: &[u32; CHOICES], i: usize) -> u32
 fn pairs() -> [u32; PAIRS]
     ensures { ArePairs PAIRS result }
 {
-    let choices = choices();
+    let binomials = binomials();
     let mut pairs = [0u32; PAIRS];
     for i in 0..PAIRS {
-        pairs[i] = pair_cell(&choices, i);
+        pairs[i] = pair_cell(&binomials, i);
     }
     pairs
 }
 
-// Returns the houses of both players as one row: a number with five bits for each house.
-fn joined_rows(houses: &Houses) -> u64
-    ensures row { result ≡ packed_row (houses.now.own ++ houses.now.other) }
-    ensures small { result < 2 ^ 60 }
-    ensures limits { AreWithinLimits houses.now }
-{
-    houses.own_row() + (houses.other_row() << (5 * houses.m() as u32))
-}
-
-// Returns the number of seeds in that row from each house on: a number with five bits for each.
+// Returns the number of seeds from each house on in the row of both players' houses: a number with five bits for each.
 fn sums_of(houses: &Houses) -> u64
     ensures sums { result ≡ packed_sums (houses.now.own ++ houses.now.other) }
     ensures limits { AreWithinLimits houses.now }
 {
     let seeds = houses.seeds() as u64;
-    seeds + (joined_rows(houses) - seeds).wrapping_mul(INVERSE_OF_31) * 32
+    let row = houses.own_row() + (houses.other_row() << (5 * houses.m() as u32));
+    seeds + (row - seeds).wrapping_mul(INVERSE_OF_31) * 32
 }
 
 impl<A: Allocator + Clone> EndingTable<A> {
@@ -141,18 +133,8 @@ impl<A: Allocator + Clone> EndingTable<A> {
         })
     }
 
-    // Returns what two cells add to the rank of a row, with `past` pairs past them. `sums` has the number of seeds from each of them on.
-    fn pair_rank(&self, past: usize, sums: u64) -> u32
-        requires past { past < 6 }
-        requires first { sums % 32 < COUNTS }
-        requires second { sums / 32 < COUNTS }
-        ensures value { result ≡ choose (sums % 32 + 2 * past + 1) (2 * past + 2) + choose (sums / 32 + 2 * past) (2 * past + 1) }
-    {
-        self.pairs[CELLS_OF_PAIR * past + sums as usize]
-    }
-
-    // Returns the rank of the houses among those of their variant, two cells at a time. The loop has six steps for any number of
-    // houses, so that it can be unrolled.
+    // Returns the rank of the houses among those of their variant. Each step adds what two cells add, with `5 - step` pairs past them. The
+    // loop has six steps for any number of houses, so that it can be unrolled.
     #[inline(always)]
     fn rank(&self, houses: &Houses) -> u32
         requires { IsEnding houses.now }
@@ -164,7 +146,7 @@ impl<A: Allocator + Clone> EndingTable<A> {
         let mut rank = 0;
         for step in 0..6usize {
             if step + m >= 6 {
-                rank += self.pair_rank(5 - step, sums % 1024);
+                rank += self.pairs[CELLS_OF_PAIR * (5 - step) + (sums % 1024) as usize];
                 sums /= 1024;
             }
         }

@@ -70,8 +70,8 @@ fn shown(
         for _ in 0..answered {
             progress.on_accepted();
         }
-        progress.before_wait();
-        progress.before_wait();
+        progress.on_waiting();
+        progress.on_waiting();
         progress.end();
     }
     err

@@ -1,18 +1,21 @@
 -- The sink is given the output of the files, by the batch that was run, or because it is empty; the flush adds nothing to it.
-use Rattle.std.proofs.{lemmas.Grind.{common_steps}, Common.{◌∙◌, ◌<◌, sym, ap, ⊎_elim, inl, inr, arith, subst}}
-use Rattle.kalah_jobs.specs.{Files.Jobs.{job_count}, Writing.{Sink.{WasGiven}, Output.{output_to}}}
+use Rattle.std.proofs.{lemmas.Grind.{common_steps}, Common.{◌≡◌, Err, rules, ◌∙◌, ◌<◌, sym, ap, ⊎_elim, inl, inr, arith, subst}}
+use Rattle.kalah_jobs.specs.{Files.Jobs.{job_count}, Writing.{Sink.{WasGiven}, Output.{output_for}}}
 use Rattle.kalah_jobs.proofs.SinkLemmas.{given_none, given_then_flush}
-use Rattle.kalah_run.proofs.{AnsweringLemmas.{answered, as_many_jobs, given_as, no_line, no_output, whole_output_is}, batch.answer_batch.Goals.{then-total-gt0+in_ok-open+in-Some, else-total-gt0}}
+use Rattle.kalah_run.specs.declared.batch.run_fault.RunFault.TheVariants.{NoWorker}
+use Rattle.kalah_run.proofs.{AnsweringLemmas.{answered, as_many_jobs, given_as, no_line, no_output, whole_output_is}, batch.answer_batch.Goals.{then-total-gt0+in_ok-open+in_ok-answer, else-total-gt0}}
 use Rattle.kalah_run.proofs.batch.answer_batch.Goals as goal
 
 -- no thread could be started
-pub returns-in_default-clause-answers : goal.returns-in_default-clause-answers
-returns-in_default-clause-answers g c =
+pub returns-in_err-answer-clause-answers : goal.returns-in_err-answer-clause-answers
+returns-in_err-answer-clause-answers g c =
     let jobs = c.in_ok-jobs.ensures in
-    let same = c.in_default.ensures.untouched in (
+    let fault = c.in_err-answer.ensures.fault in
+    let is : c.from_residual-in_err-answer.result ≡ Err NoWorker = search rules in
+    rw is (
       jobs.0,
       subst (0 <◌) (c.total.ensures.lines ∙ as_many_jobs _ _ _ jobs.1) c.if-total-gt0.true,
-      (same, ap (λ o. (g.W.Sink.state o).has_failed) same ∙ c.requires.not_failed),
+      (fault.1, ap (λ o. (g.W.Sink.state o).has_failed) fault.1 ∙ c.requires.not_failed),
     )
 
 -- the sink was given the answers to all lines, and then flushed
@@ -22,12 +25,12 @@ returns-clause-answers g c =
     let files = c.args.request.now.files.now in
     let jobs = c.in_ok-jobs.ensures in
     let end = c.flush_and_count.ensures in
-    let given : WasGiven g.W.Sink.state c.args.out.now c.if-total-gt0.out (output_to question files) =
+    let given : WasGiven g.W.Sink.state c.args.out.now c.if-total-gt0.out (output_for question files) =
     elim c.if-total-gt0.branch [
-      | then-total-gt0+in_ok-open+in-Some w ↦
+      | then-total-gt0+in_ok-open+in_ok-answer w ↦
           let asked = w.in_ok-open.ensures.asked in
           given_as g.W.Sink.state w.out-is (whole_output_is question files w.in_ok-open.field-0.output asked.of_files
-          (w.in_ok-open.ensures.ready.jobs ∙ asked.of_jobs ∙ jobs.1)) w.in-Some.ensures.given
+          (w.in_ok-open.ensures.ready.jobs ∙ asked.of_jobs ∙ jobs.1)) w.in_ok-answer.ensures.given
       | else-total-gt0 w ↦
           given_as g.W.Sink.state w.out-is (sym (no_output question files (no_line w.if-total-gt0.false (c.total.ensures.lines
           ∙ as_many_jobs _ _ _ jobs.1)))) (given_none g.W.Sink.state c.args.out.now)
@@ -41,23 +44,14 @@ returns-clause-gate_hears_all g c = λ unless ok job low.
     let end = c.flush_and_count.ensures in
     let jobs = as_many_jobs _ _ _ c.in_ok-jobs.ensures.1 in
     elim c.if-total-gt0.branch [
-      | then-total-gt0+in_ok-open+in-Some w ↦
+      | then-total-gt0+in_ok-open+in_ok-answer w ↦
           let asked = w.in_ok-open.ensures.asked in
           let same = ap (λ o. (g.W.Sink.state o).has_failed) (sym w.out-is) in
-          rw (← asked.of_gate) (w.in-Some.ensures.gate_hears_all
-          (⊎_elim (λ solve. inl (asked.of_choice ∙ solve)) (λ sound. inr (same ∙ (end.given.whole sound).0)) unless) job
+          rw (← asked.of_gate) (w.in_ok-answer.ensures.gate_hears_all
+          (⊎_elim (λ solve. inl (asked.on_failed_write ∙ solve)) (λ sound. inr (same ∙ (end.given.whole sound).0)) unless) job
           (subst (job <◌) (sym (ap job_count asked.of_jobs ∙ jobs)) low))
       | else-total-gt0 w ↦ absurd (omega (arith, low, jobs, w.if-total-gt0.false, c.total.ensures.lines))
     ]
-
-pub answer-requires-clause-ready : goal.answer-requires-clause-ready
-answer-requires-clause-ready g c κs within = c.in_ok-open.ensures.ready
-
-pub answer-requires-clause-begins : goal.answer-requires-clause-begins
-answer-requires-clause-begins g c κs within = tt
-
-pub answer-requires-clause-ends : goal.answer-requires-clause-ends
-answer-requires-clause-ends g c κs within = λ after run. tt
 
 pub open-requires-after_bounds : goal.open-requires-after_bounds
 open-requires-after_bounds g c κs within = grind (arith, common_steps)

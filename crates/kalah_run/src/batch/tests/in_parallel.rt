@@ -176,7 +176,7 @@ impl Watch for Following<'_> {
         }
     }
 
-    fn before_wait(&mut self) {}
+    fn on_waiting(&mut self) {}
 }
 
 #[test]

@@ -2,7 +2,7 @@
 use Rattle.std.proofs.{Common.{[], ◌∙◌, ◌≡◌, ◌∷◌, ap, arith, codes, inl, inr, is_some, length, map, refl, sym, unwrap_or}, lemmas.List.{length-map}}
 use Rattle.clap.{specs.Words.{found_of}, proofs.{CallerLemmas.{some_of_text}, WalkLemmas.{raw_values-rows}}}
 use Rattle.kalah_run.specs.Limits.{IsTableSize}
-use Rattle.kalah_cli.specs.{entries_asked, rows_in}
+use Rattle.kalah_cli.specs.{table_entries_asked, rows_in}
 use Rattle.kalah_cli.proofs.{RequestLemmas.{may_have_number, takes_files, takes_table, value_given, values_are}, arguments.request.files_request.Goals.{in-BestMove, in-Steps}}
 use Rattle.kalah_cli.proofs.arguments.request.files_request.Goals as goal
 
@@ -21,7 +21,7 @@ pub returns-clause-asked : goal.returns-clause-asked
 returns-clause-asked c =
     let files = values_are (found_of c.args.matches.now) (codes "file") c.get_strs.result c.unwrap.result _ c.get_strs.ensures
     c.unwrap.ensures (c.in_ok-to_vec.ensures.items_if_clones_equal (λ x y h. h)) in
-    let table : c.match-question.result ≡ entries_asked c.args.question (rows_in c.args.matches.now) =
+    let table : c.match-question.result ≡ table_entries_asked c.args.question (rows_in c.args.matches.now) =
     elim c.match-question.branch [
       | in-BestMove w ↦ elim w.in-BestMove.is [
         | inl best ↦ rw (best, w.result-is) w.table_entries.ensures.number

@@ -1,6 +1,22 @@
-use Rattle.std.proofs.Common.{refl}
+-- All lines are answered, from what the reader had, or nothing is read.
+use Rattle.std.proofs.Common.{◌≡◌, ◌==◌, ◌∙◌, ℕ, List, [], Option, None, Some, ap, if◌then◌else◌, refl, sym}
+use Rattle.std.specs.{Io.Buffered.{reader_buffer, reader_capacity, reader_inner, reader_remaining}, declared.io.buffered.BufReader.{BufReader}}
+use Rattle.std.specs.Io.KnownBytes.{prepend_known}
 use Rattle.kalah_cli.proofs.EndsLemmas.{input_answered, input_refused}
 use Rattle.kalah_cli.proofs.commands.ask.run_ask.Goals as goal
+
+-- a reader that reads ahead has at first all that the other has
+all_unread : {T A : Type 0} (remaining : T → Option (List ℕ)) (r : BufReader T A) (inner : T) → reader_inner r ≡ inner
+    → reader_buffer r ≡ [] → reader_capacity r ≡ 8192 → remaining inner ≡ reader_remaining remaining r
+all_unread {T} {A} remaining r inner same_reader empty capacity =
+    sym (ap (λ n. if n == 0 then None else prepend_known (reader_buffer r) (remaining r.inner)) capacity
+    ∙ ap (λ l. prepend_known l (remaining r.inner)) empty
+    ∙ none_before (remaining r.inner)
+    ∙ ap remaining same_reader)
+  where
+    none_before : (known : Option (List ℕ)) → prepend_known [] known ≡ known
+    none_before None = refl
+    none_before (Some xs) = refl
 
 pub returns-in_default : goal.returns-in_default
 returns-in_default g c = input_refused _ refl c.requires.not_failed
@@ -10,6 +26,8 @@ returns-in_default-new_solver g c = input_refused _ refl c.requires.not_failed
 
 pub returns : goal.returns
 returns g c =
+    let made = c.in-Ok.ensures in
     let lines = c.answer_lines.ensures in
-    rw c.in-Ok.ensures (input_answered _ c.answer_lines.result lines.answered lines.cut_off lines.begins lines.failed lines.all_flushed
+    rw (all_unread g.I.Read.remaining c.in-Ok.reader c.args.input made.inner made.empty made.capacity)
+    (input_answered _ c.answer_lines.result lines.answered lines.cut_off lines.begins lines.failed lines.all_flushed
     c.status_of_answers.ensures.clean c.status_of_answers.ensures.failed)

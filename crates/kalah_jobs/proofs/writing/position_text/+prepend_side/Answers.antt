@@ -8,4 +8,4 @@ returns-clause-side t c =
     let board = c.args.board.now in
     side_before (houses_of player board) (store_of player board) c.args.i _
     (omega (arith, length-houses_of player board c.m-m.ensures.limits)) c.seeds-seeds.ensures c.prepend_side.ensures.side
-    c.prepend-2.ensures.piece c.prepend_byte-2.ensures.number
+    c.prepend-2.ensures.piece c.prepend_u8-2.ensures.number

@@ -1,7 +1,7 @@
 -- After i moves the text has their lines, with a line feed between any two.
 use Rattle.std.proofs.Common.{◌≡◌, ◌++◌, ◌<◌, ◌≤◌, ◌∙◌, ℕ, List, ap, ap₂, append_assoc, append-nil, length, subst, sym, take_all}
 use Rattle.kalah_rules.specs.Play.{step_of}
-use Rattle.kalah_jobs.{specs.{step_text_of, house_step_text}, proofs.TextLemmas.{joined_lines, legal_at, one_line_more}}
+use Rattle.kalah_jobs.{specs.{step_text_of, house_step_text}, proofs.TextLemmas.{joined_lines, move_is_legal, one_line_more}}
 use Rattle.kalah_jobs.proofs.writing.steps.text_of_steps.Goals as goal
 
 -- a line after what is there
@@ -22,7 +22,7 @@ loop-i-preserved c =
 
 pub apply-requires : goal.apply-requires
 apply-requires c =
-    legal_at c.loop-i.i c.legal-moves.ensures.moves (subst (c.loop-i.i <◌) c.len-i-end.ensures c.loop-i-test.true) c.get-h.ensures
+    move_is_legal c.loop-i.i c.legal-moves.ensures.moves (subst (c.loop-i.i <◌) c.len-i-end.ensures c.loop-i-test.true) c.get-h.ensures
 
 pub returns : goal.returns
 returns c =

@@ -2,7 +2,7 @@
 use Rattle.std.proofs.Common.{◌≡◌, ◌++◌, ◌∷◌, [], ◌<◌, ◌≤◌, ◌∙◌, ℕ, List, ap, append_assoc, arith, length, map, subst, sym}
 use Rattle.std.specs.List.{join_with_byte}
 use Rattle.kalah_jobs.specs.{line_feed, step_text_of, house_step_text, WasGiven}
-use Rattle.kalah_jobs.proofs.{SinkLemmas.{given_all, given_more, given_none}, TextLemmas.{legal_at, lines_end_in_feeds}}
+use Rattle.kalah_jobs.proofs.{SinkLemmas.{given_all, given_more, given_none}, TextLemmas.{move_is_legal, lines_end_in_feeds}}
 use Rattle.kalah_jobs.proofs.writing.steps.write_steps.Goals as goal
 
 -- the line that is put together from its end
@@ -25,7 +25,7 @@ loop-i-init g c = given_none _ _
 
 pub apply-requires : goal.apply-requires
 apply-requires g c =
-    legal_at c.loop-i.i c.legal-moves.ensures.moves (subst (c.loop-i.i <◌) c.len-count.ensures c.loop-i-test.true) c.get-h.ensures
+    move_is_legal c.loop-i.i c.legal-moves.ensures.moves (subst (c.loop-i.i <◌) c.len-count.ensures c.loop-i-test.true) c.get-h.ensures
 
 pub returns : goal.returns
 returns g c =

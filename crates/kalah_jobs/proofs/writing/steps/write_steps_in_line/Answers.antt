@@ -1,7 +1,7 @@
 -- After i moves their texts were given, with `; ` between any two.
 use Rattle.std.proofs.Common.{◌++◌, ◌∷◌, [], ◌==◌, ◌<◌, ◌≤◌, ◌∙◌, ℕ, List, ap, codes, cond, subst, sym, take, take_all}
 use Rattle.kalah_jobs.specs.{line_feed, house_step_text, WasGiven}
-use Rattle.kalah_jobs.proofs.{SinkLemmas.{given_none, given_then}, TextLemmas.{legal_at, one_text_more, texts_in_line}}
+use Rattle.kalah_jobs.proofs.{SinkLemmas.{given_none, given_then}, TextLemmas.{move_is_legal, one_text_more, texts_in_line}}
 use Rattle.kalah_jobs.proofs.writing.steps.write_steps_in_line.Goals as goal
 
 pub loop-i-preserved : goal.loop-i-preserved
@@ -17,7 +17,7 @@ loop-i-preserved g c =
 
 pub next_text-requires : goal.next_text-requires
 next_text-requires g c =
-    legal_at c.loop-i.i c.legal-moves.ensures.moves (subst (c.loop-i.i <◌) c.len-i-end.ensures c.loop-i-test.true) c.get.ensures
+    move_is_legal c.loop-i.i c.legal-moves.ensures.moves (subst (c.loop-i.i <◌) c.len-i-end.ensures c.loop-i-test.true) c.get.ensures
 
 pub loop-i-init : goal.loop-i-init
 loop-i-init g c = given_none _ _

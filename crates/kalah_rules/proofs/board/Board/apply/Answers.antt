@@ -1,7 +1,7 @@
 -- The step of the houses, with the stores of the board added, is the board's step (`stepped`), whichever of the three it is.
 use Rattle.std.proofs.Common.{◌≡◌, arith}
 use Rattle.kalah_rules.specs.{with_stores, HousesStep.{HousesStep}}
-use Rattle.kalah_rules.proofs.{PackedLemmas.{IsStepOf, step_of_board}, board.Board.apply.Goals.{After-play}}
+use Rattle.kalah_rules.proofs.{StepLemmas.{IsStepOf, step_of_board}, board.Board.apply.Goals.{After-play}}
 use Rattle.kalah_rules.proofs.board.Board.apply.Goals as goal
 
 -- the step of the houses is the board's

@@ -15,8 +15,8 @@ overflow_add-at_stake c = omega (
 )
 
 pub overflow_sub-result : goal.overflow_sub-result
-overflow_sub-result c = (move_leaves (fields_of c.self.invariant c.self.view_is) c.requires.holds c.requires.sowing (omega arith) c.rule.ensures
-    c.captured_seeds-captured.ensures.captured).within
+overflow_sub-result c = (move_leaves (fields_of c.self.invariant c.self.view_is) c.requires.holds c.requires.sowing (omega arith)
+    c.rule.ensures c.captured_seeds-captured.ensures.captured).within
 
 pub returns : goal.returns
 returns c = (move_leaves (fields_of c.self.invariant c.self.view_is) c.requires.holds c.requires.sowing (omega arith) c.rule.ensures

@@ -1,7 +1,7 @@
 -- The changed rows are those of a move into the store (`MovesIntoStore`); if no seeds are left, the game is over.
 use Rattle.std.proofs.Common.{arith, ◌+◌, ◌%◌, ◌^◌}
 use Rattle.kalah_rules.specs.{storeless}
-use Rattle.kalah_rules.proofs.{PlayLemmas.{legal_holds}, PackedLemmas.{MovesIntoStore, moves_into_store}, houses.Houses.play_into_store.Goals.{After-into_store}}
+use Rattle.kalah_rules.proofs.{PlayLemmas.{legal_holds}, StepLemmas.{MovesIntoStore, moves_into_store}, houses.Houses.play_into_store.Goals.{After-into_store}}
 use Rattle.kalah_rules.proofs.houses.Houses.play_into_store.Goals as goal
 
 pub into_store-requires-clause-last : goal.into_store-requires-clause-last

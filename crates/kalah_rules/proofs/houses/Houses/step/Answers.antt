@@ -1,7 +1,7 @@
 -- The rows after the move are the fields of the next houses, as they stand if the mover moves again, and exchanged if the turn passes.
 use Rattle.std.proofs.Common.{arith, sym, refl, ◌∙◌, ◌+◌, ◌-◌, ◌*◌, ◌/◌, ◌%◌, ◌^◌}
 use Rattle.kalah_rules.specs.{Again, Turn}
-use Rattle.kalah_rules.proofs.{KeyLemmas.{fields_of, rows_of_fields}, PackedLemmas.{IsStepOfFields, store_within, store_small, over_own, over_other, again_fields, turn_fields}, houses.Houses.step.Goals.{Then-again, Else-again}}
+use Rattle.kalah_rules.proofs.{KeyLemmas.{fields_of, rows_of_fields}, StepLemmas.{IsStepOfFields, store_within, store_small, over_own, over_other, again_fields, turn_fields}, houses.Houses.step.Goals.{Then-again, Else-again}}
 use Rattle.kalah_rules.proofs.houses.Houses.step.Goals as goal
 
 pub overflow_sub-seeds : goal.overflow_sub-seeds

@@ -1,10 +1,9 @@
-use Rattle.std.proofs.Common.{◌≡◌, ◌≤◌, length}
-use Rattle.kalah_run.{proofs.BatchLemmas.{AreCollected}, specs.declared.limits.TheConstants.{MOST_TRIES}}
+use Rattle.kalah_run.proofs.BatchLemmas.{AreCollected}
 use Rattle.kalah_run.proofs.batch.collecting.collect.Given as goal
 
-abbrev pub invariant-loop : goal.invariant-loop
-invariant-loop g l = record {
-  collected : AreCollected g.W.Sink.state l.fn.output l.fn.out l.out l.fn.receiver.passes l.receiver.passes l.output;
-  counted : length l.receiver.passes.get_pass.got ≡ l.counter;
-  few_tries : l.tries ≤ MOST_TRIES;
-}
+abbrev pub invariant-loop-receiver : goal.invariant-loop-receiver
+invariant-loop-receiver g l =
+    AreCollected g.W.Sink.state l.fn.output l.fn.out l.out l.fn.receiver l.receiver l.output
+
+abbrev pub decreases-loop-receiver : goal.decreases-loop-receiver
+decreases-loop-receiver g l = l.receiver.to_come

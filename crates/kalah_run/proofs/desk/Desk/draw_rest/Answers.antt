@@ -1,10 +1,24 @@
-use Rattle.std.proofs.Common.{rules}
-use Rattle.kalah_run.proofs.DeskLemmas.{draw_rest_is_lawful}
+use Rattle.std.proofs.Common.{◌≡◌, ◌-◌, ap, arith, rules}
+use Rattle.kalah_run.specs.{DeskState, row_in}
+use Rattle.kalah_run.proofs.DeskLemmas.{draw_rest_is_lawful, rest_counted}
 use Rattle.kalah_run.proofs.desk.Desk.draw_rest.Goals as goal
 
-pub fetch_max-requires : goal.fetch_max-requires
-fetch_max-requires c = (
+pub fetch_max-found-requires : goal.fetch_max-found-requires
+fetch_max-found-requires c = (
   search rules,
   search rules,
   draw_rest_is_lawful c.self.inside.table.shared.key _ _ c.pass.inside.seat.me _ (search rules) c.pass.invariant.0 (search rules),
 )
+
+pub loop-drawn-init : goal.loop-drawn-init
+loop-drawn-init c =
+    let total = c.args.self.now.total in
+    let drawn : c.saturating_sub-drawn.result ≡ total - c.fetch_max-found.result =
+    omega (arith, c.saturating_sub-drawn.ensures, ap (λ (d : DeskState). d.total) c.self.view_is) in
+    record {
+      own = search rules;
+      number = search rules;
+      counted = rest_counted c.args.pass.now.row c.fetch_max-found.result total {after = row_in c.fetch_max-found.new.seat.me.0}
+          (search rules) drawn;
+      few = omega (arith, drawn);
+    }

@@ -1,7 +1,7 @@
 -- Each move that was tried wins at most `most` seeds, so best play wins no more once none is left; a move that is enough wins no more than
 -- best play.
 use Rattle.std.proofs.Common.{ℕ, arith, rules, sym, subst, lit≤}
-use Rattle.kalah_rules.specs.{Sowing.{EndsInStore}, HousesStep.{houses_step}}
+use Rattle.kalah_rules.specs.{Sowing.{EndsDirectlyInStore}, HousesStep.{houses_step}}
 use Rattle.kalah_solve.{specs.{GoesOn, IsSoftBound, won_by_step}, proofs.search.Search.+bound.Given.{Over}}
 use Rattle.kalah_solve.proofs.{HouseSetLemmas.{without_last_less, last_is_legal, each_at_last}, SearchLemmas.{lower_measure, enough_is_won, soft_if_enough, turn_enough, reply_left, step_is_turn, taken_is_turn, taken_falls, reply_fits, bound_le_max, bound_of_rest, played_at_start, played_and_waits, played_and_bounded, played_enough, all_played, gained_few, tried_at_start, tried_without_last, all_tried, untried_at_start, untried_fewer, none_untried}, WorthLemmas.{goes_on, step_falls}, BoundsLemmas.{won_of_houses}}
 use Rattle.kalah_solve.proofs.search.Search.+bound.Goals as goal
@@ -74,7 +74,7 @@ bound_into_store-loop-house-init g t c =
 pub bound_into_store-play_into_store-requires : goal.bound_into_store-play_into_store-requires
 bound_into_store-play_into_store-requires g t c = record {
   legal = last_is_legal c.loop-house.invariant.movable c.in-Some.ensures.0;
-  ends = each_at_last (EndsInStore c.args.houses.now) c.in-Some.ensures.0 c.loop-house.invariant.ends;
+  ends = each_at_last (EndsDirectlyInStore c.args.houses.now) c.in-Some.ensures.0 c.loop-house.invariant.ends;
 }
 
 pub bound_into_store-bound_step-bound-requires : goal.bound_into_store-bound_step-bound-requires

@@ -33,14 +33,14 @@ returns-then-move_reaches g c =
     let enough = c.if-move_reaches.ensures.0 refl in
     let at = before_last c.len-last.ensures c.loop-i-test.true c.get-h.ensures c.legal-moves.ensures.moves in
     at.1 ∙ first_enough_is_best c.args.houses.now c.legal-moves.ensures.limits c.loop-i.i at.0 c.loop-i.invariant
-    (rw (← at.1, ← c.new.ensures, ← c.requires.best) enough)
+    (rw (← at.1, ← c.new.ensures, ← c.requires.beta) enough)
 
 pub loop-i-preserved : goal.loop-i-preserved
 loop-i-preserved g c =
     let less = below_if_test_fails c.if-move_reaches.ensures refl in
     let at = before_last c.len-last.ensures c.loop-i-test.true c.get-h.ensures c.legal-moves.ensures.moves in
     one_more_falls_short c.args.houses.now c.legal-moves.ensures.limits c.loop-i.i at.0 c.loop-i.invariant
-    (rw (← at.1, ← c.new.ensures, ← c.requires.best) less)
+    (rw (← at.1, ← c.new.ensures, ← c.requires.beta) less)
 
 pub returns : goal.returns
 returns g c =

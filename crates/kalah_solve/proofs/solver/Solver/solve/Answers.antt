@@ -1,6 +1,6 @@
 -- The worth of the houses tells what best play wins, which `best_house` is asked for, and with the stores it is the margin.
 use Rattle.std.proofs.{Common.{arith, rules, sym, ap, ◌∙◌, ◌≡◌, w32}, lemmas.Int.{ints, to_z-of_z}}
-use Rattle.kalah_rules.{specs.Position.{HousesState, storeless}, proofs.PackedLemmas.{houses_within}}
+use Rattle.kalah_rules.{specs.Position.{HousesState, storeless}, proofs.StepLemmas.{houses_within}}
 use Rattle.kalah_solve.specs.{best_house, houses_worth, declared.solver.Verdict.TheVariants.{Over}}
 use Rattle.kalah_solve.proofs.{SolverLemmas.{verdict_of_going, verdict_of_over, small_best, verdict_states}, WorthLemmas.{best_of_houses, best_found, board_equal_sides}, BoundsLemmas.{worth_low, worth_high, half_is_won}}
 use Rattle.kalah_solve.proofs.solver.Solver.solve.Given as given
@@ -13,8 +13,8 @@ returns-then-is_over-clause-best_play g c =
     (verdict_of_over c.args.board.now c.returns.result (sym c.if-is_over.ensures.over) c.returns.ensures.margin))
 
 -- ---- the game goes on
-pub houses_worth-best-requires-clause-limits : goal.houses_worth-best-requires-clause-limits
-houses_worth-best-requires-clause-limits g c = rw c.houses-houses.ensures (houses_within _ c.is_over.ensures.limits)
+pub houses_worth-worth-requires-clause-limits : goal.houses_worth-worth-requires-clause-limits
+houses_worth-worth-requires-clause-limits g c = rw c.houses-houses.ensures (houses_within _ c.is_over.ensures.limits)
 
 pub won_of-beta-requires : goal.won_of-beta-requires
 won_of-beta-requires g c =
@@ -22,14 +22,14 @@ won_of-beta-requires g c =
     let limits = c.seeds.ensures.limits in
     omega (arith, ints, worth_low a limits, worth_high a limits)
 
-pub best_house-house-requires-clause-best : goal.best_house-house-requires-clause-best
-best_house-house-requires-clause-best g c =
-    half_is_won c.houses-houses.result _ _ c.seeds.ensures.limits c.houses_worth-best.ensures
-    (rw (c.seeds.ensures.seeds, to_z-of_z w32 c.houses_worth-best.result (search rules)) at c.won_of-beta.ensures)
+pub best_house-house-requires-clause-beta : goal.best_house-house-requires-clause-beta
+best_house-house-requires-clause-beta g c =
+    half_is_won c.houses-houses.result _ _ c.seeds.ensures.limits c.houses_worth-worth.ensures
+    (rw (c.seeds.ensures.seeds, to_z-of_z w32 c.houses_worth-worth.result (search rules)) at c.won_of-beta.ensures)
 
-pub worth_of_board-margin-requires-clause-best : goal.worth_of_board-margin-requires-clause-best
-worth_of_board-margin-requires-clause-best g c =
-    to_z-of_z w32 c.houses_worth-best.result (search rules) ∙ c.houses_worth-best.ensures ∙ ap houses_worth c.houses-houses.ensures
+pub worth_of_board-margin-requires-clause-houses : goal.worth_of_board-margin-requires-clause-houses
+worth_of_board-margin-requires-clause-houses g c =
+    to_z-of_z w32 c.houses_worth-worth.result (search rules) ∙ c.houses_worth-worth.ensures ∙ ap houses_worth c.houses-houses.ensures
 
 -- the house is the best one
 house_is : (g : given.Over) (c : goal.After-worth_of_board-margin g) → c.best_house-house.result ≡ best_house c.args.board.now
@@ -50,5 +50,6 @@ pub returns-clause-small : goal.returns-clause-small
 returns-clause-small g c =
     let p = c.args.board.now in
     let limits = c.is_over.ensures.limits in
-    rw (to_z-of_z w32 c.worth_of_board-margin.result (search rules)) (small_best p c.worth_of_board-margin.result c.best_house-house.result limits
+    rw (to_z-of_z w32 c.worth_of_board-margin.result (search rules))
+    (small_best p c.worth_of_board-margin.result c.best_house-house.result limits
     (rw (house_is g c) (best_found p (board_equal_sides p limits) (sym c.if-is_over.ensures.over)).0) c.worth_of_board-margin.ensures.small)

@@ -1,16 +1,23 @@
--- What the sums are follows from the joined rows (`sums_are`). They are small, so nothing overflows.
-use Rattle.std.proofs.{Common.{arith, ◌++◌, length-append}, lemmas.List.Sums.{sum_by-append}}
-use Rattle.kalah_solve.proofs.RankLemmas.{AreSums, sums_are}
+-- The other row stands m cells above the own one. What the sums are follows from the joined rows (`sums_are`). They are small, so
+-- nothing overflows.
+use Rattle.std.proofs.{Common.{arith, ◌+◌, ◌*◌, ◌%◌, ◌^◌, ◌++◌, length-append, ℕ}, lemmas.List.Sums.{sum_by-append}}
+use Rattle.kalah_solve.proofs.RankLemmas.{AreSums, both_rows, sums_are}
 use Rattle.kalah_solve.proofs.table.ending_table.sums_of.Goals as goal
 
--- the sums of the joined rows
-are : (c : goal.After-joined_rows) → AreSums (c.args.houses.now.own ++ c.args.houses.now.other) c.joined_rows.result c.seeds-seeds.result
-are c =
-    let a = c.args.houses.now in
-    let seeds = c.seeds-seeds.ensures in
-    sums_are (a.own ++ a.other) c.joined_rows.result c.seeds-seeds.result
-    (omega (arith, length-append a.own a.other)) c.joined_rows.ensures.row
-    (omega (arith, sum_by-append (λ x. x) a.own a.other)) c.joined_rows.ensures.small
+module _ (c : goal.After-m) where
+  -- the joined rows
+  abbrev row : ℕ
+  row = c.own_row.result + c.other_row.result * 2 ^ (5 * c.m.result) % 2 ^ 64
+
+  -- their sums
+  are : AreSums (c.args.houses.now.own ++ c.args.houses.now.other) row c.seeds-seeds.result
+  are =
+      let a = c.args.houses.now in
+      let seeds = c.seeds-seeds.ensures in
+      let joined = both_rows c.m.ensures.limits c.own_row.ensures.value c.other_row.ensures.value c.own_row.ensures.small
+      c.other_row.ensures.small c.m.ensures.side in
+      sums_are (a.own ++ a.other) row c.seeds-seeds.result (omega (arith, length-append a.own a.other)) joined.0
+      (omega (arith, sum_by-append (λ x. x) a.own a.other)) joined.1
 
 pub overflow_sub-result : goal.overflow_sub-result
 overflow_sub-result c = (are c).few

@@ -7,6 +7,3 @@ entry-requires-clause-file c = grind (arith, files_many c.args.jobs.now c.args.s
 
 pub entry-requires-clause-line : goal.entry-requires-clause-line
 entry-requires-clause-line c = grind (arith, common_steps, lines_are c.args.jobs.now c.args.self.now c.requires)
-
-pub has_arrived-requires : goal.has_arrived-requires
-has_arrived-requires c = grind (arith, common_steps)

@@ -1,12 +1,13 @@
 -- After each file its lines and faults are counted as those of the files so far, so the limits that hold for all hold for each sum.
 use Rattle.std.proofs.{Common.{◌∷◌, [], ◌∙◌, ap, sym, arith}, lemmas.{Grind.{common_steps}, List.{drop_all, take_all, length-map, map-append, Sums.{sum_by-drop_more}}}}
-use Rattle.kalah_jobs.specs.{jobs_to, lines_in, lines_in_all, declared.files.jobs.FileJobs.{FileJobs}}
-use Rattle.kalah_jobs.proofs.FilesLemmas.{length-entries_to, one_more_read}
+use Rattle.kalah_jobs.specs.{jobs_for, lines_in, lines_in_all, declared.files.jobs.FileJobs.{FileJobs}}
+use Rattle.kalah_jobs.proofs.FilesLemmas.{length-entries_for, one_more_read}
 use Rattle.kalah_jobs.proofs.files.jobs.Jobs.with_question.Goals as goal
 
 pub overflow_add-faults : goal.overflow_add-faults
 overflow_add-faults c =
-    let so_far = c.loop-file.invariant.files in grind (arith, common_steps, so_far.lines, so_far.fewer, c.if-not-are_lines_within_limit.ensures)
+    let so_far = c.loop-file.invariant.files in
+    grind (arith, common_steps, so_far.lines, so_far.fewer, c.if-not-are_lines_within_limit.ensures)
 
 pub overflow_cast-start : goal.overflow_cast-start
 overflow_cast-start c = omega (arith, c.loop-file.invariant.files.lines, c.if-not-are_lines_within_limit.ensures)
@@ -14,10 +15,11 @@ overflow_cast-start c = omega (arith, c.loop-file.invariant.files.lines, c.if-no
 pub overflow_add-before : goal.overflow_add-before
 overflow_add-before c =
     let left = sum_by-drop_more lines_in c.args.files.now c.loop-file.file-index in
-    grind (arith, left, length-entries_to, c.if-not-are_lines_within_limit.ensures)
+    grind (arith, left, length-entries_for, c.if-not-are_lines_within_limit.ensures)
 
 pub overflow_cast-result-2 : goal.overflow_cast-result-2
-overflow_cast-result-2 c = omega (arith, c.loop-file.invariant.files.lines, c.loop-file.invariant.files.fewer, c.if-not-are_lines_within_limit.ensures)
+overflow_cast-result-2 c =
+    omega (arith, c.loop-file.invariant.files.lines, c.loop-file.invariant.files.fewer, c.if-not-are_lines_within_limit.ensures)
 
 pub invariant_of-result : goal.invariant_of-result
 invariant_of-result c =
@@ -36,7 +38,7 @@ pub returns : goal.returns
 returns c =
     let all = take_all c.loop-file.file-index c.args.files.now (omega (arith, c.loop-file-test.false)) in (
       (omega (arith, c.if-files-gt-MOST_FILES.false), omega (arith, c.if-not-are_lines_within_limit.ensures)),
-      c.loop-file.invariant.files.read ∙ ap (jobs_to c.args.question) all,
+      c.loop-file.invariant.files.read ∙ ap (jobs_for c.args.question) all,
     )
 
 pub push_reserved-requires : goal.push_reserved-requires

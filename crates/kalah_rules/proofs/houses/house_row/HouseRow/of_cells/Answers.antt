@@ -6,7 +6,8 @@ use Rattle.kalah_rules.proofs.houses.house_row.HouseRow.of_cells.Goals as goal
 -- the cells from m on hold nothing if each of them is 0, and only then
 none_past : (m : ℕ) (cells : List ℕ) → ((k : ℕ) → m ≤ k → k < length cells → get_or cells k 0 ≡ 0) ↔ All (λ x. x ≡ 0) (drop m cells)
 none_past m cells = (
-  λ each. All-from_get_or (λ x. x ≡ 0) _ 0 (λ k h. get_or-drop m cells k 0 ∙ each (m + k) (omega arith) (omega (arith, length-drop m cells))),
+  λ each.
+      All-from_get_or (λ x. x ≡ 0) _ 0 (λ k h. get_or-drop m cells k 0 ∙ each (m + k) (omega arith) (omega (arith, length-drop m cells))),
   λ none k low high.
       let at : m + (k - m) ≡ k = omega arith in
       rw (get_or-drop, at) at (none (k - m) 0 (omega (arith, length-drop m cells))),

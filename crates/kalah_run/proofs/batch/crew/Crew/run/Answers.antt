@@ -6,10 +6,6 @@ use Rattle.kalah_run.proofs.batch.crew.Crew.run.Goals as goal
 pub for_each_mut-requires-send-T : goal.for_each_mut-requires-send-T
 for_each_mut-requires-send-T g c κs within = search (sendable, worker_send)
 
-pub signal_end-requires : goal.signal_end-requires
-signal_end-requires g c = c.requires.ends _ (have_run c.as_mut_slice.ensures.value c.for_each_mut.auto.s (λ k w low.
-    let ran = (c.for_each_mut.ensures k w low).1 in rw (← ran.left, ← ran.argument_is) ran.call))
-
 pub returns : goal.returns
 returns g c =
     let as_many = c.for_each_mut.auto.s in

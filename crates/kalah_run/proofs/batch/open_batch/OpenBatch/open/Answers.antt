@@ -1,6 +1,6 @@
 -- Of the new passes the last one is the calling thread's, and the workers have the others; nothing was drawn, sent or got.
 use Rattle.std.proofs.Common.{◌≡◌, ◌+◌, [], ap, length, refl, subst, sym, ◌∙◌}
-use Rattle.kalah_run.specs.{PassState, GetPassState, ArePassesFrom}
+use Rattle.kalah_run.specs.{GetPassState, ArePassesFrom, new_pass}
 use Rattle.kalah_run.proofs.{WorkerLemmas.{as_many_as_asked, as_many_workers, new_at_work, room_for_all, room_for_each}, PassLemmas.{last_new_pass}}
 use Rattle.kalah_run.proofs.batch.open_batch.OpenBatch.open.Goals as goal
 
@@ -12,7 +12,7 @@ returns-clause-asked g c = record {
   tables = c.in_ok-workers.ensures.tables;
   of_files = c.in_ok-output.ensures.of.0;
   of_jobs = refl;
-  of_choice = refl;
+  on_failed_write = refl;
   of_gate = refl;
   queue = c.in_ok-queue.ensures.queue;
 }
@@ -27,8 +27,7 @@ returns-clause-ready g c =
     record {
       some_worker = (as_many_as_asked c.args.request.now.workers many c.max-count.ensures c.min.ensures c.total-total.ensures.lines).1;
       passes = c.in_ok-desk.ensures.desk.1 ∙ ap (◌+ 1) (sym many);
-      rest_pass = (ap (λ (p : PassState). p.desk) new.1, ap (λ (p : PassState). p.total) new.1);
-      nothing_drawn = ap (λ (p : PassState). p.row.numbers) new.1;
+      rest_pass = new.1 ∙ ap (new_pass c.in_ok-desk.desk) (sym many);
       at_work = new_at_work _ _ _ workers.passes workers.puts new.0 queue.puts.1 queue.puts.2;
       put_passes = subst (ArePassesFrom c.in_ok-queue.queue.id 0) (sym workers.puts) queue.puts.1;
       get_pass = queue.get ∙ ap (λ n. let p : GetPassState = record { queue = c.in_ok-queue.queue.id; workers = n; got = [] } in p) (sym many);
@@ -41,5 +40,5 @@ returns-clause-ready g c =
       };
     }
 
-pub workers_of_passes-requires-clause-table : goal.workers_of_passes-requires-clause-table
-workers_of_passes-requires-clause-table g c = c.args.request.now.table_size
+pub make_workers-requires-clause-table : goal.make_workers-requires-clause-table
+make_workers-requires-clause-table g c = c.args.request.now.table_size

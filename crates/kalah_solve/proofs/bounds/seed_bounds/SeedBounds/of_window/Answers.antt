@@ -11,7 +11,8 @@ module _ (c : goal.After-won_of-2) where
   -- the most is half of one more than the upper end and all seeds
   high_half : IsHalf (c.args.window.hi +ℤ pos 1 +ℤ pos c.args.seeds) c.won_of-2.result
   high_half =
-      rw (to_z-of_z w32 c.args.window.hi (omega (arith, ints)), to_z-of_z w32 (c.args.window.hi +ℤ pos 1) (omega (arith, ints))) at c.won_of-2.ensures
+      rw (to_z-of_z w32 c.args.window.hi (omega (arith, ints)), to_z-of_z w32 (c.args.window.hi +ℤ pos 1) (omega (arith, ints)))
+      at c.won_of-2.ensures
 
 pub returns-clause-ordered : goal.returns-clause-ordered
 returns-clause-ordered c = bounds_ordered c.args.window c.args.seeds _ _ (low_half c.before) (high_half c.before)

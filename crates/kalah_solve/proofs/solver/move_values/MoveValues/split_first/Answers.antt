@@ -10,4 +10,5 @@ invariant_of-rest c =
 pub returns-clause-split : goal.returns-clause-split
 returns-clause-split c =
     let some = rest_packed 5 c.self.inside.number (omega arith) c.self.invariant in
-    sym c.self.view_is ∙ rw (values_in-positive 5 c.self.inside.number (omega arith), values_in-one_digit_more 5 _ some.1, c.of_digit.ensures) refl
+    sym c.self.view_is
+    ∙ rw (values_in-positive 5 c.self.inside.number (omega arith), values_in-one_digit_more 5 _ some.1, c.of_digit.ensures) refl

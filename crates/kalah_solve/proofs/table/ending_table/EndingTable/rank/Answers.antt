@@ -1,7 +1,7 @@
 -- Each step that passes two cells of the joined rows adds what they give to the rank, so that all is added once no cell is left.
-use Rattle.std.proofs.{Common.{arith, ◌++◌, ◌+◌, ◌-◌, ◌<◌, ◌≤◌, ◌*◌, ◌%◌, ◌/◌, ◌≡◌, ℕ, length, length-append, sum}, lemmas.List.Sums.{sum_by-append}}
+use Rattle.std.proofs.{Common.{arith, List, slice_index, ◌++◌, ◌+◌, ◌-◌, ◌<◌, ◌≤◌, ◌*◌, ◌%◌, ◌/◌, ◌≡◌, ℕ, length, length-append, sum}, lemmas.List.Sums.{sum_by-append}}
 use Rattle.kalah_rules.specs.Position.{HousesState, AreWithinLimits}
-use Rattle.kalah_solve.specs.{choose, IsEnding, most_ending_seeds, declared.table.ending_table.TheConstants.{COUNTS}}
+use Rattle.kalah_solve.specs.{ArePairs, IsEnding, most_ending_seeds, declared.table.ending_table.TheConstants.{CELLS_OF_PAIR, COUNTS, PAIRS}}
 use Rattle.kalah_solve.proofs.{RankLemmas.{IsRanked, two_few, rank_next, ranked_small, ranked_all}, table.ending_table.EndingTable.rank.Goals.{then-step-m-ge6, else-step-m-ge6}}
 use Rattle.kalah_solve.proofs.table.ending_table.EndingTable.rank.Goals as goal
 
@@ -22,45 +22,48 @@ module _ {a : HousesState} {step sums rank : ℕ} (limits : AreWithinLimits a) (
       two_few (a.own ++ a.other) (few a ending) (length a.own) (step + length a.own - 6) sums rank (long a limits) limits.at_most_six
       (omega arith) ranked
 
-  -- what the two cells add
-  ranked_here : (r : ℕ)
-      → r ≡ choose (sums % 1024 % 32 + 2 * (5 - step) + 1) (2 * (5 - step) + 2) + choose (sums % 1024 / 32 + 2 * (5 - step))
-      (2 * (5 - step) + 1) → IsRanked (a.own ++ a.other) (step + 1 + length a.own - 6) (sums / 1024) (rank + r)
-  ranked_here r r_is =
+  -- what the two cells add, by their cell of the pairs
+  ranked_here : (pairs : List ℕ) → ArePairs PAIRS pairs
+      → IsRanked (a.own ++ a.other) (step + 1 + length a.own - 6) (sums / 1024)
+      (rank + slice_index pairs (CELLS_OF_PAIR * (5 - step) + sums % 1024))
+  ranked_here pairs are =
       let next : step + 1 + length a.own - 6 ≡ step + length a.own - 6 + 1 = omega arith in
+      let two = few_here in
+      let k = CELLS_OF_PAIR * (5 - step) + sums % 1024 in
+      let past : k / CELLS_OF_PAIR ≡ 5 - step = omega (arith, two.0, two.1) in
+      let first : k % 32 ≡ sums % 1024 % 32 = omega arith in
+      let second : k / 32 % COUNTS ≡ sums % 1024 / 32 = omega (arith, two.0, two.1) in
       rw next (rank_next (a.own ++ a.other) (few a ending) (length a.own) (step + length a.own - 6) sums rank (long a limits)
-      limits.at_most_six (omega arith) ranked (5 - step) r (omega arith) r_is)
+      limits.at_most_six (omega arith) ranked (5 - step) _ (omega arith)
+      (rw (past, first, second) at (are k (omega (arith, two.0, two.1)) (omega (arith, two.0)))))
 
 pub loop-step-init : goal.loop-step-init
 loop-step-init g c =
     let none : 0 + length c.args.houses.now.own - 6 ≡ 0 = omega arith in
     rw none (record { left = c.sums_of-sums.ensures.sums; rank = omega arith })
 
-pub pair_rank-rank-requires-clause-first : goal.pair_rank-rank-requires-clause-first
-pair_rank-rank-requires-clause-first g c =
-    (few_here c.m-m.ensures.limits c.requires c.loop-step-test.true (omega arith) c.loop-step.invariant).0
-
-pub pair_rank-rank-requires-clause-second : goal.pair_rank-rank-requires-clause-second
-pair_rank-rank-requires-clause-second g c =
-    (few_here c.m-m.ensures.limits c.requires c.loop-step-test.true (omega arith) c.loop-step.invariant).1
+pub bounds-self-inside-step : goal.bounds-self-inside-step
+bounds-self-inside-step g c =
+    let two = few_here c.m-m.ensures.limits c.requires c.loop-step-test.true (omega arith) c.loop-step.invariant in
+    omega (arith, two.0, two.1)
 
 pub loop-step-preserved : goal.loop-step-preserved
 loop-step-preserved g c = elim c.if-step-m-ge6.branch [
   | then-step-m-ge6 w ↦
       rw (w.sums-is, w.rank-is) (ranked_here c.m-m.ensures.limits c.requires c.loop-step-test.true (omega arith) c.loop-step.invariant
-      w.pair_rank-rank.result w.pair_rank-rank.ensures.value)
+      c.self.inside.pairs c.self.invariant.0)
   | else-step-m-ge6 w ↦
       let same : c.loop-step.step + 1 + length c.args.houses.now.own - 6 ≡ c.loop-step.step + length c.args.houses.now.own - 6 =
       omega arith in
       rw (same, w.sums-is, w.rank-is) c.loop-step.invariant
 ]
 
-pub overflow_add-rank : goal.overflow_add-rank
-overflow_add-rank g c =
+pub overflow_add-rank-then-step-m-ge6 : goal.overflow_add-rank-then-step-m-ge6
+overflow_add-rank-then-step-m-ge6 g c =
     let a = c.args.houses.now in
     let limits = c.m-m.ensures.limits in
-    let next = ranked_here limits c.requires c.loop-step-test.true (omega arith) c.loop-step.invariant c.pair_rank-rank.result
-    c.pair_rank-rank.ensures.value in
+    let next = ranked_here limits c.requires c.loop-step-test.true (omega arith) c.loop-step.invariant
+    c.self.inside.pairs c.self.invariant.0 in
     omega (arith, ranked_small (a.own ++ a.other) (few a c.requires) (omega (arith, long a limits)) next)
 
 pub returns-clause-rank : goal.returns-clause-rank

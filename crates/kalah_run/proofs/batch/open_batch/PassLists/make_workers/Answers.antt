@@ -1,0 +1,26 @@
+-- A new worker takes the last pass of each list, so the passes left and then those of the workers, the newest first, stay all passes.
+use Rattle.std.proofs.{lemmas.Grind.{common_steps}, Common.{arith, ap, ◌∙◌}}
+use Rattle.kalah_run.{specs.declared.batch.worker.Worker.{Worker}, proofs.WorkerLemmas.{one_given, tables_more}}
+use Rattle.kalah_run.proofs.batch.open_batch.PassLists.make_workers.Goals as goal
+
+pub loop-preserved : goal.loop-preserved
+loop-preserved c =
+    let so_far = c.loop.invariant in
+    let is = c.push_reserved.ensures.items in
+    let of = c.new.ensures in
+    record {
+      left = omega (arith, c.in-Some.ensures.len);
+      as_many = omega (arith, c.in-Some.ensures.len, c.in-Some-pop.ensures.len);
+      passes = one_given (λ (w : Worker). w.pass) _ _ is of.passes.0 c.in-Some.ensures.items so_far.passes;
+      puts = one_given (λ (w : Worker). w.put_pass) _ _ is of.passes.1 c.in-Some-pop.ensures.items so_far.puts;
+      tables = tables_more _ _ _ is (ap (λ s. s.search.table) of.solver ∙ c.in_ok-solver.ensures) so_far.tables;
+      passes_room = c.in-Some.ensures.capacity ∙ so_far.passes_room;
+      puts_room = c.in-Some-pop.ensures.capacity ∙ so_far.puts_room;
+      room = omega (arith, c.in-Some.ensures.len);
+    }
+
+pub returns-clause-empty : goal.returns-clause-empty
+returns-clause-empty c = grind (arith, common_steps)
+
+pub returns-clause-puts : goal.returns-clause-puts
+returns-clause-puts c = grind (arith, common_steps)
