@@ -65,7 +65,7 @@ LONG_GAME = b"3,2,1,4,4,3/0 1,0,1,3,4,5/0"
 QUICK = b"1/0 1/0\n"
 EASY = b"1,1/0 1,1/0\n"
 
-# With a table of one entry the first takes long, and no run finishes the second.
+# With a table of one entry the first takes about a tenth of a second, and the second more than any trial waits for.
 HARD_LINE = b"2,3,2,3,2,3/0 3,2,3,2,3,3/0\n"
 HARD = HARD_LINE * 1000
 

@@ -6,7 +6,7 @@ import re
 import subprocess
 import sys
 import time
-from contextlib import contextmanager
+from contextlib import contextmanager, suppress
 from pathlib import Path
 
 from lib import reference
@@ -39,11 +39,12 @@ def workers_of(process):
 
 @contextmanager
 def hardly_runs(threads):
-    """Lets these threads run only where another program is at work, and only if that lets them."""
+    """Lets these threads run only where another program is at work, and only if that lets them. One that has ended is left out."""
     processor = {max(os.sched_getaffinity(0))}
     for thread in threads:
-        os.sched_setaffinity(thread, processor)
-        os.sched_setscheduler(thread, os.SCHED_IDLE, os.sched_param(0))
+        with suppress(ProcessLookupError):
+            os.sched_setaffinity(thread, processor)
+            os.sched_setscheduler(thread, os.SCHED_IDLE, os.sched_param(0))
     with subprocess.Popen([sys.executable, "-c", "while True: pass"], preexec_fn=lambda: os.sched_setaffinity(0, processor)) as other:
         try:
             time.sleep(0.1)
@@ -71,7 +72,7 @@ class WaitTrials:
         """Easy lines are answered though the last outcomes were put late, as there was no room, and the workers are at work on hard lines
         then. Once there is room, the workers hardly run, so that the calling thread finds the queue empty and sleeps before."""
         easy = 1 + CAPACITY + LATE_WORKERS
-        self.put({"a": EASY * easy + HARD_LINE * 40})
+        self.put({"a": EASY * easy + HARD})
         want = reference.answers("solve", [(b"a", EASY * easy)]).out
         for _ in range(LATE_OUTCOMES):
             reader, writer = os.pipe()
