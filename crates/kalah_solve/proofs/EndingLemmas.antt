@@ -1,10 +1,10 @@
 -- What the words of endings state is what the mover wins, and stays so: each ending has digits of its own in its word.
-use Rattle.std.proofs.{Common.{ℕ, ◌≡◌, ◌≢◌, zero, suc, ◌+◌, ◌*◌, ◌/◌, ◌%◌, ◌^◌, ◌-◌, ◌<◌, ◌≤◌, arith, refl, ap, List, [], ◌∷◌, ◌++◌, length, get_or, length-append, ◌∙◌, lit<, lit≤, pow_mono, sum, slice_set, slice_index, false, max, ◌↔◌}, Math.{Nat.{add-mul-div_right, div-div-eq-div-mul}, ListN.{replicate, length-replicate, length-set}}, lemmas.{Nat.{pow_pos, pow-add, mul-le}, Bool.{cases_lt, cases_eq}, List.{get_or-set_same, get_or-set_other, get_or-replicate, get_or_past, Sums.{sum_by-append}}}}
+use Rattle.std.proofs.{Common.{nat_le, true, ℕ, ◌≡◌, ◌≢◌, zero, suc, ◌+◌, ◌*◌, ◌/◌, ◌%◌, ◌^◌, ◌-◌, ◌<◌, ◌≤◌, arith, refl, List, ◌++◌, length, get_or, length-append, lit≤, pow_mono, sum, slice_set, slice_index, false, max, ◌↔◌}, Math.{Nat.{add-mul-div_right, div-div-eq-div-mul}, ListN.{replicate, length-replicate, length-set}}, lemmas.{Nat.{pow_pos, pow-add, mul-le}, Bool.{cases_lt, cases_eq, agree_below_at, Decides.{nat_tests}}, List.{get_or-set_same, get_or-set_other, get_or-replicate, get_or_past, Sums.{sum_by-append}}}}
 use Rattle.kalah_rules.specs.{Position.{HousesState, AreWithinLimits, storeless, is_over, total_seeds}, HousesStep.{houses_step}}
 use Rattle.kalah_rules.proofs.{KeyLemmas.{rule_bit-small}, PlayLemmas.{IsLegal, legal_holds}}
 use Rattle.kalah_solve.specs.{choose, rank_of_houses, most_ending_seeds, IsEnding, HoldsWon, AreTrueWords, word_index, stored_at, won, won_by_step, cell, IsLastIn, without_house, declared.table.ending_table.words.TheConstants.{FIRST_WORDS, WORDS}}
 use Rattle.atomic_table.specs.Table.{State, Arrives, keeps}
-use Rattle.kalah_solve.proofs.{HouseSetLemmas.{EachOutside, cell_of_zero, each_outside_without_last}, BoundsLemmas.{won_at_most, won_reached, won_of_houses}, RankLemmas.{choose_rises, rank_below, houses_by_rank}}
+use Rattle.kalah_solve.proofs.{HouseSetLemmas.{EachOutside, cell_of_zero, each_outside_without_last}, BoundsLemmas.{won_at_most, won_reached, won_of_houses}, RankLemmas.{choose_rises, rank_below, houses_by_rank, rows_of, rows_are}}
 
 -- ==== The digits of a number, of four bits each
 
@@ -54,67 +54,17 @@ word_with_digit_fits k n d place none small fits = omega (arith, same_digits_pas
 
 -- ---- the words of different variants are different
 
--- `choose` adds up the same again and again, so these are rows of Pascal's triangle: the binomial coefficients of the next number, by those
--- of this one
-abbrev next_binomials : ℕ → List ℕ → List ℕ
-next_binomials before [] = []
-next_binomials before (w ∷ ws) = (before + w) ∷ next_binomials w ws
-
--- the ways to choose 0 to 12 of n things: binomial coefficients
-abbrev binomials : ℕ → List ℕ
-binomials zero = 1 ∷ 0 ∷ 0 ∷ 0 ∷ 0 ∷ 0 ∷ 0 ∷ 0 ∷ 0 ∷ 0 ∷ 0 ∷ 0 ∷ 0 ∷ []
-binomials (suc n) = next_binomials 0 (binomials n)
-
--- the next row is as long as this one
-length-next_binomials : (before : ℕ) (ws : List ℕ) → length (next_binomials before ws) ≡ length ws
-length-next_binomials before [] = refl
-length-next_binomials before (w ∷ ws) = ap suc (length-next_binomials w ws)
-
-length-binomials : (n : ℕ) → length (binomials n) ≡ 13
-length-binomials zero = refl
-length-binomials (suc n) = length-next_binomials 0 _ ∙ length-binomials n
-
--- each number of the next row after the first is a sum of two neighbours in this one
-next_binomials-suc : (before : ℕ) (ws : List ℕ) (k : ℕ) → suc k < length ws
-    → get_or (next_binomials before ws) (suc k) 0 ≡ get_or ws k 0 + get_or ws (suc k) 0
-next_binomials-suc before [] k inside = refl
-next_binomials-suc before (w ∷ []) k inside = omega arith
-next_binomials-suc before (w ∷ v ∷ ws) zero inside = refl
-next_binomials-suc before (w ∷ v ∷ ws) (suc k) inside = next_binomials-suc w (v ∷ ws) k (omega arith)
-
-binomials-none : (k : ℕ) → get_or (binomials zero) (suc k) 0 ≡ 0
-binomials-none k = grind arith
-
--- the first number of the next row is `before` and the first of this one
-next_binomials-zero : (before : ℕ) (ws : List ℕ) → 1 ≤ length ws → get_or (next_binomials before ws) 0 0 ≡ before + get_or ws 0 0
-next_binomials-zero before [] some = omega arith
-next_binomials-zero before (w ∷ ws) some = refl
-
-binomials_are : (n k : ℕ) → k < 13 → get_or (binomials n) k 0 ≡ choose n k
-unfolding choose
-binomials_are zero zero few = refl
-binomials_are zero (suc k) few = binomials-none k
-binomials_are (suc n) zero few =
-    let some : 1 ≤ length (binomials n) = omega (arith, length-binomials n) in
-    omega (arith, next_binomials-zero, binomials_are n zero few)
-binomials_are (suc n) (suc k) few =
-    let inside : suc k < length (binomials n) = omega (arith, length-binomials n, few) in
-    omega (arith, next_binomials-suc, binomials_are n k (omega (arith, few)), binomials_are n (suc k) few)
-
 -- the first word of the variant of the classic rule with m houses a side
 abbrev first_word : ℕ → ℕ
 first_word m = slice_index FIRST_WORDS m
 
 -- a variant has a word for each sixteen of its endings
 enough_words : (m : ℕ) → 1 ≤ m → m ≤ 6 → choose (most_ending_seeds + 2 * m) (2 * m) + 16 * first_word m ≤ 16 * first_word (suc m)
-enough_words zero some most = omega arith
-enough_words (suc zero) some most = omega (arith, binomials_are 11 2 (lit< tt))
-enough_words (suc (suc zero)) some most = omega (arith, binomials_are 13 4 (lit< tt))
-enough_words (suc (suc (suc zero))) some most = omega (arith, binomials_are 15 6 (lit< tt))
-enough_words (suc (suc (suc (suc zero)))) some most = omega (arith, binomials_are 17 8 (lit< tt))
-enough_words (suc (suc (suc (suc (suc zero))))) some most = omega (arith, binomials_are 19 10 (lit< tt))
-enough_words (suc (suc (suc (suc (suc (suc zero)))))) some most = omega (arith, binomials_are 21 12 (lit< tt))
-enough_words (suc (suc (suc (suc (suc (suc (suc m))))))) some most = omega arith
+enough_words m some most =
+    let at : suc (m - 1) ≡ m = omega arith in
+    let enough = agree_below_at (λ k. nat_le (rows_of (2 * suc k) + 16 * first_word (suc k)) (16 * first_word (suc (suc k)))) (λ k. true) 6
+    (m - 1) refl (omega arith) in
+    grind (arith, nat_tests, rows_are (2 * m), rw at at enough)
 
 first_word_rises : (m n : ℕ) → m ≤ n → n ≤ 7 → first_word m ≤ first_word n
 first_word_rises m n below most = grind arith

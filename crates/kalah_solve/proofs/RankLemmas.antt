@@ -1,5 +1,5 @@
 -- The rank of a row of cells determines the row, and is added up from binomial coefficients and pairs of cells.
-use Rattle.std.proofs.{Common.{ℕ, ◌≡◌, ◌≢◌, zero, suc, ◌+◌, ◌*◌, ◌/◌, ◌%◌, ◌^◌, ◌-◌, ◌<◌, ◌≤◌, arith, refl, ap, List, [], ◌∷◌, ◌++◌, length, get_or, drop, length-append, pow_mono, sum, slice_set, mul_comm, take}, lemmas.{Nat.{pow_pos, mul-le}, Bool.{cases_eq}, List.{append_cancel_left, drop_more, length-drop, get_or-set_same, get_or-set_other, Sums.{sum_by-cons, sum_by-take-drop}}}, Math.Seq.{take-append_seam}}
+use Rattle.std.proofs.{Common.{sym, ◌∙◌, ℕ, ◌≡◌, ◌≢◌, zero, suc, ◌+◌, ◌*◌, ◌/◌, ◌%◌, ◌^◌, ◌-◌, ◌<◌, ◌≤◌, arith, refl, ap, List, [], ◌∷◌, ◌++◌, length, get_or, drop, length-append, pow_mono, sum, slice_set, mul_comm, take}, lemmas.{Nat.{pow_pos, mul-le}, Bool.{cases_eq}, List.{append_cancel_left, drop_more, length-drop, get_or-set_same, get_or-set_other, Sums.{sum_by-cons, sum_by-take-drop}}}, Math.{Nat.{div-eq_of_eq-mul_right}, Seq.{take-append_seam}}}
 use Rattle.kalah_rules.specs.{Position.{HousesState, AreWithinLimits}, Key.{packed_row, variant_of}}
 use Rattle.kalah_rules.proofs.KeyLemmas.{key-injective, packed_row-append, pow_five}
 use Rattle.kalah_solve.specs.{choose, row_rank, packed_sums, rank_of_houses, most_ending_seeds, binomial_at, AreBinomials, pair_at, ArePairs, declared.table.ending_table.TheConstants.{COUNTS, BINOMIALS, INVERSE_OF_31}}
@@ -43,6 +43,27 @@ choose_none (suc n) (suc k) more = omega (arith, choose_none n k (omega arith), 
 choose_next : (n k : ℕ) → choose (suc n) (suc k) ≡ choose n k + choose n (suc k)
 unfolding choose
 choose_next n k = refl
+
+-- of n + 1 things one and k others, or k + 1 and one of these
+choose_absorbs : (n k : ℕ) → suc k * choose (suc n) (suc k) ≡ suc n * choose n k
+unfolding choose
+choose_absorbs zero zero = refl
+choose_absorbs zero (suc k) = omega arith
+choose_absorbs (suc n) zero = omega (arith, choose_one n)
+choose_absorbs (suc n) (suc k) = omega (arith, choose_absorbs n k, choose_absorbs n (suc k))
+
+-- the number of rows of n cells with at most the seeds of an ending, computed from that of rows of one cell less
+abbrev pub rows_of : ℕ → ℕ
+rows_of zero = 1
+rows_of (suc n) = suc (most_ending_seeds + n) * rows_of n / suc n
+
+pub rows_are : (n : ℕ) → choose (most_ending_seeds + n) n ≡ rows_of n
+unfolding choose
+rows_are zero = refl
+rows_are (suc n) =
+    let more : most_ending_seeds + suc n ≡ suc (most_ending_seeds + n) = omega arith in
+    let product = choose_absorbs _ n ∙ ap (λ rows. suc (most_ending_seeds + n) * rows) (rows_are n) in
+    rw more (sym (div-eq_of_eq-mul_right (omega arith) (sym product)))
 
 -- a row's rank is below the ways to choose as many things as it has cells, of its seeds and cells
 pub rank_below : (xs : List ℕ) → row_rank xs < choose (sum xs + length xs) (length xs)
