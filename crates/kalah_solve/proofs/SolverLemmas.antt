@@ -100,6 +100,8 @@ game_is_one mine_forced theirs_forced (passes_turn _ chosen turn rest) (passes_t
 pub strategies_play_one_game : StrategiesPlayOneGame
 strategies_play_one_game mine theirs p houses others final other one two = game_is_one (follow_one mine) (follow_one theirs) one two
 
+pub ruleset players_play_one_game = (strategies_play_a_game, strategies_play_one_game, games_end)
+
 -- a game is one of wider policies, too
 pub widened : {mine theirs mine' theirs' : Policy} {p : Position} {houses : List ℕ} {final : Position} → IsWithin mine mine'
     → IsWithin theirs theirs' → HasEqualSides p → Game mine theirs p houses final → Game mine' theirs' p houses final

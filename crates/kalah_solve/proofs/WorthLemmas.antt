@@ -236,6 +236,8 @@ worth_is_most_of_moves p equal going = record {
   most = λ h legal. value_most _ _ equal going legal;
 }
 
+pub ruleset worth_is_greatest_value = (worth_of_over, worth_of_going, worth_is_most_of_moves, legal_some, count_plays_no_part)
+
 -- ==== Stores do not influence play
 
 -- the final margin is shifted by what was added

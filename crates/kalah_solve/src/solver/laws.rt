@@ -3,6 +3,7 @@ ghost use Rattle.kalah_solve.specs.Solver.{Laws.{WorthOfOver, WorthIsGreatestVal
 
 /// The worth of a game that is over is its final margin. That of any other position is the greatest value of a legal move. Such a
 /// position has at least one legal move.
+#[tactic(auto, using(crate::proofs::WorthLemmas::worth_is_greatest_value))]
 pub fn worth_is_greatest_value()
     ensures over { WorthOfOver }
     ensures going { WorthIsGreatestValue }
@@ -26,7 +27,7 @@ pub fn stores_only_shift()
 
 /// Two players that follow strategies play a game to its end, and only one. No game by the rules has more moves than
 /// `moves_left`, and each ends in a position that is over.
-#[tactic(auto, using(crate::proofs::SolverLemmas::strategies_play_a_game, crate::proofs::SolverLemmas::strategies_play_one_game, crate::proofs::SolverLemmas::games_end))]
+#[tactic(auto, using(crate::proofs::SolverLemmas::players_play_one_game))]
 pub fn players_play_one_game()
     ensures game { StrategiesPlayAGame }
     ensures one { StrategiesPlayOneGame }
