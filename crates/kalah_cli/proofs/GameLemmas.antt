@@ -29,7 +29,7 @@ equal_after p h = go (is_over (after p h)) (moves_again p h)
         (if again then step.Again (after p h) else step.Turn (swapped (after p h)))))
     go true again = record { same = refl }
     go false true = after_equal_sides p h
-    go false false = swapped_equal_sides (after p h) (after_equal_sides p h)
+    go false false = swapped_equal_sides (after_equal_sides p h)
 
 -- ---- a move more in front
 
@@ -162,7 +162,7 @@ game_is_best {p} equal (is_at_end over) = sym (no_best_moves _ p over)
 game_is_best {p} equal (moves_on {h = h} going chosen again rest) =
     best_then p equal going chosen again (game_is_best (after_equal_sides p h) rest)
 game_is_best {p} equal (passes_turn {h = h} going chosen turn rest) =
-    best_then p equal going chosen turn (game_is_best (swapped_equal_sides _ (after_equal_sides p h)) rest)
+    best_then p equal going chosen turn (game_is_best (swapped_equal_sides (after_equal_sides p h)) rest)
 
 -- such a game is played, and ends with the margin of best play
 pub plays_best_games : PlaysBestGames
@@ -194,7 +194,7 @@ variations_end_with_their_value p h equal legal = elim (cases_Bool (moves_again 
         best.2 ∙ sym (value_moving_again p h again),
       )
   | inr turn ↦
-      let same_sides = swapped_equal_sides (after p h) (after_equal_sides p h) in
+      let same_sides = swapped_equal_sides (after_equal_sides p h) in
       let best = plays_best_games (swapped (after p h)) same_sides in (
         swapped best.0,
         passes_turn (legal_going p h legal) legal turn (by_rules same_sides (rest_of p h turn) best.1),

@@ -199,7 +199,7 @@ same_board p q = (board_eq.ghosts).eq p q
 -- boards that are equal by `==` show the same position
 pub same_board_means : (p q : Position) → IsWithinLimits p → IsWithinLimits q → same_board p q ≡ true → p ≡ q
 same_board_means p q p_limits q_limits same =
-    let rows : houses_in p ≡ houses_in q = key-injective (houses_in p) (houses_in q) (houses_within p p_limits) (houses_within q q_limits)
+    let rows : houses_in p ≡ houses_in q = key-injective (houses_within p_limits) (houses_within q_limits)
     (grind (arith, nat_tests)) in
     let own_store : p.own_store ≡ q.own_store = grind (arith, nat_tests) in
     let other_store : p.other_store ≡ q.other_store = grind (arith, nat_tests) in

@@ -266,4 +266,4 @@ have_columns p values values_are = subst (AscendFrom 0) (sym values_are) (ascend
 pub are_small : (p : Position) (values : List MoveValue) → values ≡ values_of p → IsWithinLimits p → AreMoveValues values
 are_small p values values_are limits = subst AreMoveValues (sym values_are) (All-map IsMoveValue (move_value p) (legal_houses p)
     (All-from_get_or (λ h. IsMoveValue (move_value p h)) (legal_houses p) 0
-    (λ i within. move_value_small p _ limits (Contains-get_or (legal_houses p) i 0 within))))
+    (λ i within. move_value_small limits (Contains-get_or (legal_houses p) i 0 within))))

@@ -312,8 +312,8 @@ key_is_key {a} limits key_is =
       few_seeds = omega (arith, sum-padded);
     })
 
-rule_bit-injective : (r s : Rule) → rule_bit r ≡ rule_bit s → r ≡ s
-rule_bit-injective r s same = grind arith
+rule_bit-injective : {r s : Rule} → rule_bit r ≡ rule_bit s → r ≡ s
+rule_bit-injective {r} {s} same = grind arith
 
 -- houses with the same parts are the same
 same_houses_in : {a b : HousesState} → a.own ≡ b.own → a.other ≡ b.other → a.rule ≡ b.rule → a ≡ b
@@ -326,7 +326,7 @@ houses_of_key {a} {k} {rule} limits key_is bit =
     let held = key_holds limits key_is in
     let other_shown : take (side_in_key k) (cells 6 (k / 2 ^ 30)) ≡ a.other =
     rw (held.side, held.other_cells, sym limits.same_side) (take-padded _) in
-    same_houses_in (rw (held.side, held.own_cells) (take-padded _)) other_shown (rule_bit-injective _ _ (omega arith))
+    same_houses_in (rw (held.side, held.own_cells) (take-padded _)) other_shown (rule_bit-injective (omega arith))
 
 -- the parts of a key make the key
 key_from_parts : {k side : ℕ} {own other : List ℕ} (rule : Rule) → packed_row own + 2 ^ 30 * (k / 2 ^ 30) ≡ k
@@ -350,8 +350,8 @@ houses_in_key_of {a} limits =
     let bit : key_of a / 2 ^ 63 ≤ 1 = omega (arith, rule_bit-small) in
     houses_of_key limits refl (rule_in_key-bit _ bit)
 
-pub key_fits : (b : HousesState) → AreWithinLimits b → key_of b < 2 ^ 64
-key_fits b limits = grind (arith, packed_row-small)
+pub key_fits : {b : HousesState} → AreWithinLimits b → key_of b < 2 ^ 64
+key_fits {b} limits = grind (arith, packed_row-small)
 
 -- the parts of the key of houses, with their number of seeds, are their fields
 pub are_fields : {b : HousesState} {rows seeds variant : ℕ} → AreWithinLimits b → rows ≡ packed_rows b
@@ -409,8 +409,8 @@ module _ (k : ℕ) (rule : Rule) (bit : rule_bit rule ≡ k / 2 ^ 63) where
   of_key_found (Some b) valid value a limits key_is = ap Some (value ∙ houses_of_key limits key_is bit)
 
 -- two values of houses with one key are one
-pub key-injective : (a b : HousesState) → AreWithinLimits a → AreWithinLimits b → key_of a ≡ key_of b → a ≡ b
-key-injective a b limits_a limits_b same =
+pub key-injective : {a b : HousesState} → AreWithinLimits a → AreWithinLimits b → key_of a ≡ key_of b → a ≡ b
+key-injective {a} {b} limits_a limits_b same =
     let bit = sym (key_holds limits_a same).rule in
     sym (houses_of_key limits_a same bit) ∙ houses_of_key limits_b refl bit
 

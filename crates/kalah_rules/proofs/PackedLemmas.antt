@@ -224,10 +224,10 @@ captured_keeps : {p q : Position} (o : Option ℕ) → KeepsSeeds p q → KeepsS
 captured_keeps o k = grind (arith, cases_Bool, sum-set_zero, length-set)
 
 -- a move keeps what `KeepsSeeds` lists
-pub after_keeps : (a : HousesState) (h : ℕ) → AreWithinLimits a → HoldsSeeds (storeless a) h
+pub after_keeps : {a : HousesState} {h : ℕ} → AreWithinLimits a → HoldsSeeds (storeless a) h
     → KeepsSeeds (storeless a) (after (storeless a) h)
 unfolding after
-after_keeps a h limits holds = captured_keeps _ (sown_keeps (record { limits = limits; holds = holds }))
+after_keeps {a} {h} limits holds = captured_keeps _ (sown_keeps (record { limits = limits; holds = holds }))
 
 -- where the last seed falls, by its place
 module _ (p : Position) (h : ℕ) (holds : HoldsSeeds p h) where

@@ -185,10 +185,10 @@ module _ (p : Position) (h : ℕ) (low : 1 ≤ h) (high : h ≤ side_length p) w
       refl refl
 
   -- a cell away from the next distance gets nothing
-  gain_kept : (k d : ℕ) → d ≡ k % lap_length (side_length p) + 1 → (cell : Cell) → IsCellOf (side_length p) cell
+  gain_kept : (k : ℕ) {d : ℕ} → d ≡ k % lap_length (side_length p) + 1 → (cell : Cell) → IsCellOf (side_length p) cell
       → distance (side_length p) h cell ≢ d → gain (lap_length (side_length p)) (k + 1) (distance (side_length p) h cell)
       ≡ gain (lap_length (side_length p)) k (distance (side_length p) h cell)
-  gain_kept k d next cell is_cell ne = grind (arith, gain_same)
+  gain_kept k {d} next cell is_cell ne = grind (arith, gain_same)
 
   -- one seed more goes to the cell at the next distance
   pub sow_suc : (k : ℕ) (cell : Cell) → IsCellOf (side_length p) cell
@@ -198,26 +198,26 @@ module _ (p : Position) (h : ℕ) (low : 1 ≤ h) (high : h ≤ side_length p) w
       (row_of_more _ _ _ i is_cell.0 is_cell.1
       (omega (arith, gain_more))
       (λ j j_low j_high ne. omega
-      (arith, gain_kept k _ next (Own j) (j_low, j_high) (own_distance_apart _ h low high j i j_low j_high is_cell.0 is_cell.1 ne))))
-      (omega (arith, gain_kept k _ next Store tt (λ e. own_from_store _ h low high i is_cell.0 is_cell.1 (sym e))))
+      (arith, gain_kept k next (Own j) (j_low, j_high) (own_distance_apart _ h low high j i j_low j_high is_cell.0 is_cell.1 ne))))
+      (omega (arith, gain_kept k next Store tt (λ e. own_from_store _ h low high i is_cell.0 is_cell.1 (sym e))))
       (row_of_same _ _ _ (λ j j_low j_high. omega (
         arith,
-        gain_kept k _ next (Other j) (j_low, j_high) (λ e. own_from_other _ h low high i j is_cell.0 is_cell.1 j_low j_high (sym e)),
+        gain_kept k next (Other j) (j_low, j_high) (λ e. own_from_other _ h low high i j is_cell.0 is_cell.1 j_low j_high (sym e)),
       )))
       refl refl
   sow_suc k Store is_cell next = same_position
       (row_of_same _ _ _ (λ j j_low j_high. omega
-      (arith, gain_kept k _ next (Own j) (j_low, j_high) (own_from_store _ h low high j j_low j_high))))
+      (arith, gain_kept k next (Own j) (j_low, j_high) (own_from_store _ h low high j j_low j_high))))
       (omega (arith, gain_more))
-      (row_of_same _ _ _ (λ j j_low j_high. omega (arith, gain_kept k _ next (Other j) (j_low, j_high) (omega arith))))
+      (row_of_same _ _ _ (λ j j_low j_high. omega (arith, gain_kept k next (Other j) (j_low, j_high) (omega arith))))
       refl refl
   sow_suc k (Other i) is_cell next = same_position
       (row_of_same _ _ _ (λ j j_low j_high. omega
-      (arith, gain_kept k _ next (Own j) (j_low, j_high) (own_from_other _ h low high j i j_low j_high is_cell.0 is_cell.1))))
-      (omega (arith, gain_kept k _ next Store tt (omega arith)))
+      (arith, gain_kept k next (Own j) (j_low, j_high) (own_from_other _ h low high j i j_low j_high is_cell.0 is_cell.1))))
+      (omega (arith, gain_kept k next Store tt (omega arith)))
       (row_of_more _ _ _ i is_cell.0 is_cell.1
       (omega (arith, gain_more))
-      (λ j j_low j_high ne. omega (arith, gain_kept k _ next (Other j) (j_low, j_high) (omega arith))))
+      (λ j j_low j_high ne. omega (arith, gain_kept k next (Other j) (j_low, j_high) (omega arith))))
       refl refl
 
 -- some cell lies at each distance of a lap
@@ -348,8 +348,8 @@ IsLegal a h = Contains (legal_houses (storeless a)) h
 pub legal_going : (p : Position) (h : ℕ) → Contains (legal_houses p) h → is_over p ≡ false
 legal_going p h legal = grind arith
 
-pub legal_holds : (p : Position) (h : ℕ) → Contains (legal_houses p) h → HoldsSeeds p h
-legal_holds p h legal =
+pub legal_holds : (p : Position) {h : ℕ} → Contains (legal_houses p) h → HoldsSeeds p h
+legal_holds p {h} legal =
     let kept = rw (legal_going p h legal) at legal in
     let InSide : ℕ → Type 0 = λ i. 1 ≤ i × i < 1 + side_length p in
     let seeded : ℕ → _ = λ i. nat_lt 0 _ in
@@ -470,9 +470,9 @@ sown_nearer : (p : Position) (h : ℕ) → HoldsSeeds p h → length p.other ≡
 sown_nearer p h holds equal = grind (arith, houses_fall, sow_keeps, distance_falls_all)
 
 -- a move brings the game nearer to its end
-pub after_nearer : (p : Position) (h : ℕ) → HoldsSeeds p h → HasEqualSides p → IsNearerEnd (after p h) p
+pub after_nearer : {p : Position} {h : ℕ} → HoldsSeeds p h → HasEqualSides p → IsNearerEnd (after p h) p
 unfolding after
-after_nearer p h holds equal = grind (arith, sown_nearer, captured_leaves_no_more)
+after_nearer {p} {h} holds equal = grind (arith, sown_nearer, captured_leaves_no_more)
 
 -- a capture keeps the number of houses of both sides
 capture_side : (q : Position) (o : Option ℕ)
@@ -502,12 +502,12 @@ moves_left_falls p q equal side (inl fewer) = rw side (lower_by_seeds _ (distanc
 moves_left_falls p q equal side (inr near) = grind arith
 
 -- the position after a move has fewer moves left
-pub after_fewer : (p : Position) (h : ℕ) → HoldsSeeds p h → HasEqualSides p → moves_left (after p h) < moves_left p
-after_fewer p h holds equal = moves_left_falls p _ (after_equal_sides p h) (after_side p h) (after_nearer p h holds equal)
+pub after_fewer : {p : Position} {h : ℕ} → HoldsSeeds p h → HasEqualSides p → moves_left (after p h) < moves_left p
+after_fewer {p} {h} holds equal = moves_left_falls p _ (after_equal_sides p h) (after_side p h) (after_nearer holds equal)
 
 -- as many moves are left to the opponent
-pub moves_left-swapped : (p : Position) → HasEqualSides p → moves_left (swapped p) ≡ moves_left p
-moves_left-swapped p equal = grind arith
+pub moves_left-swapped : {p : Position} → HasEqualSides p → moves_left (swapped p) ≡ moves_left p
+moves_left-swapped {p} equal = grind arith
 
 -- ==== Where a step leads
 

@@ -11,13 +11,13 @@ use Rattle.kalah_rules.proofs.PackedLemmas.{KeepsSeeds, CanSow, short_distance, 
 pub is_over-swapped : (q : Position) → is_over (swapped q) ≡ is_over q
 is_over-swapped q = or_comm (sum q.other == 0) (sum q.own == 0)
 
-pub houses_within : (p : Position) → IsWithinLimits p → AreWithinLimits (houses_in p)
-houses_within p limits = omega arith
+pub houses_within : {p : Position} → IsWithinLimits p → AreWithinLimits (houses_in p)
+houses_within {p} limits = omega arith
 
 -- a move keeps the houses within the limits
-pub after_within : (a : HousesState) (h : ℕ) → AreWithinLimits a → HoldsSeeds (storeless a) h
+pub after_within : {a : HousesState} {h : ℕ} → AreWithinLimits a → HoldsSeeds (storeless a) h
     → AreWithinLimits (houses_in (after (storeless a) h))
-after_within a h limits holds = grind (arith, after_keeps)
+after_within {a} {h} limits holds = grind (arith, after_keeps)
 
 -- also as the opponent sees them
 pub swapped_within : (q : Position) → AreWithinLimits (houses_in q) → AreWithinLimits (houses_in (swapped q))
@@ -33,7 +33,7 @@ pub record IsStepOfFields (a : HousesState) (h rows seeds variant : ℕ) (step :
 pub store_small : {a : HousesState} {h : ℕ} {r : RowNumbers} → AreWithinLimits a → IsLegal a h
     → ShowsPosition r (after (storeless a) h) → r.store ≤ 31
 store_small {a} {h} {r} limits legal shows =
-    let keeps = after_keeps _ _ limits (legal_holds _ _ legal) in
+    let keeps = after_keeps limits (legal_holds _ legal) in
     omega (arith, keeps.play)
 
 module _ {a : HousesState} {h rows seeds variant : ℕ} {r : RowNumbers} (fields : AreFields rows seeds variant)
@@ -46,10 +46,10 @@ module _ {a : HousesState} {h rows seeds variant : ℕ} {r : RowNumbers} (fields
   moved = after (storeless a) h
 
   move_keeps : KeepsSeeds (storeless a) moved
-  move_keeps = after_keeps _ _ fields_are.limits (legal_holds _ _ legal)
+  move_keeps = after_keeps fields_are.limits (legal_holds _ legal)
 
   moved_within : AreWithinLimits (houses_in moved)
-  moved_within = after_within _ _ fields_are.limits (legal_holds _ _ legal)
+  moved_within = after_within fields_are.limits (legal_holds _ legal)
 
   pub store_within : r.store ≤ seeds
   store_within = omega (arith, move_keeps.play, fields_are.seeds_are)
@@ -119,7 +119,7 @@ step_of_houses : (p : Position) (h : ℕ) → AreWithinLimits (houses_in p) → 
     → with_board_stores p (houses_step (houses_in p) h) ≡ step_of p h
 step_of_houses p h limits holds =
     let q = after _ h in
-    let keeps = after_keeps _ _ limits holds in
+    let keeps = after_keeps limits holds in
     with_board_stores-step_to p q _ keeps.side keeps.rule keeps.other_store
     ∙ ap (λ x. step_to x (moves_again p h)) (sym (after_of_houses p h))
 
@@ -129,9 +129,9 @@ step_within : {p : Position} (h : ℕ) → IsWithinLimits p → HoldsSeeds (stor
 step_within {p} h limits holds =
     let a = houses_in p in
     let q = after _ h in
-    let limits_of_houses = houses_within p limits in
-    let keeps = after_keeps a h limits_of_houses holds in
-    let on = after_within a h limits_of_houses holds in
+    let limits_of_houses = houses_within limits in
+    let keeps = after_keeps limits_of_houses holds in
+    let on = after_within limits_of_houses holds in
     cond_both (is_over q) _ _ (IsStepWithin p) (λ over. omega (arith, keeps.play, sum-zeros, length-replicate {A = ℕ}))
     (λ going. cond_both (moves_again (storeless a) h) _ _ (IsStepWithin p) (omega arith) (omega arith))
 
@@ -147,11 +147,11 @@ pub step_of_board : {b : HousesState} {own_store other_store h : ℕ} {p : Posit
     → t ≡ s → t ≡ houses_step b h → IsStepOf (with_stores b own_store other_store) h s
 step_of_board {b} {own_store} {other_store} {h} limits view_is legal same step_is =
     let p = with_stores b own_store _ in
-    let holds = legal_holds _ _ (subst (λ (x : Position). Contains (legal_houses x) h) (sym view_is) legal) in
+    let holds = legal_holds _ (subst (λ (x : Position). Contains (legal_houses x) h) (sym view_is) legal) in
     record {
-      same = ap (with_board_stores p) (sym same ∙ step_is) ∙ step_of_houses _ _ (houses_within _ limits) holds;
+      same = ap (with_board_stores p) (sym same ∙ step_is) ∙ step_of_houses _ _ (houses_within limits) holds;
       within = subst (IsStepWithin p) (sym step_is ∙ same) (step_within _ limits holds);
-      nearer = after_nearer _ _ (omega arith) (omega arith);
+      nearer = after_nearer (omega arith) (omega arith);
     }
 
 -- ==== Moves whose last seed falls into the store without a lap
@@ -160,7 +160,7 @@ module _ {a : HousesState} {h rows seeds variant : ℕ} {r : RowNumbers} (fields
     (view_is : houses_of_fields rows variant ≡ a) (legal : IsLegal a h) (ends : position.seeds a.own h + h ≡ length a.own + 1)
     (shows : ShowsPosition r (sown (storeless a) h)) where
   can_sow : CanSow a h
-  can_sow = record { limits = (fields_of fields view_is).limits; holds = legal_holds _ _ legal }
+  can_sow = record { limits = (fields_of fields view_is).limits; holds = legal_holds _ legal }
 
   distance_is_seeds : last_distance (storeless a) h ≡ position.seeds a.own h
   distance_is_seeds = short_distance _ h can_sow.holds (omega arith)
@@ -195,7 +195,7 @@ pub moves_into_store : {a : HousesState} {h rows seeds variant : ℕ} (more : �
     → MovesIntoStore a h seeds variant ((rows + more) % 2 ^ 64)
 moves_into_store {a} {h} {rows} {seeds} {variant} more fields view_is legal ends more_is =
     let are = fields_of fields view_is in
-    let can : CanSow a h = record { limits = are.limits; holds = legal_holds _ _ legal } in
+    let can : CanSow a h = record { limits = are.limits; holds = legal_holds _ legal } in
     let house = 32 ^ (h - 1) * position.seeds a.own h in
     let later = ones (length a.own) - ones h in
     let few : length a.own + 1 - h ≡ position.seeds a.own h = omega arith in

@@ -73,19 +73,19 @@ won_of_houses {a} limits =
     rw named bounds.1
 
 -- houses are worth what the mover wins less the others
-pub worth_of_won : (a : HousesState) → AreWithinLimits a → houses_worth a ≡ margin_of (won a) (total_seeds a)
-worth_of_won a limits = omega (arith, ints, (won_of_houses limits).margin)
+pub worth_of_won : {a : HousesState} → AreWithinLimits a → houses_worth a ≡ margin_of (won a) (total_seeds a)
+worth_of_won {a} limits = omega (arith, ints, (won_of_houses limits).margin)
 
-pub worth_low : (a : HousesState) → AreWithinLimits a → least_margin ≤ℤ houses_worth a
-worth_low a limits = omega (arith, ints, (won_of_houses limits).few, (won_of_houses limits).margin)
+pub worth_low : {a : HousesState} → AreWithinLimits a → least_margin ≤ℤ houses_worth a
+worth_low {a} limits = omega (arith, ints, (won_of_houses limits).few, (won_of_houses limits).margin)
 
-pub worth_high : (a : HousesState) → AreWithinLimits a → houses_worth a ≤ℤ most_margin
-worth_high a limits = omega (arith, ints, (won_of_houses limits).few, (won_of_houses limits).margin)
+pub worth_high : {a : HousesState} → AreWithinLimits a → houses_worth a ≤ℤ most_margin
+worth_high {a} limits = omega (arith, ints, (won_of_houses limits).few, (won_of_houses limits).margin)
 
 -- the mover wins half of what the houses are worth and hold together
-pub half_is_won : (a : HousesState) (worth : ℤ) (half : ℕ) → AreWithinLimits a → worth ≡ houses_worth a
+pub half_is_won : {a : HousesState} {worth : ℤ} {half : ℕ} → AreWithinLimits a → worth ≡ houses_worth a
     → IsHalf (worth +ℤ pos (total_seeds a)) half → half ≡ won a
-half_is_won a worth half limits worth_is half_is = grind (arith, won_of_houses)
+half_is_won {a} {worth} {half} limits worth_is half_is = grind (arith, won_of_houses)
 
 won_of_step : (a : HousesState) (s : HousesStep) → LeadsOn a s
     → IsWonOf (total_seeds a) (worth_of_step s) (won_by_step s)
@@ -97,7 +97,7 @@ won_of_step a (Turn gained b) leads =
     let on = won_of_houses leads.limits in
     omega (arith, ints)
 
-module _ (a : HousesState) (limits : AreWithinLimits a) where
+module _ {a : HousesState} (limits : AreWithinLimits a) where
   -- what is won by the move of house h
   pub won_of_move : (h : ℕ) → IsLegal a h
       → IsWonOf (total_seeds a) (value_of_move (storeless a) h) (won_by_step (houses_step a h))
@@ -142,10 +142,10 @@ pub worth_by_bounds : {a : HousesState} (lo hi : ℤ) (asked : SeedBounds) {m : 
     → ((u : ℕ) → u ≤ n → clamped lo hi (margin_of (max asked.least (min asked.most u)) n) ≡ clamped lo hi (margin_of u n))
     → t ≡ max asked.least (min asked.most (won a)) → m ≡ margin_of t n → clamped lo hi m ≡ clamped lo hi (houses_worth a)
 worth_by_bounds {a} lo hi asked {n = n} limits all ordered apart t_is m_is =
-    let worth_is : margin_of (won a) n ≡ houses_worth a = omega (arith, ints, worth_of_won a limits) in
+    let worth_is : margin_of (won a) n ≡ houses_worth a = omega (arith, ints, worth_of_won limits) in
     rw (m_is, t_is) (apart _ (omega (arith, (won_of_houses limits).few)) ∙ ap (clamped lo hi) worth_is)
 
 -- the margin of what the mover wins is the worth of the houses
 pub margin_of_won_is_worth : {a : HousesState} {m : ℤ} {n t : ℕ} → AreWithinLimits a → n ≡ total_seeds a
     → t ≡ won a → m ≡ margin_of t n → m ≡ houses_worth a
-margin_of_won_is_worth {a} limits all t_is m_is = omega (arith, ints, worth_of_won a limits)
+margin_of_won_is_worth {a} limits all t_is m_is = omega (arith, ints, worth_of_won limits)

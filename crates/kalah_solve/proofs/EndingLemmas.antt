@@ -149,7 +149,7 @@ pub record IsMostOutside (a : HousesState) (mask most : ℕ) : Type 0 where
 pub most_at_start : {a : HousesState} {mask : ℕ} → ((i : ℕ) → (0 < cell mask i) ↔ (0 < get_or a.own i 0)) → IsMostOutside a mask 0
 most_at_start {a} members = record {
   reached = omega arith;
-  all = λ i legal outside. absurd (let some = (members _).1 (legal_holds (storeless a) i legal).some in omega arith);
+  all = λ i legal outside. absurd (let some = (members _).1 (legal_holds (storeless a) legal).some in omega arith);
 }
 
 -- the last house of the set was tried
@@ -157,7 +157,7 @@ pub most_with_last : {a : HousesState} {mask most h v new : ℕ} → AreWithinLi
     → IsLastIn mask h → IsLegal a h → v ≡ won_by_step (houses_step a h) → new ≡ max most v
     → IsMostOutside a (without_house mask h) new
 most_with_last {a} {most = most} {h} {new = new} limits most_is last legal v_is new_is = record {
-  reached = omega (arith, won_at_most a limits h legal);
+  reached = omega (arith, won_at_most limits h legal);
   all = each_outside_without_last a (λ i. won_by_step (houses_step a i) ≤ new) last (omega arith)
       (λ i legal_i place outside. omega (arith, most_is.all i legal_i outside));
 }

@@ -13,7 +13,7 @@ found_encloses_worth es a k entries limits key None found = tt
 found_encloses_worth es a k entries limits key (Some i) found =
     let at = Contains-lookup _ es i found in
     let entry = entries _ at.1 in
-    let same = key-injective _ a entry.1 limits (entry.2 ∙ sym (eqb-true _ _ at.2) ∙ key) in
+    let same = key-injective entry.1 limits (entry.2 ∙ sym (eqb-true _ _ at.2) ∙ key) in
     rw same at entry.3
 
 module _ (c : LruCache ℕ Interval) (a : HousesState) (k : ℕ) (i : Interval) (entries : AreTrueEntries c.entries)

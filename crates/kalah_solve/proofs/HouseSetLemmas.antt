@@ -95,9 +95,9 @@ pub without_last_less : {mask h rest : ℕ} → IsLastIn mask h × (rest ≡ wit
 without_last_less popped = omega (arith, popped.0, popped.1)
 
 -- the last house is found by the leading zeros
-last_by_zeros : {mask : ℕ} (leading : ℕ) → 0 < mask → mask < 2 ^ 30 → leading ≡ count_leading_zeros 64 mask
+last_by_zeros : {mask leading : ℕ} → 0 < mask → mask < 2 ^ 30 → leading ≡ count_leading_zeros 64 mask
     → IsLastIn mask ((63 - leading) / 5 + 1)
-last_by_zeros {mask} leading some small leading_are =
+last_by_zeros {mask} {leading} some small leading_are =
     let top = leading_top 64 _ some (omega arith) in
     let q = (63 - leading) / 5 in
     let at : q + 1 - 1 ≡ q = omega arith in
@@ -117,13 +117,13 @@ last_by_zeros {mask} leading some small leading_are =
     }
 
 -- the highest bit is where the last house begins
-last_begins_house : {mask : ℕ} (leading : ℕ) → 0 < mask → IsMask mask → leading ≡ count_leading_zeros 64 mask
+last_begins_house : {mask leading : ℕ} → 0 < mask → IsMask mask → leading ≡ count_leading_zeros 64 mask
     → BeginsHouse (63 - leading)
-last_begins_house {mask} leading some marked leading_are =
+last_begins_house {mask} {leading} some marked leading_are =
     let top = leading_top 64 mask some (omega (arith, marked.small)) in
     let q = (63 - leading) / 5 in
     let at : q + 1 - 1 ≡ q = omega arith in
-    let last = last_by_zeros _ some marked.small leading_are in
+    let last = last_by_zeros some marked.small leading_are in
     let few = below_twice_highest _ _ (rw at at last.high) (marked.single q) in
     let place : 63 - leading ≡ top.0 = omega arith in
     let whole : 5 * q ≡ 63 - leading = elim (cases_lt (5 * q) (63 - leading)) [
@@ -154,11 +154,11 @@ pub record HasLast (mask leading : ℕ) : Type 0 where
   pub power : 1 * 2 ^ (63 - leading) % 2 ^ 64 ≡ 32 ^ ((63 - leading) / 5 + 1 - 1)
   pub rest : IsMask (without_house mask ((63 - leading) / 5 + 1))
 
-pub last_of_mask : {mask : ℕ} (leading : ℕ) → mask ≢ 0 → IsMask mask → leading ≡ count_leading_zeros 64 mask → HasLast mask leading
-last_of_mask {mask} leading some are leading_are =
+pub last_of_mask : {mask leading : ℕ} → mask ≢ 0 → IsMask mask → leading ≡ count_leading_zeros 64 mask → HasLast mask leading
+last_of_mask {mask} some are leading_are =
     let positive : 0 < mask = omega arith in
-    let begins = last_begins_house _ positive are leading_are in
-    let last = last_by_zeros _ positive are.small leading_are in
+    let begins = last_begins_house positive are leading_are in
+    let last = last_by_zeros positive are.small leading_are in
     record { begins = begins; last = last; power = last_is_power are.small last begins; rest = mask_without_last are last }
 
 -- ==== Cells that hold something
@@ -371,7 +371,7 @@ pub each_outside_without_last : (a : HousesState) {mask h : ℕ} (P : ℕ → Ty
 each_outside_without_last a {mask} {h} P last here each i legal outside = elim (cases_eq i h) [
   | inl same ↦ subst P (sym same) here
   | inr other ↦
-      let first = (legal_holds (storeless a) i legal).first in
+      let first = (legal_holds (storeless a) legal).first in
       let place : i - 1 ≢ h - 1 = omega arith in
       each i legal place (outside_before mask h last (i - 1) place outside)
 ]

@@ -110,7 +110,7 @@ houses_by_rank a b limits_a limits_b variant rank =
     let row = row_rank-injective _ _ cells rank in
     let own = rw (take-append_seam a.own a.other, side, take-append_seam b.own b.other) at (ap (take (length a.own)) row) in
     let other = append_cancel_left a.own a.other b.other (rw (← own) at row) in
-    key-injective a b limits_a limits_b (omega (arith, ap packed_row own, ap packed_row other))
+    key-injective limits_a limits_b (omega (arith, ap packed_row own, ap packed_row other))
 
 sums_by_number : (xs : List ℕ) → 31 * packed_sums xs + sum xs ≡ 32 * packed_row xs
 sums_by_number [] = refl

@@ -46,7 +46,7 @@ bound_of_rest {beta} {bound = bound} {all} gained all_is few b = elim (cases_lt 
 -- a bound of a move that is enough is no more than best play wins
 pub enough_is_won : {a : HousesState} {beta h bound : ℕ} → AreWithinLimits a → IsLegal a h
     → IsSoftBound beta (won_by_step (houses_step a h)) bound → beta ≤ bound → bound ≤ won a
-enough_is_won {a} {h = h} limits legal bounded enough = omega (arith, won_at_most a limits h legal)
+enough_is_won {a} {h = h} limits legal bounded enough = omega (arith, won_at_most limits h legal)
 
 -- ==== Turns, and what the reply to one leaves
 
@@ -145,7 +145,7 @@ played_at_start {a} limits going empty members = record {
   movable = record { legal = λ i some. seeded_is_legal i limits going ((members i).0 some).0 };
   waiting = λ k some d. absurd (omega (arith, empty k));
   others = λ i legal outside none apart. absurd (
-      let holds = legal_holds (storeless a) i legal in
+      let holds = legal_holds (storeless a) legal in
       let at : i - 1 + 1 ≡ i = omega arith in
       let some = (members _).1 (holds.some, λ ends. apart (subst (EndsDirectlyInStore a) at ends)) in
       omega arith);
@@ -214,7 +214,7 @@ tried_at_start {a} limits going members = record {
   movable = record { legal = λ i some. let both = (members i).0 some in into_store_legal i limits going both.0 both.1 };
   ends = λ i some. ((members i).0 some).1;
   tried = λ h legal outside ends. absurd (
-      let holds = legal_holds (storeless a) h legal in
+      let holds = legal_holds (storeless a) legal in
       let at : h ≡ h - 1 + 1 = omega arith in
       let some = (members _).1 (omega arith, subst (EndsDirectlyInStore a) at ends) in
       omega arith);
@@ -261,7 +261,7 @@ untried_fewer {a} {priorities = priorities} {turns = turns} bound untried taken 
       waiting = turns_without_one a priorities turns taken.at untried.waiting;
       tried = λ h legal none. elim (cases_eq (h - 1) taken.at) [
         | inl same ↦
-            let first = (legal_holds (storeless a) h legal).first in
+            let first = (legal_holds (storeless a) legal).first in
             let house : taken.at + 1 ≡ h = omega arith in
             omega (arith, subst (WinsAtMost a bound) house at_most)
         | inr other ↦ omega (arith, untried.tried h legal (rw (get_or-set_other priorities taken.at _ 0 0 other) at none))

@@ -21,8 +21,8 @@ use Rattle.lru.proofs.Splits.{Contains-head}
 pub record IsWithin (policy wider : Policy) : Type 0 where
   pub widens : {p : Position} {h : ℕ} → HasEqualSides p → is_over p ≡ false → Contains (policy p) h → Contains (wider p) h
 
-same_policy : (policy : Policy) → IsWithin policy policy
-same_policy policy = grind arith
+same_policy : {policy : Policy} → IsWithin policy policy
+same_policy {policy} = grind arith
 
 pub strategy_within : {s : Strategy} → IsStrategy s → IsWithin (follow s) legal_houses
 strategy_within {s} lawful = grind arith
@@ -34,14 +34,14 @@ ends_within zero mine theirs mine_lawful theirs_lawful p equal few = ([], p, is_
 ends_within (suc n) mine theirs mine_lawful theirs_lawful p equal few = elim (cases_Bool _) [
   | inl over ↦ ([], p, is_at_end over)
   | inr going ↦
-      let fewer = after_fewer p (mine p) (legal_holds p (mine p) (mine_lawful.moves p equal going)) equal in
+      let fewer = after_fewer (legal_holds p (mine_lawful.moves p equal going)) equal in
       let next_equal = after_equal_sides p _ in
       elim (cases_Bool _) [
         | inl again ↦
             let rest = ends_within n mine theirs mine_lawful theirs_lawful _ next_equal (omega arith) in
             (mine p ∷ rest.0, rest.1, moves_on going (Contains-head _ []) again rest.2)
         | inr turn ↦
-            let turned = moves_left-swapped _ next_equal in
+            let turned = moves_left-swapped next_equal in
             let rest = ends_within n theirs mine theirs_lawful mine_lawful _ (omega arith) (omega arith) in
             (mine p ∷ rest.0, swapped rest.1, passes_turn going (Contains-head _ []) turn rest.2)
       ]
@@ -56,17 +56,17 @@ ends_in_time : {mine theirs : Policy} {p : Position} {houses : List ℕ} {final 
     → IsWithin theirs legal_houses → HasEqualSides p → Game mine theirs p houses final → EndsInTime p houses final
 ends_in_time mine_lawful theirs_lawful equal (is_at_end over) = grind arith
 ends_in_time {p = p} mine_lawful theirs_lawful equal (moves_on {h = h} going chosen again rest) =
-    let fewer = after_fewer p h (legal_holds p h (mine_lawful.widens equal going chosen)) equal in
+    let fewer = after_fewer (legal_holds p (mine_lawful.widens equal going chosen)) equal in
     let inner = ends_in_time mine_lawful theirs_lawful (after_equal_sides p h) rest in
     record { over = inner.over; short = omega arith }
 ends_in_time {p = p} mine_lawful theirs_lawful equal (passes_turn {h = h} {final = final} going chosen turn rest) =
-    let fewer = after_fewer p h (legal_holds p h (mine_lawful.widens equal going chosen)) equal in
-    let turned = moves_left-swapped _ (after_equal_sides p h) in
-    let inner = ends_in_time theirs_lawful mine_lawful (swapped_equal_sides _ (after_equal_sides p h)) rest in
+    let fewer = after_fewer (legal_holds p (mine_lawful.widens equal going chosen)) equal in
+    let turned = moves_left-swapped (after_equal_sides p h) in
+    let inner = ends_in_time theirs_lawful mine_lawful (swapped_equal_sides (after_equal_sides p h)) rest in
     record { over = is_over-swapped final ∙ inner.over; short = omega arith }
 
 pub games_end : GamesEnd
-games_end p houses final equal game = ends_in_time (same_policy _) (same_policy _) equal game
+games_end p houses final equal game = ends_in_time same_policy same_policy equal game
 
 -- a policy that has one house at most
 pub record HasNoChoice (policy : Policy) : Type 0 where
@@ -110,7 +110,7 @@ widened {p = p} mine_wider theirs_wider equal (moves_on {h = h} going chosen aga
     moves_on going (mine_wider.widens equal going chosen) again (widened mine_wider theirs_wider (after_equal_sides p h) rest)
 widened {p = p} mine_wider theirs_wider equal (passes_turn {h = h} going chosen turn rest) =
     passes_turn going (mine_wider.widens equal going chosen) turn
-    (widened theirs_wider mine_wider (swapped_equal_sides _ (after_equal_sides p h)) rest)
+    (widened theirs_wider mine_wider (swapped_equal_sides (after_equal_sides p h)) rest)
 
 -- ==== What players who play best secure
 
@@ -137,7 +137,7 @@ game_is_bounded {p = p} {final = final} mine_lawful theirs_lawful equal (moves_o
       high = λ best. omega (arith, ints);
     }
 game_is_bounded {p = p} mine_lawful theirs_lawful equal (passes_turn {h = h} {final = final} going chosen turn rest) =
-    let inner = game_is_bounded theirs_lawful mine_lawful (swapped_equal_sides _ (after_equal_sides p h)) rest in
+    let inner = game_is_bounded theirs_lawful mine_lawful (swapped_equal_sides (after_equal_sides p h)) rest in
     let value = value_passing p h turn in
     let most = value_most p h equal going (mine_lawful.widens equal going chosen) in
     rw (← final_swapped _) (record {
@@ -146,16 +146,16 @@ game_is_bounded {p = p} mine_lawful theirs_lawful equal (passes_turn {h = h} {fi
     })
 
 pub best_is_strategy : IsStrategy best_house
-best_is_strategy = record { moves = λ p equal going. (best_found _ equal going).0 }
+best_is_strategy = record { moves = λ p equal going. (best_found equal going).0 }
 
 pub best_plays : PlaysBest (follow best_house)
 best_plays = grind (arith, best_attains)
 
 best_secures : (p : Position) → HasEqualSides p → Secures best_house p (worth p)
-best_secures p equal = λ houses final game. (game_is_bounded (strategy_within best_is_strategy) (same_policy _) equal game).low best_plays
+best_secures p equal = λ houses final game. (game_is_bounded (strategy_within best_is_strategy) same_policy equal game).low best_plays
 
 best_holds : (p : Position) → HasEqualSides p → HoldsTo best_house p (worth p)
-best_holds p equal = λ houses final game. (game_is_bounded (same_policy _) (strategy_within best_is_strategy) equal game).high best_plays
+best_holds p equal = λ houses final game. (game_is_bounded same_policy (strategy_within best_is_strategy) equal game).high best_plays
 
 pub best_house_is_best_play : BestHouseIsBestPlay
 best_house_is_best_play = grind (arith, best_is_strategy, best_secures, best_holds)
@@ -170,13 +170,13 @@ module _ (mine theirs : Strategy) (mine_lawful : IsStrategy mine) (theirs_lawful
   ends_at_least : Secures mine p v → EndsWithAtLeast mine theirs p v
   ends_at_least secures =
       let game = strategies_play_a_game mine _ mine_lawful theirs_lawful p equal in
-      (game.0, game.1, game.2, secures _ game.1 (widened (same_policy _) (strategy_within theirs_lawful) equal game.2))
+      (game.0, game.1, game.2, secures _ game.1 (widened same_policy (strategy_within theirs_lawful) equal game.2))
 
   -- what a strategy of the opponent allows is the most that the game brings
   ends_at_most : HoldsTo theirs p v → EndsWithAtMost mine theirs p v
   ends_at_most holds =
       let game = strategies_play_a_game mine _ mine_lawful theirs_lawful p equal in
-      (game.0, game.1, game.2, holds _ game.1 (widened (strategy_within mine_lawful) (same_policy _) equal game.2))
+      (game.0, game.1, game.2, holds _ game.1 (widened (strategy_within mine_lawful) same_policy equal game.2))
 
 pub best_play_against_strategies : BestPlayAgainstStrategies
 best_play_against_strategies = record {
@@ -205,14 +205,14 @@ value_is_worth_of_move p h = record {
   turn = λ passed.
       let other = swapped _ in
       let same : worth other ≡ neg_ℤ _ = omega (arith, ints, value_passing p h passed) in
-      subst (IsBestPlay other) same (worth_is_best_play other (swapped_equal_sides _ (after_equal_sides p h)));
+      subst (IsBestPlay other) same (worth_is_best_play other (swapped_equal_sides (after_equal_sides p h)));
 }
 
 pub worth_of_move_is_one : WorthOfMoveIsOne
 worth_of_move_is_one p h v w a b = elim (cases_Bool _) [
   | inl more ↦ best_play_is_one _ v w (after_equal_sides p h) (a.again more) (b.again more)
   | inr passed ↦
-      let same = best_play_is_one _ (neg_ℤ v) _ (swapped_equal_sides _ (after_equal_sides p h)) (a.turn passed) (b.turn passed) in
+      let same = best_play_is_one _ (neg_ℤ v) _ (swapped_equal_sides (after_equal_sides p h)) (a.turn passed) (b.turn passed) in
       omega (arith, ints)
 ]
 
@@ -227,19 +227,19 @@ attains_if_best p h best = worth_of_move_is_one _ _ _ _ (value_is_worth_of_move 
 
 -- the best house is a best move
 best_move : (p : Position) → HasEqualSides p → is_over p ≡ false → IsBestMove p (best_house p) (worth p)
-best_move p equal going = attaining_is_best _ _ equal (best_found _ equal going).0 (best_attains equal going)
+best_move p equal going = attaining_is_best _ _ equal (best_found equal going).0 (best_attains equal going)
 
 -- no lower legal house attains the worth
 none_lower_attains : (p : Position) (h : ℕ) → is_over p ≡ false → Contains (legal_houses p) h → value_of_move p h ≡ worth p
     → best_house p ≤ h
 none_lower_attains p h going legal attains =
     let lowest = find_lowest (λ k. int_eq (value_of_move p k) (worth p)) (λ i. nat_lt 0 (seeds p.own i)) 1 (side_length p) h
-    (rw going at legal) (int_eq-same _ _ attains) in
+    (rw going at legal) (int_eq-same attains) in
     rw going lowest
 
 pub best_house_is_lowest : BestHouseIsLowest
 best_house_is_lowest p equal going = record {
-  is_legal = (best_found _ equal going).0;
+  is_legal = (best_found equal going).0;
   attains = best_attains equal going;
   lowest = λ h is_legal attains. none_lower_attains _ _ going is_legal attains;
 }
@@ -266,7 +266,7 @@ verdict_of_over p margin over margin_is = cc
 pub small_best : (p : Position) (margin : ℤ) (house : ℕ) → IsWithinLimits p → Contains (legal_houses p) house
     → IsMarginInRange margin → IsBestInRange margin house
 small_best p margin house limits legal is_small =
-    let holds = legal_holds p _ legal in
+    let holds = legal_holds p legal in
     record { small = is_small; first = holds.first; last = omega arith }
 
 -- the verdict states how best play ends
@@ -318,7 +318,7 @@ values_tell_verdict p equal going = grind (arith, map-map, worth_of_going, first
 -- in the whole window the answer is the worth
 pub whole_window : {a : HousesState} {found lo hi : ℤ} → AreWithinLimits a → lo ≡ least_margin → hi ≡ most_margin
     → found ≡ clamped lo hi (houses_worth a) → found ≡ houses_worth a
-whole_window {a} limits lo_is hi_is found_is = omega (arith, ints, clamps, worth_low a limits, worth_high a limits)
+whole_window {a} limits lo_is hi_is found_is = omega (arith, ints, clamps, worth_low limits, worth_high limits)
 
 -- the legal house with index i
 abbrev legal_at : HousesState → ℕ → ℕ
@@ -363,10 +363,10 @@ module _ (a : HousesState) (limits : AreWithinLimits a) where
       let one = greatest_reached (value_of_move _) _ (omega arith) in
       let inside = one.1.1 in
       let place = get_or_default (legal_houses (storeless a)) one.1.0 0 one.0 inside ∙ one.1.2 in
-      let attains = ap (value_of_move (storeless a)) place ∙ one.2 ∙ sym (worth_of_going _ (record { same = limits.same_side }) going) in
+      let attains = ap (value_of_move (storeless a)) place ∙ one.2 ∙ sym (worth_of_going (record { same = limits.same_side }) going) in
       elim (cases_eq one.1.0 n) [
         | inl same ↦ first_is_best n (omega arith) short (rw same at attains)
-        | inr other ↦ absurd (both_ways _ (short one.1.0 (omega arith)) (int_eq-same _ _ attains))
+        | inr other ↦ absurd (both_ways _ (short one.1.0 (omega arith)) (int_eq-same attains))
       ]
 
 -- ---- with the stores
@@ -379,36 +379,36 @@ module _ (p : Position) {best : ℤ} {own other : ℕ} (limits : IsWithinLimits 
   -- the sum is not too large
   pub margin_fits : FitsSigned w32 (to_z w32 (of_z w32 best) +ℤ to_z w32 (of_z w32 (to_z w32 own -ℤ to_z w32 other)))
   margin_fits =
-      let within = houses_within p limits in
-      omega (arith, ints, worth_low _ within, worth_high _ within)
+      let within = houses_within limits in
+      omega (arith, ints, worth_low within, worth_high within)
 
   -- nothing is lost
   margin_is : margin_in_bits best own other ≡ best +ℤ (pos p.own_store -ℤ pos p.other_store)
   margin_is =
-      let within = houses_within p limits in
-      omega (arith, ints, worth_low _ within, worth_high _ within)
+      let within = houses_within limits in
+      omega (arith, ints, worth_low within, worth_high within)
 
   pub margin_is_worth : margin_in_bits best own other ≡ worth p
   margin_is_worth = margin_is ∙ rw best_is (sym (worth_of_houses p))
 
   pub margin_is_small : IsMarginInRange (margin_in_bits best own other)
   margin_is_small =
-      let of_houses = won_of_houses (houses_within p limits) in
+      let of_houses = won_of_houses (houses_within limits) in
       omega (arith, ints, margin_is)
 
 -- ==== The value of a move, and its house, are numbers that a game can have
 
 -- the value of a move
-value_small : (p : Position) (h : ℕ) → IsWithinLimits p → Contains (legal_houses p) h → IsMarginInRange (value_of_move p h)
-value_small p h limits legal =
-    let bounds = won_of_move (houses_in p) (houses_within p limits) h legal in
+value_small : {p : Position} {h : ℕ} → IsWithinLimits p → Contains (legal_houses p) h → IsMarginInRange (value_of_move p h)
+value_small {p} {h} limits legal =
+    let bounds = won_of_move (houses_within limits) h legal in
     omega (arith, ints, value_of_houses p h, bounds.few, bounds.margin)
 
 -- a legal house
-pub house_small : (p : Position) (h : ℕ) → IsWithinLimits p → Contains (legal_houses p) h → h ≤ most_houses
-house_small p h limits legal = omega (arith, (legal_holds p h legal).last)
+pub house_small : {p : Position} {h : ℕ} → IsWithinLimits p → Contains (legal_houses p) h → h ≤ most_houses
+house_small {p} {h} limits legal = omega (arith, (legal_holds p legal).last)
 
 -- a legal house with the value of its move
-pub move_value_small : (p : Position) (h : ℕ) → IsWithinLimits p → Contains (legal_houses p) h → IsMoveValue (move_value p h)
-move_value_small p h limits legal =
-    record { first = (legal_holds p h legal).first; last = house_small p h limits legal; small = value_small p h limits legal }
+pub move_value_small : {p : Position} {h : ℕ} → IsWithinLimits p → Contains (legal_houses p) h → IsMoveValue (move_value p h)
+move_value_small {p} {h} limits legal =
+    record { first = (legal_holds p legal).first; last = house_small limits legal; small = value_small limits legal }

@@ -68,8 +68,8 @@ greatest_is_most f (x ∷ xs) zero within = (fold-int_max_bounds (f x) (map f xs
 greatest_is_most f (x ∷ xs) (suc k) within =
     rw (get_or-map f xs k 0 _ (omega arith)) at ((fold-int_max_bounds (f x) (map f xs) _ refl).1 k (pos 0) (omega (arith, length-map xs f)))
 
-pub int_eq-same : (a b : ℤ) → a ≡ b → int_eq a b ≡ true
-int_eq-same a b same = (Decides-int_eq a b).1 same
+pub int_eq-same : {a b : ℤ} → a ≡ b → int_eq a b ≡ true
+int_eq-same {a} {b} same = (Decides-int_eq a b).1 same
 
 pub int_eq-lower : (a b : ℤ) → a <ℤ b → int_eq a b ≡ false
 int_eq-lower a b less = grind arith
@@ -82,8 +82,8 @@ over_at_end p none = grind arith
 pub board_equal_sides : (p : Position) → IsWithinLimits p → HasEqualSides p
 board_equal_sides p limits = omega arith
 
-pub swapped_equal_sides : (p : Position) → HasEqualSides p → HasEqualSides (swapped p)
-swapped_equal_sides p equal = omega arith
+pub swapped_equal_sides : {p : Position} → HasEqualSides p → HasEqualSides (swapped p)
+swapped_equal_sides {p} equal = omega arith
 
 -- the same list if two functions agree on each element
 map_same : (f g : ℕ → ℤ) (xs : List ℕ) → ((h : ℕ) → Contains xs h → f h ≡ g h) → map f xs ≡ map g xs
@@ -115,10 +115,10 @@ values_same : (v w : Position → ℤ) (p : Position) → HasEqualSides p
     → ((q : Position) → HasEqualSides q → moves_left q < moves_left p → v q ≡ w q)
     → map (value_by v p) (legal_houses p) ≡ map (value_by w p) (legal_houses p)
 values_same v w p equal agree = map_same _ _ (legal_houses p) (λ h legal.
-    let fewer = after_fewer p h (legal_holds _ _ legal) equal in
+    let fewer = after_fewer (legal_holds _ legal) equal in
     let next_equal = after_equal_sides p h in
     value_same v w p h (agree _ next_equal fewer)
-    (agree _ (swapped_equal_sides _ next_equal) (omega (arith, fewer, moves_left-swapped _ next_equal))))
+    (agree _ (swapped_equal_sides next_equal) (omega (arith, fewer, moves_left-swapped next_equal))))
 
 -- two counts that are high enough give the same worth
 worth_same : (n k : ℕ) (p : Position) → HasEqualSides p → moves_left p ≤ n → moves_left p ≤ k
@@ -141,10 +141,10 @@ unfolding worth
 worth_of_over p over = worth_within-over _ _ over
 
 -- the margin of any other is the greatest value over the legal houses
-pub worth_of_going : (p : Position) → HasEqualSides p → is_over p ≡ false
+pub worth_of_going : {p : Position} → HasEqualSides p → is_over p ≡ false
     → worth p ≡ greatest (map (value_of_move p) (legal_houses p))
 unfolding worth
-worth_of_going p equal going =
+worth_of_going {p} equal going =
     worth_same (moves_left p) (suc (moves_left p)) p equal (omega arith) (omega arith) ∙ worth_within-going _ _ going
     ∙ ap greatest (values_same (worth_within (moves_left p)) worth p equal
     (λ q is_equal fewer. worth_same _ _ q is_equal (omega arith) (omega arith)))
@@ -173,14 +173,14 @@ value_of_turn p h e step_is = grind arith
 -- how many moves a move leaves, if the mover moves again
 pub again_fewer : (p : Position) (h : ℕ) (e : Position) → HasEqualSides p → Contains (legal_houses p) h
     → board.Again e ≡ step_of p h → moves_left e < moves_left p
-again_fewer p h e equal legal step_is = let fewer = after_fewer p h (legal_holds _ _ legal) equal in grind arith
+again_fewer p h e equal legal step_is = let fewer = after_fewer (legal_holds _ legal) equal in grind arith
 
 -- if the turn passes
 pub turn_fewer : (p : Position) (h : ℕ) (e : Position) → HasEqualSides p → Contains (legal_houses p) h
     → board.Turn e ≡ step_of p h → moves_left e < moves_left p
 turn_fewer p h e equal legal step_is =
-    let fewer = after_fewer p h (legal_holds _ _ legal) equal in
-    let swapped_fewer = moves_left-swapped (after p h) (after_equal_sides p h) in
+    let fewer = after_fewer (legal_holds _ legal) equal in
+    let swapped_fewer = moves_left-swapped (after_equal_sides p h) in
     grind arith
 
 -- ==== A game that goes on has a legal move
@@ -214,12 +214,12 @@ pub value_passing : (p : Position) (h : ℕ) → moves_again p h ≡ false → v
 value_passing p h turn = grind (arith, cases_Bool, worth_of_over, is_over-swapped, final_swapped)
 
 -- the best house is legal, and attains the worth
-pub best_found : (p : Position) → HasEqualSides p → is_over p ≡ false
+pub best_found : {p : Position} → HasEqualSides p → is_over p ≡ false
     → Contains (legal_houses p) (best_house p) × (int_eq (value_of_move p (best_house p)) (worth p) ≡ true)
-best_found p equal going =
+best_found {p} equal going =
     let best = greatest_reached _ (legal_houses p) (legal_some p going) in
-    let attains = best.2 ∙ sym (worth_of_going p equal going) in
-    find_passes _ (legal_houses p) _ best.1 (int_eq-same _ (worth p) attains)
+    let attains = best.2 ∙ sym (worth_of_going equal going) in
+    find_passes _ (legal_houses p) _ best.1 (int_eq-same attains)
 
 pub best_attains : {p : Position} → HasEqualSides p → is_over p ≡ false → value_of_move p (best_house p) ≡ worth p
 best_attains {p} equal going = grind (arith, best_found)
@@ -228,11 +228,11 @@ pub value_most : (p : Position) (h : ℕ) → HasEqualSides p → is_over p ≡ 
     → value_of_move p h ≤ℤ worth p
 value_most p h equal going legal =
     let at = get_or_default _ legal.0 0 h legal.1 ∙ legal.2 in
-    rw (worth_of_going p equal going) (rw at at (greatest_is_most (value_of_move p) _ legal.0 legal.1))
+    rw (worth_of_going equal going) (rw at at (greatest_is_most (value_of_move p) _ legal.0 legal.1))
 
 pub worth_is_most_of_moves : WorthIsMostOfMoves
 worth_is_most_of_moves p equal going = record {
-  reached = (best_house p, (best_found _ equal going).0, best_attains equal going);
+  reached = (best_house p, (best_found equal going).0, best_attains equal going);
   most = λ h legal. value_most _ _ equal going legal;
 }
 
@@ -380,18 +380,18 @@ worth_by_step q again none = grind (arith, cases_Bool, worth_again, worth_turn)
 -- what a move is worth, by its step
 pub value_is : (a : HousesState) (h : ℕ) → AreWithinLimits a → IsLegal a h
     → value_of_move (storeless a) h ≡ worth_of_step (houses_step a h)
-value_is a h limits legal = worth_by_step (after _ h) _ (after_keeps a h limits (legal_holds _ h legal)).other_store
+value_is a h limits legal = worth_by_step (after _ h) _ (after_keeps limits (legal_holds _ legal)).other_store
 
 -- ---- where it leads
 -- each step leads to houses of the same variant with fewer moves left
 pub leads_on : (a : HousesState) (h : ℕ) → AreWithinLimits a → IsLegal a h → LeadsOn a (houses_step a h)
 leads_on a h limits legal =
-    let holds = legal_holds _ h legal in
+    let holds = legal_holds _ legal in
     let q = after _ h in
-    let keeps = after_keeps a h limits holds in
-    let fewer = after_fewer (storeless a) h holds (record { same = limits.same_side }) in
+    let keeps = after_keeps limits holds in
+    let fewer = after_fewer holds (record { same = limits.same_side }) in
     let play = keeps.play in
-    let within = after_within a h limits holds in
+    let within = after_within limits holds in
     let rule = ap rule_bit keeps.rule in
     cond_both (is_over q) _ _ (LeadsOn a) (omega arith) (λ going. cond_both (moves_again (storeless a) h) _ _ (LeadsOn a)
     (λ again. record {
@@ -402,7 +402,7 @@ leads_on a h limits legal =
       same = omega arith;
     }) (λ turn. record {
       kept = omega arith;
-      fewer = omega (arith, moves_left-swapped q (omega arith));
+      fewer = omega (arith, moves_left-swapped {p = q} (omega arith));
       going = is_over-swapped q ∙ going;
       limits = swapped_within q within;
       same = omega arith;
@@ -427,6 +427,6 @@ goes_on {s = s} variant_is limits legal step_is = goes_on_if_leads_on s limits v
 pub step_falls : {a : HousesState} {h : ℕ} {s : HousesStep} → AreWithinLimits a → IsLegal a h → s ≡ houses_step a h
     → moves_after s < moves_left (storeless a)
 step_falls {a} {h} {s} limits legal step_is =
-    let fewer = after_fewer (storeless a) h (legal_holds (storeless a) h legal) (record { same = limits.same_side }) in
+    let fewer = after_fewer (legal_holds (storeless a) legal) (record { same = limits.same_side }) in
     let leads = played_leads_on limits legal step_is in
     grind arith

@@ -36,7 +36,7 @@ loop-i-preserved g c =
 
 pub write_ways-requires : goal.write_ways-requires
 write_ways-requires g c =
-    house_small c.args.board.now c.get-house.result c.legal-moves.ensures.limits
+    house_small c.legal-moves.ensures.limits
     (rw (← c.loop-i.invariant.same, c.get-house.ensures)
     (Contains-get_or c.legal-moves.result c.loop-i.i 0 (omega (arith, c.loop-i-test.true, c.len-i-end.ensures))))
 

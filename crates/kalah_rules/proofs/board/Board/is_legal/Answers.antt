@@ -7,7 +7,7 @@ pub returns-then-h-lt1 : goal.returns-then-h-lt1
 returns-then-h-lt1 c = (
   λ t. absurd (false≢true t),
   λ legal.
-      let holds = legal_holds c.args.self.now c.args.h legal in
+      let holds = legal_holds c.args.self.now legal in
       elim c.then-h-lt1.branch [
         | then-h-lt1-via-then-h-lt1 w ↦ absurd (omega arith)
         | then-h-lt1-via-else-h-lt1+then-h-m w ↦ absurd (omega arith)
@@ -21,5 +21,5 @@ returns c = (
   λ t. holds_legal c.args.self.now c.args.h
       (record { first = omega arith; last = omega arith; some = rw (← c.own.ensures) (ltb-true 0 _ t) })
       (sym c.is_over.ensures.over ∙ c.if-is_over.false),
-  λ legal. lt-ltb 0 _ (rw c.own.ensures (legal_holds c.args.self.now c.args.h legal).some),
+  λ legal. lt-ltb 0 _ (rw c.own.ensures (legal_holds c.args.self.now legal).some),
 )

@@ -48,10 +48,10 @@ ways-returns-clause-small t c =
     rw more at (before_small c.loop-h.invariant (omega arith))
 
 pub ways_by-new-requires-clause-first : goal.ways_by-new-requires-clause-first
-ways_by-new-requires-clause-first t c = (legal_holds (storeless c.args.self.now) c.args.h c.requires.legal).first
+ways_by-new-requires-clause-first t c = (legal_holds (storeless c.args.self.now) c.requires.legal).first
 
 pub ways_by-new-requires-clause-last : goal.ways_by-new-requires-clause-last
-ways_by-new-requires-clause-last t c = omega (arith, (legal_holds (storeless c.args.self.now) c.args.h c.requires.legal).last)
+ways_by-new-requires-clause-last t c = omega (arith, (legal_holds (storeless c.args.self.now) c.requires.legal).last)
 
 pub ways_by-returns-then-depth-eq0-clause-ways : goal.ways_by-returns-then-depth-eq0-clause-ways
 ways_by-returns-then-depth-eq0-clause-ways t c =

@@ -5,17 +5,17 @@ use Rattle.kalah_rules.proofs.houses.Houses.play.Goals as goal
 
 pub own-requires : goal.own-requires
 own-requires c =
-    let holds = legal_holds (storeless c.args.self.now) c.args.h c.requires in
+    let holds = legal_holds (storeless c.args.self.now) c.requires in
     record { low = holds.first; high = holds.last }
 
 pub new-sowing-requires-clause-first : goal.new-sowing-requires-clause-first
-new-sowing-requires-clause-first c = (legal_holds (storeless c.args.self.now) c.args.h c.requires).first
+new-sowing-requires-clause-first c = (legal_holds (storeless c.args.self.now) c.requires).first
 
 pub new-sowing-requires-clause-last : goal.new-sowing-requires-clause-last
-new-sowing-requires-clause-last c = omega (arith, (legal_holds (storeless c.args.self.now) c.args.h c.requires).last)
+new-sowing-requires-clause-last c = omega (arith, (legal_holds (storeless c.args.self.now) c.requires).last)
 
 pub new-requires-clause-first : goal.new-requires-clause-first
-new-requires-clause-first c = (legal_holds (storeless c.args.self.now) c.args.h c.requires).first
+new-requires-clause-first c = (legal_holds (storeless c.args.self.now) c.requires).first
 
 pub new-requires-clause-last : goal.new-requires-clause-last
-new-requires-clause-last c = omega (arith, (legal_holds (storeless c.args.self.now) c.args.h c.requires).last)
+new-requires-clause-last c = omega (arith, (legal_holds (storeless c.args.self.now) c.requires).last)

@@ -5,7 +5,7 @@ use Rattle.kalah_rules.proofs.{PlayLemmas.{legal_holds}, StepLemmas.{MovesIntoSt
 use Rattle.kalah_rules.proofs.houses.Houses.play_into_store.Goals as goal
 
 pub into_store-requires-clause-last : goal.into_store-requires-clause-last
-into_store-requires-clause-last c = omega (arith, (legal_holds (storeless c.args.self.now) _ c.requires.legal).last)
+into_store-requires-clause-last c = omega (arith, (legal_holds (storeless c.args.self.now) c.requires.legal).last)
 
 -- what comes of the move
 moved : (c : After-into_store) → MovesIntoStore c.args.self.now c.args.house c.self.inside.seeds c.self.inside.variant

@@ -23,7 +23,7 @@ learn_margins-requires g c =
     let limits = c.seeds-seeds.ensures.limits in
     let worth = houses_worth c.args.houses.now in
     (c.intersection.ensures worth).1 (
-      c.interval_of.ensures.held worth (worth_low _ limits) (worth_high _ limits) (found g c),
+      c.interval_of.ensures.held worth (worth_low limits) (worth_high limits) (found g c),
       c.known_margins-known.ensures,
     )
 

@@ -19,7 +19,7 @@ before_last {i = i} many before house_is are = (omega (arith, ap length are), ho
 looked_at_holds : (g : Over) (c : After-get-h g) → HoldsSeeds (storeless c.args.houses.now) c.get-h.result
 looked_at_holds g c =
     let at = before_last c.len-last.ensures c.loop-i-test.true c.get-h.ensures c.legal-moves.ensures.moves in
-    legal_holds _ _ (rw at.1 (Contains-get_or _ c.loop-i.i 0 at.0))
+    legal_holds _ (rw at.1 (Contains-get_or _ c.loop-i.i 0 at.0))
 
 pub new-requires-clause-first : goal.new-requires-clause-first
 new-requires-clause-first g c = (looked_at_holds g (goal.at.new-requires-clause-first g c).After-get-h).first

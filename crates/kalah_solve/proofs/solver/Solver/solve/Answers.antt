@@ -14,17 +14,17 @@ returns-then-is_over-clause-best_play g c =
 
 -- ---- the game goes on
 pub houses_worth-worth-requires-clause-limits : goal.houses_worth-worth-requires-clause-limits
-houses_worth-worth-requires-clause-limits g c = rw c.houses-houses.ensures (houses_within _ c.is_over.ensures.limits)
+houses_worth-worth-requires-clause-limits g c = rw c.houses-houses.ensures (houses_within c.is_over.ensures.limits)
 
 pub won_of-beta-requires : goal.won_of-beta-requires
 won_of-beta-requires g c =
     let a = c.houses-houses.result in
     let limits = c.seeds.ensures.limits in
-    omega (arith, ints, worth_low a limits, worth_high a limits)
+    omega (arith, ints, worth_low limits, worth_high limits)
 
 pub best_house-house-requires-clause-beta : goal.best_house-house-requires-clause-beta
 best_house-house-requires-clause-beta g c =
-    half_is_won c.houses-houses.result _ _ c.seeds.ensures.limits c.houses_worth-worth.ensures
+    half_is_won c.seeds.ensures.limits c.houses_worth-worth.ensures
     (rw (c.seeds.ensures.seeds, to_z-of_z w32 c.houses_worth-worth.result (search rules)) at c.won_of-beta.ensures)
 
 pub worth_of_board-margin-requires-clause-houses : goal.worth_of_board-margin-requires-clause-houses
@@ -52,4 +52,4 @@ returns-clause-small g c =
     let limits = c.is_over.ensures.limits in
     rw (to_z-of_z w32 c.worth_of_board-margin.result (search rules))
     (small_best p c.worth_of_board-margin.result c.best_house-house.result limits
-    (rw (house_is g c) (best_found p (board_equal_sides p limits) (sym c.if-is_over.ensures.over)).0) c.worth_of_board-margin.ensures.small)
+    (rw (house_is g c) (best_found (board_equal_sides p limits) (sym c.if-is_over.ensures.over)).0) c.worth_of_board-margin.ensures.small)

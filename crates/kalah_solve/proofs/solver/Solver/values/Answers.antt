@@ -24,7 +24,7 @@ move_value-requires g c =
 pub prepend-requires-clause-small : goal.prepend-requires-clause-small
 prepend-requires-clause-small g c =
     let legal = at_place c.legal-moves.result c.loop-i-test.true c.loop-i.invariant.within c.get.ensures c.legal-moves.ensures.moves in
-    subst IsMoveValue (sym c.move_value.ensures) (move_value_small _ _ c.legal-moves.ensures.limits legal)
+    subst IsMoveValue (sym c.move_value.ensures) (move_value_small c.legal-moves.ensures.limits legal)
 
 pub loop-i-preserved : goal.loop-i-preserved
 loop-i-preserved g c = record {

@@ -8,7 +8,7 @@ returns-then-is_over-clause-worth g c =
     to_z-of_z w32 c.returns.result (search rules) ∙ c.returns.ensures.margin ∙ sym (worth_of_over _ (sym c.if-is_over.ensures.over))
 
 pub houses_worth-worth-requires-clause-limits : goal.houses_worth-worth-requires-clause-limits
-houses_worth-worth-requires-clause-limits g c = rw c.houses.ensures (houses_within _ c.is_over.ensures.limits)
+houses_worth-worth-requires-clause-limits g c = rw c.houses.ensures (houses_within c.is_over.ensures.limits)
 
 pub worth_of_board-requires-clause-houses : goal.worth_of_board-requires-clause-houses
 worth_of_board-requires-clause-houses g c =
