@@ -3,3 +3,4 @@ pub mod BestPlay
 pub mod Verdict
 pub mod Laws
 pub mod MoveValues
+pub mod EmptyTable

@@ -1,13 +1,9 @@
--- The solver of a line: its table, and what stands in the output before a position of a game is solved.
-use Rattle.std.specs.{Prelude.{◌≡◌, ◌++◌, ℕ, List}, declared.alloc.Global.{Global}}
+-- What stands in the output before a position of a game is solved.
+use Rattle.std.specs.Prelude.{◌≡◌, ◌++◌, ℕ, List}
 use Rattle.kalah_rules.specs.{Position.{Position}, Play.{position_after, step_of}}
-use Rattle.kalah_solve.specs.{Solver.Worth.{worth}, Table.Entries.{empty_table}, declared.solver.{Solver.{Solver}, move_values.MoveValue.{MoveValue}}}
+use Rattle.kalah_solve.specs.{Solver.Worth.{worth}, declared.solver.move_values.MoveValue.{MoveValue}}
 use Rattle.kalah_jobs.specs.Writing.{Sink.{SinkState, WasGiven}, ValuesLine.{shown_of}, Variation.{variation_start}}
 use Rattle.kalah_cli.specs.{Commands.{Game.{move_text, printed_value, MoveForm, Lines, Houses}, Moves.{board_lines}}, declared.commands.game_solver.GameSolver.{GameSolver}}
-
--- the solver has an empty table of this many entries
-abbrev pub HasTable : ℕ → Solver Global → Type 0
-HasTable table_entries solver = solver.search.table ≡ empty_table table_entries
 
 -- a game as it began: how its moves are written, the first position, and the sink before any of it was written
 pub record GameStart (O : Type 0) : Type 0 where

@@ -1,7 +1,8 @@
 //! `kalah ask`.
 ghost use Rattle.std.specs.Prelude.{◌≡◌, ◌↔◌, IfOk, IsErr, false, true};
 ghost use Rattle.kalah_run.specs.Limits.{IsTableSize};
-ghost use Rattle.kalah_cli.specs.{Commands.{Ask.{AnswersInput}, GameSolver.{HasTable}}, Exit.Ends.{exit_status_of}};
+ghost use Rattle.kalah_solve.specs.Solver.EmptyTable.{HasEmptyTable};
+ghost use Rattle.kalah_cli.specs.{Commands.{Ask.{AnswersInput}}, Exit.Ends.{exit_status_of}};
 
 use crate::exit::failure::Failure;
 use crate::exit::status::ExitStatus;
@@ -17,7 +18,7 @@ const HINT: &str = "kalah: waits for positions, one a line, as 1,1/0 1,1/0; Ctrl
 // Returns a solver with an empty table of this many entries.
 fn new_solver(alloc: Global, table_entries: u32) -> Result<Solver, AllocError>
     requires { IsTableSize table_entries }
-    ensures { IfOk result (HasTable table_entries) }
+    ensures { IfOk result (HasEmptyTable table_entries) }
 {
     Ok(Solver::new(Table::new(alloc, table_entries)?))
 }

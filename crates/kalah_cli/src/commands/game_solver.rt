@@ -1,9 +1,9 @@
 //! The solver of `play` and `show`.
 ghost use Rattle.std.specs.Prelude.{◌≡◌, IfOk, true};
-ghost use Rattle.kalah_solve.specs.Solver.{MoveValues.{values_of}, Verdict.{IsVerdictInRange, StatesBestPlay, verdict_of}};
+ghost use Rattle.kalah_solve.specs.Solver.{EmptyTable.{HasEmptyTable}, MoveValues.{values_of}, Verdict.{IsVerdictInRange, StatesBestPlay, verdict_of}};
 ghost use Rattle.kalah_jobs.specs.Writing.{Sink.{WasGiven}, Picture.{picture_of}};
 ghost use Rattle.kalah_run.specs.Limits.{IsTableSize};
-ghost use Rattle.kalah_cli.specs.Commands.GameSolver.{HasTable, IsReached, begun};
+ghost use Rattle.kalah_cli.specs.Commands.GameSolver.{IsReached, begun};
 
 use crate::commands::game::MoveForm;
 use kalah_jobs::Sink;
@@ -35,7 +35,7 @@ impl<O: Sink> GameSolver<O> {
         out: &O,
     ) -> Result<GameSolver<O>, AllocError>
         requires { IsTableSize table_entries }
-        ensures table { IfOk result (λ s. HasTable table_entries s.solver) }
+        ensures table { IfOk result (λ s. HasEmptyTable table_entries s.solver) }
         ensures begun { IfOk result (λ s. begun s ≡ record { form = form; first = board.now; sink = out.now }) }
     {
         Ok(GameSolver {

@@ -1,13 +1,13 @@
 -- What is known of a batch: once it is open, while it is run, and when it has ended.
 use Rattle.std.specs.{Prelude.{◌≡◌, ℕ, ◌+◌, ◌<◌, ◌≤◌, Bool, max, min, List, [], length, vec_capacity, ◌⊎◌, Option, IfNone, MatchOption, All}, declared.alloc.Global.{Global}}
 use Rattle.crossbeam_utils.specs.Padded.{padded_value}
-use Rattle.kalah_solve.specs.{declared.solver.Solver.{Solver}, Table.Entries.{empty_table}}
+use Rattle.kalah_solve.specs.{declared.solver.Solver.{Solver}, Solver.EmptyTable.{HasEmptyTable}}
 use Rattle.kalah_run.specs.{Types.{Entry, OutcomeState}, Desk.States.{IsPassAt, new_pass}, Queue.States.{ArePassesFrom, MayGet, outcomes_in}, Batch.{AtWork.{puts_of, AreAtWork}, OrderedOutput.{IsNew, whole_output}, Leaving.{IsLeft, HasDrawnNothing, IsAbandoned, DrawsOnlyTheRest}}, declared.{batch.{request.BatchRequest.{BatchRequest}, worker.Worker.{Worker}, open_batch.{OpenBatch.{OpenBatch}, PassLists.{PassLists}}, receiver.{CallerPasses.{CallerPasses}, Receiver.{Receiver}}, ordered_output.OrderedOutput.{OrderedOutput}}, limits.TheConstants.{QUEUE_CAPACITY}}}
 use Rattle.kalah_jobs.specs.{Files.Jobs.{job_count}, Writing.Sink.{SinkState, WasGiven}, Collecting.AnyOrder.{IsPermutationOfJobs}}
 
 -- the worker has an empty table with room for this many entries
 abbrev pub HasOwnTable : ℕ → Worker → Type 0
-HasOwnTable entries w = (padded_value {T = Solver Global} w.solver).search.table ≡ empty_table entries
+HasOwnTable entries w = HasEmptyTable entries (padded_value {T = Solver Global} w.solver)
 
 abbrev pub HaveOwnTables : ℕ → List Worker → Type 0
 HaveOwnTables entries workers = All (HasOwnTable entries) workers

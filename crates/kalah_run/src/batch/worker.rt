@@ -3,7 +3,7 @@ ghost use Rattle.std.specs.Prelude.{◌≡◌, ◌<◌, Some, slice_get, true, I
 ghost use Rattle.kalah_jobs.specs.Files.{JobList.{job_list}, Jobs.{job_count}};
 ghost use Rattle.kalah_run.specs.Limits.{IsTableSize};
 ghost use Rattle.crossbeam_utils.specs.Padded.{padded_value};
-ghost use Rattle.kalah_solve.specs.Table.Entries.{empty_table};
+ghost use Rattle.kalah_solve.specs.Solver.EmptyTable.{HasEmptyTable};
 
 use crate::batch::gate::Gate;
 use crate::desk::pass::Pass;
@@ -31,7 +31,7 @@ impl Worker {
         other: Option<&Worker>,
     ) -> Result<Solver, AllocError>
         requires { IsTableSize table_entries }
-        ensures { IfOk result (λ solver. solver.search.table ≡ empty_table table_entries) }
+        ensures { IfOk result (HasEmptyTable table_entries) }
     {
         match other {
             Some(worker) => worker.solver.sharing_endings(alloc, table_entries),

@@ -1,5 +1,5 @@
 -- A new worker takes the last pass of each list, so the passes left and then those of the workers, the newest first, stay all passes.
-use Rattle.std.proofs.{lemmas.Grind.{common_steps}, Common.{arith, ap, ◌∙◌}}
+use Rattle.std.proofs.{lemmas.Grind.{common_steps}, Common.{arith, ◌∙◌}}
 use Rattle.kalah_run.{specs.declared.batch.worker.Worker.{Worker}, proofs.WorkerLemmas.{one_given, tables_more}}
 use Rattle.kalah_run.proofs.batch.open_batch.PassLists.make_workers.Goals as goal
 
@@ -13,7 +13,7 @@ loop-preserved c =
       as_many = omega (arith, c.in-Some.ensures.len, c.in-Some-pop.ensures.len);
       passes = one_given (λ (w : Worker). w.pass) _ _ is of.passes.0 c.in-Some.ensures.items so_far.passes;
       puts = one_given (λ (w : Worker). w.put_pass) _ _ is of.passes.1 c.in-Some-pop.ensures.items so_far.puts;
-      tables = tables_more _ _ _ is (ap (λ s. s.search.table) of.solver ∙ c.in_ok-solver.ensures) so_far.tables;
+      tables = tables_more _ _ _ is (rw of.solver c.in_ok-solver.ensures) so_far.tables;
       passes_room = c.in-Some.ensures.capacity ∙ so_far.passes_room;
       puts_room = c.in-Some-pop.ensures.capacity ∙ so_far.puts_room;
       room = omega (arith, c.in-Some.ensures.len);
