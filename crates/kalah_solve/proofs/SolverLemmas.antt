@@ -262,13 +262,6 @@ verdict_of_going p margin house going margin_at house_at = cc
 pub verdict_of_over : (p : Position) (margin : ℤ) → is_over p ≡ true → margin ≡ final_margin p → Over margin ≡ verdict_of p
 verdict_of_over p margin over margin_is = cc
 
--- a legal house with a margin that a player can have
-pub small_best : (p : Position) (margin : ℤ) (house : ℕ) → IsWithinLimits p → Contains (legal_houses p) house
-    → IsMarginInRange margin → IsBestInRange margin house
-small_best p margin house limits legal is_small =
-    let holds = legal_holds p legal in
-    record { small = is_small; first = holds.first; last = omega arith }
-
 -- the verdict states how best play ends
 pub verdict_states : (p : Position) (v : Verdict) → HasEqualSides p → v ≡ verdict_of p → StatesBestPlay p v
 verdict_states p v equal v_is =
@@ -314,11 +307,6 @@ pub values_tell_verdict : ValuesTellVerdict
 values_tell_verdict p equal going = grind (arith, map-map, worth_of_going, first_with)
 
 -- ==== The first house that attains the margin of best play, and the margin with the stores
-
--- in the whole window the answer is the worth
-pub whole_window : {a : HousesState} {found lo hi : ℤ} → AreWithinLimits a → lo ≡ least_margin → hi ≡ most_margin
-    → found ≡ clamped lo hi (houses_worth a) → found ≡ houses_worth a
-whole_window {a} limits lo_is hi_is found_is = omega (arith, ints, clamps, worth_low limits, worth_high limits)
 
 -- the legal house with index i
 abbrev legal_at : HousesState → ℕ → ℕ

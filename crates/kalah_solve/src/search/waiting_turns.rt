@@ -7,7 +7,7 @@ use kalah_rules::Houses;
 /// Turns that wait to be searched, each with its priority and the houses that it leaves.
 #[derive(Clone, Copy)]
 pub(super) struct WaitingTurns {
-    // As many as the processor compares at once. They are 0 if no turn waits there.
+    // Eight, which the processor compares at once; 0 where no turn waits.
     pub(super) priorities: [u16; 8],
     pub(super) turns: [Houses; 6],
     ghost placed: { ArePlaced priorities turns },

@@ -1,8 +1,8 @@
--- The worth of the houses tells what best play wins, which `best_house` is asked for, and with the stores it is the margin.
+-- The worth of the houses gives what best play wins, by which `best_house` finds the house, and with the stores the margin.
 use Rattle.std.proofs.{Common.{arith, rules, sym, ap, ◌∙◌, ◌≡◌, w32}, lemmas.Int.{ints, to_z-of_z}}
-use Rattle.kalah_rules.{specs.Position.{HousesState, storeless}, proofs.StepLemmas.{houses_within}}
+use Rattle.kalah_rules.{specs.Position.{HousesState, storeless}, proofs.{PlayLemmas.{legal_holds}, StepLemmas.{houses_within}}}
 use Rattle.kalah_solve.specs.{best_house, houses_worth, declared.solver.Verdict.TheVariants.{Over}}
-use Rattle.kalah_solve.proofs.{SolverLemmas.{verdict_of_going, verdict_of_over, small_best, verdict_states}, WorthLemmas.{best_of_houses, best_found, board_equal_sides}, BoundsLemmas.{worth_low, worth_high, half_is_won}}
+use Rattle.kalah_solve.proofs.{SolverLemmas.{verdict_of_going, verdict_of_over, verdict_states}, WorthLemmas.{best_of_houses, best_found, board_equal_sides}, BoundsLemmas.{worth_low, worth_high, half_is_won}}
 use Rattle.kalah_solve.proofs.solver.Solver.solve.Given as given
 use Rattle.kalah_solve.proofs.solver.Solver.solve.Goals as goal
 
@@ -39,8 +39,7 @@ house_is g c = c.best_house-house.ensures ∙ ap (λ (a : HousesState). best_hou
 pub returns-clause-verdict : goal.returns-clause-verdict
 returns-clause-verdict g c =
     rw (to_z-of_z w32 c.worth_of_board-margin.result (search rules))
-    (verdict_of_going c.args.board.now c.worth_of_board-margin.result c.best_house-house.result (sym c.if-is_over.ensures.over)
-    c.worth_of_board-margin.ensures.worth (house_is g c))
+    (verdict_of_going _ _ _ (sym c.if-is_over.ensures.over) c.worth_of_board-margin.ensures.worth (house_is g c))
 
 pub returns-clause-best_play : goal.returns-clause-best_play
 returns-clause-best_play g c =
@@ -50,6 +49,7 @@ pub returns-clause-small : goal.returns-clause-small
 returns-clause-small g c =
     let p = c.args.board.now in
     let limits = c.is_over.ensures.limits in
+    let found = (best_found (board_equal_sides p limits) (sym c.if-is_over.ensures.over)).0 in
+    let holds = legal_holds p {h = c.best_house-house.result} (rw (house_is g c) found) in
     rw (to_z-of_z w32 c.worth_of_board-margin.result (search rules))
-    (small_best p c.worth_of_board-margin.result c.best_house-house.result limits
-    (rw (house_is g c) (best_found (board_equal_sides p limits) (sym c.if-is_over.ensures.over)).0) c.worth_of_board-margin.ensures.small)
+    (record { small = c.worth_of_board-margin.ensures.small; first = holds.first; last = omega arith })
