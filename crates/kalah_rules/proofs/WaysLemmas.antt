@@ -108,9 +108,6 @@ six_more n h low =
     let suc_of : h + 1 - 1 ≡ suc (h - 1) = omega arith in
     rw suc_of omega arith
 
-pub before_none : (n : ℕ) (p : Position) → AreWaysBefore n p 1 0
-before_none n p = omega arith
-
 -- a house with seeds adds the ways after its move
 pub before_more : {n : ℕ} {p : Position} {h total : ℕ} (count : ℕ) → AreWaysBefore n p h total → 1 ≤ h → 0 < seeds p.own h
     → count ≡ ways_by n p h → count ≤ most_houses ^ n → AreWaysBefore n p (h + 1) (total + count)

@@ -4,11 +4,11 @@
 -- to be played: in the set of `try_remaining`; all others that don't end in the store wait or were tried (`ArePlayed`);
 -- waiting: its turn must be searched (`AreTurns`; `AreWaiting` once all were played);
 -- tried: it wins at most `most`, a bound for all that were tried. In `bound_by_moves` all that don't wait were tried (`AreUntried`).
-use Rattle.std.proofs.{Common.{◌≡◌, ℕ, ◌+◌, ◌*◌, ◌-◌, ◌<◌, ◌≤◌, inl, inr, List, get_or, arith, refl, sym, ap, ◌∙◌, length, subst, ◌↔◌, Bool, false, IsTrue, Contains, ◌%◌, max, slice_set, sum}, lemmas.{Bool.{cases_lt, cases_eq}, List.{get_or-set_same, get_or-set_other, get_or_default, get_or_past, set_past}}}
+use Rattle.std.proofs.{Common.{◌≡◌, ℕ, ◌+◌, ◌*◌, ◌-◌, ◌<◌, ◌≤◌, inl, inr, List, get_or, arith, refl, sym, ap, ◌∙◌, length, subst, ◌↔◌, Bool, false, IsTrue, Contains, ◌%◌, max, slice_set}, lemmas.{Bool.{cases_lt, cases_eq}, List.{get_or-set_same, get_or-set_other, get_or_default, get_or_past, set_past}}}
 use Rattle.kalah_solve.specs.{cell, IsLastIn, without_house, IsSoftBound, WinsAtMost, IsTurnOf, AreTurns, AreWaiting, ArePlaced, IsEmpty, IsTaken, won, won_by_step}
 use Rattle.kalah_solve.proofs.{HouseSetLemmas.{AreMovable, EachOutside, cell_of_zero, into_store_legal, seeded_is_legal, movable_before_last, each_before_last, each_outside_without_last}, WorthLemmas.{LeadsOnAt, played_leads_on}, BoundsLemmas.{won_at_most, won_of_houses, won_reached}}
-use Rattle.kalah_rules.specs.{Limits.{most_seeds}, Position.{HousesState, AreWithinLimits, total_seeds, is_over, storeless}, Sowing.{EndsDirectlyInStore}, HousesStep.{houses_step}, declared.step.HousesStep.TheVariants.{Turn}}
-use Rattle.kalah_rules.proofs.PlayLemmas.{IsLegal, legal_holds, sum-set_zero}
+use Rattle.kalah_rules.specs.{Position.{HousesState, AreWithinLimits, total_seeds, is_over, storeless}, Sowing.{EndsDirectlyInStore}, HousesStep.{houses_step}, declared.step.HousesStep.TheVariants.{Turn}}
+use Rattle.kalah_rules.proofs.PlayLemmas.{IsLegal, legal_holds}
 
 -- ==== The measure of a call (`Invariants.antt` of the search)
 

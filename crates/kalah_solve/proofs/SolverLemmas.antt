@@ -4,7 +4,7 @@ use Rattle.kalah_rules.specs.{Limits.{most_houses}, Position.{Position, HasEqual
 use Rattle.kalah_rules.proofs.{PlayLemmas.{IsLegal, legal_holds, after_equal_sides, after_fewer, find_first, moves_left-swapped}, StepLemmas.{houses_within, is_over-swapped}}
 use Rattle.kalah_solve.specs.{worth, value_of_move, best_house, houses_worth}
 use Rattle.kalah_solve.specs.{Strategy, IsStrategy, Policy, follow, Game, Secures, HoldsTo, IsBestPlay, IsBestMove, IsWorthOfMove}
-use Rattle.kalah_solve.specs.{verdict_of, IsBestInRange, StatesBestPlay}
+use Rattle.kalah_solve.specs.{verdict_of, StatesBestPlay}
 use Rattle.kalah_solve.specs.{EndsInTime, StrategiesPlayAGame, StrategiesPlayOneGame, GamesEnd, WorthIsBestPlay, BestPlayIsOne}
 use Rattle.kalah_solve.specs.{BestHouseIsBestPlay, EndsWithAtLeast, EndsWithAtMost, BestPlayAgainstStrategies, BestHouseIsLowest}
 use Rattle.kalah_solve.specs.{BestMovesAttain, BestVerdictIsOne}
@@ -307,6 +307,11 @@ pub values_tell_verdict : ValuesTellVerdict
 values_tell_verdict p equal going = grind (arith, map-map, worth_of_going, first_with)
 
 -- ==== The first house that attains the margin of best play, and the margin with the stores
+
+-- in the whole window the answer is the worth
+pub whole_window : {a : HousesState} {found lo hi : ℤ} → AreWithinLimits a → lo ≡ least_margin → hi ≡ most_margin
+    → found ≡ clamped lo hi (houses_worth a) → found ≡ houses_worth a
+whole_window {a} limits lo_is hi_is found_is = omega (arith, ints, clamps, worth_low limits, worth_high limits)
 
 -- the legal house with index i
 abbrev legal_at : HousesState → ℕ → ℕ

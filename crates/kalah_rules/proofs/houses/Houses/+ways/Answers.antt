@@ -1,7 +1,7 @@
 -- Each round adds the ways that begin with one more legal house.
 use Rattle.std.proofs.{Common.{arith, inl, inr, sym, ◌≡◌, ◌+◌, ◌-◌, ◌∙◌}, lemmas.Bool.Decides.{nat_tests}}
 use Rattle.kalah_rules.{specs.{storeless, HoldsSeeds}, proofs.houses.Houses.+ways.Goals.{ways-then-own-gt0, ways-else-own-gt0}}
-use Rattle.kalah_rules.proofs.{PlayLemmas.{holds_legal, legal_holds}, WaysLemmas.{ways_none, ways_over, ways_by_step, before_none, before_more, before_same, before_all, before_small, power_fits}}
+use Rattle.kalah_rules.proofs.{PlayLemmas.{holds_legal, legal_holds}, WaysLemmas.{ways_none, ways_over, ways_by_step, before_more, before_same, before_all, before_small, power_fits}}
 use Rattle.kalah_rules.proofs.houses.Houses.+ways.Goals as goal
 
 pub ways-returns-then-depth-eq0-clause-ways : goal.ways-returns-then-depth-eq0-clause-ways
@@ -13,9 +13,6 @@ pub ways-returns-then-is_over-clause-ways : goal.ways-returns-then-is_over-claus
 ways-returns-then-is_over-clause-ways t c =
     let more : c.args.depth - 1 + 1 ≡ c.args.depth = omega arith in
     sym (rw more at (ways_over (c.args.depth - 1) (storeless c.args.self.now) (sym c.is_over.ensures ∙ c.if-is_over.true)))
-
-pub ways-loop-h-init : goal.ways-loop-h-init
-ways-loop-h-init t c = before_none (c.args.depth - 1) (storeless c.args.self.now)
 
 pub ways-ways_by-sum-requires : goal.ways-ways_by-sum-requires
 ways-ways_by-sum-requires t c =

@@ -1,7 +1,7 @@
 -- The rows after the move are the fields of the next houses, as they stand if the mover moves again, and exchanged if the turn passes.
-use Rattle.std.proofs.Common.{arith, sym, refl, ◌∙◌, ◌+◌, ◌-◌, ◌*◌, ◌/◌, ◌%◌, ◌^◌}
+use Rattle.std.proofs.Common.{arith, sym, ◌∙◌, ◌+◌, ◌-◌, ◌*◌, ◌/◌, ◌%◌, ◌^◌}
 use Rattle.kalah_rules.specs.{Again, Turn}
-use Rattle.kalah_rules.proofs.{KeyLemmas.{fields_of, rows_of_fields}, StepLemmas.{IsStepOfFields, store_within, store_small, over_own, over_other, again_fields, turn_fields}, houses.Houses.step.Goals.{Then-again, Else-again}}
+use Rattle.kalah_rules.proofs.{KeyLemmas.{fields_of}, StepLemmas.{IsStepOfFields, store_within, store_small, over_own, over_other, again_fields, turn_fields}, houses.Houses.step.Goals.{Then-again, Else-again}}
 use Rattle.kalah_rules.proofs.houses.Houses.step.Goals as goal
 
 pub overflow_sub-seeds : goal.overflow_sub-seeds
@@ -36,9 +36,6 @@ turn : (c : Else-again) → IsStepOfFields c.args.self.now c.args.house (c.args.
     (c.self.inside.seeds - c.args.rows.store) c.self.inside.variant (Turn c.args.rows.store)
 turn c = turn_fields c.self.invariant c.self.view_is c.requires.legal c.requires.rows c.if-own-eq0.false c.if-other-eq0.false
     (sym c.requires.again ∙ c.if-again.false)
-
-pub overflow_add-result : goal.overflow_add-result
-overflow_add-result c = omega (arith, (rows_of_fields (fields_of (turn c).fields refl)).fit)
 
 pub invariant_of-result-else-again : goal.invariant_of-result-else-again
 invariant_of-result-else-again c = (turn c).fields

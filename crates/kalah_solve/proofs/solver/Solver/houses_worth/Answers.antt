@@ -1,6 +1,8 @@
-use Rattle.std.proofs.{Common.{arith}, lemmas.Int.{ints, clamps}}
-use Rattle.kalah_solve.proofs.BoundsLemmas.{worth_low, worth_high}
+use Rattle.std.proofs.{Common.{rules, ◌∙◌, w32}, lemmas.Int.{to_z-of_z}}
+use Rattle.kalah_solve.proofs.SolverLemmas.{whole_window}
 use Rattle.kalah_solve.proofs.solver.Solver.houses_worth.Goals as goal
 
 pub returns : goal.returns
-returns g c = omega (arith, ints, clamps, c.whole.ensures, c.clamped_worth.ensures, worth_low c.requires.limits, worth_high c.requires.limits)
+returns g c =
+    to_z-of_z w32 c.clamped_worth.result (search rules) ∙ whole_window c.requires.limits
+    c.whole.ensures.lo c.whole.ensures.hi c.clamped_worth.ensures

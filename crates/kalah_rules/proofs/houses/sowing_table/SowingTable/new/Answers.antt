@@ -1,13 +1,7 @@
 -- After i cells each of them has the sowing that its number names.
-use Rattle.std.proofs.Common.{arith, rules, ◌∙◌, length-set}
+use Rattle.std.proofs.Common.{arith, ◌∙◌, length-set}
 use Rattle.kalah_rules.proofs.PackedLemmas.{sowings_more}
 use Rattle.kalah_rules.proofs.houses.sowing_table.SowingTable.new.Goals as goal
-
-pub loop-i-init : goal.loop-i-init
-loop-i-init c = record {
-  all = search rules;
-  right = λ m h c k d cell below. absurd (omega arith);
-}
 
 pub loop-i-preserved : goal.loop-i-preserved
 loop-i-preserved c =

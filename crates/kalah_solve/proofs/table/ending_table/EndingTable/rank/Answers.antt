@@ -37,11 +37,6 @@ module _ {a : HousesState} {step sums rank : ℕ} (limits : AreWithinLimits a) (
       limits.at_most_six (omega arith) ranked (5 - step) _ (omega arith)
       (rw (past, first, second) at (are k (omega (arith, two.0, two.1)) (omega (arith, two.0)))))
 
-pub loop-step-init : goal.loop-step-init
-loop-step-init g c =
-    let none : 0 + length c.args.houses.now.own - 6 ≡ 0 = omega arith in
-    rw none (record { left = c.sums_of-sums.ensures.sums; rank = omega arith })
-
 pub bounds-self-inside-step : goal.bounds-self-inside-step
 bounds-self-inside-step g c =
     let two = few_here c.m-m.ensures.limits c.requires c.loop-step-test.true (omega arith) c.loop-step.invariant in
