@@ -30,13 +30,11 @@ put_digit_is_there k n d none small = omega (arith, add-mul-div_right, pow_pos)
 
 -- what is put at a later place leaves all digits before it
 same_digits_before : (j k n d : ℕ) → j < k → stored_at (n + d * 2 ^ (4 * k)) j ≡ stored_at n j
-same_digits_before j k n d before =
-    let past = k - suc j in
-    let exponent : 4 * k ≡ 4 * suc past + 4 * j = omega arith in
-    let worth : 2 ^ (4 * k) ≡ 16 * 2 ^ (4 * past) * 2 ^ (4 * j) =
-    rw (exponent, pow-add 2 (4 * suc past) (4 * j), power_of_next_place past) refl in
-    let all : d * 2 ^ (4 * k) ≡ d * (16 * 2 ^ (4 * past)) * 2 ^ (4 * j) = rw worth (omega arith) in
-    rw (all, add-mul-div_right n (d * (16 * 2 ^ (4 * past))) (pow_pos (4 * j))) (omega arith)
+same_digits_before j zero n d before = omega arith
+same_digits_before zero (suc k) n d before = rw (power_of_next_place k) (omega arith)
+same_digits_before (suc j) (suc k) n d before =
+    let sixteenth : (n + d * 2 ^ (4 * suc k)) / 16 ≡ n / 16 + d * 2 ^ (4 * k) = rw (power_of_next_place k) (omega arith) in
+    rw (digits_from_next_place, digits_from_next_place n j, sixteenth) (same_digits_before j k _ d (omega arith))
 
 -- a digit put at an empty place leaves each other digit
 same_digits_elsewhere : (j k n d : ℕ) → j ≢ k → stored_at n k ≡ 0 → d < 16

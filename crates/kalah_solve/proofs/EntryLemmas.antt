@@ -1,5 +1,5 @@
 -- What the entries of a table state of the worth of houses stays true.
-use Rattle.std.proofs.Common.{ℕ, ◌≡◌, inl, inr, arith, sym, List, ◌∙◌, eqb-true, Option, Some, None, Result, nat_eq, IfSome, IsSome, IsOk, OnOk, OnErr, ◌⊎◌}
+use Rattle.std.proofs.Common.{ℕ, ◌≡◌, arith, sym, List, ◌∙◌, eqb-true, Option, Some, None, Result, nat_eq, IfSome, IsSome, IsOk, OnOk, OnErr, ◌⊎◌}
 use Rattle.kalah_rules.{specs.{Position.{HousesState, AreWithinLimits}, Key.{key_of}}, proofs.KeyLemmas.{key-injective}}
 use Rattle.std.specs.{Map.{lookup}, Cmp.{nat_eq_equiv}}
 use Rattle.lru.specs.LruCache.{LruCache, lru_cache, put_entries}
@@ -22,13 +22,7 @@ module _ (c : LruCache ℕ Interval) (a : HousesState) (k : ℕ) (i : Interval) 
   put_entry e value key_is = grind arith
 
   put_keeps_true : AreTrueEntries (put_entries nat_eq c k i)
-  put_keeps_true = λ e h. elim (Contains-put_entries nat_eq c k i e h) [
-    | inl was ↦ entries e was
-    | inr put ↦ elim put.1 [
-      | inl at ↦ put_entry e put.0 at
-      | inr other ↦ put_entry e put.0 (sym (eqb-true _ _ other.2))
-    ]
-  ]
+  put_keeps_true = λ e h. grind (arith, Contains-put_entries nat_eq c k i e h, put_entry, eqb-true)
 
   -- both outcomes of a put
   pub true_after_put : {X E : Type 0} (r : Result X E) (new : LruCache ℕ Interval)

@@ -44,10 +44,7 @@ cell_xor (suc i) a b = ap (λ n. cell n i) (xor_shr a b 5) ∙ cell_xor i (a / 3
 
 -- six cells with at most one each are a mask
 mask_of_six : {mask : ℕ} → mask < 2 ^ 30 → ((i : ℕ) → i < 6 → cell mask i ≤ 1) → IsMask mask
-mask_of_six {mask} small single = record {
-  small = small;
-  single = λ i. elim (cases_lt i 6) [ inl inside ↦ single i inside | inr past ↦ omega (arith, cell_past 6 i mask small past) ];
-}
+mask_of_six {mask} small single = record { small = small; single = λ i. grind (arith, cases_lt, cell_past 6 i mask small) }
 
 -- ==== The last house of a set
 

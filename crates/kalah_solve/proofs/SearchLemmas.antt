@@ -89,10 +89,7 @@ place_inside {priority = priority} placed found some =
 
 -- a cell that was set to 0 holds 0
 none_at : (xs : List ℕ) (at : ℕ) → get_or (slice_set xs at 0) at 0 ≡ 0
-none_at xs at = elim (cases_lt at (length xs)) [
-  | inl inside ↦ get_or-set_same xs at 0 0 inside
-  | inr past ↦ rw (set_past xs at 0 past) (get_or_past xs at 0 past)
-]
+none_at xs at = grind (arith, cases_lt, get_or-set_same, set_past, get_or_past)
 
 -- the turns that wait, with one more
 turns_with_one_more : {a b : HousesState} (at v : ℕ) {priorities : List ℕ} {turns : List HousesState} → AreTurns a priorities turns

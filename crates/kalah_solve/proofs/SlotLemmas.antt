@@ -1,5 +1,5 @@
 -- What the slots of houses state stays true: a slot and a tag determine the key.
-use Rattle.std.proofs.{Common.{ℕ, ◌≡◌, ◌+◌, ◌*◌, ◌/◌, ◌%◌, ◌^◌, ◌-◌, ◌<◌, ◌≤◌, inl, inr, arith, sym, refl, ap, List, length, ◌∙◌, pow_mono, slice_set, pow_pos, pow-add}, Math.{Nat.{div-div-eq-div-mul, div-lt_iff_lt-mul}, ListN.{replicate, length-replicate, length-set}}, lemmas.{Bool.{cases_lt, cases_eq}, List.{get_or-set_same, get_or-set_other, get_or-replicate}}}
+use Rattle.std.proofs.{Common.{ℕ, ◌≡◌, ◌+◌, ◌*◌, ◌/◌, ◌%◌, ◌^◌, ◌-◌, ◌<◌, ◌≤◌, arith, sym, refl, ap, List, length, ◌∙◌, pow_mono, slice_set, pow_pos, pow-add}, Math.{Nat.{div-div-eq-div-mul, div-lt_iff_lt-mul}, ListN.{replicate, length-replicate, length-set}}, lemmas.{Bool.{cases_lt, cases_eq}, List.{get_or-set_same, get_or-set_other, get_or-replicate}}}
 use Rattle.kalah_rules.specs.{Limits.{most_seeds}, Position.{HousesState, AreWithinLimits}, Key.{key_of}}
 use Rattle.kalah_rules.proofs.KeyLemmas.{key-injective, key_fits}
 use Rattle.kalah_solve.specs.{won, mixed, slot_index, tag_of, stored_tag, stored_least, stored_most, IsWithinSlot, AreTrueSlots, declared.table.slot_table.Slot.{Slot}}
@@ -42,10 +42,7 @@ houses_by_slot_and_tag s a b enough limits_a limits_b rest place =
 
 -- a power of two that is more than half of a number of at least 1,024 is at least 2^10
 pub ten_bits : (bits n : ℕ) → 1024 ≤ n → n < 2 * 2 ^ bits → 10 ≤ bits
-ten_bits bits n some next = elim (cases_lt bits 10) [
-  | inl few ↦ absurd (omega (arith, pow_mono {i = bits} {j = 9} (omega (arith, few))))
-  | inr many ↦ many
-]
+ten_bits bits n some next = grind (arith, cases_lt, pow_mono {i = bits} {j = 9})
 
 -- slots stay true once one more is stored
 pub bounds_more : (s : ℕ) (slots : List Slot) {a : HousesState} {number at : ℕ} {p : Slot} → s ≤ 54 → AreTrueSlots s slots
