@@ -64,14 +64,14 @@ cr_is_one (byte ∷ more ∷ line) = omega (arith, cr_is_one (more ∷ line))
 -- a line of `kept_bytes` bytes is too long
 too_long : (question : Question) (line : List ℕ) → kept_bytes ≤ length line → entry_for question line ≡ Bad Long
 unfolding entry_for
-too_long question line long = ap (entry_of_reading question) (long_is_read line (omega (arith, cr_is_one line, long)))
+too_long question line long = ap (entry_of_reading question) (long_is_read line (omega (arith, cr_is_one line)))
 
 -- the bytes that are kept have the entry of the line
 kept_bytes_have_the_entry : (question : Question) (line : List ℕ) → entry_for question (take kept_bytes line) ≡ entry_for question line
 kept_bytes_have_the_entry question line = elim (cases_lt kept_bytes (length line)) [
   | inl long ↦
-      too_long question (take kept_bytes line) (omega (arith, length-take-le kept_bytes line (omega (arith, long))))
-      ∙ sym (too_long question line (omega (arith, long)))
+      too_long question (take kept_bytes line) (omega (arith, length-take-le kept_bytes line (omega arith)))
+      ∙ sym (too_long question line (omega arith))
   | inr short ↦ ap (entry_for question) (take_all kept_bytes line short)
 ]
 
@@ -158,55 +158,56 @@ nothing_read question before old line empty = record {
   unended = All-nil IsNoFeed;
   kept = empty;
   taken = Consumes-nil before;
-  written = subst (Appends old old) (sym (no_answers question)) (Appends-nil old);
+  written = rw no_answers (Appends-nil old);
   status = refl;
 }
 
 -- what happens next, once lines are answered so far
 module _ {question : Question} {before now old new : Option (List ℕ)} {line : List ℕ} {all_read : Bool}
     (so_far : IsAnsweredSoFar question before now old new line all_read) where
+  open so_far use {lines, part, ended, unended}
+
   -- what was written is kept
-  answers_kept : (kept : Option (List ℕ)) → Keeps new kept → Appends old kept (answers_for question so_far.lines)
-  answers_kept kept keeps = Appends-kept old new kept (answers_for question so_far.lines) so_far.written keeps
+  answers_kept : (kept : Option (List ℕ)) → Keeps new kept → Appends old kept (answers_for question lines)
+  answers_kept kept keeps = Appends-kept old new kept (answers_for question lines) so_far.written keeps
 
   -- what was written is kept, and more is written
   more_written : (kept more : Option (List ℕ)) (bytes : List ℕ) → Keeps new kept → Appends kept more bytes
-      → Appends old more (answers_for question so_far.lines ++ bytes)
+      → Appends old more (answers_for question lines ++ bytes)
   more_written kept more bytes keeps appends =
-      Appends-trans old kept more (answers_for question so_far.lines) bytes (answers_kept kept keeps) appends
+      Appends-trans old kept more (answers_for question lines) bytes (answers_kept kept keeps) appends
 
   -- more bytes are taken after those of the lines and of the part
   more_taken : (next : Option (List ℕ)) (bytes : List ℕ) → Consumes now next bytes
-      → Consumes before next (so_far.lines ++ (so_far.part ++ bytes))
+      → Consumes before next (lines ++ (part ++ bytes))
   more_taken next bytes taken =
-      subst (Consumes before next) (append_assoc so_far.lines so_far.part bytes)
-      (Consumes-trans _ _ _ (so_far.lines ++ so_far.part) bytes so_far.taken taken)
+      rw append_assoc at (Consumes-trans before now next (lines ++ part) bytes so_far.taken taken)
 
   -- at the end the bytes of the lines and of the part are all
-  all_taken : (next : Option (List ℕ)) → Consumes now next [] → Consumes before next (so_far.lines ++ so_far.part)
-  all_taken next end = subst (λ l. Consumes before next (so_far.lines ++ l)) (append-nil so_far.part) (more_taken _ _ end)
+  all_taken : (next : Option (List ℕ)) → Consumes now next [] → Consumes before next (lines ++ part)
+  all_taken next end = rw append-nil at (more_taken next [] end)
 
-  reply_whole : reply question line ≡ reply question so_far.part
-  reply_whole = ap (reply question) so_far.kept ∙ kept_reply question so_far.part
+  reply_whole : reply question line ≡ reply question part
+  reply_whole = ap (reply question) so_far.kept ∙ kept_reply question part
 
-  reply_part : last_reply question line ≡ answers_for question so_far.part
-  reply_part = ap (last_reply question) so_far.kept ∙ sym (last_reply_is question so_far.part so_far.unended)
+  reply_part : last_reply question line ≡ answers_for question part
+  reply_part = ap (last_reply question) so_far.kept ∙ sym (last_reply_is question part unended)
 
   -- what a reader took is a byte that is known, or nothing
   taken_is : (next : Option (List ℕ)) {found known : Option ℕ} → found ≡ known → Consumes now next (option_to_list found)
       → Consumes now next (option_to_list known)
-  taken_is next found_is taken = subst (λ byte. Consumes now next (option_to_list byte)) found_is taken
+  taken_is next found_is taken = rw found_is at taken
 
   -- a byte more was read, which ends no line
   pub byte_read : {next kept : Option (List ℕ)} {found : Option ℕ} {longer : List ℕ} (byte : ℕ) → found ≡ Some byte
       → byte ≢ line_feed → Consumes now next (option_to_list found) → Keeps new kept → longer ≡ take kept_bytes (line ++ byte ∷ [])
       → IsAnsweredSoFar question before next old kept longer all_read
   byte_read {next} {kept} byte found_is other taken keeps longer_is = record {
-    lines = so_far.lines;
-    part = so_far.part ++ byte ∷ [];
-    ended = so_far.ended;
-    unended = All-push IsNoFeed so_far.part byte so_far.unended other;
-    kept = longer_is ∙ ap (λ l. take kept_bytes (l ++ byte ∷ [])) so_far.kept ∙ take_more_kept kept_bytes so_far.part byte;
+    lines = lines;
+    part = part ++ byte ∷ [];
+    ended = ended;
+    unended = All-push IsNoFeed part byte unended other;
+    kept = longer_is ∙ ap (λ l. take kept_bytes (l ++ byte ∷ [])) so_far.kept ∙ take_more_kept kept_bytes part byte;
     taken = more_taken _ _ (taken_is next found_is taken);
     written = answers_kept kept keeps;
     status = so_far.status;
@@ -218,60 +219,59 @@ module _ {question : Question} {before now old new : Option (List ℕ)} {line : 
       → Appends kept more (reply question line) → is_read ≡ not (is_faulty line) → empty ≡ []
       → IsAnsweredSoFar question before next old more empty (all_read && is_read)
   line_read {next} {more} kept found_is feed taken keeps answered read empty_is =
-      let whole : List ℕ = so_far.part ++ line_feed ∷ [] in
-      let one = feed_ends_one_line so_far.part so_far.unended in
+      let whole : List ℕ = part ++ line_feed ∷ [] in
+      let one = feed_ends_one_line part unended in
       record {
-        lines = so_far.lines ++ whole;
+        lines = lines ++ whole;
         part = [];
-        ended = inr (so_far.lines ++ so_far.part, sym (append_assoc so_far.lines so_far.part (line_feed ∷ [])));
+        ended = inr (lines ++ part, sym (append_assoc lines part (line_feed ∷ [])));
         unended = All-nil IsNoFeed;
         kept = empty_is;
-        taken = subst (Consumes before next) (sym (append-nil (so_far.lines ++ whole)))
+        taken = subst (Consumes before next) (sym (append-nil (lines ++ whole)))
             (more_taken _ _ (taken_is next (found_is ∙ ap Some feed) taken));
         written = subst (Appends old more)
-            (ap (answers_for question so_far.lines ++◌) reply_whole
-            ∙ sym (answers_to_more question so_far.lines whole so_far.part so_far.ended one))
+            (ap (answers_for question lines ++◌) reply_whole
+            ∙ sym (answers_to_more question lines whole part ended one))
             (more_written _ _ _ keeps answered);
-        status = ap₂ (λ a b. a && b) so_far.status (read ∙ ap (λ l. not (is_faulty l)) so_far.kept ∙ ap not (kept_faulty so_far.part))
-            ∙ sym (all_read_more so_far.lines whole so_far.part so_far.ended one);
+        status = ap₂ (λ a b. a && b) so_far.status (read ∙ ap (λ l. not (is_faulty l)) so_far.kept ∙ ap not (kept_faulty part))
+            ∙ sym (all_read_more lines whole part ended one);
       }
 
   -- a read failed
   pub cut_off : {next kept : Option (List ℕ)} → Keeps now next → Keeps new kept → IsCutOff question before next old kept
   cut_off {next} {kept} left keeps = record {
-    lines = so_far.lines;
-    part = so_far.part;
-    ended = so_far.ended;
-    unended = so_far.unended;
-    taken = Consumes-kept _ _ _ (so_far.lines ++ so_far.part) so_far.taken left;
+    lines = lines;
+    part = part;
+    ended = ended;
+    unended = unended;
+    taken = Consumes-kept _ _ _ (lines ++ part) so_far.taken left;
     written = answers_kept kept keeps;
   }
 
   -- nothing more was read or written
   pub begun_so_far : {next kept : Option (List ℕ)} → Keeps now next → Keeps new kept → IsBegun question before next old kept
   begun_so_far {next} {kept} left keeps = record {
-    lines = so_far.lines;
-    last = so_far.part;
-    ended = so_far.ended;
-    one = one_line so_far.part so_far.unended;
-    taken = Consumes-kept _ _ _ (so_far.lines ++ so_far.part) so_far.taken left;
+    lines = lines;
+    last = part;
+    ended = ended;
+    one = one_line part unended;
+    taken = Consumes-kept _ _ _ (lines ++ part) so_far.taken left;
     count = 0;
-    written = subst (Appends old kept) (sym (append-nil (answers_for question so_far.lines))) (answers_kept kept keeps);
+    written = rw append-nil (answers_kept kept keeps);
   }
 
   -- as much was read as makes one line at most, and its answer was begun
   begun : {next more : Option (List ℕ)} (kept : Option (List ℕ)) (last answer : List ℕ) → length (lines_of last) ≤ 1
-      → Consumes before next (so_far.lines ++ last) → answer ≡ answers_for question last → Keeps new kept
+      → Consumes before next (lines ++ last) → answer ≡ answers_for question last → Keeps new kept
       → AppendsPrefix kept more answer → IsBegun question before next old more
   begun {next} {more} kept last answer one taken answer_is keeps start = record {
-    lines = so_far.lines;
+    lines = lines;
     last = last;
-    ended = so_far.ended;
+    ended = ended;
     one = one;
     taken = taken;
     count = start.0;
-    written = more_written _ _ _ keeps
-        (subst (λ l. Appends kept more (take start.0 l)) answer_is start.1);
+    written = more_written _ _ _ keeps (rw answer_is at start.1);
   }
 
   -- of a line that ended
@@ -279,16 +279,16 @@ module _ {question : Question} {before now old new : Option (List ℕ)} {line : 
       → byte ≡ line_feed → Consumes now next (option_to_list found) → Keeps new kept
       → AppendsPrefix kept more (reply question line) → IsBegun question before next old more
   begun_line {next} kept found_is feed taken =
-      let one = feed_ends_one_line so_far.part so_far.unended in
-      begun kept (so_far.part ++ line_feed ∷ []) (reply question line) (rw one (omega arith))
+      let one = feed_ends_one_line part unended in
+      begun kept (part ++ line_feed ∷ []) (reply question line) (rw one (omega arith))
       (more_taken _ _ (taken_is next (found_is ∙ ap Some feed) taken))
-      (reply_whole ∙ sym (answers_to_one question (so_far.part ++ line_feed ∷ []) so_far.part one))
+      (reply_whole ∙ sym (answers_to_one question (part ++ line_feed ∷ []) part one))
 
   -- of what stands after the last line feed, if nothing is left
   pub begun_last : {next more : Option (List ℕ)} {found : Option ℕ} (kept : Option (List ℕ)) → found ≡ None
       → Consumes now next (option_to_list found) → Keeps new kept → AppendsPrefix kept more (last_reply question line)
       → IsBegun question before next old more
-  begun_last {next} kept none taken = begun kept so_far.part (last_reply question line) (one_line so_far.part so_far.unended)
+  begun_last {next} kept none taken = begun kept part (last_reply question line) (one_line part unended)
       (all_taken next (taken_is next none taken)) reply_part
 
   -- of all that was read, if the whole was written
@@ -297,13 +297,13 @@ module _ {question : Question} {before now old new : Option (List ℕ)} {line : 
       → Appends kept more (last_reply question line) → is_read ≡ is_last_read line
       → IsAnswered question before next old more (all_read && is_read)
   all_answered {next} {more} kept none taken at_end keeps answered read = record {
-    read = so_far.lines ++ so_far.part;
+    read = lines ++ part;
     taken = all_taken next (taken_is next none taken);
-    all = Consumes-whole before now (so_far.lines ++ so_far.part) (λ bytes. so_far.lines ++ so_far.part ≡ bytes) so_far.taken at_end refl;
-    written = subst (Appends old more) (sym (answers_split question so_far.lines so_far.part so_far.ended))
-        (more_written _ _ _ keeps (subst (Appends kept more) reply_part answered));
+    all = Consumes-whole before now (lines ++ part) (λ bytes. lines ++ part ≡ bytes) so_far.taken at_end refl;
+    written = rw (answers_split question lines part ended)
+        (more_written _ _ _ keeps (rw reply_part at answered));
     status = ap₂ (λ a b. a && b) so_far.status (read ∙ ap is_last_read so_far.kept)
-        ∙ sym (last_read so_far.lines so_far.part so_far.ended so_far.unended);
+        ∙ sym (last_read lines part ended unended);
   }
 
 -- what holds if all was read, answered and flushed

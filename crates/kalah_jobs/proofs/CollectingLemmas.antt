@@ -131,7 +131,7 @@ module _ {jobs : List (List Entry)} {past : List OutcomeState} {files : List Arr
             → now ≡ Some (answer_of e))
             (λ e entry_is offered. cc (wanted.entry_is, entry_is))
             (λ f k apart e entry_is offered.
-            grind (arith, apart, Contains-push_cases past o (line_job f k e) offered, holds.arrived f k e entry_is));
+            grind (arith, Contains-push_cases past o (line_job f k e) offered, holds.arrived f k e entry_is));
         only = each_line files o a wanted.file_there wanted.line_there
             (λ f k now. (b : Answer) → now ≡ Some b → IsOffered jobs (past ++ o ∷ []) f k b)
             (λ b same. record { entry = o.entry; entry_is = wanted.entry_is; answer_is = cc; offered = Contains-push past o })
@@ -210,7 +210,7 @@ first_lines_more {jobs} {files = files} f t holds is_next =
     let entry_is : entry_at jobs f n ≡ Some offer.entry = ap (entry_at jobs f) (sym is_next.first) ∙ offer.entry_is in
     let low : n < length (enumerate_from 0 entries) =
     omega (arith, slice_get_within entries n offer.entry entry_is, length-enumerate_from 0 entries) in
-    let numbered = get_or-enumerate_from 0 entries n (0, offer.entry) (omega (arith, low, length-enumerate_from 0 entries)) in
+    let numbered = get_or-enumerate_from 0 entries n (0, offer.entry) (omega (arith, length-enumerate_from 0 entries)) in
     let entry = get_or_from_slice_get entries n offer.entry offer.entry entry_is in
     let next : get_or (answered_lines_of jobs f) n t ≡ t =
     get_or-map answered_line (enumerate_from 0 entries) n (0, offer.entry) t low ∙ ap answered_line numbered
@@ -328,7 +328,7 @@ keeps_its_law jobs events files run =
     let all = runs_keep jobs [] events (new_files jobs) files run (new_files_agree jobs) in
     let holds = all.0.offered in
     let arrived : (f k : ℕ) → HasArrived jobs events f k → IsSome (arrived_for (state_of files f) k) =
-    λ f k has_arrived. grind (arith, has_arrived, holds.arrived f k) in
+    λ f k has_arrived. grind (arith, holds.arrived f k) in
     let only : (f k : ℕ) → IsSome (arrived_for (state_of files f) k) → HasArrived jobs events f k =
     λ f k has_arrived.
     let answer = some_value (arrived_for (state_of files f) k) has_arrived in
@@ -356,7 +356,7 @@ each_arrived : {jobs : List (List Entry)} {got : List OutcomeState} → IsPermut
     → entry_at jobs f k ≡ Some e → Contains got (line_job f k e)
 each_arrived {jobs} {got} each_once f k e entry_is =
     let o : OutcomeState = line_job f k e in
-    contains_from_times o got (grind (arith, each_once.same_counts (same_job o), times_in_jobs o jobs, same_entry_itself e, entry_is))
+    contains_from_times o got (grind (arith, each_once.same_counts (same_job o), times_in_jobs o jobs, same_entry_itself e))
 
 -- an offer among the jobs that was not offered before
 module _ {jobs : List (List Entry)} {past : List OutcomeState} {files : List ArrivalsState} (o : OutcomeState) (rest : List OutcomeState)
@@ -374,12 +374,12 @@ module _ {jobs : List (List Entry)} {past : List OutcomeState} {files : List Arr
         each_once.same_counts (same_job o),
         times_in_jobs o jobs,
       ) in
-      let is_hit = hit o.entry (entry_at jobs o.file o.line) (omega (arith, once)) in
+      let is_hit = hit o.entry (entry_at jobs o.file o.line) (omega arith) in
       let arrived = refused_had_arrived holds o.file o.line o.entry r is_hit.0 refused in
       let answer = some_value (arrived_for (state_of files o.file) o.line) arrived in
       let offer = holds.only o.file o.line answer.0 answer.1 in
       let same : offer.entry ≡ o.entry = cc (offer.entry_is, is_hit.0) in
-      omega (arith, once, is_hit.1, times_from_contains o past (rw same at offer.offered))
+      omega (arith, is_hit.1, times_from_contains o past (rw same at offer.offered))
 
 -- if each job was offered, each file has ended
 pub fronts_full : {jobs : List (List Entry)} {past : List OutcomeState} {files : List ArrivalsState} → IsPermutationOfJobs jobs past
@@ -391,7 +391,7 @@ fronts_full {jobs} {files = files} each_once holds f =
     let entry_is : entry_at jobs f k ≡ Some e =
     slice_get-get_or (entries_of jobs f) k no_job.entry (omega (arith, lines_are jobs files holds.counts f)) in
     ap is_some (holds.arrived f k e entry_is (each_arrived each_once f k e entry_is))) in
-    omega (arith, all, front_within arrived)
+    omega (arith, front_within arrived)
 
 pub accepts_each_job : AcceptsEachJob
 accepts_each_job jobs past o rest files after (Ok ready) each_once run step = refl

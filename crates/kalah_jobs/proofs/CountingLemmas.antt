@@ -1,6 +1,6 @@
 -- Jobs counted by tests: what is got of jobs that were shared out, and how often a job stands in a list.
 use Rattle.std.proofs.Common.{◌≡◌, ℕ, ◌+◌, ◌<◌, List, [], ◌∷◌, length, set, get_or, true, refl, arith, Bool, ◌&&◌, ◌==◌, ap, eq-eqb}
-use Rattle.std.proofs.Common.{if◌then◌else◌, cond, ◌++◌, map, slice_index_or, ◌∙◌, sym, subst, length-set, get_or-set_other}
+use Rattle.std.proofs.Common.{if◌then◌else◌, cond, map, slice_index_or, ◌∙◌, sym, length-set, get_or-set_other}
 use Rattle.std.proofs.Common.{get_or-set_same, lt-ltb, sum_by, count_by, nat_lt, sum, ◌⊎◌, zero, suc, ◌≤◌, false, ◌≢◌, inl, inr, Option}
 use Rattle.std.proofs.Common.{Some, None, Contains, slice_get}
 use Rattle.std.proofs.lemmas.Bool.{cases_eq, cases_Bool, Decides.{nat_tests}}
@@ -72,11 +72,11 @@ rows_count n rows q once =
     let below : All (λ z. z < length counts) flat = λ k d within.
     let z = get_or flat k d in
     let some = rw (eq-eqb z z refl) at (get_or-le-sum_by (λ y. cond (y == z) 1 0) flat k d within) in
-    let low : z < n = grind (arith, times_in_flat z, some, nat_tests) in
-    omega (arith, many) in
+    let low : z < n = grind (arith, times_in_flat z, nat_tests) in
+    omega arith in
     let own : (x : ℕ) → x < length counts → in_class (λ y. y) q x flat ≡ get_or counts x 0 = λ x low.
-    class_of_number q x flat ∙ ap (λ c. if q x then c else 0) (times_in_flat x ∙ rw (lt-ltb x n (omega (arith, low, many))) refl)
-    ∙ sym (get_or-map-range_with_len passes 0 n x x 0 (omega (arith, low, many)) (omega arith)) in
+    class_of_number q x flat ∙ ap (λ c. if q x then c else 0) (times_in_flat x ∙ rw (lt-ltb x n (omega arith)) refl)
+    ∙ sym (get_or-map-range_with_len passes 0 n x x 0 (omega arith) (omega arith)) in
     sym (count_flat q rows) ∙ by_class (λ y. y) q flat counts below own ∙ sum-map passes (range_with_len 0 n)
 
 -- for each test, the number of received results that pass it equals that of the results of all numbers
@@ -89,7 +89,7 @@ got_all_once {X} p {n} {f} {rows} {got} shared =
     count_map p (λ (t : ℕ × X). t.1) got
     ∙ by_class (λ t. t.0) (λ t. p t.1) got counts (rw many shared.workers)
     (λ w low.
-    let within : w < length rows = omega (arith, low, many) in
+    let within : w < length rows = omega arith in
     class_of_worker p w got ∙ ap (count_by p) (shared.whole w within) ∙ count_map p f (slice_index_or rows w [])
     ∙ sym (get_or-map (count_by q) rows w [] 0 within))
     ∙ sum-map (count_by q) rows ∙ rows_count n rows q shared.each_once
@@ -112,9 +112,9 @@ pub gets_each_job_once : GetsEachJobOnce
 gets_each_job_once jobs rows got rest shared whole =
     let n : ℕ = length (job_list jobs) in
     let none : rest ≡ [] =
-    nil_from_length rest (omega (arith, as_many_as_numbers shared, length-append got rest, whole)) in
+    nil_from_length rest (omega (arith, as_many_as_numbers shared, length-append got rest)) in
     let mine : AreShared n (job jobs) rows got =
-    subst (AreShared n (job jobs) rows) (ap (got ++◌) none ∙ append-nil got) shared in
+    rw (none, append-nil) at shared in
     record {
       same_counts = λ p.
           got_all_once p mine
@@ -178,7 +178,7 @@ contains_from_times o (x ∷ xs) some = elim (cases_Bool (same_job o x)) [
 pub times_from_contains : (o : Job) (xs : List Job) → Contains xs o → 0 < times_offered o xs
 times_from_contains o xs contained =
     let least = get_or-le-sum_by (λ x. cond (same_job o x) 1 0) xs contained.0 o contained.1 in
-    grind (arith, nat_tests, contained.2, least, same_entry_itself o.entry)
+    grind (arith, nat_tests, contained.2, same_entry_itself o.entry)
 
 -- how often an offer with this entry stands at a place with that one
 abbrev pub hits : Entry → Option Entry → ℕ
@@ -196,7 +196,7 @@ times_elsewhere : (o : Job) (f k : ℕ) (entries : List Entry) → (o.file ≡ f
 times_elsewhere o f k [] none = refl
 times_elsewhere o f k (e ∷ entries) none =
     let one = count_by-cons (same_job o) (line_job f k e) (file_jobs f (suc k) entries) in
-    grind (arith, nat_tests, one, none, times_elsewhere o f (suc k) entries (λ file low. none file (omega arith)))
+    grind (arith, nat_tests, times_elsewhere o f (suc k) entries (λ file low. none file (omega arith)))
 
 -- at its place among the lines of its file
 times_in_file : (o : Job) (f k i : ℕ) (entries : List Entry) → o.file ≡ f → o.line ≡ k + i
@@ -204,10 +204,10 @@ times_in_file : (o : Job) (f k i : ℕ) (entries : List Entry) → o.file ≡ f 
 times_in_file o f k i [] file line = refl
 times_in_file o f k zero (e ∷ entries) file line =
     let one = count_by-cons (same_job o) (line_job f k e) (file_jobs f (suc k) entries) in
-    grind (arith, nat_tests, one, times_elsewhere o f (suc k) entries (λ same low. omega arith))
+    grind (arith, nat_tests, times_elsewhere o f (suc k) entries (λ same low. omega arith))
 times_in_file o f k (suc i) (e ∷ entries) file line =
     let one = count_by-cons (same_job o) (line_job f k e) (file_jobs f (suc k) entries) in
-    grind (arith, nat_tests, one, times_in_file o f (suc k) i entries file (omega arith))
+    grind (arith, nat_tests, times_in_file o f (suc k) i entries file (omega arith))
 
 -- in the first file, and in those after it
 times_in_both : (o : Job) (f : ℕ) (entries : List Entry) (jobs : List (List Entry)) → times_offered o (jobs_from f (entries ∷ jobs))
@@ -219,7 +219,7 @@ times_later : (o : Job) (f : ℕ) (jobs : List (List Entry)) → o.file < f → 
 times_later o f [] low = refl
 times_later o f (entries ∷ jobs) low =
     let first = times_elsewhere o f 0 entries (λ same _. omega arith) in
-    omega (arith, first, times_in_both o f entries jobs, times_later o (suc f) jobs (omega arith))
+    omega (arith, times_in_both o f entries jobs, times_later o (suc f) jobs (omega arith))
 
 -- at its place in the files' lines
 times_from_file : (o : Job) (f g : ℕ) (jobs : List (List Entry)) → o.file ≡ f + g
@@ -227,10 +227,10 @@ times_from_file : (o : Job) (f g : ℕ) (jobs : List (List Entry)) → o.file �
 times_from_file o f g [] file = refl
 times_from_file o f zero (entries ∷ jobs) file =
     let first = times_in_file o f 0 o.line entries (omega arith) (omega arith) in
-    omega (arith, first, times_in_both o f entries jobs, times_later o (suc f) jobs (omega arith))
+    omega (arith, times_in_both o f entries jobs, times_later o (suc f) jobs (omega arith))
 times_from_file o f (suc g) (entries ∷ jobs) file =
     let first = times_elsewhere o f 0 entries (λ same _. omega arith) in
-    omega (arith, first, times_in_both o f entries jobs, times_from_file o (suc f) g jobs (omega arith))
+    omega (arith, times_in_both o f entries jobs, times_from_file o (suc f) g jobs (omega arith))
 
 -- an offer stands among the jobs once if it is one of them, and else never
 pub times_in_jobs : (o : Job) (jobs : List (List Entry)) → times_offered o (job_list jobs) ≡ hits o.entry (entry_at jobs o.file o.line)

@@ -52,7 +52,7 @@ unfolding lines_of
 lines_of-last bytes n some none =
     let nothing : take n (drop (length bytes) bytes) ≡ [] =
     ap (take n) (drop_all (length bytes) bytes (omega arith)) ∙ take-nil n in
-    lines_of-open bytes none (λ e. omega (arith, ap length e, some)) ∙ ap (λ rest. bytes ∷ lines_of rest) (sym nothing)
+    lines_of-open bytes none (λ e. omega (arith, ap length e)) ∙ ap (λ rest. bytes ∷ lines_of rest) (sym nothing)
 
 -- what cutting off the first line needs
 pub ruleset first_lines = (lines_of-cut, lines_of-last, take_all)
@@ -162,7 +162,7 @@ lines_of-feeds (piece ∷ pieces) rest whole =
 no_others : (bytes : List ℕ) (pieces : List (List ℕ)) → AreLines bytes pieces → pieces ≡ lines_of bytes
 unfolding lines_of
 no_others bytes pieces are = elim are.parts [
-  | inl closed ↦ grind (arith, append-nil, closed, lines_of-feeds pieces [] are.whole)
+  | inl closed ↦ grind (arith, append-nil, lines_of-feeds pieces [] are.whole)
   | inr unended ↦
       let whole = All-pop HasNoLineFeed pieces unended.before (Some unended.last) unended.pieces_are are.whole in
       grind (arith, lines_of-feeds unended.before unended.last whole.0, lines_of-open unended.last whole.1 unended.some_bytes)

@@ -114,7 +114,6 @@ starts_more {jobs} {starts} {start} entries so_far start_is = record {
   before = λ f low.
       grind (
         arith,
-        low,
         length-append starts (start ∷ []),
         length-append jobs (entries ∷ []),
         take-append-le f jobs (entries ∷ []),
@@ -153,10 +152,10 @@ one_more_read {question} {files} {count} {jobs} {entries = entries} file so_far 
           ∙ sym (map-append (λ f. entries_for question f.bytes) (take count files) (get_or files count file ∷ []))
           ∙ ap (jobs_for question) (sym (take_more files count file low));
       starts_are = starts_more entries so_far.starts_are so_far.before_is;
-      before_is = omega (arith, all, so_far.before_is, many_are);
-      lines = omega (arith, so_far.lines, next, lines, ap lines_in file_is, many_are);
-      faults_are = omega (arith, so_far.faults_are, found_are, sum_by_push (count_by is_faulty_entry) jobs entries);
-      fewer = omega (arith, so_far.fewer, found_are, many_are, count_by-le-length is_faulty_entry entries);
+      before_is = omega (arith, so_far.before_is);
+      lines = omega (arith, so_far.lines, lines, ap lines_in file_is);
+      faults_are = omega (arith, so_far.faults_are, sum_by_push (count_by is_faulty_entry) jobs entries);
+      fewer = omega (arith, so_far.fewer, count_by-le-length is_faulty_entry entries);
       many = omega (arith, so_far.many, length-append jobs (entries ∷ []));
     }
 

@@ -1,5 +1,5 @@
 -- The line of a position: how it is read, what its end says, and the first fault of any other line.
-use Rattle.std.proofs.{Common.{◌≡◌, ℕ, ◌+◌, ◌<◌, ◌≤◌, inl, inr, List, [], ◌∷◌, ◌++◌, length, Some, refl, sym, ap, subst, ◌∙◌, arith, ◌==◌, Option, None, append_assoc, eqb-true, Result, Ok, Err, ◌≢◌, append-nil, codes}, lemmas.Bool.{cases_lt, lt-ltb, le-ltb, ne_eqb, Decides.{nat_tests, eqb_tells}}}
+use Rattle.std.proofs.{Common.{◌≡◌, ℕ, ◌+◌, ◌<◌, ◌≤◌, inl, inr, List, [], ◌∷◌, ◌++◌, length, Some, refl, sym, ap, ◌∙◌, arith, ◌==◌, Option, None, append_assoc, eqb-true, Result, Ok, Err, ◌≢◌, append-nil, codes}, lemmas.Bool.{cases_lt, lt-ltb, le-ltb, ne_eqb, Decides.{nat_tests, eqb_tells}}}
 use Rattle.kalah_rules.specs.{Limits.{most_houses, most_seeds}, Position.{Position, side_length, seeds_in_houses}}
 use Rattle.kalah_jobs.specs.{most_line_bytes, IsNumber, zero_digit, slash, IsSide, space, suffix_of, IsLineOf, without_cr, HasSidesInLimits, Reads, Holds, HasFault, carriage_return, letter_e, order_of, NoLineReadsTwice, OnlyTheSuffixNamesTheRule, ◌>>=◌, SideRead, side_at, rule_of_suffix, position_of_sides, position_from, position_of_text, admitted, admitted_if_written, reading_of, LineFault, Rule, Classic, EmptyCapture, Long, Empty, Shape, Houses, Seeds}
 use Rattle.kalah_jobs.proofs.SideLemmas.{both_succeed, passes_and_succeeds, side_is_written, side_is_read}
@@ -30,8 +30,8 @@ line_of_sides {text} {rest} {own} {other} {rule} own_read space_next other_read 
           first.parts ∙ ap (first.text ++◌) space_next ∙ ap (λ (t : List ℕ). first.text ++ space ∷ t) second.parts
           ∙ ap (λ (t : List ℕ). first.text ++ space ∷ (second.text ++ t)) (suffix_is_written other.rest rule rule_read)
           ∙ sym (append_assoc first.text (space ∷ second.text) (suffix_of rule));
-      own_side = subst (λ houses. IsSide first.text houses own.store) (sym first.houses_are) first.side;
-      other_side = subst (λ houses. IsSide second.text houses other.store) (sym second.houses_are) second.side;
+      own_side = simp first.houses_are first.side;
+      other_side = simp second.houses_are second.side;
     }
 
 -- two sides with a space between them, and a suffix, are read as their position
@@ -51,8 +51,7 @@ rest_is_written text own (mark ∷ rest) p own_read rest_is position_read =
     let other = both_succeed (side_at rest) with_rule p read.1 in
     let rule = both_succeed (rule_of_suffix other.value.rest) (λ rule. Some (position_of_sides own other.value rule)) p other.second in
     let same : position_of_sides own other.value rule.value ≡ p = cc rule.second in
-    subst (IsLineOf text) same
-    (line_of_sides own_read (rest_is ∙ ap (◌∷ rest) (eqb-true mark space read.0)) other.first rule.first)
+    rw (← same) (line_of_sides own_read (rest_is ∙ ap (◌∷ rest) (eqb-true mark space read.0)) other.first rule.first)
 
 -- what is read is written
 pub line_is_written : (text : List ℕ) (p : Position) → position_of_text text ≡ Some p → IsLineOf text p
@@ -70,7 +69,7 @@ line_is_read text p line =
     line.parts ∙ append_assoc line.own_text (space ∷ line.other_text) (suffix_of p.rule) in
     rw (
       parts,
-      side_is_read (space ∷ rest) line.own_side (λ digit. omega (arith, digit)),
+      side_is_read (space ∷ rest) line.own_side (λ digit. omega arith),
       side_is_read (suffix_of p.rule) line.other_side (grind arith),
       suffix_is_read p.rule,
     ) refl
@@ -118,7 +117,7 @@ not_empty {p = p} form empty = empty_is_no_line p (rw empty at form)
 
 -- if the sides of the position are within the limits, those of the line are
 not_houses : {text : List ℕ} {p : Position} → IsLineOf text p → HasSidesInLimits p → ¬ Holds Houses text
-not_houses form sides (q, (other, wrong)) = wrong (subst HasSidesInLimits (one_position form other) sides)
+not_houses form sides (q, (other, wrong)) = wrong (rw (one_position form other) at sides)
 
 -- a line of few bytes that writes the position is read as it, or has a fault of houses or seeds
 position_is_read : (line : List ℕ) (p : Position) → length (without_cr line) ≤ most_line_bytes → NoneBefore (without_cr line) 4
@@ -126,7 +125,7 @@ position_is_read : (line : List ℕ) (p : Position) → length (without_cr line)
 position_is_read line p few none form = elim (eqb_tells (length p.other) (side_length p)) [
   | inl same ↦ elim (cases_lt most_houses (side_length p)) [
     | inl many ↦
-        rw (same.0, lt-ltb _ _ many) (record { holds = (p, (form, λ sides. omega (arith, many, sides.at_most_six))); first = none })
+        rw (same.0, lt-ltb _ _ many) (record { holds = (p, (form, λ sides. omega (arith, sides.at_most_six))); first = none })
     | inr six ↦
         let sides : HasSidesInLimits p = record { same_side = same.1; at_most_six = six } in
         elim (cases_lt most_seeds (seeds_in_houses p)) [
@@ -160,7 +159,7 @@ few_are_read : (line : List ℕ) → length (without_cr line) ≤ most_line_byte
     → position_of_text (without_cr line) ≡ r → IsReading line (admitted_if_written r (without_cr line))
 few_are_read line few r read_as =
     let text : List ℕ = without_cr line in
-    let none = nor_this {text = text} Long (none_at_first text) (λ long. omega (arith, few, long)) in
+    let none = nor_this {text = text} Long (none_at_first text) (λ long. omega arith) in
     (elim r as (λ (r : Option Position). position_of_text text ≡ r → IsReading line (admitted_if_written r text)) [
       | None ↦ λ read_as. nothing_is_read line text refl none read_as
       | Some p ↦ λ read_as.
@@ -187,12 +186,12 @@ no_line_reads_twice line p q first second = one_position first.form second.form
 
 -- a line that is read has no fault
 no_fault : (line : List ℕ) (p : Position) → Reads line p → (fault : LineFault) → ¬ Holds fault (without_cr line)
-no_fault line p reads Long long = omega (arith, reads.few_bytes, long)
+no_fault line p reads Long long = omega (arith, reads.few_bytes)
 no_fault line p reads Empty empty = not_empty reads.form empty
 no_fault line p reads Shape none = none p reads.form
 no_fault line p reads Houses other = not_houses reads.form reads.sides other
 no_fault line p reads Seeds (q, (form, many)) =
-    omega (arith, ap seeds_in_houses (one_position form reads.form), many, reads.few_seeds)
+    omega (arith, ap seeds_in_houses (one_position form reads.form), reads.few_seeds)
 
 -- no line has two first faults
 one_fault : (line : List ℕ) (a b : LineFault) → HasFault line a → HasFault line b → a ≡ b
@@ -252,7 +251,7 @@ side_ends_in_digit : (byte : ℕ) {text houses : List ℕ} {store : ℕ} → IsS
 side_ends_in_digit byte {text} {store = store} side =
     let last : last_or byte text ≡ last_or slash side.store_text =
     ap (last_or byte) side.parts ∙ last_or-append byte side.houses_text slash side.store_text in
-    omega (arith, last, number_ends_in_digit slash side.store_text store side.store_written)
+    omega (arith, number_ends_in_digit slash side.store_text store side.store_written)
 
 -- a line that ends in ` e` is under the empty-capture rule
 rule_of_end : (rule : Rule) (text own other front : List ℕ) → text ≡ own ++ space ∷ other ++ suffix_of rule
@@ -262,7 +261,7 @@ rule_of_end Classic text own other front parts digit ends =
     let last : letter_e ≡ last_or space other =
     sym (last_or-append 0 front space (letter_e ∷ [])) ∙ ap (last_or 0) (sym ends ∙ parts ∙ append-nil (own ++ space ∷ other))
     ∙ last_or-append 0 own space other in
-    absurd (omega (arith, last, digit))
+    absurd (omega arith)
 
 pub only_the_suffix_names_the_rule : OnlyTheSuffixNamesTheRule
 only_the_suffix_names_the_rule line p reads =

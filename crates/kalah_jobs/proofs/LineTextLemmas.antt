@@ -54,13 +54,13 @@ result_of_reading line (Err fault) reading = record { reads = tt; text = tt; sto
 
 -- the text of houses writes them
 text_writes_houses : (houses : List ℕ) → 1 ≤ length houses → sum houses ≤ 99 → AreHouses (listed houses) houses
-text_writes_houses [] some few = absurd (omega (arith, some))
+text_writes_houses [] some few = absurd (omega arith)
 text_writes_houses (n ∷ []) some few = decimal_writes_number n (omega arith)
 text_writes_houses (n ∷ m ∷ houses) some few =
     let all = sum_by-cons (λ (x : ℕ). x) n (m ∷ houses) in
-    let rest = text_writes_houses (m ∷ houses) (omega arith) (omega (arith, all)) in
+    let rest = text_writes_houses (m ∷ houses) (omega arith) (omega arith) in
     house_before_others (decimal n) (listed (m ∷ houses)) n (m ∷ houses)
-    (decimal_writes_number n (omega (arith, all))) rest
+    (decimal_writes_number n (omega arith)) rest
 
 -- the text of a side writes it
 text_writes_side : (houses : List ℕ) (store : ℕ) → 1 ≤ length houses → sum houses ≤ 99 → store ≤ 99
@@ -76,7 +76,7 @@ text_writes_side houses store some short low = record {
 -- ==== How long a text is
 
 small_number_length : (n : ℕ) → n ≤ 99 → length (decimal n) ≤ 2
-small_number_length n low = length-decimal-le 2 n (lit< tt) (omega (arith, low)) (omega (arith, low))
+small_number_length n low = length-decimal-le 2 n (lit< tt) (omega arith) (omega arith)
 
 -- houses take at most three bytes each
 houses_text_length : (houses : List ℕ) → sum houses ≤ 99 → length (listed houses) ≤ 3 * length houses
@@ -84,9 +84,9 @@ houses_text_length [] few = omega arith
 houses_text_length (n ∷ []) few = omega (arith, small_number_length n (omega arith))
 houses_text_length (n ∷ m ∷ houses) few =
     let all = sum_by-cons (λ (x : ℕ). x) n (m ∷ houses) in
-    let rest = houses_text_length (m ∷ houses) (omega (arith, all)) in
-    let first = small_number_length n (omega (arith, all)) in
-    omega (arith, first, rest, length-append (decimal n) (comma ∷ listed (m ∷ houses)))
+    let rest = houses_text_length (m ∷ houses) (omega arith) in
+    let first = small_number_length n (omega arith) in
+    omega (arith, length-append (decimal n) (comma ∷ listed (m ∷ houses)))
 
 -- a side takes at most 21 bytes
 side_text_length : (houses : List ℕ) (store : ℕ) → length houses ≤ most_houses → sum houses ≤ 99 → store ≤ 99
@@ -94,7 +94,7 @@ side_text_length : (houses : List ℕ) (store : ℕ) → length houses ≤ most_
 side_text_length houses store few short low =
     let own = houses_text_length houses short in
     let last = small_number_length store low in
-    omega (arith, few, own, last, length-append (listed houses) (slash ∷ decimal store))
+    omega (arith, length-append (listed houses) (slash ∷ decimal store))
 
 -- ==== The text of a position is read back
 
@@ -111,7 +111,6 @@ text_has_few_bytes p limits own_low other_low =
       side_text_length p.own p.own_store limits.at_most_six (omega (arith, limits.few_seeds)) own_low,
       side_text_length p.other p.other_store (omega (arith, limits.at_most_six, limits.same_side))
           (omega (arith, limits.few_seeds)) other_low,
-      short_suffix,
       length-append (own ++ space ∷ other) (suffix_of p.rule),
       length-append own (space ∷ other),
     )

@@ -195,7 +195,7 @@ module _ (store_text : List ℕ) (store : ℕ) (following : List ℕ) (stored : 
         side_from i houses (text ++ ending)
         ≡ Some (record { houses = houses ++ more; store = store; rest = following })
     houses_are_read text [] written i houses few = absurd written
-    houses_are_read text (n ∷ more) written zero houses few = absurd (omega (arith, few, some_bytes text n more written))
+    houses_are_read text (n ∷ more) written zero houses few = absurd (omega (arith, some_bytes text n more written))
       where
         some_bytes : (t : List ℕ) (m : ℕ) (others : List ℕ) → AreHouses t (m ∷ others) → 0 < length t
         some_bytes t m [] written = number_has_bytes t m written
@@ -203,7 +203,7 @@ module _ (store_text : List ℕ) (store : ℕ) (following : List ℕ) (stored : 
             omega (arith, ap length written.parts, length-append written.house_text (comma ∷ written.others_text))
     houses_are_read text (n ∷ []) written (suc i) houses few =
         rw (
-          number_is_read text n ending written (λ digit. omega (arith, digit)),
+          number_is_read text n ending written (λ digit. omega arith),
           number_is_read store_text store following stored ends,
         ) refl
     houses_are_read text (n ∷ m ∷ more) written (suc i) houses few =
@@ -212,8 +212,8 @@ module _ (store_text : List ℕ) (store : ℕ) (following : List ℕ) (stored : 
         ap (◌++ ending) written.parts
         ∙ append_assoc written.house_text (comma ∷ written.others_text) ending in
         let short : length written.others_text ≤ i =
-        omega (arith, few, ap length written.parts, length-append written.house_text (comma ∷ written.others_text)) in
-        rw (cut, number_is_read written.house_text n (comma ∷ rest) written.house_written (λ digit. omega (arith, digit)))
+        omega (arith, ap length written.parts, length-append written.house_text (comma ∷ written.others_text)) in
+        rw (cut, number_is_read written.house_text n (comma ∷ rest) written.house_written (λ digit. omega arith))
         (houses_are_read written.others_text (m ∷ more) written.others_written i (houses ++ n ∷ []) short
         ∙ ap (λ (all : List ℕ). Some (record { houses = all; store = store; rest = following })) (append_assoc houses (n ∷ []) (m ∷ more)))
 
@@ -255,7 +255,7 @@ unfolding side_at
 read_at_start bytes side are_kept none = record {
   houses = [];
   steps = length bytes;
-  room = omega (arith, none);
+  room = omega arith;
   enough = omega arith;
   are_kept = are_kept;
   goes_on = refl;
@@ -271,7 +271,7 @@ module _ {bytes : List ℕ} {side : Side} {rest : List ℕ} {n : ℕ} {after : L
   goes_on_after : side_at bytes ≡ after_house (store_at houses) (side_from (pred so_far.steps) houses) after
   goes_on_after =
       let shorter = rest_is_shorter rest (n, after) house in
-      grind (arith, shorter, so_far.goes_on, so_far.enough)
+      grind (arith, so_far.goes_on, so_far.enough)
 
   -- if a slash and a number follow it, the side ends with that store
   pub store_follows : {more following : List ℕ} {store : ℕ} → after ≡ slash ∷ more → number_at more ≡ Some (store, following) →
@@ -288,7 +288,7 @@ module _ {bytes : List ℕ} {side : Side} {rest : List ℕ} {n : ℕ} {after : L
   house_follows {new} {more} comma_next are_kept one = record {
     houses = houses;
     steps = pred so_far.steps;
-    room = omega (arith, so_far.room, one, shorter, ap length comma_next);
+    room = omega (arith, so_far.room, shorter, ap length comma_next);
     enough = omega (arith, so_far.enough, shorter, ap length comma_next);
     are_kept = are_kept;
     goes_on = goes_on_after ∙ rw comma_next refl;

@@ -15,7 +15,7 @@ pub prefix_then : (old between new : Option (List ℕ)) (text done rest : List �
 prefix_then old between new text done rest parts first start =
     let split : take (length done + start.0) text ≡ done ++ take start.0 rest = ap (take (length done + start.0)) parts
     ∙ take-append-add done rest start.0 in
-    (length done + start.0, subst (Appends old new) (sym split) (Appends-trans _ _ _ done (take start.0 rest) first start.1))
+    (length done + start.0, rw split (Appends-trans _ _ _ done (take start.0 rest) first start.1))
 
 -- a prefix is also one of what is longer
 pub prefix_longer : (old new : Option (List ℕ)) (text more : List ℕ) → AppendsPrefix old new text → AppendsPrefix old new (text ++ more)
@@ -49,7 +49,7 @@ module _ {old now : Option (List ℕ)} (next : Option (List ℕ)) {bytes rest : 
 
   -- the rest was written
   pub left_whole : Appends now next rest → Appends old next bytes
-  left_whole adds = subst (Appends old next) (sym left.parts) (Appends-trans _ _ _ left.done rest left.written adds)
+  left_whole adds = rw left.parts (Appends-trans _ _ _ left.done rest left.written adds)
 
   -- a part of the rest was written
   pub left_part : (taken : ℕ) → Appends now next (take taken rest)
@@ -119,12 +119,12 @@ module _ {O : Type 0} (state : O → SinkState) where
   given_then_if_sound old between new text more right first same second = by (state between).has_failed refl where
     by : (b : Bool) → (state between).has_failed ≡ b → WasGiven state old new (text ++ right)
     by true failed = given_then first (rw (second.quiet failed) (given_after_failure between right failed))
-    by false sound = given_then first (subst (WasGiven state between new) (same sound) second)
+    by false sound = given_then first (rw (same sound) at second)
 
   -- a text, and then a flush
   pub given_then_flush : {old between new : O} {text : List ℕ} → WasGiven state old between text → WasGiven state between new []
       → WasGiven state old new text
-  given_then_flush {old} {between} {new} {text} first second = subst (WasGiven state old new) (append-nil text) (given_then first second)
+  given_then_flush first second = rw append-nil at (given_then first second)
 
   -- a text that goes on after a failure
   pub given_more_after_failure : {old between : O} {text : List ℕ} (more : List ℕ) → WasGiven state old between text

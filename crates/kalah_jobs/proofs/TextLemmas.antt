@@ -1,6 +1,6 @@
 -- How positions, moves and answers are put together as text.
 use Rattle.std.proofs.Common.{SFits, of_z, to_z, w16, w32, ℕ, ◌<◌, ◌≤◌, ◌^◌, length, arith, ◌≡◌, zero, suc, List, ◌++◌, IsAscii, IsUtf8}
-use Rattle.std.proofs.Common.{subst, sym, refl, ◌+◌, [], ap, ◌∙◌, take, drop, append_assoc, ◌∷◌, map, get_or, flat_map, cond, ◌==◌}
+use Rattle.std.proofs.Common.{sym, refl, ◌+◌, [], ap, ◌∙◌, take, drop, append_assoc, ◌∷◌, map, get_or, flat_map, cond, ◌==◌}
 use Rattle.std.proofs.Common.{append-nil, add-one, Bool, false, codes, ◌-◌, filter, length-append, replicate, Contains, ℤ, pos, negsuc}
 use Rattle.std.proofs.Common.{slice_get, Some, drop_of_length-le}
 use Rattle.std.proofs.lemmas.{Bool.{ne_eqb, cond_both}, Fmt.{length-decimal-le, IsAscii-decimal, length_signed_le}, Int.{ints, to_z-of_z}}
@@ -28,7 +28,7 @@ u8_length n low = length-decimal-le 3 n (omega arith) (omega arith) (omega arith
 
 -- a piece of text before a text
 pub piece_before : (text piece old : List ℕ) → text ≡ piece ++ old → IsUtf8 piece → IsUtf8 old → IsUtf8 text
-piece_before text piece old text_is piece_utf8 old_utf8 = subst IsUtf8 (sym text_is) (IsUtf8-append piece old piece_utf8 old_utf8)
+piece_before text piece old text_is piece_utf8 old_utf8 = rw text_is (IsUtf8-append piece old piece_utf8 old_utf8)
 
 -- digits are text
 pub number_is_text : (n : ℕ) → n < 2 ^ 64 → IsUtf8 (decimal n)
@@ -50,7 +50,7 @@ pub blanks_before : {most : ℕ} (bytes : List ℕ) {part old : List ℕ} (start
     ≡ replicate n space ++ old
 blanks_before bytes start n many low old_is room blanks_are =
     let back : start - (start - n) ≡ n = omega (arith, length-drop start bytes, ap length old_is) in
-    let end : start - n + n ≡ start = omega (arith, back) in
+    let end : start - n + n ≡ start = omega arith in
     let blanks : length (take n (drop (start - n) bytes)) ≡ n = length-take-le n _ (omega (arith, length-drop (start - n) bytes)) in
     drop_at _ _ (start - n) (length-take-le (start - n) bytes (omega arith))
     ∙ rw (blanks_are, back, blanks, drop-drop n (start - n) bytes, end, old_is) refl
@@ -60,10 +60,10 @@ blanks_before bytes start n many low old_is room blanks_are =
 -- what stands at a place of the legal houses is legal
 pub move_is_legal : {legal moves : List ℕ} (i : ℕ) {h : ℕ} → moves ≡ legal → i < length moves → h ≡ get_or moves i 0 → Contains legal h
 move_is_legal {legal} {moves} i moves_are within h_is =
-    rw h_is (subst (λ houses. Contains houses (get_or moves i 0)) moves_are (Contains-get_or moves i 0 within))
+    rw (h_is, ← moves_are) (Contains-get_or moves i 0 within)
 
 suc_is_not_zero : (i : ℕ) → (suc i == 0) ≡ false
-suc_is_not_zero i = ne_eqb (suc i) 0 (λ e. omega (arith, e))
+suc_is_not_zero i = ne_eqb (suc i) 0 (λ e. omega arith)
 
 -- the text of each number, joined with the separator between any two
 module _ (joined : List ℕ → List ℕ) (text : ℕ → List ℕ) (separator : List ℕ) (none : joined [] ≡ [])
@@ -72,12 +72,12 @@ module _ (joined : List ℕ → List ℕ) (text : ℕ → List ℕ) (separator :
   -- one text more comes after the separator, unless it is the first
   one_more_joined : (xs : List ℕ) (i : ℕ) → i < length xs
       → joined (take (i + 1) xs) ≡ joined (take i xs) ++ (cond (i == 0) [] separator ++ text (get_or xs i 0))
-  one_more_joined [] i within = absurd (omega (arith, within))
+  one_more_joined [] i within = absurd (omega arith)
   one_more_joined (x ∷ xs) zero within = rw (none, one) refl
-  one_more_joined (x ∷ []) (suc i) within = absurd (omega (arith, within))
+  one_more_joined (x ∷ []) (suc i) within = absurd (omega arith)
   one_more_joined (x ∷ y ∷ xs) (suc zero) within = rw (more, one, one) refl
   one_more_joined (x ∷ y ∷ xs) (suc (suc i)) within =
-      let rest = rw add-one at (one_more_joined (y ∷ xs) (suc i) (omega (arith, within))) in
+      let rest = rw add-one at (one_more_joined (y ∷ xs) (suc i) (omega arith)) in
       rw (add-one, more, more) (simp (rest, suc_is_not_zero, append_assoc))
 
 module _ (place : List ℕ) (text : ℕ → List ℕ) where
@@ -88,7 +88,7 @@ module _ (place : List ℕ) (text : ℕ → List ℕ) where
   -- lines with a line feed between any two, and one at the end, are lines that end in one each
   pub lines_end_in_feeds : (moves : List ℕ) → 0 < length moves
       → joined_lines moves ++ line_feed ∷ [] ≡ flat_map (λ h. (place ++ text h) ++ line_feed ∷ []) moves
-  lines_end_in_feeds [] some = absurd (omega (arith, some))
+  lines_end_in_feeds [] some = absurd (omega arith)
   lines_end_in_feeds (h ∷ []) some = sym (append-nil ((place ++ text h) ++ line_feed ∷ []))
   lines_end_in_feeds (h ∷ k ∷ moves) some = simp (append_assoc, lines_end_in_feeds (k ∷ moves) (omega arith))
 
@@ -113,7 +113,7 @@ module _ (text : ℕ → List ℕ) where
 
 -- a number of 16 bits is read back from its bits, and from those that it is widened to
 read_back : (v z : ℤ) → SFits w16 v → z ≡ to_z w16 (of_z w16 v) → to_z w32 (of_z w32 z) ≡ v
-read_back v z fits z_is = ap (λ x. to_z w32 (of_z w32 x)) (z_is ∙ to_z-of_z w16 v fits) ∙ to_z-of_z w32 v (omega (arith, ints, fits))
+read_back v z fits z_is = ap (λ x. to_z w32 (of_z w32 x)) (z_is ∙ to_z-of_z w16 v fits) ∙ to_z-of_z w32 v (omega (arith, ints))
 
 -- an answer that begins with its margin
 pub from_margin : (answer : Answer) (margin : ℤ) (rest old : List ℕ) {text all : List ℕ} → SFits w32 margin
@@ -206,7 +206,7 @@ module _ {v z : ℤ} {end len : ℕ} (old : List ℕ) {text : List ℕ} (small :
 
   -- with the blanks before it, it fills the column
   pub value_longer : (n : ℕ) → n ≡ end + column_width - len + length text → n ≡ column_width + length old
-  value_longer n n_is = omega (arith, n_is, length_now, value_length v small)
+  value_longer n n_is = omega (arith, length_now, value_length v small)
 
   -- it stands at the right of the column
   pub value_at_right : (all : List ℕ) → all ≡ replicate (end + column_width - len) space ++ text → all ≡ value_column v ++ old
@@ -232,10 +232,10 @@ pub next_value : (filled : ℕ) (values : List MoveValue) (i : ℕ) {v : MoveVal
 next_value filled values i {v} value_is ascend small =
     let front = items_from values i v value_is in
     let rest = drop (i + 1) values in
-    let smaller = subst AreMoveValues front small in
+    let smaller = rw front at small in
     record {
       value = All-head IsMoveValue v rest smaller;
-      ascend = (subst (AscendFrom filled) front ascend).1;
+      ascend = (rw front at ascend).1;
       small = All-tail IsMoveValue v rest smaller;
     }
 
@@ -244,7 +244,7 @@ next_value filled values i {v} value_is ascend small =
 -- values that ascend from a higher house ascend from a lower one
 ascend_later : (low high : ℕ) (vs : List MoveValue) → low ≤ high → AscendFrom high vs → AscendFrom low vs
 ascend_later low high [] within ascend = tt
-ascend_later low high (v ∷ vs) within ascend = (omega (arith, within, ascend.0), ascend.1)
+ascend_later low high (v ∷ vs) within ascend = (omega (arith, ascend.0), ascend.1)
 
 -- the values of the houses that are kept ascend by their houses
 kept_ascend : (f : ℕ → Bool) (p : Position) (from n : ℕ) → AscendFrom from (map (move_value p) (filter f (range_with_len from n)))
@@ -260,10 +260,10 @@ values_ascend p = cond_both (is_over p) _ _ (λ houses. AscendFrom 1 (map (move_
 
 -- the values of a position have columns
 pub have_columns : (p : Position) (values : List MoveValue) → values ≡ values_of p → AscendFrom 0 values
-have_columns p values values_are = subst (AscendFrom 0) (sym values_are) (ascend_later 0 1 (values_of p) (omega arith) (values_ascend p))
+have_columns p values values_are = rw values_are (ascend_later 0 1 (values_of p) (omega arith) (values_ascend p))
 
 -- they are small
 pub are_small : (p : Position) (values : List MoveValue) → values ≡ values_of p → IsWithinLimits p → AreMoveValues values
-are_small p values values_are limits = subst AreMoveValues (sym values_are) (All-map IsMoveValue (move_value p) (legal_houses p)
+are_small p values values_are limits = rw values_are (All-map IsMoveValue (move_value p) (legal_houses p)
     (All-from_get_or (λ h. IsMoveValue (move_value p h)) (legal_houses p) 0
     (λ i within. move_value_small limits (Contains-get_or (legal_houses p) i 0 within))))

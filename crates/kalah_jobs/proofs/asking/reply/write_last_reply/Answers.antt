@@ -1,5 +1,5 @@
-use Rattle.std.proofs.Common.{◌≡◌, ◌==◌, ◌∙◌, ℕ, List, [], ◌∷◌, false, ap, length, refl, subst, sym}
-use Rattle.kalah_jobs.{specs.{last_reply, reply, Question, WasGiven}, proofs.SinkLemmas.{given_then_flush}}
+use Rattle.std.proofs.Common.{◌≡◌, ◌==◌, ◌∙◌, ℕ, List, [], ◌∷◌, false, ap, length, refl, sym}
+use Rattle.kalah_jobs.{specs.{last_reply, reply, Question}, proofs.SinkLemmas.{given_then_flush}}
 use Rattle.kalah_jobs.proofs.asking.reply.write_last_reply.Goals as goal
 
 -- bytes after the last line feed are answered as a line
@@ -10,5 +10,5 @@ last_is_line question (byte ∷ line) some = refl
 pub returns-clause-given : goal.returns-clause-given
 returns-clause-given g c =
     let some = sym c.if-is_empty.false ∙ c.is_empty.ensures ∙ ap (λ (bytes : List ℕ). length bytes == 0) c.bytes.ensures in
-    given_then_flush _ (subst (WasGiven g.O.Sink.state c.args.out.now c.write_reply-is_read.new.out)
-    (last_is_line c.args.question c.args.line.now some) c.write_reply-is_read.ensures.given) c.flush_unless_failed-2.ensures.given
+    given_then_flush _ (rw (last_is_line c.args.question c.args.line.now some) at c.write_reply-is_read.ensures.given)
+    c.flush_unless_failed-2.ensures.given

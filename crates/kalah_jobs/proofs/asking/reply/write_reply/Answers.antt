@@ -1,6 +1,6 @@
 -- Whether or not the output was flushed first, nothing but the answer is given to it; the answer is that of the line as it was read.
-use Rattle.std.proofs.{Common.{◌∙◌, ◌++◌, ◌∷◌, [], ap, arith, subst, sym}, lemmas.Grind.{common_steps}}
-use Rattle.kalah_jobs.specs.{entry_for, line_feed, answer_of, joined_text, WasGiven}
+use Rattle.std.proofs.{Common.{◌∙◌, [], ap, arith, sym}, lemmas.Grind.{common_steps}}
+use Rattle.kalah_jobs.specs.{entry_for, answer_of, WasGiven}
 use Rattle.kalah_jobs.proofs.{FilesLemmas.{asked_fault}, SinkLemmas.{given_more_after_failure, given_none, given_then}, asking.reply.write_reply.Goals.{else-takes_long, then-takes_long+else-failed}}
 use Rattle.kalah_jobs.proofs.asking.reply.write_reply.Goals as goal
 
@@ -16,8 +16,7 @@ returns-clause-given g c =
       | else-takes_long w ↦ rw w.out-is (given_none state c.args.out.now)
     ] in
     let answer = c.answer-answer.ensures ∙ ap answer_of (c.of_line-entry.ensures ∙ ap (entry_for c.args.question) c.bytes.ensures) in
-    subst (WasGiven state c.args.out.now c.write_joined_text.new.out) (ap (λ a. joined_text a ++ line_feed ∷ []) answer)
-    (given_then state flushed c.write_joined_text.ensures)
+    rw answer at (given_then state flushed c.write_joined_text.ensures)
 
 pub returns-clause-read : goal.returns-clause-read
 returns-clause-read g c = grind (arith, common_steps, asked_fault)

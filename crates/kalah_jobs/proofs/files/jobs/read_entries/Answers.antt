@@ -6,7 +6,7 @@ use Rattle.kalah_jobs.proofs.files.jobs.read_entries.Goals as goal
 pub overflow_add-faults : goal.overflow_add-faults
 overflow_add-faults c =
     let few = count_by-le-length is_faulty_entry c.loop-rest.entries.items in
-    omega (arith, few, c.loop-rest.invariant.faults, c.loop-rest.entries.ok, c.loop-rest.entries.small)
+    omega (arith, c.loop-rest.invariant.faults, c.loop-rest.entries.ok, c.loop-rest.entries.small)
 
 pub loop-rest-preserved : goal.loop-rest-preserved
 loop-rest-preserved c = grind (arith, common_steps)

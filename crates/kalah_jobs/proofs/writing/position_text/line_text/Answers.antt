@@ -1,4 +1,4 @@
-use Rattle.std.proofs.{Common.{◌≡◌, ◌++◌, ℕ, List, append-nil, ap, subst, sym, string_bytes, ◌∙◌}, lemmas.Result.{IfOk-weaker}}
+use Rattle.std.proofs.{Common.{◌≡◌, ◌++◌, ℕ, append-nil, ap, string_bytes, ◌∙◌}, lemmas.Result.{IfOk-weaker}}
 use Rattle.kalah_jobs.{specs.{Reads, line_text_of}, proofs.LineTextLemmas.{every_text_is_read_back}}
 use Rattle.kalah_jobs.proofs.writing.position_text.line_text.Goals as goal
 
@@ -9,6 +9,5 @@ returns-clause-read_back c =
     let same : c.as_str.result.now ≡ text =
     c.as_str.ensures ∙ c.prepend_board.ensures.line ∙ ap (text ++◌) c.new-text.ensures ∙ append-nil text in
     IfOk-weaker c.from_str.result (λ t. string_bytes t ≡ c.as_str.result.now) (λ t. Reads (string_bytes t) board)
-    (λ t e. subst (λ (u : List ℕ). Reads u board) (sym (e ∙ same))
-    (every_text_is_read_back board c.prepend_board.ensures.limits c.requires.own_low c.requires.other_low))
+    (λ t e. rw (e, same) (every_text_is_read_back board c.prepend_board.ensures.limits c.requires.own_low c.requires.other_low))
     c.from_str.ensures.ok

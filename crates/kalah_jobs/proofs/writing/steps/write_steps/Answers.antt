@@ -1,5 +1,5 @@
 -- After i moves their lines were given, each with its line feed; all of them are the lines joined, and one more line feed.
-use Rattle.std.proofs.Common.{◌≡◌, ◌++◌, ◌∷◌, [], ◌<◌, ◌≤◌, ◌∙◌, ℕ, List, ap, append_assoc, arith, length, map, subst, sym}
+use Rattle.std.proofs.Common.{◌≡◌, ◌++◌, ◌∷◌, [], ◌<◌, ◌∙◌, ℕ, List, ap, append_assoc, arith, length, map, subst, sym}
 use Rattle.std.specs.List.{join_with_byte}
 use Rattle.kalah_jobs.specs.{line_feed, step_text_of, house_step_text, WasGiven}
 use Rattle.kalah_jobs.proofs.{SinkLemmas.{given_all, given_more, given_none}, TextLemmas.{move_is_legal, lines_end_in_feeds}}
@@ -15,17 +15,16 @@ loop-i-preserved g c =
     let place = c.args.name.now ++ c.args.place.now in
     let one : ℕ → List ℕ = λ h. (place ++ house_step_text c.args.board.now h) ++ line_feed ∷ [] in
     let step = c.text_of_step-text.ensures.text ∙ ap (λ s. step_text_of c.get-h.result s ++ line_feed ∷ []) c.apply.ensures.step in
-    let line = subst (WasGiven g.W.Sink.state c.loop-i.out c.write_named.new.out)
-    (line_of_step c.args.name.now c.args.place.now _ step c.prepend.ensures.piece) c.write_named.ensures in
+    let line = rw (line_of_step c.args.name.now c.args.place.now _ step c.prepend.ensures.piece) at c.write_named.ensures in
     given_more _ one c.legal-moves.ensures.moves c.loop-i.i _ _ c.loop-i.invariant _ c.get-h.result
-    (subst (c.loop-i.i <◌) c.len-count.ensures c.loop-i-test.true) c.get-h.ensures line
+    (rw c.len-count.ensures at c.loop-i-test.true) c.get-h.ensures line
 
 pub loop-i-init : goal.loop-i-init
 loop-i-init g c = given_none _ _
 
 pub apply-requires : goal.apply-requires
 apply-requires g c =
-    move_is_legal c.loop-i.i c.legal-moves.ensures.moves (subst (c.loop-i.i <◌) c.len-count.ensures c.loop-i-test.true) c.get-h.ensures
+    move_is_legal c.loop-i.i c.legal-moves.ensures.moves (rw c.len-count.ensures at c.loop-i-test.true) c.get-h.ensures
 
 pub returns : goal.returns
 returns g c =
@@ -37,4 +36,4 @@ returns g c =
     (sym (lines_end_in_feeds place text moves some)
     ∙ ap (λ ms. join_with_byte line_feed (map (place ++◌) (map text ms)) ++ line_feed ∷ []) c.legal-moves.ensures.moves)
     (given_all _ (λ h. (place ++ text h) ++ line_feed ∷ []) (let same : moves ≡ moves = λ _. moves in same) c.loop-i.i _ _
-    c.loop-i.invariant (subst (◌≤ c.loop-i.i) c.len-count.ensures c.loop-i-test.false))
+    c.loop-i.invariant (rw c.len-count.ensures at c.loop-i-test.false))

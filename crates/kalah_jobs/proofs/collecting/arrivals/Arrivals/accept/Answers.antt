@@ -10,7 +10,7 @@ invariant_of-self c =
       | then-loop-self-test+else-is_some w ↦ front_stops _ _ (search rules)
       | else-loop-self-test w ↦ omega (arith, front_within c.loop-self.self-inside.arrived.items, w.loop-self-test.false)
     ] in
-    (omega (arith, stops, c.loop-self.invariant.within), search rules, search rules)
+    (omega (arith, c.loop-self.invariant.within), search rules, search rules)
 
 pub returns-clause-more_ready : goal.returns-clause-more_ready
 returns-clause-more_ready c = omega (arith, (invariant_of-self c).0, c.loop-self.invariant.low, c.self.invariant.0, ap front c.self.view_is)

@@ -15,7 +15,7 @@ overflow_cast-start c = omega (arith, c.loop-file.invariant.files.lines, c.if-no
 pub overflow_add-before : goal.overflow_add-before
 overflow_add-before c =
     let left = sum_by-drop_more lines_in c.args.files.now c.loop-file.file-index in
-    grind (arith, left, length-entries_for, c.if-not-are_lines_within_limit.ensures)
+    grind (arith, length-entries_for, c.if-not-are_lines_within_limit.ensures)
 
 pub overflow_cast-result-2 : goal.overflow_cast-result-2
 overflow_cast-result-2 c =
@@ -27,8 +27,8 @@ invariant_of-result c =
     let none = ap lines_in_all (drop_all c.loop-file.file-index c.args.files.now (omega (arith, c.loop-file-test.false))) in (
       record {
         few_files = omega (arith, so_far.many, c.loop-file.auto.file-index-end, c.if-files-gt-MOST_FILES.false);
-        lines_within_limit = omega (arith, none, so_far.before_is, so_far.lines, c.if-not-are_lines_within_limit.ensures);
-        all = omega (arith, none, so_far.before_is, so_far.lines, c.if-not-are_lines_within_limit.ensures);
+        lines_within_limit = omega (arith, so_far.before_is, so_far.lines, c.if-not-are_lines_within_limit.ensures);
+        all = omega (arith, so_far.before_is, so_far.lines, c.if-not-are_lines_within_limit.ensures);
         faulty = so_far.faults_are;
       },
       so_far.starts_are,
@@ -44,7 +44,7 @@ returns c =
 pub push_reserved-requires : goal.push_reserved-requires
 push_reserved-requires c =
     let same = length-map c.loop-file.read.items (λ file. file.entries.items) in
-    omega (arith, same, c.loop-file.invariant.files.many, c.loop-file.invariant.room, c.loop-file-test.true)
+    omega (arith, c.loop-file.invariant.files.many, c.loop-file.invariant.room, c.loop-file-test.true)
 
 pub loop-file-preserved : goal.loop-file-preserved
 loop-file-preserved c =
