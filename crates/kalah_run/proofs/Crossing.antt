@@ -40,6 +40,6 @@ shared_work_sync κ G s = search (sendable, crosses, jobs_sync, desk_sync, queue
 pub worker_send : IsSend Worker.the_row
 worker_send = search (sendable, crosses, seat_send, outcome_send, Solver-send) depth 60
 
--- all workers with what they share may be handed over
+-- all workers with what they share may cross
 pub crew_send : (κ κ' : NamedLft) (G : RattleType) → IsSync G → IsSend (Crew.the_row κ κ' G)
 crew_send κ κ' G s = search (sendable, crosses, shared_work_sync, worker_send) depth 60

@@ -234,7 +234,7 @@ draw_rest_is_lawful {S} plan slots seat me limit limit_is is_pass unspent =
     let view = me.0 in
     rw (unspent_me me is_pass unspent) (draws_rest_at plan slots seat (total_in view) (number_in view) (row_in view).numbers limit limit_is)
 
--- so many numbers are in a row more once all from n on are drawn
+-- a row is longer by the count of the numbers from n on once these are drawn
 pub rest_counted : (before : DrawnRow) (n total : ℕ) {after : DrawnRow} {drawn : ℕ}
     → after ≡ drawn_row (before.numbers ++ range_with_len n (total - n)) before.spent → drawn ≡ total - n
     → length after.numbers ≡ length before.numbers + drawn

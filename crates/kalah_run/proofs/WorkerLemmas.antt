@@ -79,7 +79,7 @@ pub as_many_workers : (workers : List Worker) (passes : List PassState) (count :
     → length passes ≡ count → length workers ≡ count
 as_many_workers workers passes count are many = sym (length-map workers (λ (w : Worker). w.pass)) ∙ ap length are ∙ many
 
--- they are as many as were asked for, but at most one for each job, and one for no job
+-- their number is the one asked for, but at most one for each job, and one for no job
 pub as_many_as_asked : {workers count least total jobs : ℕ} (asked : ℕ) → workers ≡ count → count ≡ max least 1 → least ≡ min asked total
     → total ≡ jobs → (workers ≡ max 1 (min asked jobs)) × (0 < workers)
 as_many_as_asked asked many count_is least_is total_is = (omega (arith, many, count_is, least_is, total_is), omega (arith, many, count_is))

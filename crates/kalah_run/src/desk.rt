@@ -89,7 +89,7 @@ impl Desk {
         // In either case the total is within its limit.
         ensures limit { self.now.total ≤ most_lines }
     {
-        // Read before the return, for the clause `limit`: the field is within its limit wherever it is read.
+        // Read before the return, for the clause `limit`: reading the field proves its limit.
         let total = self.total;
         if pass.is_spent {
             return None;

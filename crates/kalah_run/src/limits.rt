@@ -11,8 +11,8 @@ pub const MOST_CAPACITY: u32 = 1024;
 /// The capacity of a batch's queue. With 256, a worker of short lines seldom finds it full.
 pub(crate) const QUEUE_CAPACITY: u32 = 256;
 
-/// The most tries that the calling thread saves up. It saves one with each outcome that it gets, and spends them before it sleeps. So many
-/// tries take longer than waking a worker that found the queue full.
+/// The most tries that the calling thread saves up. It saves one with each outcome that it gets, and spends them before it sleeps. All
+/// of them take longer than waking a worker that found the queue full.
 pub(crate) const MOST_TRIES: u32 = 64;
 
 /// A law: each limit that contracts cite, and the capacity and the tries of a batch, is this number.

@@ -64,7 +64,7 @@ module _ {W : Type 0} (state : W → SinkState) where
   abbrev pub HasWritten : List OutcomeState → W → W → OrderedOutput → Type 0
   HasWritten past begun out r = IsUnderWay (taken_output (names_of r.files.now)) (collecting_state_of past r) begun out
 
-  -- The output is of the same files and jobs. Whatever it had written to its sink, it has written that and what became ready of it.
+  -- The output is of the same files and jobs. If it had written all that was ready, it has written all that is ready now.
   pub record WritesOn (old : OrderedOutput) (old_sink : W) (new : OrderedOutput) (new_sink : W) : Type 0 where
     pub same_files : new.files.now ≡ old.files.now
     pub same_jobs : new.jobs.now ≡ old.jobs.now

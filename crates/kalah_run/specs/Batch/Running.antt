@@ -12,7 +12,7 @@ HasOwnTable entries w = HasEmptyTable entries (padded_value {T = Solver Global} 
 abbrev pub HaveOwnTables : ℕ → List Worker → Type 0
 HaveOwnTables entries workers = All (HasOwnTable entries) workers
 
--- the lists are empty, and have room for the passes of so many workers and that of the calling thread
+-- the lists are empty, and have room for the passes of `workers` workers and that of the calling thread
 pub record HasRoom (workers : ℕ) (lists : PassLists) : Type 0 where
   pub empty : (lists.passes.items ≡ []) × (lists.puts.items ≡ [])
   pub passes : workers < vec_capacity lists.passes

@@ -22,7 +22,7 @@ fn work<R: Wait, G: Gate>(rt: &R, shared: &SharedWork<'_, G>, worker: &mut Worke
     }
 }
 
-/// The workers of a batch and what they share, handed over to be run.
+/// The workers of a batch, before they run, and what they share.
 #[derive(Drop)]
 pub(crate) struct Crew<'a, 'b, G> {
     pub(crate) shared: &'a SharedWork<'b, G>,

@@ -98,7 +98,7 @@ impl<'a> Receiver<'a> {
         outcome
     }
 
-    /// Gets an outcome that may come late. `_watch` and `_out` are not used: their clauses make the caller tell the watch and flush first.
+    /// Gets an outcome that may come late. `_watch` and `_out` are not used: their clauses make the caller call the watch and flush first.
     pub(crate) fn get<R: Wait, V: Watch, W: Sink>(
         &mut self,
         rt: &R,

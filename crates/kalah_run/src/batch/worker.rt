@@ -51,7 +51,7 @@ impl Worker {
         }
     }
 
-    /// Solves a job, and returns its outcome. `_gate` is not used: its clause makes the caller tell the gate first.
+    /// Solves a job, and returns its outcome. `_gate` is not used: its clause makes the caller call the gate first.
     #[inline(always)]
     pub(crate) fn answer<G: Gate>(&mut self, jobs: &Jobs, job: u32, _gate: &G) -> Outcome
         requires there { job < job_count jobs.now }
