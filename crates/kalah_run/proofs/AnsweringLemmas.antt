@@ -24,7 +24,7 @@ given_as state out_is text_is was_given = rw (out_is, ← text_is) was_given
 
 -- no job is no line
 pub no_line : {total lines : ℕ} → total ≤ 0 → total ≡ lines → lines ≡ 0
-no_line none total_is = omega (arith, none, total_is)
+no_line none total_is = omega arith
 
 counted_tally : (question : Question) (files : List NamedBytes) → counts_of (jobs_for question files) ≡ tally_of files
 counted_tally question files = λ i. record {

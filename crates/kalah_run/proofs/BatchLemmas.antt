@@ -1,5 +1,5 @@
 -- A batch under way: the pass of the calling thread, what it collects, and what stands written when it has ended.
-use Rattle.std.proofs.{Common.{[], ◌≡◌, ◌<◌, ◌≤◌, ◌+◌, ◌-◌, ℕ, List, ◌∷◌, ◌++◌, arith, sym, ap, ◌∙◌, Bool, true, false, refl, ⊎_elim, length, subst, ◌⊎◌, inl, inr, All, Some, Option, None, IfNone, MatchOption}, lemmas.{List.{map-append, length-append, length-map, Elements.{All-push}}, Bool.{both_ways}}}
+use Rattle.std.proofs.{Common.{[], ◌≡◌, ◌<◌, ◌≤◌, ◌+◌, ◌-◌, ℕ, List, ◌∷◌, ◌++◌, arith, sym, ap, ◌∙◌, Bool, true, false, refl, ⊎_elim, length, ◌⊎◌, inl, inr, All, Some, Option, None, IfNone, MatchOption}, lemmas.{List.{map-append, length-append, length-map, Elements.{All-push}}, Bool.{both_ways}}}
 use Rattle.kalah_run.specs.{OutcomeState, WorkerOutcome, passes_of, puts_of, HaveRun, HasBeenOffered, HasWritten, whole_output, AwaitsLine, WritesOn, IsAbandoned, IsLeft, DrawsOnlyTheRest, Receives, GetPassState, PutPassState, ArePassesFrom, outcomes_in, PassState, IsPassAt, HasCollected, IsAtStart, GetsNext, declared.batch.{ordered_output.OrderedOutput.{OrderedOutput}, worker.Worker.{Worker}, receiver.{CallerPasses.{CallerPasses}, Receiver.{Receiver}}, shared_work.SharedWork.{SharedWork}, request.OnFailedWrite.{OnFailedWrite, TheVariants.{Solve, Leave}}}}
 use Rattle.kalah_jobs.specs.{Collecting.AnyOrder.{IsPermutationOfJobs}, Writing.{Sink.{SinkState, WasGiven}, Output.{output_of_jobs, names_of}}}
 use Rattle.kalah_jobs.proofs.SinkLemmas.{given_none}
@@ -22,7 +22,7 @@ failed_still {state = state} given failed = ap (λ o. (state o).has_failed) (giv
 -- fewer are to come once the calling thread has drawn some numbers
 pub fewer_to_come : {now before : ℕ} (left total got many : ℕ) {more : ℕ} → more ≡ many + left → now ≡ before - left
     → before ≡ total - (got + many) → now ≡ total - (got + more)
-fewer_to_come left total got many more_is now_is before_is = omega (arith, more_is, now_is, before_is)
+fewer_to_come left total got many more_is now_is before_is = omega arith
 
 -- the calling thread has drawn only the rest still, if a failure before is one afterwards
 draws_weaken : {failed later : Bool} {before after : Receiver} → DrawsOnlyTheRest failed before after → (failed ≡ true → later ≡ true)
@@ -49,8 +49,8 @@ draws_trans {first = first} {second} one two = record {
 -- fewer are to come than before, if they were no more at first
 fewer_still : (first second third : ℕ) (result : Option OutcomeState) → second ≤ first
     → MatchOption result (third ≤ second) (λ _. third < second) → MatchOption result (third ≤ first) (λ _. third < first)
-fewer_still first second third None few fewer = omega (arith, few, fewer)
-fewer_still first second third (Some outcome) few fewer = omega (arith, few, fewer)
+fewer_still first second third None few fewer = omega arith
+fewer_still first second third (Some outcome) few fewer = omega arith
 
 -- with the state of a sink
 module _ {W : Type 0} {state : W → SinkState} {failed : Bool} {first second : Receiver} {old : W} where
@@ -85,7 +85,7 @@ module _ {G : Type 0} {knows : G → ℕ → Bool} {shared : SharedWork G} {befo
     pub passes_are_back : {passes : ℕ} → passes ≡ length before + 1 → length back ≡ passes
     passes_are_back all =
         let many = ap length back_is ∙ length-append (passes_of after) (p ∷ []) in
-        omega (arith, many, length-map after (λ (w : Worker). w.pass), run.as_many)
+        omega (arith, length-map after (λ (w : Worker). w.pass), run.as_many)
 
     -- each of them is of the desk
     pub own_back : IsPassAt shared.desk p → All (IsPassAt shared.desk) back
@@ -95,7 +95,7 @@ module _ {G : Type 0} {knows : G → ℕ → Bool} {shared : SharedWork G} {befo
   pub puts_back : {len count : ℕ} {puts : List PutPassState} → len ≡ length puts → puts ≡ puts_of after → count ≡ length before
       → ArePassesFrom shared.queue.id 0 (puts_of before) → (len ≡ count) × ArePassesFrom shared.queue.id 0 puts
   puts_back many puts_are count from = (
-    omega (arith, many, ap length puts_are, length-map after (λ (w : Worker). w.put_pass), run.as_many, count),
+    omega (arith, ap length puts_are, length-map after (λ (w : Worker). w.put_pass), run.as_many),
     rw puts_are (puts_after shared before after 0 run from),
   )
 
@@ -161,7 +161,7 @@ module _ {W : Type 0} {state : W → SinkState} {output r : OrderedOutput} {begu
           own = rw (← draws.desk) next.draws;
           got_or_left = omega (arith, next.counts, gets.ended, ap (λ d. d.total) draws.desk, start.jobs);
           left = ⊎_elim (λ same. inl (ap (λ (p : PassState). p.row) same ∙ start.undrawn)) inr draws.drawn;
-          given = λ each_or_left. subst (WasGiven state begun end) whole (⊎_elim
+          given = λ each_or_left. rw (← whole) (⊎_elim
               (λ (each : IsPermutationOfJobs output.jobs.now (outcomes_in next.passes.get_pass.got)).
               sink_was_given_all written (rw so_far.same.1 each) so_far.waits)
               (λ (left : IsAbandoned before.on_failed_write (state end).has_failed). failed_sink_was_given_all written left.1)

@@ -59,7 +59,7 @@ module _ {S : Type 0} {plan : DeskPlan} {s : State S DeskView} (seat : ℕ) {tot
       let mine : sum_by (times_in_row x) (drawn_row numbers false ∷ []) ≤ sum_by (times_in_row x) (all_rows s.views) =
       rows_at (times_in_row x) s.views seat has_view in
       below x kept.drawn (count_by (λ y. y == x) numbers) here
-      (omega (arith, mine, times_rows x (all_rows s.views), kept.deals.each_once x))
+      (omega (arith, times_rows x (all_rows s.views), kept.deals.each_once x))
     where
       below : (x c n : ℕ) → cond (x == x) 1 0 ≤ n → n ≤ (if nat_lt x c then 1 else 0) → x < c
       below x c n here few = grind (arith, nat_tests)
@@ -100,8 +100,8 @@ module _ {S : Type 0} {plan : DeskPlan} {s : State S DeskView} (seat : ℕ) {tot
       let rows : List DrawnRow = all_rows (set s.views seat after) in
       let same : total ≡ plan.total = kept.totals seat _ has_view in
       let none_spent : spent_in (all_rows s.views) ≡ 0 =
-      elim (none_or_all kept.deals) [ inl unspent ↦ unspent | inr full ↦ omega (arith, full, same, low) ] in
-      let word_is : word_of kept ≡ n = omega (arith, none_spent) in
+      elim (none_or_all kept.deals) [ inl unspent ↦ unspent | inr full ↦ omega arith ] in
+      let word_is : word_of kept ≡ n = omega arith in
       let drawn : drawn_in rows ≡ drawn_in (all_rows s.views) + 1 =
       omega (arith, rows_set (λ r. length r.numbers) s.views seat after has_view, length-append numbers (n ∷ [])) in
       let spent : spent_in rows ≡ spent_in (all_rows s.views) =
@@ -109,8 +109,8 @@ module _ {S : Type 0} {plan : DeskPlan} {s : State S DeskView} (seat : ℕ) {tot
       let rises : Ascends (drawn_row (numbers ++ n ∷ []) false) = all_pairs_push (λ x y. x < y) numbers n ascends stands_below in
       rw word_is (
         kept_after (drawn_row (numbers ++ n ∷ []) false) (record {
-          within = omega (arith, low, same, word_is);
-          count = omega (arith, drawn, kept.deals.count);
+          within = omega arith;
+          count = omega (arith, kept.deals.count);
           each_once = λ x.
               let more : sum_by (times_in_row x) rows ≡ sum_by (times_in_row x) (all_rows s.views) + cond (n == x) 1 0 =
               omega (arith, rows_set (times_in_row x) s.views seat after has_view, sum_by_push (λ y. cond (y == x) 1 0) numbers n) in
@@ -118,8 +118,8 @@ module _ {S : Type 0} {plan : DeskPlan} {s : State S DeskView} (seat : ℕ) {tot
               ∙ ap (λ k. k + cond (n == x) 1 0) (sym (times_rows x (all_rows s.views)) ∙ kept.deals.each_once x)
               ∙ once_more x n;
           ascending = stays_ascending after (All-cons Ascends (drawn_row (numbers ++ n ∷ []) false) [] rises (All-nil Ascends));
-          spent = λ some_spent. absurd (omega (arith, some_spent, spent, none_spent));
-        }) (omega (arith, spent, none_spent)),
+          spent = λ some_spent. absurd (omega (arith, spent));
+        }) (omega (arith, spent)),
         stands_below,
       )
 
@@ -129,7 +129,7 @@ module _ {S : Type 0} {plan : DeskPlan} {s : State S DeskView} (seat : ℕ) {tot
       let after : DeskView = spent_view total number numbers in
       let same : total ≡ plan.total = kept.totals seat _ has_view in
       let full : kept.drawn ≡ plan.total =
-      elim (none_or_all kept.deals) [ inl unspent ↦ omega (arith, unspent, kept.deals.within, same, high) | inr full ↦ full ] in
+      elim (none_or_all kept.deals) [ inl unspent ↦ omega (arith, kept.deals.within) | inr full ↦ full ] in
       let drawn : drawn_in (all_rows (set s.views seat after)) ≡ drawn_in (all_rows s.views) =
       omega (arith, rows_set (λ r. length r.numbers) s.views seat after has_view) in
       let spent : spent_in (all_rows (set s.views seat after)) ≡ spent_in (all_rows s.views) + 1 =
@@ -197,15 +197,15 @@ draw_is_lawful {S} plan slots seat me is_pass unspent =
 draws_all : {S : Type 0} {plan : DeskPlan} (left : ℕ) {s : State S DeskView} (seat : ℕ) {total number : ℕ} {numbers : List ℕ}
     (kept : IsLawful plan s) (has_view : get_elem? s.views seat ≡ some (unspent_view total number numbers)) → word_of kept + left ≡ total
     → IsLawful plan (after_step s (total ∷ []) seat (unspent_view total number (numbers ++ range_with_len (word_of kept) left)))
-draws_all zero seat kept has_view all = draws_nothing seat kept has_view (omega (arith, all))
+draws_all zero seat kept has_view all = draws_nothing seat kept has_view (omega arith)
 draws_all {S} {plan} (suc left) {s} seat {total} {number} {numbers} kept has_view all =
     let n : ℕ = word_of kept in
     let after : DeskView = drawn_view total number numbers n in
-    let one = (draws_some seat kept has_view (omega (arith, all))).0 in
+    let one = (draws_some seat kept has_view (omega arith)).0 in
     let has_after = set_here s.views seat after (in_views s.views seat has_view) in
     let next : word_of one ≡ n + 1 = ap (λ words. slice_index words 0) (sym one.word) in
     rw (set-set s.views seat after _, append_assoc numbers (n ∷ []) (range_with_len (n + 1) left)) at
-    (rw next at (draws_all left seat one has_after (omega (arith, next, all))))
+    (rw next at (draws_all left seat one has_after (omega arith)))
 
 -- a pass that is not spent draws the rest
 draws_rest_at : {S : Type 0} (plan : DeskPlan) (slots seat total number : ℕ) (numbers : List ℕ) (limit : ℕ) → limit ≡ plan.total
@@ -219,10 +219,10 @@ draws_rest_at {S} plan slots seat total number numbers limit limit_is = allowed_
     let lawful : IsLawful {S = S} plan (after_step s (max n limit ∷ []) seat after) =
     ⊎_elim
     (λ (low : n < total).
-    let most : total ≡ max n limit = omega (arith, low, same, limit_is) in
-    subst (λ word. IsLawful plan (after_step s (word ∷ []) seat after)) most (draws_all (total - n) seat kept has_view (omega (arith, low))))
+    let most : total ≡ max n limit = omega arith in
+    rw (← most) (draws_all (total - n) seat kept has_view (omega arith)))
     (λ (high : total ≤ n).
-    let none_left : total - n ≡ 0 = omega (arith, high) in rw none_left (draws_nothing seat kept has_view (omega (arith, high, same, limit_is))))
+    let none_left : total - n ≡ 0 = omega arith in rw none_left (draws_nothing seat kept has_view (omega arith)))
     (cases_lt n total) in
     (after, lawful, (refl, refl)))
 
@@ -241,7 +241,6 @@ pub rest_counted : (before : DrawnRow) (n total : ℕ) {after : DrawnRow} {drawn
 rest_counted before n total after_is drawn_is =
     omega (
       arith,
-      drawn_is,
       ap (λ (r : DrawnRow). length r.numbers) after_is,
       length-append before.numbers (range_with_len n (total - n)),
       length-range_with_len n (total - n),
@@ -262,7 +261,7 @@ kept_alike after kept words same passes fits =
       passes = passes ∙ kept.passes;
       deals = deals_alike kept.deals (same (λ r. length r.numbers) refl) (λ x. same (times_in_row x) refl)
           (all_from Ascends after.views (λ seat view has_view. (fits seat view has_view).1))
-          (λ some_spent. kept.deals.spent (omega (arith, spent, some_spent)));
+          (λ some_spent. kept.deals.spent (omega (arith, spent)));
       totals = λ seat view has_view. (fits seat view has_view).0;
     }
 
@@ -298,13 +297,7 @@ hand_out_is_lawful {S} {plan} seat {v} {total} {handed_out} {left} opening some_
     let mine : HasTotal plan.total pass = kept.totals seat _ has_view in
     let none : Ascends (drawn_row [] false) = λ i j d under within. absurd (omega arith) in
     kept_alike _ kept refl
-    (λ f nothing. omega (
-      arith,
-      rows_push f views pass,
-      rows_set f s.views seat opener has_view,
-      sum_by-cons f (drawn_row [] false) [],
-      nothing,
-    ))
+    (λ f nothing. omega (arith, rows_push f views pass, rows_set f s.views seat opener has_view, sum_by-cons f (drawn_row [] false) []))
     (omega (arith, sum_by_push passes_in views pass, sum_set passes_in s.views seat opener has_view))
     (each_more (FollowsPlan plan) views pass
     (each_set (FollowsPlan plan) s.views seat opener (mine, All-nil Ascends) (λ j u apart has_view. following kept j u has_view))
@@ -373,13 +366,13 @@ last_word {total} {word = word} {rows = rows} counts found =
     let counted : word ≡ counts.drawn + spent_in rows =
     some-injective _ _ (sym found ∙ ap (λ (l : List ℕ). get_elem? l 0) counts.word) in
     let drawn : min word total ≡ counts.drawn =
-    elim (none_or_all counts.deals) [ inl unspent ↦ omega (arith, counted, unspent, within) | inr full ↦ omega (arith, counted, full) ] in
+    elim (none_or_all counts.deals) [ inl unspent ↦ omega arith | inr full ↦ omega arith ] in
     record {
       deals = rw drawn counts.deals;
       spent = (
-        (λ high. let above : total < word = grind (arith, nat_tests, high) in omega (arith, above, counted, within)),
+        (λ high. let above : total < word = grind (arith, nat_tests) in omega arith),
         (λ some_spent. let full = counts.deals.spent some_spent in
-            let high : total < word = omega (arith, full, some_spent, counted) in grind (arith, nat_tests, high)),
+            let high : total < word = omega arith in grind (arith, nat_tests)),
       );
     }
 

@@ -1,7 +1,7 @@
 -- The output of a batch: the loop that writes each line once it is ready.
-use Rattle.std.proofs.{Common.{[], add-one, ◌≡◌, ◌≤◌, ◌<◌, ◌+◌, ℕ, suc, List, ◌∷◌, ◌++◌, arith, sym, ap, ◌∙◌, true, refl, ⊎_elim, length, get_or, get_or-set_other, get_or-set_same, take, drop, subst, Some, slice_get, None, Result}, lemmas.{List.{take-append-drop, take_all, take_more, flat_map_more, get_or-map}, Option.{get_or_from_slice_get, slice_get_within}, Bool.{cases_eq, cases_lt}, Grind.{flat_map-append}}}
+use Rattle.std.proofs.{Common.{[], add-one, ◌≡◌, ◌≤◌, ◌<◌, ◌+◌, ℕ, suc, List, ◌∷◌, ◌++◌, arith, sym, ap, ◌∙◌, true, refl, ⊎_elim, length, get_or, get_or-set_other, get_or-set_same, take, drop, Some, slice_get, None, Result}, lemmas.{List.{take-append-drop, take_all, take_more, flat_map_more, get_or-map}, Option.{get_or_from_slice_get, slice_get_within}, Bool.{cases_eq, cases_lt}, Grind.{flat_map-append}}}
 use Rattle.kalah_run.specs.{Entry, OutcomeState, Taken, Refusal, text_of_job, written_up_to, CollectingState, taken_of, written_so_far, IsUnderWay, IsNew, HasBeenOffered, HasWritten, WritesOn, declared.batch.ordered_output.OrderedOutput.{OrderedOutput}}
-use Rattle.kalah_jobs.specs.{Files.{JobList.{job_list, jobs_from, file_jobs, line_job, entries_of, entry_at}, Lines.{line_feed}, NamedBytes.{NamedBytes}, Jobs.{job_count}}, Collecting.{AnyOrder.{IsPermutationOfJobs}, CollectorState.{ArrivalsState, no_file, state_of, front, HasEnded, HasNoNext, with_one_taken, new_files, after_take}, CollectorEvents.{Offers, Takes, answered_line}, Held.{AgreeWithOffers}}, Writing.{Sink.{SinkState, WasGiven}, Answer.{answer_line}, Output.{text_of_line, text_of_file, text_of_jobs, taken_output, names_of}}}
+use Rattle.kalah_jobs.specs.{Files.{JobList.{job_list, jobs_from, file_jobs, line_job, entries_of, entry_at}, Lines.{line_feed}, NamedBytes.{NamedBytes}, Jobs.{job_count}}, Collecting.{AnyOrder.{IsPermutationOfJobs}, CollectorState.{ArrivalsState, no_file, state_of, front, HasEnded, HasNoNext, with_one_taken, new_files, after_take}, CollectorEvents.{Offers, Takes, answered_line}}, Writing.{Sink.{SinkState, WasGiven}, Answer.{answer_line}, Output.{text_of_line, text_of_file, text_of_jobs, taken_output, names_of}}}
 use Rattle.kalah_jobs.proofs.{SinkLemmas.{given_none, given_then, given_then_flush, given_more_after_failure}, CollectingLemmas.{files_many, lines_are, new_files_agree, taken_is, new_taken, fronts_full, kept_by_offer, kept_by_take}, FilesLemmas.{length-job_list, lines_between, slice_get-job_list}}
 use Rattle.std.specs.List.{flat_map, enumerate_from}
 
@@ -74,7 +74,7 @@ module _ (text : ℕ → Taken → List ℕ) (jobs : List (List Entry)) where
         kept = new_files_agree jobs;
         before = λ g low. absurd (omega arith);
         later = λ g high. new_taken jobs g;
-        written = subst (WasGiven state begun begun) (sym (ap (written_up_to text jobs 0) (new_taken jobs 0))) (given_none state begun);
+        written = rw new_taken (given_none state begun);
       }
 
 -- a step of a batch that is under way
@@ -101,10 +101,10 @@ module _ {W : Type 0} {state : W → SinkState} {text : ℕ → Taken → List �
       ∙ written_with_next_line text jobs current n offer.entry entry_is
       ∙ ap (written_up_to text jobs current) (sym taken) in
       let new : IsUnderWay state text now begun more = record {
-        kept = subst (AgreeWithOffers jobs past) step.kept (kept_by_take under_way.kept current t step);
+        kept = rw step.kept at (kept_by_take under_way.kept current t step);
         before = λ g low. same_taken g (λ q. omega arith) ∙ under_way.before g low;
         later = λ g high. same_taken g (λ q. omega arith) ∙ under_way.later g high;
-        written = subst (WasGiven state begun more) text_is (given_then state under_way.written given);
+        written = rw text_is at (given_then state under_way.written given);
       } in
       rw step.kept new
 
@@ -121,8 +121,8 @@ module _ {W : Type 0} {state : W → SinkState} {text : ℕ → Taken → List �
       let up : taken_of p current ≤ front (state_of files current) = under_way.kept.within current in
       let counts = under_way.kept.offered.counts in
       let whole : taken_of p current ≡ length (entries_of jobs current) =
-      omega (arith, up, all, ended, lines_are jobs files counts current) in
-      let jobs_low : current < length jobs = omega (arith, low, files_many jobs files counts) in
+      omega (arith, lines_are jobs files counts current) in
+      let jobs_low : current < length jobs = omega (arith, files_many jobs files counts) in
       let none : taken_of next (current + 1) ≡ 0 = under_way.later (current + 1) (omega arith) in
       let text_is : written_so_far text p ≡ written_so_far text next =
       ap (written_up_to text jobs current) whole
@@ -136,7 +136,7 @@ module _ {W : Type 0} {state : W → SinkState} {text : ℕ → Taken → List �
             (λ (other : g ≡ current → ⊥). under_way.before g (omega arith))
             (cases_eq g current);
         later = λ g g_high. under_way.later g (omega arith);
-        written = subst (WasGiven state begun out) text_is under_way.written;
+        written = rw text_is at under_way.written;
       }
 
   -- an outcome is offered, and accepted or refused: what was written stays
@@ -164,7 +164,7 @@ module _ {W : Type 0} {state : W → SinkState} {text : ℕ → Taken → List �
   pub failed_sink_was_given_all : (state out).has_failed ≡ true → WasGiven state begun out (text_of_jobs text jobs)
   failed_sink_was_given_all failed =
       let all = written_is_first_part text jobs current (taken_of p current) in
-      subst (WasGiven state begun out) all.1 (given_more_after_failure state all.0 under_way.written failed)
+      rw all.1 at (given_more_after_failure state all.0 under_way.written failed)
 
   -- Each job was offered once, and the current file, if there is one, has not ended: then the sink was given all.
   pub sink_was_given_all : IsPermutationOfJobs jobs past → (current < length files → HasEnded (state_of files current) → ⊥)
@@ -175,8 +175,7 @@ module _ {W : Type 0} {state : W → SinkState} {text : ℕ → Taken → List �
       (λ high. high)
       (cases_lt current (length files)) in
       let many : length files ≡ length jobs = files_many jobs files under_way.kept.offered.counts in
-      subst (WasGiven state begun out) (written_past_last_file text jobs current (taken_of p current) (omega (arith, many, past_last)))
-      under_way.written
+      rw (written_past_last_file text jobs current (taken_of p current) (omega arith)) at under_way.written
 
 -- ==== What an output writes, line by line
 

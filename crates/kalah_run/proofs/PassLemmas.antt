@@ -23,7 +23,7 @@ pub last_new_pass : (desk : DeskState) (count : ℕ) (passes : List PassState) {
 last_new_pass desk count passes p all_is new =
     let many : length passes ≡ count = omega (arith, new.0, ap length all_is, length-append passes (p ∷ [])) in
     let both = rw all_is at new.1 in (
-      (many, λ k d low. sym (get_or_append_left passes (p ∷ []) d k (omega (arith, many))) ∙ both k d (omega arith)),
+      (many, λ k d low. sym (get_or_append_left passes (p ∷ []) d k (omega arith)) ∙ both k d (omega arith)),
       sym (get_or_push passes p p count many) ∙ both count p (omega arith),
     )
 

@@ -38,7 +38,7 @@ no_pair_beyond_workers : (workers w : ℕ) (xs : List WorkerOutcome) → All (λ
 no_pair_beyond_workers workers w [] below le = refl
 no_pair_beyond_workers workers w (t ∷ ts) below le =
     let first : t.0 < workers = below 0 t (omega arith) in
-    other_pair w t (sent_by_worker w ts) (λ e. omega (arith, e, first, le))
+    other_pair w t (sent_by_worker w ts) (λ e. omega (arith, first))
     ∙ no_pair_beyond_workers workers w ts (λ k d lt. below (suc k) d (omega arith)) le
 
 -- of pairs that are all of workers, the one that comes next is
@@ -97,9 +97,11 @@ oldest x items (p ∷ ps) held =
     record { worker = p.0; rest = ps; first = ap (λ (o : OutcomeState). (p.0, o) ∷ ps) outcome_is; held = cc }
 
 module _ {items : List OutcomeState} {views : List QueueView} (kept : IsLawful items views) where
+  open kept use {workers, got, ended, inside}
+
   -- the pairs that were taken out, followed by those inside
   abbrev pairs : List WorkerOutcome
-  pairs = kept.got ++ kept.inside
+  pairs = got ++ inside
 
   -- the pass to get stands first, and knows what the protocol states
   getter_is_first : (place : ℕ) {v : QueueView} {workers : ℕ} {got : List WorkerOutcome} {ended : List (List OutcomeState)}
@@ -110,21 +112,21 @@ module _ {items : List OutcomeState} {views : List QueueView} (kept : IsLawful i
 
   -- the view of another pass fits if one pair more was sent, by a worker that has not ended
   fits_more : {place : ℕ} (x : WorkerOutcome) → place ≡ suc x.0 → (j : ℕ) (u : QueueView) → j ≢ place
-      → get_elem? views j ≡ some u → FitsPairs (pairs ++ x ∷ []) kept.ended j u
+      → get_elem? views j ≡ some u → FitsPairs (pairs ++ x ∷ []) ended j u
   fits_more x place_is j (Putting number sent) apart has_view =
-      let fit : FitsPut pairs kept.ended j number sent = kept.fits j _ has_view in
+      let fit : FitsPut pairs ended j number sent = kept.fits j _ has_view in
       let another : x.0 ≢ number = (λ q. apart (fit.place_is ∙ (ap suc (sym q) ∙ sym place_is))) in
       record { place_is = fit.place_is; running = fit.running; all_sent = fit.all_sent ∙ sym (other_pair_changes_nothing number pairs x another) }
   fits_more x place_is j (Getting workers got ended) apart has_view = kept.fits j _ has_view
   fits_more x place_is j Reclaimed apart has_view = tt
 
   -- the view of another pass fits if one worker more has ended
-  fits_ended : {other : ℕ} (list : List OutcomeState) → other ≡ suc (length kept.ended) → (j : ℕ) (u : QueueView) → j ≢ other
-      → get_elem? views j ≡ some u → FitsPairs pairs (kept.ended ++ list ∷ []) j u
+  fits_ended : {other : ℕ} (list : List OutcomeState) → other ≡ suc (length ended) → (j : ℕ) (u : QueueView) → j ≢ other
+      → get_elem? views j ≡ some u → FitsPairs pairs (ended ++ list ∷ []) j u
   fits_ended list other_is j (Putting number sent) apart has_view =
-      let fit : FitsPut pairs kept.ended j number sent = kept.fits j _ has_view in
-      let another : number ≢ length kept.ended = (λ q. apart (fit.place_is ∙ (ap suc q ∙ sym other_is))) in
-      record { place_is = fit.place_is; running = omega (arith, fit.running, another, length_push kept.ended list); all_sent = fit.all_sent }
+      let fit : FitsPut pairs ended j number sent = kept.fits j _ has_view in
+      let another : number ≢ length ended = (λ q. apart (fit.place_is ∙ (ap suc q ∙ sym other_is))) in
+      record { place_is = fit.place_is; running = omega (arith, fit.running, length_push ended list); all_sent = fit.all_sent }
   fits_ended list other_is j (Getting workers got ended) apart has_view = kept.fits j _ has_view
   fits_ended list other_is j Reclaimed apart has_view = tt
 
@@ -134,75 +136,75 @@ module _ {items : List OutcomeState} {views : List QueueView} (kept : IsLawful i
   lawful_with_put place x {number} {sent} has_view =
       let pair : WorkerOutcome = (number, x) in
       let after : QueueView = Putting number (sent ++ x ∷ []) in
-      let fit : FitsPut pairs kept.ended place number sent = kept.fits place _ has_view in
-      let fits : FitsPut (pairs ++ pair ∷ []) kept.ended place number (sent ++ x ∷ []) = record {
+      let fit : FitsPut pairs ended place number sent = kept.fits place _ has_view in
+      let fits : FitsPut (pairs ++ pair ∷ []) ended place number (sent ++ x ∷ []) = record {
         place_is = fit.place_is;
         running = fit.running;
         all_sent = ap (◌++ (x ∷ [])) fit.all_sent ∙ sym (own_pair_goes_last number pairs pair refl);
       } in
       record {
-        workers = kept.workers;
-        got = kept.got;
-        ended = kept.ended;
-        inside = kept.inside ++ pair ∷ [];
-        getter = set_else views place 0 after (λ q. omega (arith, q, fit.place_is)) ∙ kept.getter;
+        workers = workers;
+        got = got;
+        ended = ended;
+        inside = inside ++ pair ∷ [];
+        getter = set_else views place 0 after (λ q. omega (arith, fit.place_is)) ∙ kept.getter;
         count = length-set views place after ∙ kept.count;
-        held = map-append (λ (p : WorkerOutcome). p.1) kept.inside (pair ∷ []) ∙ ap (◌++ (x ∷ [])) kept.held;
-        accounts = rw (← append_assoc kept.got kept.inside (pair ∷ [])) (record {
-          below = All-push (λ (t : WorkerOutcome). t.0 < kept.workers) pairs pair kept.accounts.below
+        held = map-append (λ (p : WorkerOutcome). p.1) inside (pair ∷ []) ∙ ap (◌++ (x ∷ [])) kept.held;
+        accounts = rw (← append_assoc got inside (pair ∷ [])) (record {
+          below = All-push (λ (t : WorkerOutcome). t.0 < workers) pairs pair kept.accounts.below
               (omega (arith, fit.place_is, kept.count, in_views views place has_view));
-          whole = λ w low. other_pair_changes_nothing w pairs pair (λ q. omega (arith, q, low, fit.running)) ∙ kept.accounts.whole w low;
+          whole = λ w low. other_pair_changes_nothing w pairs pair (λ q. omega (arith, fit.running)) ∙ kept.accounts.whole w low;
         });
-        fits = rw (← append_assoc kept.got kept.inside (pair ∷ []))
-            (each_set (FitsPairs (pairs ++ pair ∷ []) kept.ended) views place after fits (fits_more pair fit.place_is));
+        fits = rw (← append_assoc got inside (pair ∷ []))
+            (each_set (FitsPairs (pairs ++ pair ∷ []) ended) views place after fits (fits_more pair fit.place_is));
       }
 
   -- a pass is made for the next worker, before any has ended
-  lawful_with_pass : kept.ended ≡ []
-      → IsLawful items (set views 0 (Getting (kept.workers + 1) kept.got kept.ended) ++ Putting kept.workers [] ∷ [])
+  lawful_with_pass : ended ≡ []
+      → IsLawful items (set views 0 (Getting (workers + 1) got ended) ++ Putting workers [] ∷ [])
   lawful_with_pass none =
-      let getter : QueueView = Getting (kept.workers + 1) kept.got kept.ended in
+      let getter : QueueView = Getting (workers + 1) got ended in
       let after : List QueueView = set views 0 getter in
       let same : length after ≡ length views = length-set views 0 getter in
-      let fresh : FitsPut pairs kept.ended (length after) kept.workers [] = record {
+      let fresh : FitsPut pairs ended (length after) workers [] = record {
         place_is = same ∙ kept.count;
         running = omega (arith, ap length none);
-        all_sent = sym (no_pair_beyond_workers kept.workers kept.workers _ kept.accounts.below (omega arith));
+        all_sent = sym (no_pair_beyond_workers workers workers _ kept.accounts.below (omega arith));
       } in
       record {
-        workers = kept.workers + 1;
-        got = kept.got;
-        ended = kept.ended;
-        inside = kept.inside;
-        getter = at_longer after (Putting kept.workers [] ∷ []) 0 _ (set_here views 0 getter (in_views views 0 kept.getter));
-        count = omega (arith, length_push after (Putting kept.workers []), same, kept.count);
+        workers = workers + 1;
+        got = got;
+        ended = ended;
+        inside = inside;
+        getter = at_longer after (Putting workers [] ∷ []) 0 _ (set_here views 0 getter (in_views views 0 kept.getter));
+        count = omega (arith, length_push after (Putting workers []), kept.count);
         held = kept.held;
         accounts = record { below = λ k d lt. omega (arith, kept.accounts.below k d lt); whole = kept.accounts.whole };
-        fits = each_more (FitsPairs pairs kept.ended) after (Putting kept.workers [])
-            (each_set (FitsPairs pairs kept.ended) views 0 getter refl (λ j u apart has_view. kept.fits j u has_view)) fresh;
+        fits = each_more (FitsPairs pairs ended) after (Putting workers [])
+            (each_set (FitsPairs pairs ended) views 0 getter refl (λ j u apart has_view. kept.fits j u has_view)) fresh;
       }
 
   -- the pass of the next worker to end is reclaimed
-  lawful_with_end : (other : ℕ) {sent : List OutcomeState} → other ≢ 0 → get_elem? views other ≡ some (Putting (length kept.ended) sent)
-      → IsLawful items (set (set views 0 (Getting kept.workers kept.got (kept.ended ++ sent ∷ []))) other Reclaimed)
+  lawful_with_end : (other : ℕ) {sent : List OutcomeState} → other ≢ 0 → get_elem? views other ≡ some (Putting (length ended) sent)
+      → IsLawful items (set (set views 0 (Getting workers got (ended ++ sent ∷ []))) other Reclaimed)
   lawful_with_end other {sent} apart has_view =
-      let getter : QueueView = Getting kept.workers kept.got (kept.ended ++ sent ∷ []) in
+      let getter : QueueView = Getting workers got (ended ++ sent ∷ []) in
       let between : List QueueView = set views 0 getter in
-      let fit : FitsPut pairs kept.ended other (length kept.ended) sent = kept.fits other _ has_view in
-      let F : ℕ → QueueView → Type 0 = FitsPairs pairs (kept.ended ++ sent ∷ []) in
+      let fit : FitsPut pairs ended other (length ended) sent = kept.fits other _ has_view in
+      let F : ℕ → QueueView → Type 0 = FitsPairs pairs (ended ++ sent ∷ []) in
       let others = each_set (λ j u. j ≢ other → F j u) views 0 getter (λ _. refl)
       (λ j u elsewhere has_view apart. fits_ended sent fit.place_is j u apart has_view) in
       record {
-        workers = kept.workers;
-        got = kept.got;
-        ended = kept.ended ++ sent ∷ [];
-        inside = kept.inside;
+        workers = workers;
+        got = got;
+        ended = ended ++ sent ∷ [];
+        inside = inside;
         getter = set_else between other 0 Reclaimed (λ q. apart (sym q)) ∙ set_here views 0 getter (in_views views 0 kept.getter);
         count = length-set between other Reclaimed ∙ length-set views 0 getter ∙ kept.count;
         held = kept.held;
         accounts = record {
           below = kept.accounts.below;
-          whole = next_goes_last kept.ended sent (λ w. sent_by_worker w pairs) kept.accounts.whole (sym fit.all_sent);
+          whole = next_goes_last ended sent (λ w. sent_by_worker w pairs) kept.accounts.whole (sym fit.all_sent);
         };
         fits = each_set F between other Reclaimed tt (λ j u elsewhere has_view. others j u has_view elsewhere);
       }

@@ -1,5 +1,5 @@
 -- The rows that the seats of a desk know: sums over them and facts of each, after a change of one seat, and what they deal.
-use Rattle.std.proofs.{Common.{◌≡◌, ◌⊎◌, inl, inr, ℕ, zero, suc, ◌+◌, ◌≤◌, List, [], ◌∷◌, ◌++◌, length, set, refl, sym, ap, ◌∙◌, subst, arith, length-append, append-nil, ◌<◌, ◌==◌, sum_by, count_by, All, AllPairs, Some, if◌then◌else◌}, lemmas.{List.{map-append, nil_from_length, take_at, drop_at, Sums.{sum_by-cons, sum_by-append, sum_by_push, sum_by-set, get_or-le-sum_by}, Elements.{All-append, All-nil, All-pop, All-take, All-drop}}, Bool.{cases_lt}}}
+use Rattle.std.proofs.{Common.{◌≡◌, ◌⊎◌, inl, inr, ℕ, zero, suc, ◌+◌, ◌≤◌, List, [], ◌∷◌, ◌++◌, length, set, refl, sym, ap, ◌∙◌, arith, length-append, append-nil, ◌<◌, ◌==◌, sum_by, count_by, All, AllPairs, Some, if◌then◌else◌}, lemmas.{List.{map-append, nil_from_length, take_at, drop_at, Sums.{sum_by-cons, sum_by-append, sum_by_push, sum_by-set, get_or-le-sum_by}, Elements.{All-append, All-nil, All-pop, All-take, All-drop}}, Bool.{cases_lt}}}
 use mathlib.Core.Option.{some, some-injective, some-ne-none}
 use lib.ListN.{get_elem?}
 use Rattle.kalah_run.proofs.ViewLemmas.{Each, in_views, view_at}
@@ -17,7 +17,7 @@ pub times_rows : (x : ℕ) (rows : List DrawnRow) → times_in x (drawn_numbers 
 times_rows x [] = refl
 times_rows x (r ∷ rs) =
     let mine = sum_by-cons (λ numbers. count_by (λ y. y == x) numbers) r.numbers (drawn_numbers rs) in
-    omega (arith, times_rows x rs, mine, sum_by-cons (times_in_row x) r rs)
+    omega (arith, times_rows x rs, sum_by-cons (times_in_row x) r rs)
 
 -- a sum, after a change of one term
 pub sum_set : {X : Type 0} (f : X → ℕ) (xs : List X) (k : ℕ) {old : X} (new : X) → get_elem? xs k ≡ some old
@@ -56,7 +56,7 @@ rows_at f views seat has_view = omega (arith, rows_sum f views, sum_at (λ u. su
 pub all_at : (P : DrawnRow → Type 0) (views : List DeskView) (seat : ℕ) {view : DeskView} → get_elem? views seat ≡ some view
     → All P (all_rows views) → All P (rows_in view)
 all_at P [] seat {view} has_view all = absurd (some-ne-none view (sym has_view))
-all_at P (x ∷ xs) zero {view} has_view all = subst (λ u. All P (rows_in u)) (some-injective x view has_view)
+all_at P (x ∷ xs) zero {view} has_view all = rw (← some-injective x view has_view)
     (rw (take_at (rows_in x) (all_rows xs) _ refl) at (All-take P (length (rows_in x)) _ all))
 all_at P (x ∷ xs) (suc seat) has_view all =
     all_at P xs seat has_view (rw (drop_at (rows_in x) (all_rows xs) _ refl) at (All-drop P (length (rows_in x)) _ all))
@@ -85,13 +85,13 @@ has_all (x ∷ xs) zero rows has_view whole =
     let x_is : x ≡ Closing rows = some-injective x (Closing rows) has_view in
     let part : passes_in x ≡ length rows = ap passes_in x_is in
     let rest : all_rows xs ≡ [] =
-    nil_from_length (all_rows xs) (omega (arith, part, whole, rows_within_passes xs, sum_by-cons passes_in x xs)) in
+    nil_from_length (all_rows xs) (omega (arith, rows_within_passes xs, sum_by-cons passes_in x xs)) in
     ap (λ u. rows_in u ++ all_rows xs) x_is ∙ ap (rows ++◌) rest ∙ append-nil rows
 has_all (x ∷ xs) (suc seat) rows has_view whole =
     let mine : length rows ≤ sum_by passes_in xs = sum_at passes_in xs seat has_view in
-    let no_pass : passes_in x ≡ 0 = omega (arith, mine, whole, sum_by-cons passes_in x xs) in
-    let short : rows_in x ≡ [] = nil_from_length (rows_in x) (omega (arith, no_pass, rows_within_one x)) in
-    ap (◌++ all_rows xs) short ∙ has_all xs seat rows has_view (omega (arith, no_pass, whole, sum_by-cons passes_in x xs))
+    let no_pass : passes_in x ≡ 0 = omega (arith, sum_by-cons passes_in x xs) in
+    let short : rows_in x ≡ [] = nil_from_length (rows_in x) (omega (arith, rows_within_one x)) in
+    ap (◌++ all_rows xs) short ∙ has_all xs seat rows has_view (omega (arith, sum_by-cons passes_in x xs))
 
 abbrev pub Ascends : DrawnRow → Type 0
 Ascends r = AllPairs (λ x y. x < y) r.numbers

@@ -31,7 +31,7 @@ pub less_left : (numbers : List ℕ) {more : List ℕ} {number total : ℕ} → 
 less_left numbers {more} {number} more_is above below =
     let last : least_above more ≡ number + 1 = ap least_above more_is ∙ fold-append (λ above x. x + 1) 0 numbers (number ∷ []) in
     let before = none_above numbers 0 number (omega arith) above in
-    omega (arith, last, before, below)
+    omega arith
 
 -- ==== Workers put together from their passes, the last one first, and taken apart, the first one first
 
@@ -54,8 +54,7 @@ one_given {X} f workers {workers'} {w} rest {x} workers_are x_is took so_far =
 pub tables_more : (workers : List Worker) {workers' : List Worker} (w : Worker) (entries : ℕ) → workers' ≡ workers ++ w ∷ []
     → HasOwnTable entries w → HaveOwnTables entries (reverse workers) → HaveOwnTables entries (reverse workers')
 tables_more workers {workers'} w entries workers_are own so_far =
-    subst (HaveOwnTables entries) (sym (last_first workers workers' w workers_are))
-    (All-cons (HasOwnTable entries) w (reverse workers) own so_far)
+    rw (last_first workers workers' w workers_are) (All-cons (HasOwnTable entries) w (reverse workers) own so_far)
 
 -- one worker more has given one of its passes
 pub one_taken : {X : Type 0} (f : Worker → X) (workers : List Worker) (w : Worker) {given given' : List X}
@@ -65,12 +64,12 @@ one_taken f workers w given_is so_far = given_is ∙ ap (◌++ (f w ∷ [])) so_
 -- a list that has room for one element of each worker that is left, and for some more, has room for the first worker's
 pub room_for_one : {w : Worker} {workers workers' : List Worker} {len capacity : ℕ} (more : ℕ) → workers ≡ w ∷ workers'
     → length workers + (len + more) ≤ capacity → len < capacity
-room_for_one more workers_are room = omega (arith, room, ap length workers_are)
+room_for_one more workers_are room = omega (arith, ap length workers_are)
 
 -- then it has room for those of the others
 pub room_still : {w : Worker} {workers workers' : List Worker} {len' capacity capacity' : ℕ} (len more : ℕ) → workers ≡ w ∷ workers'
     → len' ≡ len + 1 → capacity' ≡ capacity → length workers + (len + more) ≤ capacity → length workers' + (len' + more) ≤ capacity'
-room_still len more workers_are longer same room = omega (arith, room, longer, same, ap length workers_are)
+room_still len more workers_are longer same room = omega (arith, ap length workers_are)
 
 -- ==== The workers of a batch, from their passes to what was got of them
 
@@ -82,17 +81,17 @@ as_many_workers workers passes count are many = sym (length-map workers (λ (w :
 -- their number is the one asked for, but at most one for each job, and one for no job
 pub as_many_as_asked : {workers count least total jobs : ℕ} (asked : ℕ) → workers ≡ count → count ≡ max least 1 → least ≡ min asked total
     → total ≡ jobs → (workers ≡ max 1 (min asked jobs)) × (0 < workers)
-as_many_as_asked asked many count_is least_is total_is = (omega (arith, many, count_is, least_is, total_is), omega (arith, many, count_is))
+as_many_as_asked asked many count_is least_is total_is = (omega arith, omega arith)
 
 -- a list from which all passes were taken, one more than there are workers, has room for all again
 pub room_for_all : {workers count size len capacity popped left : ℕ} → workers ≡ count → left ≡ popped → popped ≡ capacity
     → (len ≡ size) × (len ≤ capacity) → size ≡ count + 1 → workers < left
-room_for_all many left_is popped_is held size_is = omega (arith, many, left_is, popped_is, held, size_is)
+room_for_all many left_is popped_is held size_is = omega arith
 
 -- a list from which all passes were taken, one for each worker, has room for all again
 pub room_for_each : {workers count len size capacity left : ℕ} → workers ≡ count → left ≡ capacity
     → (len ≡ size) × (len ≤ capacity) → len ≡ count → workers ≤ left
-room_for_each many left_is held len_is = omega (arith, many, left_is, held, len_is)
+room_for_each many left_is held len_is = omega arith
 
 -- workers with new passes, that have sent nothing, are at work
 pub new_at_work : {G : Type 0} {knows : G → ℕ → Bool} (shared : SharedWork G) (workers : List Worker) (count : ℕ)
@@ -100,9 +99,9 @@ pub new_at_work : {G : Type 0} {knows : G → ℕ → Bool} (shared : SharedWork
     → AreNewPasses shared.desk count passes → ArePassesFrom shared.queue.id 0 puts → All (λ p. p.sent ≡ []) puts
     → AreAtWork knows shared workers
 new_at_work {knows = knows} shared workers count passes_are puts_are all_new all_from all_unsent = λ k d within.
-    let new = subst (AreNewPasses shared.desk count) (sym passes_are) all_new in
-    let from = subst (ArePassesFrom shared.queue.id 0) (sym puts_are) all_from in
-    let unsent = subst (All (λ p. p.sent ≡ [])) (sym puts_are) all_unsent in
+    let new = rw (← passes_are) at all_new in
+    let from = rw (← puts_are) at all_from in
+    let unsent = rw (← puts_are) at all_unsent in
     let w = get_or workers k d in
     let low : k < count = omega (arith, new.0, length-map workers (λ (x : Worker). x.pass)) in
     let put_low : k < length (puts_of workers) = omega (arith, length-map workers (λ (x : Worker). x.put_pass)) in
@@ -170,8 +169,8 @@ shares_of_workers {shared = shared} {before} {after} run pairs count_is deals ac
       each_once = deals.each_once;
       workers = rw (count_is ∙ sym run.as_many ∙ sym row_count) at accounts.below;
       whole = λ w within.
-          let low : w < length after = omega (arith, within, row_count) in
-          accounts.whole w (omega (arith, low, sent_count)) ∙ sent_in_order shared after w (run_at_work run) low;
+          let low : w < length after = omega arith in
+          accounts.whole w (omega arith) ∙ sent_in_order shared after w (run_at_work run) low;
     }
 
 -- Each number below the count of those drawn stands in the rows once, the pairs that were got and those left inside account for what was
@@ -189,11 +188,16 @@ each_job_got {shared = shared} {after = after} {drawn = drawn} run got count_is 
     let parts = as_many_as_numbers are_shared in
     let split = length-append got rest in
     let jobs_many = ap job_count jobs_are in
-    let whole : drawn ≡ length (job_list own) = omega (arith, parts, split, all, jobs_many, deals.within, length-job_list own) in
-    let many : length got ≡ length (job_list own) = omega (arith, parts, split, all, jobs_many, deals.within, length-job_list own) in
-    rw jobs_are (gets_each_job_once own rows got rest (subst (λ n. AreShared n (job own) rows (got ++ rest)) whole are_shared) many)
+    let total = length-job_list own in
+    let whole : drawn ≡ length (job_list own) = omega (arith, deals.within) in
+    let many : length got ≡ length (job_list own) = omega (arith, deals.within) in
+    rw jobs_are (gets_each_job_once own rows got rest (rw whole at are_shared) many)
 
 -- ==== The gate knows each job, if all are drawn
+
+-- what a test adds to a count
+abbrev one_if : Bool → ℕ
+one_if passed = if passed then 1 else 0
 
 -- a number that stands in a list has what all numbers there have
 All-at_member : (P : ℕ → Type 0) (x : ℕ) (xs : List ℕ) → 0 < count_by (λ y. y == x) xs → All P xs → P x
@@ -202,8 +206,7 @@ All-at_member P x (y ∷ ys) some all =
     elim (cases_eq y x) [
       | inl same ↦ subst P same (all 0 y (omega arith))
       | inr other ↦ All-at_member P x ys
-          (let none = ap {B = ℕ} (λ (b : Bool). if b then 1 else 0) (ne_eqb y x other) in
-          omega (arith, some, none, sum_by-cons (λ z. if z == x then 1 else 0) y ys)) (All-tail P y ys all)
+          (omega (arith, ap one_if (ne_eqb y x other), sum_by-cons (λ z. one_if (z == x)) y ys)) (All-tail P y ys all)
     ]
 
 -- a number that stands in some row has what all numbers there have
@@ -214,7 +217,7 @@ All-at_dealt P x (r ∷ rs) some all =
     elim (cases_lt 0 (count_by (λ y. y == x) r.numbers)) [
       | inl here ↦ All-at_member P x r.numbers here (all 0 r (omega arith))
       | inr none ↦ All-at_dealt P x rs
-          (omega (arith, some, none, sum_by-cons (λ (l : List ℕ). count_by (λ y. y == x) l) r.numbers (drawn_numbers rs)))
+          (omega (arith, sum_by-cons (λ (l : List ℕ). count_by (λ y. y == x) l) r.numbers (drawn_numbers rs)))
           (All-tail (λ r. All P r.numbers) r rs all)
     ]
 
@@ -225,8 +228,8 @@ some_spent [] some spent = absurd (omega arith)
 some_spent (w ∷ ws) some spent =
     omega (
       arith,
-      sum_by-cons (λ (r : DrawnRow). if r.spent then 1 else 0) w.pass.row (drawn_rows (passes_of ws)),
-      ap {B = ℕ} (λ (b : Bool). if b then 1 else 0) (spent 0 w (omega arith)),
+      ap one_if (spent 0 w (omega arith)),
+      sum_by-cons (λ (r : DrawnRow). one_if r.spent) w.pass.row (drawn_rows (passes_of ws)),
     )
 
 -- Each worker has run: all jobs were drawn, and if they were drawn by workers the gate knows them.
@@ -239,8 +242,8 @@ each_job_known {knows = knows} {shared} {before} {after} {drawn} run some deals 
     let spent = λ (k : ℕ) (w : Worker) (within : k < length after).
     (run.each k w (omega (arith, run.as_many))).spent in
     let all : drawn ≡ job_count shared.jobs.now = deals.spent (some_spent after (omega (arith, run.as_many)) spent) in
-    let once = deals.each_once job ∙ ap {B = ℕ} (λ (b : Bool). if b then 1 else 0) (lt-ltb job drawn (omega (arith, all, low))) in
-    All-at_dealt Known job (drawn_rows (passes_of after)) (omega (arith, once))
+    let once = rw (lt-ltb job drawn (omega arith)) at (deals.each_once job) in
+    All-at_dealt Known job (drawn_rows (passes_of after)) (omega arith)
     (All-map (λ (r : DrawnRow). All Known r.numbers) (λ (p : PassState). p.row) (passes_of after)
     (All-map (λ (p : PassState). All Known p.row.numbers) (λ (w : Worker). w.pass) after
     (λ k w within. (run_at_work run k w within).known)))

@@ -1,6 +1,6 @@
 -- The sink is given the output of the files, by the batch that was run, or because it is empty; the flush adds nothing to it.
-use Rattle.std.proofs.{lemmas.Grind.{common_steps}, Common.{◌≡◌, Err, rules, ◌∙◌, ◌<◌, sym, ap, ⊎_elim, inl, inr, arith, subst}}
-use Rattle.kalah_jobs.specs.{Files.Jobs.{job_count}, Writing.{Sink.{WasGiven}, Output.{output_for}}}
+use Rattle.std.proofs.{lemmas.Grind.{common_steps}, Common.{◌≡◌, Err, rules, ◌∙◌, sym, ap, ⊎_elim, inl, inr, arith}}
+use Rattle.kalah_jobs.specs.{Writing.{Sink.{WasGiven}, Output.{output_for}}}
 use Rattle.kalah_jobs.proofs.SinkLemmas.{given_none, given_then_flush}
 use Rattle.kalah_run.specs.declared.batch.run_fault.RunFault.TheVariants.{NoWorker}
 use Rattle.kalah_run.proofs.{AnsweringLemmas.{answered, as_many_jobs, given_as, no_line, no_output, whole_output_is}, batch.answer_batch.Goals.{then-total-gt0+in_ok-open+in_ok-answer, else-total-gt0}}
@@ -14,7 +14,7 @@ returns-in_err-answer-clause-answers g c =
     let is : c.from_residual-in_err-answer.result ≡ Err NoWorker = search rules in
     rw is (
       jobs.0,
-      subst (0 <◌) (c.total.ensures.lines ∙ as_many_jobs _ _ _ jobs.1) c.if-total-gt0.true,
+      rw (c.total.ensures.lines ∙ as_many_jobs _ _ _ jobs.1) at c.if-total-gt0.true,
       (fault.1, ap (λ o. (g.W.Sink.state o).has_failed) fault.1 ∙ c.requires.not_failed),
     )
 
@@ -49,8 +49,8 @@ returns-clause-gate_hears_all g c = λ unless ok job low.
           let same = ap (λ o. (g.W.Sink.state o).has_failed) (sym w.out-is) in
           rw (← asked.of_gate) (w.in_ok-answer.ensures.gate_hears_all
           (⊎_elim (λ solve. inl (asked.on_failed_write ∙ solve)) (λ sound. inr (same ∙ (end.given.whole sound).0)) unless) job
-          (subst (job <◌) (sym (ap job_count asked.of_jobs ∙ jobs)) low))
-      | else-total-gt0 w ↦ absurd (omega (arith, low, jobs, w.if-total-gt0.false, c.total.ensures.lines))
+          (rw (asked.of_jobs, jobs) low))
+      | else-total-gt0 w ↦ absurd (omega (arith, w.if-total-gt0.false, c.total.ensures.lines))
     ]
 
 pub open-requires-after_bounds : goal.open-requires-after_bounds

@@ -20,5 +20,5 @@ loop-drawn-init c =
       number = search rules;
       counted = rest_counted c.args.pass.now.row c.fetch_max-found.result total {after = row_in c.fetch_max-found.new.seat.me.0}
           (search rules) drawn;
-      few = omega (arith, drawn);
+      few = omega arith;
     }

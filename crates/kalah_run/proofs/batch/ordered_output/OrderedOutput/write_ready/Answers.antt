@@ -37,7 +37,7 @@ returns-else-ended-clause-writes g c =
 pub returns-clause-waits : goal.returns-clause-waits
 returns-clause-waits g c = λ low ended.
     let r = c.loop-self.self in
-    absurd (omega (arith, low, c.loop-self-test.false, c.files.ensures.count, files_many r.jobs.now r.collector r.counts))
+    absurd (omega (arith, c.loop-self-test.false, c.files.ensures.count, files_many r.jobs.now r.collector r.counts))
 
 pub loop-self-smaller-in-Some : goal.loop-self-smaller-in-Some
 loop-self-smaller-in-Some g c = grind (arith, common_steps)
