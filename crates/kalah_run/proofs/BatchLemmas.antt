@@ -85,7 +85,7 @@ module _ {G : Type 0} {knows : G → ℕ → Bool} {shared : SharedWork G} {befo
     pub passes_are_back : {passes : ℕ} → passes ≡ length before + 1 → length back ≡ passes
     passes_are_back all =
         let many = ap length back_is ∙ length-append (passes_of after) (p ∷ []) in
-        omega (arith, length-map after (λ (w : Worker). w.pass), run.as_many)
+        omega (arith, length-map after (λ (w : Worker). w.draw_pass), run.as_many)
 
     -- each of them is of the desk
     pub own_back : IsPassAt shared.desk p → All (IsPassAt shared.desk) back

@@ -76,7 +76,7 @@ room_still len more workers_are longer same room = omega (arith, ap length worke
 -- there are as many workers as passes
 pub as_many_workers : (workers : List Worker) (passes : List PassState) (count : ℕ) → passes_of workers ≡ passes
     → length passes ≡ count → length workers ≡ count
-as_many_workers workers passes count are many = sym (length-map workers (λ (w : Worker). w.pass)) ∙ ap length are ∙ many
+as_many_workers workers passes count are many = sym (length-map workers (λ (w : Worker). w.draw_pass)) ∙ ap length are ∙ many
 
 -- their number is the one asked for, but at most one for each job, and one for no job
 pub as_many_as_asked : {workers count least total jobs : ℕ} (asked : ℕ) → workers ≡ count → count ≡ max least 1 → least ≡ min asked total
@@ -103,10 +103,10 @@ new_at_work {knows = knows} shared workers count passes_are puts_are all_new all
     let from = rw (← puts_are) at all_from in
     let unsent = rw (← puts_are) at all_unsent in
     let w = get_or workers k d in
-    let low : k < count = omega (arith, new.0, length-map workers (λ (x : Worker). x.pass)) in
+    let low : k < count = omega (arith, new.0, length-map workers (λ (x : Worker). x.draw_pass)) in
     let put_low : k < length (puts_of workers) = omega (arith, length-map workers (λ (x : Worker). x.put_pass)) in
-    let pass : w.pass ≡ new_pass shared.desk k = sym (get_or-map (λ (x : Worker). x.pass) workers k d w.pass within)
-    ∙ new.1 k w.pass low in
+    let pass : w.draw_pass ≡ new_pass shared.desk k = sym (get_or-map (λ (x : Worker). x.draw_pass) workers k d w.draw_pass within)
+    ∙ new.1 k w.draw_pass low in
     let put : get_or (puts_of workers) k w.put_pass ≡ w.put_pass = get_or-map (λ (x : Worker). x.put_pass) workers k d w.put_pass within in
     record {
       draws = (ap (λ (p : PassState). p.desk) pass, ap (λ (p : PassState). p.total) pass);
@@ -146,7 +146,7 @@ module _ {G : Type 0} {knows : G → ℕ → Bool} {shared : SharedWork G} {befo
 
   -- its pass is of the desk
   pub run_passes : All (IsPassAt shared.desk) (passes_of after)
-  run_passes = All-map (IsPassAt shared.desk) (λ (w : Worker). w.pass) after (λ k d within. (run_at_work k d within).draws)
+  run_passes = All-map (IsPassAt shared.desk) (λ (w : Worker). w.draw_pass) after (λ k d within. (run_at_work k d within).draws)
 
 -- what worker w sent are the outcomes of its row
 sent_in_order : {G : Type 0} {knows : G → ℕ → Bool} (shared : SharedWork G) (workers : List Worker) (w : ℕ)
@@ -163,7 +163,7 @@ shares_of_workers : {G : Type 0} {knows : G → ℕ → Bool} {shared : SharedWo
     → DealsEachOnce (job_count shared.jobs.now) drawn (drawn_rows (passes_of after)) → Accounts count (sent_by (puts_of after)) pairs
     → AreShared drawn (job shared.jobs.now) (drawn_numbers (drawn_rows (passes_of after))) pairs
 shares_of_workers {shared = shared} {before} {after} run pairs count_is deals accounts =
-    let row_count = length-drawn_numbers (passes_of after) ∙ length-map after (λ (w : Worker). w.pass) in
+    let row_count = length-drawn_numbers (passes_of after) ∙ length-map after (λ (w : Worker). w.draw_pass) in
     let sent_count = length-map (puts_of after) (λ (p : PutPassState). p.sent) ∙ length-map after (λ (w : Worker). w.put_pass) in
     record {
       each_once = deals.each_once;
@@ -222,14 +222,14 @@ All-at_dealt P x (r ∷ rs) some all =
     ]
 
 -- some pass is spent, if each is
-some_spent : (workers : List Worker) → 0 < length workers → All (λ (w : Worker). w.pass.row.spent ≡ true) workers
+some_spent : (workers : List Worker) → 0 < length workers → All (λ (w : Worker). w.draw_pass.row.spent ≡ true) workers
     → 0 < spent_in (drawn_rows (passes_of workers))
 some_spent [] some spent = absurd (omega arith)
 some_spent (w ∷ ws) some spent =
     omega (
       arith,
       ap one_if (spent 0 w (omega arith)),
-      sum_by-cons (λ (r : DrawnRow). one_if r.spent) w.pass.row (drawn_rows (passes_of ws)),
+      sum_by-cons (λ (r : DrawnRow). one_if r.spent) w.draw_pass.row (drawn_rows (passes_of ws)),
     )
 
 -- Each worker has run: all jobs were drawn, and if they were drawn by workers the gate knows them.
@@ -245,5 +245,5 @@ each_job_known {knows = knows} {shared} {before} {after} {drawn} run some deals 
     let once = rw (lt-ltb job drawn (omega arith)) at (deals.each_once job) in
     All-at_dealt Known job (drawn_rows (passes_of after)) (omega arith)
     (All-map (λ (r : DrawnRow). All Known r.numbers) (λ (p : PassState). p.row) (passes_of after)
-    (All-map (λ (p : PassState). All Known p.row.numbers) (λ (w : Worker). w.pass) after
+    (All-map (λ (p : PassState). All Known p.row.numbers) (λ (w : Worker). w.draw_pass) after
     (λ k w within. (run_at_work run k w within).known)))

@@ -62,7 +62,7 @@ pub fn answer_batch<R: Threads + Wait + Sync, G: Gate, V: Watch, W: Sink>(
 {
     let jobs = Jobs::with_question(alloc, request.question, request.files)?;
     if jobs.total() > 0 {
-        OpenBatch::open(alloc, request, &jobs, gate)?.answer(rt, watch, out)?;
+        OpenBatch::open(alloc, request, &jobs, gate)?.run(rt, watch, out)?;
     }
     flush_and_count(&jobs, out)
 }

@@ -38,6 +38,6 @@ impl<'a> PromptSolver<'a> {
         requires all_flushed { TakesLong entry.now → (O.state _out.now).is_flushed ≡ true }
         ensures { result ≡ answer_of entry.now }
     {
-        Found::of(entry, self.solver).answer(entry)
+        Found::solve(entry, self.solver).answer(entry)
     }
 }

@@ -18,10 +18,10 @@ pub(crate) enum Found {
 }
 
 impl Found {
-    /// Finds what the answer to an entry needs beside the entry.
+    /// Solves an entry: finds what its answer needs beside the entry.
     #[tactic(auto, unfolding(crate::specs::Writing::Answer::answer_of))]
     #[inline(always)]
-    pub(crate) fn of(entry: &Entry, solver: &mut Solver) -> Found
+    pub(crate) fn solve(entry: &Entry, solver: &mut Solver) -> Found
         ensures { result ≡ found_of entry.now }
     {
         match entry {

@@ -68,7 +68,7 @@ impl Outcome {
     pub fn of(file: u32, line: u32, entry: Entry, solver: &mut Solver) -> Outcome
         ensures { result ≡ record { file = file; line = line; entry = entry } }
     {
-        let found = Found::of(&entry, solver);
+        let found = Found::solve(&entry, solver);
         let job = Job { file, line, entry };
         Outcome { job, found }
     }
@@ -81,7 +81,7 @@ impl Outcome {
         ensures { slice_get (job_list jobs.now) n ≡ Some result }
     {
         let JobRef { file, line, entry } = jobs.find(n);
-        let found = Found::of(entry, solver);
+        let found = Found::solve(entry, solver);
         let entry = *entry;
         let job = Job { file, line, entry };
         Outcome { job, found }

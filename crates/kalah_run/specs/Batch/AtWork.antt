@@ -9,7 +9,7 @@ drawn_jobs jobs numbers = map (job jobs) numbers
 
 -- the passes by which the workers draw, and those by which they send
 abbrev pub passes_of : List Worker → List PassState
-passes_of workers = map (λ w. w.pass) workers
+passes_of workers = map (λ w. w.draw_pass) workers
 
 abbrev pub puts_of : List Worker → List PutPassState
 puts_of workers = map (λ w. w.put_pass) workers
@@ -18,10 +18,10 @@ puts_of workers = map (λ w. w.put_pass) workers
 module _ {G : Type 0} (knows : G → ℕ → Bool) where
   -- the worker draws at the desk and sends through the queue; the gate knows the jobs of its row, and it has sent their outcomes, in order
   pub record IsAtWork (shared : SharedWork G) (w : Worker) : Type 0 where
-    pub draws : IsPassAt shared.desk w.pass
+    pub draws : IsPassAt shared.desk w.draw_pass
     pub sends : w.put_pass.queue ≡ shared.queue.id
-    pub known : All (λ n. knows shared.gate.now n ≡ true) w.pass.row.numbers
-    pub sent : w.put_pass.sent ≡ drawn_jobs shared.jobs.now w.pass.row.numbers
+    pub known : All (λ n. knows shared.gate.now n ≡ true) w.draw_pass.row.numbers
+    pub sent : w.put_pass.sent ≡ drawn_jobs shared.jobs.now w.draw_pass.row.numbers
 
   abbrev pub AreAtWork : SharedWork G → List Worker → Type 0
   AreAtWork shared workers = All (IsAtWork shared) workers
@@ -30,7 +30,7 @@ module _ {G : Type 0} (knows : G → ℕ → Bool) where
   pub record HasRun (shared : SharedWork G) (before after : Worker) : Type 0 where
     pub at_work : IsAtWork shared after
     pub number : after.put_pass.number ≡ before.put_pass.number
-    pub spent : after.pass.row.spent ≡ true
+    pub spent : after.draw_pass.row.spent ≡ true
 
   -- each worker has run, and stands in its place
   pub record HaveRun (shared : SharedWork G) (before after : List Worker) : Type 0 where

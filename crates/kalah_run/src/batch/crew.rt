@@ -14,9 +14,9 @@ fn work<R: Wait, G: Gate>(rt: &R, shared: &SharedWork<'_, G>, worker: &mut Worke
     requires { IsAtWork G.knows shared.now worker.old }
     ensures { HasRun G.knows shared.now worker.old worker.new }
 {
-    while let Some(job) = shared.desk.draw(&mut worker.pass) {
+    while let Some(job) = shared.desk.draw(&mut worker.draw_pass) {
         shared.gate.before(job);
-        let outcome = worker.answer(shared.jobs, job, shared.gate);
+        let outcome = worker.solve(shared.jobs, job, shared.gate);
         shared.queue.put(rt, &mut worker.put_pass, outcome);
         shared.gate.after(job);
     }

@@ -1,4 +1,4 @@
-//! A batch that is opened, answered and closed.
+//! A batch that is opened, run and closed.
 ghost use Rattle.std.specs.Prelude.{◌≡◌, ◌≤◌, ◌⊎◌, ℕ, ◌<◌, [], ◌∷◌, ◌++◌, length, vec_len, vec_capacity, false, true, IfOk, IfErr};
 ghost use Rattle.kalah_jobs.specs.{Files.Jobs.{job_count}, Writing.Sink.{WasGiven}};
 ghost use Rattle.kalah_run.specs.{Limits.{IsTableSize}, Batch.{AtWork.{passes_of, puts_of}, Running.{IsAsAsked, IsReadyToRun, HasRoom, HaveOwnTables}, OrderedOutput.{whole_output}}, declared.batch.request.OnFailedWrite.TheVariants.{Solve}};
@@ -46,13 +46,13 @@ impl PassLists {
         let mut workers: Vec<Worker> = Vec::with_capacity(alloc, self.passes.len())?;
         for _ in 0..self.passes.len() {
             let solver = Worker::new_solver(alloc, table_entries, workers.last())?;
-            let Some(pass) = self.passes.pop() else {
+            let Some(draw_pass) = self.passes.pop() else {
                 unreachable!()
             };
             let Some(put_pass) = self.puts.pop() else {
                 unreachable!()
             };
-            workers.push_reserved(Worker::new(pass, put_pass, solver));
+            workers.push_reserved(Worker::new(draw_pass, put_pass, solver));
         }
         workers.reverse();
         Ok(workers)
@@ -65,7 +65,7 @@ impl PassLists {
         ensures puts { self.new.puts.items ≡ puts_of workers.items }
     {
         for worker in workers {
-            self.passes.push_reserved(worker.pass);
+            self.passes.push_reserved(worker.draw_pass);
             self.puts.push_reserved(worker.put_pass);
         }
         self.passes.push_reserved(rest_pass);
@@ -126,9 +126,9 @@ impl<'a, G: Gate> OpenBatch<'a, G> {
         })
     }
 
-    /// Answers the jobs: runs the workers, and writes each answer line once it is ready and all earlier ones are written. Then it closes
-    /// the batch. Fails with `NoWorker` if no thread could be started; then nothing is written.
-    pub(crate) fn answer<R: Threads + Wait + Sync, V: Watch, W: Sink>(
+    /// Runs the workers, and writes each answer line once it is ready and all earlier ones are written. Then it closes the batch. Fails
+    /// with `NoWorker` if no thread could be started; then nothing is written.
+    pub(crate) fn run<R: Threads + Wait + Sync, V: Watch, W: Sink>(
         self,
         rt: &R,
         watch: &mut V,

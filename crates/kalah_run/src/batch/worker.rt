@@ -16,7 +16,7 @@ use std::alloc::{AllocError, Global};
 /// One worker of a batch: the pass by which it draws, the pass by which it sends, and its solver.
 #[derive(Drop)]
 pub(crate) struct Worker {
-    pub(crate) pass: Pass,
+    pub(crate) draw_pass: Pass,
     pub(crate) put_pass: PutPass,
     // Workers are adjacent in one list, and each thread changes its own solver all the time.
     solver: CachePadded<Solver>,
@@ -40,12 +40,12 @@ impl Worker {
     }
 
     /// Makes a worker with these passes and this solver.
-    pub(crate) fn new(pass: Pass, put_pass: PutPass, solver: Solver) -> Worker
-        ensures passes { (result.pass ≡ pass) × (result.put_pass ≡ put_pass) }
+    pub(crate) fn new(draw_pass: Pass, put_pass: PutPass, solver: Solver) -> Worker
+        ensures passes { (result.draw_pass ≡ draw_pass) × (result.put_pass ≡ put_pass) }
         ensures solver { padded_value result.solver ≡ solver }
     {
         Worker {
-            pass,
+            draw_pass,
             put_pass,
             solver: CachePadded::new(solver),
         }
@@ -53,11 +53,11 @@ impl Worker {
 
     /// Solves a job, and returns its outcome. `_gate` is not used: its clause makes the caller call the gate first.
     #[inline(always)]
-    pub(crate) fn answer<G: Gate>(&mut self, jobs: &Jobs, job: u32, _gate: &G) -> Outcome
+    pub(crate) fn solve<G: Gate>(&mut self, jobs: &Jobs, job: u32, _gate: &G) -> Outcome
         requires there { job < job_count jobs.now }
         requires known { G.knows _gate.now job ≡ true }
-        ensures answer { slice_get (job_list jobs.now) job ≡ Some result }
-        ensures same { (self.new.pass ≡ self.old.pass) × (self.new.put_pass ≡ self.old.put_pass) }
+        ensures outcome { slice_get (job_list jobs.now) job ≡ Some result }
+        ensures same { (self.new.draw_pass ≡ self.old.draw_pass) × (self.new.put_pass ≡ self.old.put_pass) }
     {
         Outcome::of_job(jobs, job, &mut self.solver)
     }

@@ -3,15 +3,15 @@ use Rattle.std.proofs.{lemmas.Grind.{common_steps}, Common.{◌≡◌, Err, rule
 use Rattle.kalah_jobs.specs.{Writing.{Sink.{WasGiven}, Output.{output_for}}}
 use Rattle.kalah_jobs.proofs.SinkLemmas.{given_none, given_then_flush}
 use Rattle.kalah_run.specs.declared.batch.run_fault.RunFault.TheVariants.{NoWorker}
-use Rattle.kalah_run.proofs.{AnsweringLemmas.{answered, as_many_jobs, given_as, no_line, no_output, whole_output_is}, batch.answer_batch.Goals.{then-total-gt0+in_ok-open+in_ok-answer, else-total-gt0}}
+use Rattle.kalah_run.proofs.{AnsweringLemmas.{answered, as_many_jobs, given_as, no_line, no_output, whole_output_is}, batch.answer_batch.Goals.{then-total-gt0+in_ok-open+in_ok-run, else-total-gt0}}
 use Rattle.kalah_run.proofs.batch.answer_batch.Goals as goal
 
 -- no thread could be started
-pub returns-in_err-answer-clause-answers : goal.returns-in_err-answer-clause-answers
-returns-in_err-answer-clause-answers g c =
+pub returns-in_err-run-clause-answers : goal.returns-in_err-run-clause-answers
+returns-in_err-run-clause-answers g c =
     let jobs = c.in_ok-jobs.ensures in
-    let fault = c.in_err-answer.ensures.fault in
-    let is : c.from_residual-in_err-answer.result ≡ Err NoWorker = search rules in
+    let fault = c.in_err-run.ensures.fault in
+    let is : c.from_residual-in_err-run.result ≡ Err NoWorker = search rules in
     rw is (
       jobs.0,
       rw (c.total.ensures.lines ∙ as_many_jobs _ _ _ jobs.1) at c.if-total-gt0.true,
@@ -27,10 +27,10 @@ returns-clause-answers g c =
     let end = c.flush_and_count.ensures in
     let given : WasGiven g.W.Sink.state c.args.out.now c.if-total-gt0.out (output_for question files) =
     elim c.if-total-gt0.branch [
-      | then-total-gt0+in_ok-open+in_ok-answer w ↦
+      | then-total-gt0+in_ok-open+in_ok-run w ↦
           let asked = w.in_ok-open.ensures.asked in
           given_as g.W.Sink.state w.out-is (whole_output_is question files w.in_ok-open.field-0.output asked.of_files
-          (w.in_ok-open.ensures.ready.jobs ∙ asked.of_jobs ∙ jobs.1)) w.in_ok-answer.ensures.given
+          (w.in_ok-open.ensures.ready.jobs ∙ asked.of_jobs ∙ jobs.1)) w.in_ok-run.ensures.given
       | else-total-gt0 w ↦
           given_as g.W.Sink.state w.out-is (sym (no_output question files (no_line w.if-total-gt0.false (c.total.ensures.lines
           ∙ as_many_jobs _ _ _ jobs.1)))) (given_none g.W.Sink.state c.args.out.now)
@@ -44,10 +44,10 @@ returns-clause-gate_hears_all g c = λ unless ok job low.
     let end = c.flush_and_count.ensures in
     let jobs = as_many_jobs _ _ _ c.in_ok-jobs.ensures.1 in
     elim c.if-total-gt0.branch [
-      | then-total-gt0+in_ok-open+in_ok-answer w ↦
+      | then-total-gt0+in_ok-open+in_ok-run w ↦
           let asked = w.in_ok-open.ensures.asked in
           let same = ap (λ o. (g.W.Sink.state o).has_failed) (sym w.out-is) in
-          rw (← asked.of_gate) (w.in_ok-answer.ensures.gate_hears_all
+          rw (← asked.of_gate) (w.in_ok-run.ensures.gate_hears_all
           (⊎_elim (λ solve. inl (asked.on_failed_write ∙ solve)) (λ sound. inr (same ∙ (end.given.whole sound).0)) unless) job
           (rw (asked.of_jobs, jobs) low))
       | else-total-gt0 w ↦ absurd (omega (arith, w.if-total-gt0.false, c.total.ensures.lines))

@@ -9,4 +9,4 @@ invariant-loop-job g l = record {
 }
 
 abbrev pub decreases-loop-job : goal.decreases-loop-job
-decreases-loop-job g l = l.shared.desk.total - least_above l.worker.pass.row.numbers
+decreases-loop-job g l = l.shared.desk.total - least_above l.worker.draw_pass.row.numbers

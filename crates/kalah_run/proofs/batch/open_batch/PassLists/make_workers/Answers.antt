@@ -11,7 +11,7 @@ loop-preserved c =
     record {
       left = omega (arith, c.in-Some.ensures.len);
       as_many = omega (arith, c.in-Some.ensures.len, c.in-Some-pop.ensures.len);
-      passes = one_given (λ (w : Worker). w.pass) _ _ is of.passes.0 c.in-Some.ensures.items so_far.passes;
+      passes = one_given (λ (w : Worker). w.draw_pass) _ _ is of.passes.0 c.in-Some.ensures.items so_far.passes;
       puts = one_given (λ (w : Worker). w.put_pass) _ _ is of.passes.1 c.in-Some-pop.ensures.items so_far.puts;
       tables = tables_more _ _ _ is (rw of.solver c.in_ok-solver.ensures) so_far.tables;
       passes_room = c.in-Some.ensures.capacity ∙ so_far.passes_room;

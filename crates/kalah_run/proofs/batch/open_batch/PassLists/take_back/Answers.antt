@@ -14,7 +14,7 @@ loop-worker-preserved c =
     let pass = c.push_reserved.ensures in
     let put = c.push_reserved-in-loop-worker.ensures in
     record {
-      passes = one_taken (λ (w : Worker). w.pass) _ _ pass.items so_far.passes;
+      passes = one_taken (λ (w : Worker). w.draw_pass) _ _ pass.items so_far.passes;
       puts = one_taken (λ (w : Worker). w.put_pass) _ _ put.items so_far.puts;
       passes_room = room_still _ _ c.in-Some.ensures.steps.0 pass.len pass.capacity so_far.passes_room;
       puts_room = room_still _ _ c.in-Some.ensures.steps.0 put.len put.capacity so_far.puts_room;

@@ -3,8 +3,8 @@
 use Rattle.std.proofs.Common.{⊎_elim, inl, inr, ap, arith, length, sym, ◌∙◌}
 use Rattle.kalah_jobs.specs.{Collecting.AnyOrder.{IsPermutationOfJobs}, Files.Jobs.{job_count}}
 use Rattle.kalah_run.specs.{DealsEachOnce, drawn_rows, DrawnRow, GetPassState, PassState, outcomes_in, passes_of, HasDrawnNothing}
-use Rattle.kalah_run.proofs.{WorkerLemmas.{each_job_known, each_job_got}, BatchLemmas.{passes_are_back, own_back, puts_back, unless_left}, RowLemmas.{deals_to_others}, batch.open_batch.OpenBatch.answer.Given.{Over}}
-use Rattle.kalah_run.proofs.batch.open_batch.OpenBatch.answer.Goals as goal
+use Rattle.kalah_run.proofs.{WorkerLemmas.{each_job_known, each_job_got}, BatchLemmas.{passes_are_back, own_back, puts_back, unless_left}, RowLemmas.{deals_to_others}, batch.open_batch.OpenBatch.run.Given.{Over}}
+use Rattle.kalah_run.proofs.batch.open_batch.OpenBatch.run.Goals as goal
 
 pub new-receiver-requires-clause-draws : goal.new-receiver-requires-clause-draws
 new-receiver-requires-clause-draws g c =
