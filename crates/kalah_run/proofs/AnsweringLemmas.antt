@@ -1,5 +1,5 @@
 -- What a batch answers: the output of its files, each result, and a batch whose files have no line.
-use Rattle.std.proofs.{Common.{[], IfErr, ◌≡◌, ◌≤◌, ℕ, List, ◌++◌, arith, sym, ap, ◌∙◌, true, false, refl, length, take, inl, inr, Some, Option, None, Result, Ok, Err, OnOk, count_by, IfOk, flat_map}, lemmas.List.{nil_from_length, append-nil}, Math.Seq.{take-nil}, KnownBytes.{Keeps-refl}}
+use Rattle.std.proofs.{Common.{[], IfErr, ◌≡◌, ℕ, List, ◌++◌, arith, sym, ap, ◌∙◌, true, false, refl, length, take, inl, inr, Some, Option, None, Result, Ok, Err, OnOk, count_by, IfOk, flat_map}, lemmas.List.{nil_from_length, append-nil}, Math.Seq.{take-nil}, KnownBytes.{Keeps-refl}}
 use Rattle.kalah_run.specs.{Entry, Job, Tally, Question, text_of_job, whole_output, AnswersBatch, counts_of, AnswersNothing, declared.batch.{ordered_output.OrderedOutput.{OrderedOutput}, run_fault.RunFault.{RunFault, TheVariants.{TooManyFiles, TooManyLines, OutOfMemory, NoWorker, Write}}}}
 use Rattle.kalah_jobs.specs.{Files.{JobList.{job_list, is_faulty_job}, NamedBytes.{NamedBytes}, Jobs.{MakesJobs, job_count, jobs_for, lines_in_all}}, Writing.{Sink.{SinkState, WasGiven}, Output.{taken_output, output_for, output_of_jobs, names_of, tally_of}}}
 use Rattle.std.specs.Io.KnownBytes.{Appends, Keeps}
@@ -13,18 +13,9 @@ whole_output_is question files r of_files of_jobs =
     (λ i. output_of_jobs (names_of (of_files i)) (of_jobs i)) ∙ sym (files_are_their_jobs.output question files)
 
 -- there are as many jobs as lines
-pub as_many_jobs : (question : Question) (files : List NamedBytes) (jobs : List (List Entry)) → jobs ≡ jobs_for question files
+pub as_many_jobs : (question : Question) (files : List NamedBytes) {jobs : List (List Entry)} → jobs ≡ jobs_for question files
     → job_count jobs ≡ lines_in_all files
-as_many_jobs question files jobs value = ap job_count value ∙ job_count-jobs_for question files
-
--- this sink was given this text
-pub given_as : {W : Type 0} (state : W → SinkState) {old new out : W} {text given : List ℕ} → out ≡ new → given ≡ text
-    → WasGiven state old new given → WasGiven state old out text
-given_as state out_is text_is was_given = rw (out_is, ← text_is) was_given
-
--- no job is no line
-pub no_line : {total lines : ℕ} → total ≤ 0 → total ≡ lines → lines ≡ 0
-no_line none total_is = omega arith
+as_many_jobs question files value = ap job_count value ∙ job_count-jobs_for question files
 
 counted_tally : (question : Question) (files : List NamedBytes) → counts_of (jobs_for question files) ≡ tally_of files
 counted_tally question files = λ i. record {

@@ -1,5 +1,5 @@
 -- The workers of a batch: what each sends, and what is known once all have run.
-use Rattle.std.proofs.{Common.{[], ◌≡◌, ◌≤◌, ◌<◌, ◌+◌, ◌-◌, ℕ, suc, List, ◌∷◌, ◌++◌, arith, sym, ap, ◌∙◌, Bool, true, length, get_or, append_assoc, subst, zero, map, reverse, ◌==◌, if◌then◌else◌, ne_eqb, inl, inr, All, Some, fold, slice_get, count_by, max, min}, lemmas.{List.{map-append, reverse-append, get_or-map, length-append, length-map, Sums.{fold-append, sum_by-cons}, Elements.{All-cons, All-map, All-tail}}, Option.{get_or_from_slice_get}, Bool.{cases_eq, cases_lt, lt-ltb}}}
+use Rattle.std.proofs.{Common.{[], ◌≡◌, ◌≤◌, ◌<◌, ◌+◌, ◌-◌, ℕ, suc, List, ◌∷◌, ◌++◌, arith, sym, ap, ◌∙◌, Bool, true, length, get_or, append_assoc, subst, zero, map, reverse, ◌==◌, if◌then◌else◌, ne_eqb, inl, inr, All, Some, fold, slice_get, count_by}, lemmas.{List.{map-append, reverse-append, get_or-map, length-append, length-map, Sums.{fold-append, sum_by-cons}, Elements.{All-cons, All-map, All-tail}}, Option.{get_or_from_slice_get}, Bool.{cases_eq, cases_lt, lt-ltb}}}
 use Rattle.kalah_run.specs.{Entry, OutcomeState, WorkerOutcome, DrawnRow, drawn_jobs, passes_of, puts_of, AreAtWork, HasRun, HaveRun, PutPassState, ArePassesFrom, sent_by, Accounts, outcomes_in, PassState, IsPassAt, AreNewPasses, new_pass, drawn_rows, HasOwnTable, HaveOwnTables, drawn_numbers, DealsEachOnce, spent_in, declared.batch.{worker.Worker.{Worker}, shared_work.SharedWork.{SharedWork}}}
 use Rattle.kalah_jobs.specs.{Files.{JobList.{job_list, no_job}, Jobs.{job_count}}, Collecting.{AnyOrder.{job, IsPermutationOfJobs}, Shares.{AreShared, times_in}}}
 use Rattle.kalah_jobs.proofs.{CountingLemmas.{gets_each_job_once, as_many_as_numbers}, FilesLemmas.{length-job_list}}
@@ -61,37 +61,12 @@ pub one_taken : {X : Type 0} (f : Worker → X) (workers : List Worker) (w : Wor
     → given' ≡ given ++ f w ∷ [] → given ≡ map f workers → given' ≡ map f (workers ++ w ∷ [])
 one_taken f workers w given_is so_far = given_is ∙ ap (◌++ (f w ∷ [])) so_far ∙ sym (map-append f workers (w ∷ []))
 
--- a list that has room for one element of each worker that is left, and for some more, has room for the first worker's
-pub room_for_one : {w : Worker} {workers workers' : List Worker} {len capacity : ℕ} (more : ℕ) → workers ≡ w ∷ workers'
-    → length workers + (len + more) ≤ capacity → len < capacity
-room_for_one more workers_are room = omega (arith, ap length workers_are)
-
--- then it has room for those of the others
-pub room_still : {w : Worker} {workers workers' : List Worker} {len' capacity capacity' : ℕ} (len more : ℕ) → workers ≡ w ∷ workers'
-    → len' ≡ len + 1 → capacity' ≡ capacity → length workers + (len + more) ≤ capacity → length workers' + (len' + more) ≤ capacity'
-room_still len more workers_are longer same room = omega (arith, ap length workers_are)
-
 -- ==== The workers of a batch, from their passes to what was got of them
 
 -- there are as many workers as passes
 pub as_many_workers : (workers : List Worker) (passes : List PassState) (count : ℕ) → passes_of workers ≡ passes
     → length passes ≡ count → length workers ≡ count
 as_many_workers workers passes count are many = sym (length-map workers (λ (w : Worker). w.draw_pass)) ∙ ap length are ∙ many
-
--- their number is the one asked for, but at most one for each job, and one for no job
-pub as_many_as_asked : {workers count least total jobs : ℕ} (asked : ℕ) → workers ≡ count → count ≡ max least 1 → least ≡ min asked total
-    → total ≡ jobs → (workers ≡ max 1 (min asked jobs)) × (0 < workers)
-as_many_as_asked asked many count_is least_is total_is = (omega arith, omega arith)
-
--- a list from which all passes were taken, one more than there are workers, has room for all again
-pub room_for_all : {workers count size len capacity popped left : ℕ} → workers ≡ count → left ≡ popped → popped ≡ capacity
-    → (len ≡ size) × (len ≤ capacity) → size ≡ count + 1 → workers < left
-room_for_all many left_is popped_is held size_is = omega arith
-
--- a list from which all passes were taken, one for each worker, has room for all again
-pub room_for_each : {workers count len size capacity left : ℕ} → workers ≡ count → left ≡ capacity
-    → (len ≡ size) × (len ≤ capacity) → len ≡ count → workers ≤ left
-room_for_each many left_is held len_is = omega arith
 
 -- workers with new passes, that have sent nothing, are at work
 pub new_at_work : {G : Type 0} {knows : G → ℕ → Bool} (shared : SharedWork G) (workers : List Worker) (count : ℕ)

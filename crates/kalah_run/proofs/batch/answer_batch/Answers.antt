@@ -3,7 +3,7 @@ use Rattle.std.proofs.{lemmas.Grind.{common_steps}, Common.{◌≡◌, Err, rule
 use Rattle.kalah_jobs.specs.{Writing.{Sink.{WasGiven}, Output.{output_for}}}
 use Rattle.kalah_jobs.proofs.SinkLemmas.{given_none, given_then_flush}
 use Rattle.kalah_run.specs.declared.batch.run_fault.RunFault.TheVariants.{NoWorker}
-use Rattle.kalah_run.proofs.{AnsweringLemmas.{answered, as_many_jobs, given_as, no_line, no_output, whole_output_is}, batch.answer_batch.Goals.{then-total-gt0+in_ok-open+in_ok-run, else-total-gt0}}
+use Rattle.kalah_run.proofs.{AnsweringLemmas.{answered, as_many_jobs, no_output, whole_output_is}, batch.answer_batch.Goals.{then-total-gt0+in_ok-open+in_ok-run, else-total-gt0}}
 use Rattle.kalah_run.proofs.batch.answer_batch.Goals as goal
 
 -- no thread could be started
@@ -14,7 +14,7 @@ returns-in_err-run-clause-answers g c =
     let is : c.from_residual-in_err-run.result ≡ Err NoWorker = search rules in
     rw is (
       jobs.0,
-      rw (c.total.ensures.lines ∙ as_many_jobs _ _ _ jobs.1) at c.if-total-gt0.true,
+      rw (c.total.ensures.lines ∙ as_many_jobs _ _ jobs.1) at c.if-total-gt0.true,
       (fault.1, ap (λ o. (g.W.Sink.state o).has_failed) fault.1 ∙ c.requires.not_failed),
     )
 
@@ -29,11 +29,14 @@ returns-clause-answers g c =
     elim c.if-total-gt0.branch [
       | then-total-gt0+in_ok-open+in_ok-run w ↦
           let asked = w.in_ok-open.ensures.asked in
-          given_as g.W.Sink.state w.out-is (whole_output_is question files w.in_ok-open.field-0.output asked.of_files
-          (w.in_ok-open.ensures.ready.jobs ∙ asked.of_jobs ∙ jobs.1)) w.in_ok-run.ensures.given
+          rw (
+            w.out-is,
+            ← whole_output_is question files w.in_ok-open.field-0.output asked.of_files
+                (w.in_ok-open.ensures.ready.jobs ∙ asked.of_jobs ∙ jobs.1),
+          ) w.in_ok-run.ensures.given
       | else-total-gt0 w ↦
-          given_as g.W.Sink.state w.out-is (sym (no_output question files (no_line w.if-total-gt0.false (c.total.ensures.lines
-          ∙ as_many_jobs _ _ _ jobs.1)))) (given_none g.W.Sink.state c.args.out.now)
+          let none = c.total.ensures.lines ∙ as_many_jobs _ _ jobs.1 in
+          rw (w.out-is, no_output question files (omega (arith, w.if-total-gt0.false))) (given_none g.W.Sink.state c.args.out.now)
     ] in
     answered g.W.Sink.state question files _ jobs _ _ (given_then_flush g.W.Sink.state given end.given) end.counted end.all_flushed
     end.fault
@@ -42,7 +45,7 @@ returns-clause-answers g c =
 pub returns-clause-gate_hears_all : goal.returns-clause-gate_hears_all
 returns-clause-gate_hears_all g c = λ unless ok job low.
     let end = c.flush_and_count.ensures in
-    let jobs = as_many_jobs _ _ _ c.in_ok-jobs.ensures.1 in
+    let jobs = as_many_jobs _ _ c.in_ok-jobs.ensures.1 in
     elim c.if-total-gt0.branch [
       | then-total-gt0+in_ok-open+in_ok-run w ↦
           let asked = w.in_ok-open.ensures.asked in
@@ -55,3 +58,6 @@ returns-clause-gate_hears_all g c = λ unless ok job low.
 
 pub open-requires-after_bounds : goal.open-requires-after_bounds
 open-requires-after_bounds g c κs within = grind (arith, common_steps)
+
+pub run-requires-after_bounds : goal.run-requires-after_bounds
+run-requires-after_bounds g c κs within = c.in_ok-open.ensures.ready

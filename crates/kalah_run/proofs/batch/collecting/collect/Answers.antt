@@ -1,5 +1,5 @@
 -- After each outcome that is accepted, all lines that became ready stand written. The loop ends once no outcome is to come.
-use Rattle.std.proofs.Common.{Some, None, rules}
+use Rattle.std.proofs.{Common.{Some, None, rules}, lemmas.Bool.{false≢true}}
 use Rattle.kalah_run.specs.{GetsNext}
 use Rattle.kalah_run.proofs.{BatchLemmas.{collected_at_start, gets_after, gets_now, has_collected, one_collected}, batch.collecting.collect.Goals.{in-Some, in-None+in-Some-flush_and_get, else-loop-receiver-test, then-loop-receiver-test+in-None+in-None-flush_and_get}}
 use Rattle.kalah_run.proofs.batch.collecting.collect.Given as given
@@ -15,9 +15,9 @@ outcome_got g c =
     let awaits = rw c.failed.ensures at c.prepare_next.ensures.receives in
     elim c.match-get_soon.branch [
       | in-Some w ↦ rw (w.out-is, w.receiver-is, w.outcome-is)
-          (gets_after awaits (λ e. e) (gets_now w.in-Some.ensures.receives (λ e. absurd (cc e)) tt))
+          (gets_after awaits (λ e. e) (gets_now w.in-Some.ensures.receives (λ e. absurd (false≢true e)) tt))
       | in-None+in-Some-flush_and_get w ↦ rw (w.out-is, w.receiver-is, w.outcome-is)
-          (gets_after awaits (λ e. e) (gets_after w.in-None.ensures.receives (λ e. absurd (cc e)) w.in-Some-flush_and_get.ensures))
+          (gets_after awaits (λ e. e) (gets_after w.in-None.ensures.receives (λ e. absurd (false≢true e)) w.in-Some-flush_and_get.ensures))
     ]
 
 pub loop-receiver-preserved : goal.loop-receiver-preserved
@@ -33,7 +33,7 @@ none_got g c =
     elim c.loop-receiver-test.branch [
       | else-loop-receiver-test w ↦ rw (w.out-is, w.receiver-is) (gets_now awaits (λ e. e) (search rules))
       | then-loop-receiver-test+in-None+in-None-flush_and_get w ↦ rw (w.out-is, w.receiver-is)
-          (gets_after awaits (λ e. e) (gets_after w.in-None.ensures.receives (λ e. absurd (cc e)) w.in-None-flush_and_get.ensures))
+          (gets_after awaits (λ e. e) (gets_after w.in-None.ensures.receives (λ e. absurd (false≢true e)) w.in-None-flush_and_get.ensures))
     ]
 
 pub returns-clause-collected : goal.returns-clause-collected

@@ -1,14 +1,15 @@
 -- Of the new passes the last one is the calling thread's, and the workers have the others; nothing was drawn, sent or got.
-use Rattle.std.proofs.Common.{◌≡◌, ◌+◌, [], ap, length, refl, subst, sym, ◌∙◌}
+use Rattle.std.proofs.Common.{◌≡◌, ◌+◌, [], ap, arith, length, refl, subst, sym, ◌∙◌}
 use Rattle.kalah_run.specs.{GetPassState, ArePassesFrom, new_pass}
-use Rattle.kalah_run.proofs.{WorkerLemmas.{as_many_as_asked, as_many_workers, new_at_work, room_for_all, room_for_each}, PassLemmas.{last_new_pass}}
+use Rattle.kalah_run.proofs.{WorkerLemmas.{as_many_workers, new_at_work}, PassLemmas.{last_new_pass}}
 use Rattle.kalah_run.proofs.batch.open_batch.OpenBatch.open.Goals as goal
 
 pub returns-clause-asked : goal.returns-clause-asked
 returns-clause-asked g c = record {
-  workers = (as_many_as_asked c.args.request.now.workers (as_many_workers _ _ _ c.in_ok-workers.ensures.passes
-      (last_new_pass c.in_ok-desk.desk _ _ _ c.in-Some.ensures.items c.in_ok-desk.ensures.passes).0.0)
-      c.max-count.ensures c.min.ensures c.total-total.ensures.lines).0;
+  workers =
+      let many = as_many_workers _ _ _ c.in_ok-workers.ensures.passes
+      (last_new_pass c.in_ok-desk.desk _ _ _ c.in-Some.ensures.items c.in_ok-desk.ensures.passes).0.0 in
+      omega (arith, c.max-count.ensures, c.min.ensures, c.total-total.ensures.lines);
   tables = c.in_ok-workers.ensures.tables;
   of_files = c.in_ok-output.ensures.of.0;
   of_jobs = refl;
@@ -25,7 +26,7 @@ returns-clause-ready g c =
     let new = last_new_pass c.in_ok-desk.desk _ _ _ c.in-Some.ensures.items c.in_ok-desk.ensures.passes in
     let many : length c.in_ok-workers.workers.items ≡ c.max-count.result = as_many_workers _ _ _ workers.passes new.0.0 in
     record {
-      some_worker = (as_many_as_asked c.args.request.now.workers many c.max-count.ensures c.min.ensures c.total-total.ensures.lines).1;
+      some_worker = omega (arith, c.max-count.ensures);
       passes = c.in_ok-desk.ensures.desk.1 ∙ ap (◌+ 1) (sym many);
       rest_pass = new.1 ∙ ap (new_pass c.in_ok-desk.desk) (sym many);
       at_work = new_at_work _ _ _ workers.passes workers.puts new.0 queue.puts.1 queue.puts.2;
@@ -35,8 +36,8 @@ returns-clause-ready g c =
       jobs = c.in_ok-output.ensures.of.1;
       room = record {
         empty = workers.empty;
-        passes = room_for_all many workers.room.0 c.in-Some.ensures.capacity c.in_ok-desk.passes.ok c.in_ok-desk.ensures.passes.0;
-        puts = room_for_each many workers.room.1 c.in_ok-queue.puts.ok queue.puts.0;
+        passes = omega (arith, workers.room.0, c.in-Some.ensures.capacity, c.in_ok-desk.passes.ok, c.in_ok-desk.ensures.passes.0);
+        puts = omega (arith, workers.room.1, c.in_ok-queue.puts.ok, queue.puts.0);
       };
     }
 

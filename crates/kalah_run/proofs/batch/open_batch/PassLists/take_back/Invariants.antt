@@ -7,5 +7,5 @@ invariant-loop-worker l = record {
   passes : l.self.passes.items ≡ passes_of l.yielded;
   puts : l.self.puts.items ≡ puts_of l.yielded;
   passes_room : length (into_iter_items l.worker-iterator) + (vec_len l.self.passes + 1) ≤ vec_capacity l.self.passes;
-  puts_room : length (into_iter_items l.worker-iterator) + (vec_len l.self.puts + 0) ≤ vec_capacity l.self.puts;
+  puts_room : length (into_iter_items l.worker-iterator) + vec_len l.self.puts ≤ vec_capacity l.self.puts;
 }
