@@ -77,6 +77,11 @@ module _ {W : Type 0} {state : W → SinkState} {failed : Bool} {first second : 
     unwritten = next.unwritten;
   }
 
+-- the pass to get counts the workers, as it did when the batch was opened
+pub workers_counted : {count : ℕ} {now before : CallerPasses} {new : GetPassState} → count ≡ now.get_pass.workers → now ≡ before
+    → before.get_pass ≡ new → count ≡ new.workers
+workers_counted kept now_is new_is = kept ∙ ap (λ p. p.get_pass.workers) now_is ∙ ap (λ p. p.workers) new_is
+
 -- after the run, when the passes of the workers and that of the calling thread come back
 module _ {G : Type 0} {knows : G → ℕ → Bool} {shared : SharedWork G} {before after : List Worker} (run : HaveRun knows shared before after) where
   -- with the pass p of the calling thread

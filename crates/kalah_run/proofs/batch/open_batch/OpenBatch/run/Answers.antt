@@ -3,7 +3,7 @@
 use Rattle.std.proofs.Common.{⊎_elim, inl, inr, ap, arith, length, sym, ◌∙◌}
 use Rattle.kalah_jobs.specs.{Collecting.AnyOrder.{IsPermutationOfJobs}, Files.Jobs.{job_count}}
 use Rattle.kalah_run.specs.{DealsEachOnce, drawn_rows, DrawnRow, GetPassState, PassState, outcomes_in, passes_of, HasDrawnNothing}
-use Rattle.kalah_run.proofs.{WorkerLemmas.{each_job_known, each_job_got}, BatchLemmas.{passes_are_back, own_back, puts_back, unless_left}, RowLemmas.{deals_to_others}, batch.open_batch.OpenBatch.run.Given.{Over}}
+use Rattle.kalah_run.proofs.{WorkerLemmas.{each_job_known, each_job_got}, BatchLemmas.{passes_are_back, own_back, puts_back, unless_left, workers_counted}, RowLemmas.{deals_to_others}, batch.open_batch.OpenBatch.run.Given.{Over}}
 use Rattle.kalah_run.proofs.batch.open_batch.OpenBatch.run.Goals as goal
 
 pub new-receiver-requires-clause-draws : goal.new-receiver-requires-clause-draws
@@ -47,7 +47,7 @@ close-requires-clause-own g c =
 pub close-requires-2-clause-puts : goal.close-requires-2-clause-puts
 close-requires-2-clause-puts g c =
     puts_back c.in-Some.ensures.0 c.take_back.new.self.puts.ok.0 c.take_back.ensures.puts
-    (c.in-Some.ensures.1.workers ∙ ap (λ p. p.get_pass.workers) c.new-receiver.ensures.passes ∙ ap (λ p. p.workers) c.requires.get_pass)
+    (workers_counted c.in-Some.ensures.1.workers c.new-receiver.ensures.passes c.requires.get_pass)
     c.requires.put_passes
 
 -- ---- what has come is written
@@ -63,8 +63,7 @@ each_got : (g : Over) (c : goal.After-close-2 g) → HasDrawnNothing c.in-Some.c
     → IsPermutationOfJobs c.args.self.output.jobs.now (outcomes_in c.in-Some.caller.get_pass.got)
 each_got g c nothing =
     let collected = c.in-Some.ensures.1 in
-    let workers = collected.workers ∙ ap (λ p. p.get_pass.workers) c.new-receiver.ensures.passes
-    ∙ ap (λ p. p.workers) c.requires.get_pass in
+    let workers = workers_counted collected.workers c.new-receiver.ensures.passes c.requires.get_pass in
     each_job_got c.in-Some.ensures.0 c.in-Some.caller.get_pass.got workers (dealt g c nothing)
     c.take_back.ensures.puts c.close-2.ensures.whole c.requires.jobs
     (omega (arith, collected.got_or_left, ap (λ (r : DrawnRow). length r.numbers) nothing))
