@@ -19,11 +19,6 @@ failed_still : {W : Type 0} {state : W → SinkState} {old new : W} {text : List
     → (state old).has_failed ≡ true → (state new).has_failed ≡ true
 failed_still {state = state} given failed = ap (λ o. (state o).has_failed) (given.quiet failed) ∙ failed
 
--- fewer are to come once the calling thread has drawn some numbers
-pub fewer_to_come : {now before : ℕ} (left total got many : ℕ) {more : ℕ} → more ≡ many + left → now ≡ before - left
-    → before ≡ total - (got + many) → now ≡ total - (got + more)
-fewer_to_come left total got many more_is now_is before_is = omega arith
-
 -- the calling thread has drawn only the rest still, if a failure before is one afterwards
 draws_weaken : {failed later : Bool} {before after : Receiver} → DrawsOnlyTheRest failed before after → (failed ≡ true → later ≡ true)
     → DrawsOnlyTheRest later before after

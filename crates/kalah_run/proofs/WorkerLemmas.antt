@@ -64,9 +64,9 @@ one_taken f workers w given_is so_far = given_is ∙ ap (◌++ (f w ∷ [])) so_
 -- ==== The workers of a batch, from their passes to what was got of them
 
 -- there are as many workers as passes
-pub as_many_workers : (workers : List Worker) (passes : List PassState) (count : ℕ) → passes_of workers ≡ passes
+pub as_many_workers : (workers : List Worker) {passes : List PassState} {count : ℕ} → passes_of workers ≡ passes
     → length passes ≡ count → length workers ≡ count
-as_many_workers workers passes count are many = sym (length-map workers (λ (w : Worker). w.draw_pass)) ∙ ap length are ∙ many
+as_many_workers workers are many = sym (length-map workers (λ (w : Worker). w.draw_pass)) ∙ ap length are ∙ many
 
 -- workers with new passes, that have sent nothing, are at work
 pub new_at_work : {G : Type 0} {knows : G → ℕ → Bool} (shared : SharedWork G) (workers : List Worker) (count : ℕ)

@@ -7,7 +7,7 @@ use Rattle.kalah_run.proofs.batch.open_batch.OpenBatch.open.Goals as goal
 pub returns-clause-asked : goal.returns-clause-asked
 returns-clause-asked g c = record {
   workers =
-      let many = as_many_workers _ _ _ c.in_ok-workers.ensures.passes
+      let many = as_many_workers _ c.in_ok-workers.ensures.passes
       (last_new_pass c.in_ok-desk.desk _ _ _ c.in-Some.ensures.items c.in_ok-desk.ensures.passes).0.0 in
       omega (arith, c.max-count.ensures, c.min.ensures, c.total-total.ensures.lines);
   tables = c.in_ok-workers.ensures.tables;
@@ -24,7 +24,7 @@ returns-clause-ready g c =
     let workers = c.in_ok-workers.ensures in
     -- the passes of the workers are new, and so is that of the calling thread
     let new = last_new_pass c.in_ok-desk.desk _ _ _ c.in-Some.ensures.items c.in_ok-desk.ensures.passes in
-    let many : length c.in_ok-workers.workers.items ≡ c.max-count.result = as_many_workers _ _ _ workers.passes new.0.0 in
+    let many : length c.in_ok-workers.workers.items ≡ c.max-count.result = as_many_workers _ workers.passes new.0.0 in
     record {
       some_worker = omega (arith, c.max-count.ensures);
       passes = c.in_ok-desk.ensures.desk.1 ∙ ap (◌+ 1) (sym many);
