@@ -7,7 +7,7 @@ use Rattle.clap.specs.{Facts.{parser_of_value, explicit_source}, Kinds.{check_ki
 use Rattle.clap.specs.Walk.{Row, Rule, Text, arg_by_id, nothing_held, reading_by, rows_after, settled, walk, walk_from, answers_to}
 use Rattle.clap.specs.Walk.{row_text}
 use Rattle.clap.specs.Simple.{Shape, App, argument_words, built, entered, label_of, names_of, rows_at, subcommand_of}
-use Rattle.clap.specs.{Faults.{defaults_fault, level_fault, settle_fault, walk_fault, entered_fault, fault_of}, Takes.{is_given}}
+use Rattle.clap.specs.{Faults.{defaults_fault, level_fault, settle_fault, entered_fault, fault_of}, Takes.{is_given}}
 use Rattle.clap.specs.declared.builder.value_parser.Reading.TheVariants.{AsWritten}
 use Rattle.kalah_cli.proofs.ClapWalkLemmas.{Fits, FitsIn, IsUsable, both_none, found_all, found_passes, kept_defaults, kept_settled}
 use Rattle.kalah_cli.proofs.ClapWalkLemmas.{kept_walk, none_pass}
@@ -28,9 +28,9 @@ level_satisfies : (s : Shape) (words : List Text) → AllOf (IsUsable s.rules) s
     → (id : Text) (a : Rule) → arg_by_id s.rules id ≡ Some a → Satisfies a (row_by_id id (rows_after s.rules [] words))
 level_satisfies s words usable no_fault id a found =
     let end = (walk s.rules [] nothing_held words).held in
-    let walking = both_none (walk_fault s [] (walk_from nothing_held) words) _ no_fault in
-    let settling = both_none (settle_fault s.rules s.args_override_self end) _ walking.1 in
-    let defaulting = both_none (defaults_fault (settled s.rules end).rows s.rules) _ settling.1 in
+    let walking = both_none no_fault in
+    let settling = both_none walking.1 in
+    let defaulting = both_none settling.1 in
     let walked = kept_walk s usable (walk_from nothing_held) words walking.0 tt in
     let fit = kept_defaults s usable s.rules usable _ defaulting.0 (kept_settled s usable end.pending end settling.0 walked) in
     let all_given = none_pass (λ b. b.required && not (is_given b.id rows)) s.rules
@@ -114,10 +114,10 @@ pub accepted_satisfies : (a : App) (words : List Text) → AllOf (IsUsableIn (bu
 accepted_satisfies a words usable required no_fault =
     let top = (built a).top in
     let end = walk top.rules (names_of (built a)) nothing_held (argument_words a words) in
-    let walking = both_none (walk_fault top (names_of (built a)) (walk_from nothing_held) (argument_words a words)) _ no_fault in
-    let below = both_none (entered_fault (built a) end.stopped) _ walking.1 in
-    let settling = both_none (settle_fault top.rules top.args_override_self end.held) _ below.1 in
-    let checking = both_none (defaults_fault (settled top.rules end.held).rows top.rules) _ settling.1 in
+    let walking = both_none no_fault in
+    let below = both_none walking.1 in
+    let settling = both_none {a = settle_fault top.rules top.args_override_self end.held} below.1 in
+    let checking = both_none {a = defaults_fault (settled top.rules end.held).rows top.rules} settling.1 in
     (go _ _ _ _ required checking.1, entered_satisfies (built a) end.stopped usable below.0)
   where
     go : (help is_entered needs lacks : Bool) → needs ≡ true → check_kinds help (not is_entered && needs) lacks ≡ [] → is_entered ≡ true

@@ -4,7 +4,7 @@ use Rattle.std.proofs.Common.{refl, List, [], ◌∷◌, Option, None, Some, ◌
 use Rattle.std.proofs.lemmas.{Bool.{true_from_ne_false, cases_Bool, cond_both, or_parts, ne_eqb}, Option.{IfSome_then}}
 use Rattle.std.specs.{List.{AllByRecursion as AllOf, list_any}, Option.{option_map_or}}
 use Rattle.clap.specs.{Lexer.{long_of, short_of}, Facts.{parser_of_value, unwrap_or_range}}
-use Rattle.clap.specs.{Kinds.{Kinds, or_else, range_kinds, request_kinds}, Values.{Accepts, refused_kind}}
+use Rattle.clap.specs.{Kinds.{Kinds, or_else, range_kinds}, Values.{Accepts, refused_kind}}
 use Rattle.clap.specs.Walk.{Held, Outcome, Row, Rule, Step, Text, Waiting, Walk, action_of, after_flag, after_step, arg_by_id, arg_by_index}
 use Rattle.clap.specs.Walk.{arg_by_long, arg_by_short, at_row, attached_value, bundle_met, bundle_step, default_rows, done, has_row}
 use Rattle.clap.specs.Walk.{is_empty, is_pending, long_met, long_or_other, more_values, most_values, option, option_met, option_word, plain}
@@ -38,9 +38,9 @@ none_pass t [] none_passes = tt
 none_pass t (x ∷ xs) none_passes = let parts = or_parts (t x) (list_any t xs) none_passes in (parts.0, none_pass t xs parts.1)
 
 -- no kind if the first or else the second has none: neither has any
-pub both_none : (a b : Kinds) → or_else a b ≡ [] → (a ≡ []) × (b ≡ [])
-both_none [] b none = (refl, none)
-both_none (k ∷ ks) b none = cc
+pub both_none : {a b : Kinds} → or_else a b ≡ [] → (a ≡ []) × (b ≡ [])
+both_none {a = []} none = (refl, none)
+both_none {a = k ∷ ks} none = cc
 
 -- ---- the row of an argument
 
@@ -105,8 +105,8 @@ module _ (s : Shape) (all_usable : AllOf (IsUsable s.rules) s.rules) where
   Keeps kinds before after = kinds ≡ [] → Fit before → Fit after
 
   -- two steps, one after the other, keep it, too
-  in_turn : (k l : Kinds) (x y z : List Row) → Keeps k x y → Keeps l y z → Keeps (or_else k l) x z
-  in_turn k l x y z first second no_fault fit = let none = both_none k l no_fault in second none.1 (first none.0 fit)
+  in_turn : {k l : Kinds} (x y z : List Row) → Keeps k x y → Keeps l y z → Keeps (or_else k l) x z
+  in_turn x y z first second no_fault fit = let none = both_none no_fault in second none.1 (first none.0 fit)
 
   -- each branch at a test keeps it
   at_test : {X : Type 0} (b : Bool) {k l : Kinds} (x : List Row) (y z : Held × X) → Keeps k x y.0.rows → Keeps l x z.0.rows
@@ -149,7 +149,7 @@ module _ (s : Shape) (all_usable : AllOf (IsUsable s.rules) s.rules) where
       → Keeps (option_map_or (λ a. use_fault again a values rows) o []) rows (used_by_id o values rows)
   kept_used None usable values rows = λ _ fit. fit
   kept_used (Some a) usable values rows = λ no_fault fit.
-      let no_faults = both_none _ (action_fault (action_of a) again a vs rows) no_fault in
+      let no_faults = both_none no_fault in
       let others : Fit (without a.id rows) = kept_at a.id (λ _. []) [] (λ r rs own rest. rest) tt rows fit in
       go (action_of a) usable.1 (λ valued. use_has_value a values valued no_faults.0) no_faults.1 others fit
     where
@@ -159,10 +159,10 @@ module _ (s : Shape) (all_usable : AllOf (IsUsable s.rules) s.rules) where
       go : (x : ArgAction) → is_usable x a ≡ true → (has_value a ≡ true → 0 < length vs) → action_fault x again a vs rows ≡ []
           → Fit (without a.id rows) → Fit rows → Fit (used_as x a.id (reading_by a) vs rows)
       go Set by_action nonempty no_fault others fit =
-          kept_values a usable CommandLine vs (nonempty by_action) _ (both_none _ _ no_fault).1 others
+          kept_values a usable CommandLine vs (nonempty by_action) _ (both_none no_fault).1 others
       go Append by_action nonempty no_fault others fit = kept_values a usable CommandLine vs (nonempty by_action) rows no_fault fit
       go SetTrue by_action nonempty no_fault others fit =
-          kept_values a usable CommandLine vs (nonempty by_action) _ (both_none _ _ no_fault).1 others
+          kept_values a usable CommandLine vs (nonempty by_action) _ (both_none no_fault).1 others
       go Help by_action nonempty no_fault others fit = fit
       go x by_action nonempty no_fault others fit = cc
 
@@ -175,7 +175,7 @@ module _ (s : Shape) (all_usable : AllOf (IsUsable s.rules) s.rules) where
   -- an argument that is met, with its values
   kept_reacted : (a : Rule) → IsUsable rules a → (values : List Text) (h : Held)
       → Keeps (react_fault rules again a values h) h.rows (reacted rules a values h).rows
-  kept_reacted a usable values h = in_turn _ _ _ _ _ (kept_settled h.pending h) (kept_used (Some a) usable values (settled rules h).rows)
+  kept_reacted a usable values h = in_turn _ _ _ (kept_settled h.pending h) (kept_used (Some a) usable values (settled rules h).rows)
 
   -- an option, with its value attached or to come
   kept_option : (a : Rule) → IsUsable rules a → (o : Option Text) (h : Held)
@@ -206,7 +206,7 @@ module _ (s : Shape) (all_usable : AllOf (IsUsable s.rules) s.rules) where
           (short_met rules o rest h (bundle_met rules k rest 0 done)).0.rows
       short keeps None usable rest = λ _ fit. fit
       short keeps (Some a) usable rest = at_test (takes_values a) _ _ _ (kept_option a usable (attached_value rest) h)
-          (in_turn _ _ _ _ _ (kept_reacted a usable [] h) (keeps rest 0 done (reacted rules a [] h)))
+          (in_turn _ _ _ (kept_reacted a usable [] h) (keeps rest 0 done (reacted rules a [] h)))
 
       go : KeepsFlags k → (o : Option ℕ) (skip : ℕ)
           → Keeps (bundle_step_fault rules again o flags skip h (flags_fault rules again k)) h.rows
@@ -264,14 +264,14 @@ module _ (s : Shape) (all_usable : AllOf (IsUsable s.rules) s.rules) where
   pub kept_walk : (w : Walk) (words : List Text) → Keeps (walk_fault s [] w words) w.held.rows (fold (walked rules []) w words).held.rows
   unfolding walked walk_fault
   kept_walk w [] = λ _ fit. fit
-  kept_walk w (word ∷ rest) = in_turn _ _ _ _ _ (go w.stopped) (kept_walk (walked rules [] w word) rest)
+  kept_walk w (word ∷ rest) = in_turn _ _ _ (go w.stopped) (kept_walk (walked rules [] w word) rest)
     where
       go : (o : Option (Text × List Text))
           → Keeps (turn_fault s [] (record w { stopped = o }) word) w.held.rows (walked_from rules [] o w word).held.rows
       go (Some p) = λ _ fit. fit
       go None =
           let met = word_met rules [] w.is_trailing w.waiting w.position word w.held in
-          in_turn _ _ _ _ _ (kept_word w word) (kept_step word w met.0 met.1)
+          in_turn _ _ _ (kept_word w word) (kept_step word w met.0 met.1)
 
   -- the defaults of arguments that were not given
   pub kept_defaults : (arguments : List Rule) → AllOf (IsUsable rules) arguments → (rows : List Row)
@@ -279,7 +279,7 @@ module _ (s : Shape) (all_usable : AllOf (IsUsable s.rules) s.rules) where
   unfolding defaults_fault
   kept_defaults [] usable rows = λ _ fit. fit
   kept_defaults (a ∷ rest) usable rows =
-      in_turn _ _ _ _ _ (go (has_row a.id rows) a.defaults) (kept_defaults rest usable.1 (with_default rows a))
+      in_turn _ _ _ (go (has_row a.id rows) a.defaults) (kept_defaults rest usable.1 (with_default rows a))
     where
       go : (is_given : Bool) (ds : List Text) → Keeps (cond (is_given || is_empty ds) [] (given_default_fault a ds)) rows
           (cond is_given rows (default_rows a.id (reading_by a) ds rows))
@@ -288,4 +288,4 @@ module _ (s : Shape) (all_usable : AllOf (IsUsable s.rules) s.rules) where
       go false (d ∷ ds) no_fault fit =
           let has_defaults : is_empty (d ∷ ds) ≡ false = ne_eqb _ _ (λ none. omega arith) in
           kept_values a usable.0 DefaultValue (d ∷ ds) (omega arith) rows
-          (both_none (request_kinds (action_of a)) _ (rw has_defaults at no_fault)).1 fit
+          (both_none (rw has_defaults at no_fault)).1 fit

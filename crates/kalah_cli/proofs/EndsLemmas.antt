@@ -22,12 +22,11 @@ pub statuses_differ : (Clean ≢ Failed) × (LineFaults ≢ Failed) × (LineFaul
 statuses_differ = ((λ same. cc), (λ same. cc), (λ same. cc))
 
 -- the text was given, and then flushed
-pub printed_flushed : {O : Type 0} (state : O → SinkState) {old between new : O} {text : List ℕ} → WasGiven state old between text
+pub printed_flushed : {O : Type 0} {state : O → SinkState} {old between new : O} {text : List ℕ} → WasGiven state old between text
     → WasGiven state between new [] → ((state new).has_failed ≡ false → (state new).is_flushed ≡ true) → IsPrinted state old new text
-printed_flushed state given flushed all_flushed =
-    record { given = given_then_flush state given flushed; all_flushed = all_flushed }
+printed_flushed given flushed all_flushed = record { given = given_then_flush _ given flushed; all_flushed = all_flushed }
 
-module _ {O : Type 0} (state : O → SinkState) {status : ExitStatus} where
+module _ {O : Type 0} {state : O → SinkState} {status : ExitStatus} where
   -- a run that wrote nothing
   pub ends_unchanged : {out : O} → (state out).has_failed ≡ false → FailsOrFlushes state out out status
   ends_unchanged sound = record {
@@ -115,7 +114,7 @@ unfolding empty_files
 their_names [] = refl
 their_names (name ∷ names) = ap (λ l. name ∷ l) (their_names names)
 
-module _ {O : Type 0} (state : O → SinkState) {status : ExitStatus} {may_give : Source → List ℕ → Type 0} {question : Question}
+module _ {O : Type 0} {state : O → SinkState} {status : ExitStatus} {may_give : Source → List ℕ → Type 0} {question : Question}
     {names : List (List ℕ)} where
   -- the program failed before anything was written
   pub files_refused : {out : O} → status ≡ Failed → (state out).has_failed ≡ false
@@ -124,10 +123,10 @@ module _ {O : Type 0} (state : O → SinkState) {status : ExitStatus} {may_give 
     files = empty_files names;
     named = their_names names;
     given = inl (failed, refl);
-    printed = prints_nothing state failed;
+    printed = prints_nothing failed;
     no_line_feed = λ not_failed. absurd (not_failed failed);
     clean = λ not_failed. absurd (not_failed failed);
-    ends = ends_unchanged state sound;
+    ends = ends_unchanged sound;
   }
 
   module _ {old new : O} (files : List NamedBytes) (read : AreFilesOf may_give names files) where
@@ -178,7 +177,7 @@ module _ {O : Type 0} (state : O → SinkState) {status : ExitStatus} {may_give 
 pub stops_at_once : (question : Question) (old : Option (List ℕ)) → StopsBetweenLines question old old
 stops_at_once question old = (None, None, cut_off (nothing_read question None old [] refl) tt (Keeps-refl old))
 
-module _ {O : Type 0} (state : O → SinkState) {status : ExitStatus} {question : Question}
+module _ {O : Type 0} {state : O → SinkState} {status : ExitStatus} {question : Question}
     {unread : Option (List ℕ)} where
   -- the program failed before anything was read
   pub input_refused : {out : O} → status ≡ Failed → (state out).has_failed ≡ false

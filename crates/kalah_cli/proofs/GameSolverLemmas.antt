@@ -7,7 +7,7 @@ use Rattle.kalah_jobs.proofs.SinkLemmas.{given_then_flush, given_then}
 use Rattle.kalah_cli.specs.{IsNextMove, move_text, printed_value, MoveForm, Houses, Lines, board_lines, BeginsGame, GameStart, ShowsValues, IsReached, Commands.GameSolver.IsReached.{reached_by_move, reached_at_start}}
 use Rattle.kalah_cli.proofs.GameLemmas.{next_text}
 
-module _ {O : Type 0} (state : O → SinkState) where
+module _ {O : Type 0} {state : O → SinkState} where
   -- the first position of a game is shown, once it was given
   pub first_is_reached : {game : GameStart O} {boards values : Bool} {p : Position} {old new : O}
       → game ≡ record { form = Lines boards values; first = p; sink = old } → WasGiven state old new (board_lines boards p)
@@ -37,29 +37,28 @@ module _ {O : Type 0} (state : O → SinkState) where
         form = refl;
         first = refl;
         more = [];
-        shown = rw (append-nil (shown_of p)) (given_then state picture values);
+        shown = rw (append-nil (shown_of p)) (given_then _ picture values);
       })
 
   -- more of the variations was given
-  pub variations_go_on : {game now : GameStart O} {p : Position} {between new : O} (text : List ℕ) → now ≡ game
+  pub variations_go_on : {game now : GameStart O} {p : Position} {between new : O} {text : List ℕ} → now ≡ game
       → ShowsValues state game p between → WasGiven state between new text → ShowsValues state now p new
-  variations_go_on {p = p} text same_game below given = rw same_game (record {
+  variations_go_on {p = p} {text = text} same_game below given = rw same_game (record {
     form = below.form;
     first = below.first;
     more = below.more ++ text;
-    shown = rw (← append_assoc (shown_of p) below.more text) (given_then state below.shown given);
+    shown = rw (← append_assoc (shown_of p) below.more text) (given_then _ below.shown given);
   })
 
   -- how a game began, after a flush
-  begins_flushed : (game : GameStart O) (form : MoveForm) (p : Position) (between new : O) → BeginsGame state game form between p
+  begins_flushed : (game : GameStart O) (form : MoveForm) (p : Position) {between new : O} → BeginsGame state game form between p
       → WasGiven state between new [] → BeginsGame state game form new p
-  begins_flushed game (Lines boards values) p between new (at_first, given) flushed =
-      (at_first, given_then_flush state given flushed)
-  begins_flushed game Houses p between new begun flushed = record {
+  begins_flushed game (Lines boards values) p (at_first, given) flushed = (at_first, given_then_flush _ given flushed)
+  begins_flushed game Houses p begun flushed = record {
     between = begun.between;
     move = begun.move;
     below = begun.below;
-    line = given_then_flush state begun.line flushed;
+    line = given_then_flush _ begun.line flushed;
     after = begun.after;
   }
 
@@ -70,8 +69,8 @@ module _ {O : Type 0} (state : O → SinkState) where
     pub reached_after_flush : WasGiven state between new [] → IsReached state game new p
     reached_after_flush flushed = go reached flushed where
       go : {q : Position} {o : O} → IsReached state game o q → WasGiven state o new [] → IsReached state game new q
-      go (reached_at_start begun) flushed = reached_at_start (begins_flushed game game.form _ _ _ begun flushed)
-      go (reached_by_move o q h before given) flushed = reached_by_move o q h before (given_then_flush state given flushed)
+      go (reached_at_start begun) flushed = reached_at_start (begins_flushed game game.form _ begun flushed)
+      go (reached_by_move o q h before given) flushed = reached_by_move o q h before (given_then_flush _ given flushed)
 
     -- the next position is reached, once its move was given
     pub next_is_reached : {now : GameStart O} {first : Option ℕ} {value : Option ℤ} {h : ℕ} {s : Step} {q : Position} → now ≡ game

@@ -1,6 +1,5 @@
 -- Runs over a disk and a standard input that are known.
 use Rattle.std.proofs.Common.{◌≡◌, ◌≢◌, ◌∷◌, ℕ, List, [], Option, arith, None, Some, ap, inl, inr, length, suc}
-use Rattle.std.specs.Io.KnownBytes.{Appends}
 use Rattle.clap.specs.Words.{Text}
 use Rattle.kalah_jobs.specs.{Files.NamedBytes.{NamedBytes}, Writing.Sink.{SinkState}}
 use Rattle.kalah_cli.specs.{AnswersInput, AnswersWhatIsKnown, IsAnswerTo, IsAnswerToLines, Question, DoesWhatIsAsked, AnswersFiles, AreFilesOf, MayBeLeft, known_bytes, ExitStatus, Failed, about_files, about_input}
@@ -12,13 +11,9 @@ known_left input None possible =
     absurd (let same : suc (length input) ≡ length input = ap length longer in omega (arith, same))
 known_left input (Some bytes) possible = ap (λ l. Some l) possible
 
-module _ {O : Type 0} (state : O → SinkState) (old new : O) (status : ExitStatus)
-    (disk : List NamedBytes) (input output : List ℕ)
+module _ {O : Type 0} {state : O → SinkState} {old new : O} {status : ExitStatus}
+    (disk : List NamedBytes) (input : List ℕ) {output : List ℕ}
     (before : (state old).written ≡ Some []) (after : (state new).written ≡ Some output) where
-  -- what was added is all that was written
-  all_written : (text : List ℕ) → Appends (state old).written (state new).written text → output ≡ text
-  all_written text adds = rw (before, after) at adds
-
   -- the files that were answered are those of the disk
   files_known : (question : Question) (names : List Text) → status ≢ Failed
       → AnswersFiles state old new status (known_bytes disk input) question names
@@ -27,7 +22,7 @@ module _ {O : Type 0} (state : O → SinkState) (old new : O) (status : ExitStat
     answered.files,
     (
       (answered.named, elim answered.given [ inl fails ↦ absurd (not_failed fails.0) | inr given ↦ given ]),
-      (all_written _ (answered.printed.whole not_failed), answered.clean not_failed),
+      (rw (before, after) at (answered.printed.whole not_failed), answered.clean not_failed),
     ),
   )
 
@@ -38,12 +33,12 @@ module _ {O : Type 0} (state : O → SinkState) (old new : O) (status : ExitStat
       let asked = answered.asked not_failed in
       let all : asked.0.read ≡ input = rw known at asked.0.all in
       let read = rw all at asked.0.status in
-      (all_written _ (rw all at asked.0.written), rw read at asked.1)
+      (rw (before, after, all) at asked.0.written, rw read at asked.1)
 
   -- what is promised of any run is pinned of one over what is known
-  pub answers_what_is_known : (arguments : List Text) → DoesWhatIsAsked state old new status (known_bytes disk input) arguments
+  pub answers_what_is_known : {arguments : List Text} → DoesWhatIsAsked state old new status (known_bytes disk input) arguments
       → AnswersWhatIsKnown status output disk input arguments
-  answers_what_is_known arguments accepted = record {
+  answers_what_is_known accepted = record {
     files = λ question workers table_entries progress names accepted_as not_failed.
         elim (accepted (about_files question workers table_entries progress names) accepted_as) [
           | inl does ↦ files_known question names not_failed does

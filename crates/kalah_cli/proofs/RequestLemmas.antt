@@ -39,16 +39,16 @@ abbrev pub Takes : Text → Text → Rule → Type 0
 Takes name id a = arg_in subs name id ≡ Some a
 
 -- a number is in the range of its argument
-pub may_have_number : {name : Text} {rows : List Row} (id : Text) {a : Rule} {low high : ℕ} → AreMatches name rows → Takes name id a
-    → a.parser ≡ Some (Unsigned low high) → MayHaveNumber id low high rows
+pub may_have_number : {name : Text} {rows : List Row} (id : Text) {a : Rule} {least most : ℕ} → AreMatches name rows → Takes name id a
+    → a.parser ≡ Some (Unsigned least most) → MayHaveNumber id least most rows
 may_have_number {name} {rows} id {a} matches takes parser =
     let as_written = ap (λ p. reading_of (parser_of_value p)) parser in
     subst (λ p. IfSome (one_of id rows) (Accepts a.ignore_case (parser_of_value p))) parser
     (text_is_accepted a (row_by_id id rows) (rows_satisfy name rows matches id a takes) as_written)
 
 -- one of at most 255 may be read as a byte
-pub byte_ranged : {name : Text} {rows : List Row} (id : Text) {a : Rule} {low high : ℕ} → AreMatches name rows → Takes name id a
-    → a.parser ≡ Some (Unsigned low high) → high ≤ 255 → MayHaveNumber id 0 255 rows
+pub byte_ranged : {name : Text} {rows : List Row} (id : Text) {a : Rule} {least most : ℕ} → AreMatches name rows → Takes name id a
+    → a.parser ≡ Some (Unsigned least most) → most ≤ 255 → MayHaveNumber id 0 255 rows
 byte_ranged {rows = rows} id matches takes parser small = IfSome_then (one_of id rows) (may_have_number id matches takes parser)
     (λ t range. (range.0, range.1, omega arith, omega (arith, range.3, small)))
 
@@ -83,45 +83,45 @@ cases_Option None = inl refl
 cases_Option (Some x) = inr (x, refl)
 
 -- an option of pairs, by what a getter returns of the first and of the second parts
-pub pair_got : {S A B R : Type 0} (n : S → A) (r : S → B) (s : Option S) (f : R → A) (g : R → B) (o : Option R) (p : R)
+pub pair_got : {S A B R : Type 0} (n : S → A) (r : S → B) (s : Option S) (f : R → A) (g : R → B) {o : Option R} {p : R}
     → option_map f o ≡ option_map n s
     → option_map g o ≡ option_map (λ (p : A × B). p.1) (option_map {U = A × B} (λ b. (n b, r b)) s)
     → o ≡ Some p → option_map {U = A × B} (λ b. (n b, r b)) s ≡ Some (f p, g p)
-pair_got n r None f g o p first second found = let none : Some (f p) ≡ None = rw found at first in cc
-pair_got n r (Some b) f g o p first second found =
+pair_got n r None f g {p = p} first second found = let none : Some (f p) ≡ None = rw found at first in cc
+pair_got n r (Some b) f g {p = p} first second found =
     let first_same : Some (f p) ≡ Some (n b) = rw found at first in
     let second_same : Some (g p) ≡ Some (r b) = rw found at second in
     cc
 
 -- what was copied from the getter of values are all values under the name
-pub values_are : (f : Found) (id : Text) (o : Option (Bor (List (Bor Text)))) (s : Bor (List (Bor Text))) (copied : List (Bor Text))
+pub values_are : (f : Found) (id : Text) {o : Option (Bor (List (Bor Text)))} {s : Bor (List (Bor Text))} {copied : List (Bor Text)}
     → option_map (λ s. map (λ v. v.now) s.now) o ≡ option_map raw_values (matched_of f id) → o ≡ Some s → copied ≡ s.now
     → all_of id (rows_of f) ≡ Some (map (λ v. v.now) copied)
-values_are f id o s copied read found same =
+values_are f id read found same =
     sym (raw_values-rows f id) ∙ sym read ∙ ap (option_map (λ s. map (λ v. v.now) s.now)) found
     ∙ ap (λ vs. Some (map (λ v. v.now) vs)) (sym same)
 
 -- the getter of a type of numbers of this width returns the number under the name
-pub number_read : (width low high : ℕ) (f : Found) (id : Text) (r : Option ℕ) → (one_text f id ≡ None → r ≡ None)
+pub number_read : (width least most : ℕ) (f : Found) (id : Text) {r : Option ℕ} → (one_text f id ≡ None → r ≡ None)
     → ((t : Text) → one_text f id ≡ Some t → ReadsOne
-    (λ t x. ParsesUnsigned width 10 t x × ExplainsUnsignedError 10 t x × HasUnsignedDigitsIfOk t x) t r) → high < 2 ^ width
-    → MayHaveNumber id low high (rows_of f) → r ≡ number_given id (rows_of f)
-number_read width low high f id r absent value fits ranged = elim (cases_Option (one_of id (rows_of f))) [
+    (λ t x. ParsesUnsigned width 10 t x × ExplainsUnsignedError 10 t x × HasUnsignedDigitsIfOk t x) t r)
+    → MayHaveNumber id least most (rows_of f) → most < 2 ^ width → r ≡ number_given id (rows_of f)
+number_read width least most f id {r} absent value ranged fits = elim (cases_Option (one_of id (rows_of f))) [
   | inl none ↦ rw none (absent (one_text-rows f id ∙ none))
   | inr given ↦ rw given.1 (go r given.0 (rw given.1 at ranged) (value given.0 (one_text-rows f id ∙ given.1)))
 ]
   where
-    go : (r : Option ℕ) (t : Text) → IsUnsignedIn low high t
+    go : (r : Option ℕ) (t : Text) → IsUnsignedIn least most t
         → ReadsOne (λ t x. ParsesUnsigned width 10 t x × ExplainsUnsignedError 10 t x × HasUnsignedDigitsIfOk t x) t r
         → r ≡ Some (number_written t)
     go (Some n) t range read = ap (λ n. Some n) read.0.1
     go None t range read = absurd (read.1.0 (range.0, omega (arith, range.3, fits)))
 
 -- a number that is there is in the range
-pub in_range : (low high : ℕ) (o : Option Text) → IfSome o (IsUnsignedIn low high)
-    → IfSome (option_map number_written o) (λ n. (low ≤ n) × (n ≤ high))
-in_range low high None ranged = tt
-in_range low high (Some t) ranged = (ranged.2, ranged.3)
+pub in_range : (least most : ℕ) (o : Option Text) → IfSome o (IsUnsignedIn least most)
+    → IfSome (option_map number_written o) (λ n. (least ≤ n) × (n ≤ most))
+in_range least most None ranged = tt
+in_range least most (Some t) ranged = (ranged.2, ranged.3)
 
 -- what holds of a number that is there and of the default holds of either
 pub or_default : (P : ℕ → Type 0) (o : Option ℕ) (default : ℕ) → IfSome o P → P default → P (unwrap_or o default)
@@ -129,9 +129,9 @@ or_default P None default of_number of_default = of_default
 or_default P (Some n) default of_number of_default = of_number
 
 -- the getter of a flag returns whether it is set
-pub flag_read : (E : Type 0) (f : Found) (id : Text) (r : Option Bool) → (one_text f id ≡ None → r ≡ None)
+pub flag_read : (E : Type 0) (f : Found) (id : Text) {r : Option Bool} → (one_text f id ≡ None → r ≡ None)
     → ((t : Text) → one_text f id ≡ Some t → ReadsOne {E = E} ParsesBool t r) → unwrap_or r false ≡ is_set id (rows_of f)
-flag_read E f id r absent value = elim (cases_Option (one_of id (rows_of f))) [
+flag_read E f id {r} absent value = elim (cases_Option (one_of id (rows_of f))) [
   | inl none ↦ rw (none, absent (one_text-rows f id ∙ none)) refl
   | inr given ↦ rw given.1 (go r given.0 (value given.0 (one_text-rows f id ∙ given.1)))
 ]

@@ -15,7 +15,7 @@ module _ {O : Type 0} (state : O → SinkState) {old new : O} {status : ExitStat
   run_ends (about_line command line) _ does = does.0.ends
   run_ends (about_files question workers table_entries progress names) _ does = does.ends
   run_ends (about_input question table_entries) no_input does = absurd no_input
-  run_ends conflict _ does = rw does.1 (ends_unchanged state sound)
+  run_ends conflict _ does = rw does.1 (ends_unchanged sound)
 
   -- if a write failed, it failed
   run_fails : (task : Task) → Does state old new status may_give task → (state new).has_failed ≡ true → status ≡ Failed

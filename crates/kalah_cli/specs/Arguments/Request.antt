@@ -158,6 +158,6 @@ abbrev pub AreMatches : Text → List Row → Type 0
 AreMatches name rows =
     (arguments : List Text) × (fault_of kalah_app arguments ≡ []) × (subcommand_of kalah_app arguments ≡ Some (name, rows))
 
--- what the matches have under the name, if anything, is a number from `low` to `high`
+-- what the matches have under the name, if anything, is a number from `least` to `most`
 abbrev pub MayHaveNumber : Text → ℕ → ℕ → List Row → Type 0
-MayHaveNumber id low high rows = IfSome (one_of id rows) (IsUnsignedIn low high)
+MayHaveNumber id least most rows = IfSome (one_of id rows) (IsUnsignedIn least most)

@@ -5,4 +5,4 @@ use Rattle.kalah_cli.proofs.arguments.request.is_set.Goals as goal
 
 pub returns : goal.returns
 returns c = c.unwrap_or.ensures
-    ∙ flag_read _ (found_of c.args.matches.now) c.args.id.now c.get_one.result c.get_one.ensures.none c.get_one.ensures.value
+    ∙ flag_read _ (found_of c.args.matches.now) c.args.id.now c.get_one.ensures.none c.get_one.ensures.value

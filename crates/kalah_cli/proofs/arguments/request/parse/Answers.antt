@@ -14,7 +14,7 @@ unwrap-requires g c =
 matched : (g : Over) (c : After-unwrap g) → AreMatches c.unwrap.result.0.now (rows_in c.unwrap.result.1.now)
 matched g c =
     let read = parsed c.in_ok-command.ensures c.in_ok-parsed.ensures.kinds c.in_ok-parsed.ensures.matches in
-    let same = pair_got _ _ _ _ _ _ c.unwrap.result c.subcommand.ensures.name c.subcommand.ensures.rows c.unwrap.ensures in
+    let same = pair_got _ _ _ _ _ c.subcommand.ensures.name c.subcommand.ensures.rows c.unwrap.ensures in
     (map g.S.AsStr.text c.args.arguments.now, read.no_fault, sym read.matches ∙ same)
 
 pub requested-requires : goal.requested-requires

@@ -1,9 +1,8 @@
 -- The rules of the subcommand of this name say what its rows have: LINE and DEPTH, once each, and numbers that are in range.
 use Rattle.std.proofs.Common.{◌∙◌, ap, arith, codes, is_some, option_map, refl, sym}
-use Rattle.clap.specs.Words.{one_of}
 use Rattle.kalah_rules.specs.Limits.{most_depth}
 use Rattle.kalah_cli.proofs.{RequestLemmas.{byte_ranged, in_range, may_have_number, value_given}, arguments.request.requested.Goals.{in-count, in-moves, in-play, in-show}}
-use Rattle.kalah_cli.specs.{number_written, rows_in}
+use Rattle.kalah_cli.specs.{number_written}
 use Rattle.kalah_cli.proofs.arguments.request.requested.Goals as goal
 
 pub table_entries-requires : goal.table_entries-requires
@@ -43,7 +42,7 @@ returns-clause-range c = elim c.match-name.branch [
   | in-show w ↦ rw w.command-is w.table_entries-in-show.ensures.range
   | in-count w ↦
       let depth = rw (sym w.byte_given-in-count.ensures ∙ w.unwrap.ensures)
-      at (in_range 0 most_depth (one_of (codes "depth") (rows_in c.args.matches.now))
+      at (in_range 0 most_depth _
       (may_have_number (codes "depth") (rw w.in-count.is at c.requires) refl refl)) in
       rw w.command-is depth.1
 ]

@@ -19,15 +19,15 @@ all_unread {T} {A} remaining r inner same_reader empty capacity =
     none_before (Some xs) = refl
 
 pub returns-in_default : goal.returns-in_default
-returns-in_default g c = input_refused _ refl c.requires.not_failed
+returns-in_default g c = input_refused refl c.requires.not_failed
 
 pub returns-in_default-new_solver : goal.returns-in_default-new_solver
-returns-in_default-new_solver g c = input_refused _ refl c.requires.not_failed
+returns-in_default-new_solver g c = input_refused refl c.requires.not_failed
 
 pub returns : goal.returns
 returns g c =
     let made = c.in-Ok.ensures in
     let lines = c.answer_lines.ensures in
     rw (all_unread g.I.Read.remaining c.in-Ok.reader c.args.input made.inner made.empty made.capacity)
-    (input_answered _ c.answer_lines.result lines.answered lines.cut_off lines.begins lines.failed lines.all_flushed
+    (input_answered c.answer_lines.result lines.answered lines.cut_off lines.begins lines.failed lines.all_flushed
     c.status_of_answers.ensures.clean c.status_of_answers.ensures.failed)

@@ -7,4 +7,4 @@ pub returns : goal.returns
 returns g c =
     let lines = given_then_if_sound _ _ _ _ _ _ _ c.write_ways_by_house-total.ensures.given
     (λ sound. ap total_line (c.write_ways_by_house-total.ensures.total sound)) c.write_total.ensures in
-    printed_flushed _ lines c.flush_unless_failed.ensures.given c.flush_unless_failed.ensures.all_flushed
+    printed_flushed lines c.flush_unless_failed.ensures.given c.flush_unless_failed.ensures.all_flushed

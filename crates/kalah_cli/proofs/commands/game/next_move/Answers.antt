@@ -5,7 +5,7 @@ use Rattle.kalah_cli.proofs.{GameLemmas.{next_of_verdict, no_text}, GameSolverLe
 use Rattle.kalah_cli.proofs.commands.game.next_move.Goals as goal
 
 pub solve-requires-clause-reached : goal.solve-requires-clause-reached
-solve-requires-clause-reached g c = reached_after_flush _ c.requires.reached c.flush_unless_failed.ensures.given
+solve-requires-clause-reached g c = reached_after_flush c.requires.reached c.flush_unless_failed.ensures.given
 
 pub returns-then-failed-clause-none : goal.returns-then-failed-clause-none
 returns-then-failed-clause-none g c = record {

@@ -20,7 +20,7 @@ loop-house-preserved g c =
     record {
       same_game = same_game ∙ so_far.same_game;
       begins = tt;
-      reached = next_is_reached _ (reached_after_flush _ so_far.reached c.next_move.ensures.flushed) same_game next step c.board.ensures
+      reached = next_is_reached (reached_after_flush so_far.reached c.next_move.ensures.flushed) same_game next step c.board.ensures
           c.write_in_form.ensures;
       rest = λ new given. so_far.rest new (rw (text_goes_on next step equal (ap (λ game. game.form) same_game) c.board.ensures)
           (given_then _ c.next_move.ensures.flushed (given_then _ c.write_in_form.ensures given)));

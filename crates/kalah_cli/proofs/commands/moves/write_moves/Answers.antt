@@ -18,5 +18,5 @@ loop-i-preserved g c =
 pub returns : goal.returns
 returns g c =
     let lines_of : ℕ → List ℕ = λ h. move_lines c.args.boards None h (step_of c.args.board.now h) in
-    printed_flushed _ (given_all _ lines_of c.loop-i.invariant.same c.loop-i.i _ _ c.loop-i.invariant.given
+    printed_flushed (given_all _ lines_of c.loop-i.invariant.same c.loop-i.i _ _ c.loop-i.invariant.given
     (omega (arith, c.loop-i-test.false, c.len-i-end.ensures))) c.flush_unless_failed.ensures.given c.flush_unless_failed.ensures.all_flushed

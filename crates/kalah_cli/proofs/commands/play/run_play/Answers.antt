@@ -4,7 +4,7 @@ use Rattle.kalah_cli.proofs.GameSolverLemmas.{first_is_reached}
 use Rattle.kalah_cli.proofs.commands.play.run_play.Goals as goal
 
 pub write_game-requires-clause-reached : goal.write_game-requires-clause-reached
-write_game-requires-clause-reached g c = first_is_reached _ c.in-Ok.ensures.begun c.write_board.ensures
+write_game-requires-clause-reached g c = first_is_reached c.in-Ok.ensures.begun c.write_board.ensures
 
 pub returns-clause-printed : goal.returns-clause-printed
 returns-clause-printed g c =

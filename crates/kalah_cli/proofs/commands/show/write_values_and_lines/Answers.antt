@@ -28,7 +28,7 @@ returns g c =
       | else-lines w ↦ rw (w.out-is, w.if-lines.false) (given_none _ _)
     ] in
     rw (output_parts c.args.lines c.args.board.now)
-    (printed_flushed _ (given_then _ c.draw_and_flush.ensures.given (given_then _ c.write_values.ensures lines))
+    (printed_flushed (given_then _ c.draw_and_flush.ensures.given (given_then _ c.write_values.ensures lines))
     c.flush_unless_failed.ensures.given c.flush_unless_failed.ensures.all_flushed)
 
 -- the picture is drawn before the search
@@ -39,4 +39,4 @@ values-values-requires-clause-shown g c =
 -- the variations are written below the line of values
 pub write_variations-requires-clause-shown : goal.write_variations-requires-clause-shown
 write_variations-requires-clause-shown g c =
-    variations_begin _ c.requires c.values-values.ensures.begun c.draw_and_flush.ensures.given c.write_values.ensures
+    variations_begin c.requires c.values-values.ensures.begun c.draw_and_flush.ensures.given c.write_values.ensures

@@ -26,7 +26,7 @@ apply-step-requires g c =
 
 pub write_game-requires-clause-reached : goal.write_game-requires-clause-reached
 write_game-requires-clause-reached g c =
-    variation_is_reached _ c.in-Some.value c.requires.shown c.write_variation_start.ensures
+    variation_is_reached c.in-Some.value c.requires.shown c.write_variation_start.ensures
     (c.board.ensures ∙ ap position_after c.apply-step.ensures.step) refl
 
 pub returns-clause-line : goal.returns-clause-line

@@ -6,4 +6,4 @@ pub returns : goal.returns
 returns g c =
     let before : Some c.new-out.result.writer.items ≡ Some [] = cc (c.new-out.ensures.writer, c.new.ensures.items) in
     let after : Some c.run_words-status.new.out.writer.items ≡ Some c.into_inner.result.items = cc c.into_inner.ensures in
-    answers_what_is_known _ _ _ _ c.args.disk.now c.args.input.now _ before after _ c.run_words-status.ensures.accepted
+    answers_what_is_known c.args.disk.now c.args.input.now before after c.run_words-status.ensures.accepted
