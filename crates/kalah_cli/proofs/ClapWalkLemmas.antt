@@ -104,9 +104,9 @@ module _ (s : Shape) (all_usable : AllOf (IsUsable s.rules) s.rules) where
   abbrev Keeps : Kinds → List Row → List Row → Type 0
   Keeps kinds before after = kinds ≡ [] → Fit before → Fit after
 
-  -- two steps, one after the other, keep it, too
-  in_turn : {k l : Kinds} (x y z : List Row) → Keeps k x y → Keeps l y z → Keeps (or_else k l) x z
-  in_turn x y z first second no_fault fit = let none = both_none no_fault in second none.1 (first none.0 fit)
+  -- a step and then another keep it
+  kept_both : {k l : Kinds} (x y z : List Row) → Keeps k x y → Keeps l y z → Keeps (or_else k l) x z
+  kept_both x y z first second no_fault fit = let none = both_none no_fault in second none.1 (first none.0 fit)
 
   -- each branch at a test keeps it
   at_test : {X : Type 0} (b : Bool) {k l : Kinds} (x : List Row) (y z : Held × X) → Keeps k x y.0.rows → Keeps l x z.0.rows
@@ -175,7 +175,7 @@ module _ (s : Shape) (all_usable : AllOf (IsUsable s.rules) s.rules) where
   -- an argument that is met, with its values
   kept_reacted : (a : Rule) → IsUsable rules a → (values : List Text) (h : Held)
       → Keeps (react_fault rules again a values h) h.rows (reacted rules a values h).rows
-  kept_reacted a usable values h = in_turn _ _ _ (kept_settled h.pending h) (kept_used (Some a) usable values (settled rules h).rows)
+  kept_reacted a usable values h = kept_both _ _ _ (kept_settled h.pending h) (kept_used (Some a) usable values (settled rules h).rows)
 
   -- an option, with its value attached or to come
   kept_option : (a : Rule) → IsUsable rules a → (o : Option Text) (h : Held)
@@ -206,7 +206,7 @@ module _ (s : Shape) (all_usable : AllOf (IsUsable s.rules) s.rules) where
           (short_met rules o rest h (bundle_met rules k rest 0 done)).0.rows
       short keeps None usable rest = λ _ fit. fit
       short keeps (Some a) usable rest = at_test (takes_values a) _ _ _ (kept_option a usable (attached_value rest) h)
-          (in_turn _ _ _ (kept_reacted a usable [] h) (keeps rest 0 done (reacted rules a [] h)))
+          (kept_both _ _ _ (kept_reacted a usable [] h) (keeps rest 0 done (reacted rules a [] h)))
 
       go : KeepsFlags k → (o : Option ℕ) (skip : ℕ)
           → Keeps (bundle_step_fault rules again o flags skip h (flags_fault rules again k)) h.rows
@@ -264,14 +264,14 @@ module _ (s : Shape) (all_usable : AllOf (IsUsable s.rules) s.rules) where
   pub kept_walk : (w : Walk) (words : List Text) → Keeps (walk_fault s [] w words) w.held.rows (fold (walked rules []) w words).held.rows
   unfolding walked walk_fault
   kept_walk w [] = λ _ fit. fit
-  kept_walk w (word ∷ rest) = in_turn _ _ _ (go w.stopped) (kept_walk (walked rules [] w word) rest)
+  kept_walk w (word ∷ rest) = kept_both _ _ _ (go w.stopped) (kept_walk (walked rules [] w word) rest)
     where
       go : (o : Option (Text × List Text))
           → Keeps (turn_fault s [] (record w { stopped = o }) word) w.held.rows (walked_from rules [] o w word).held.rows
       go (Some p) = λ _ fit. fit
       go None =
           let met = word_met rules [] w.is_trailing w.waiting w.position word w.held in
-          in_turn _ _ _ (kept_word w word) (kept_step word w met.0 met.1)
+          kept_both _ _ _ (kept_word w word) (kept_step word w met.0 met.1)
 
   -- the defaults of arguments that were not given
   pub kept_defaults : (arguments : List Rule) → AllOf (IsUsable rules) arguments → (rows : List Row)
@@ -279,7 +279,7 @@ module _ (s : Shape) (all_usable : AllOf (IsUsable s.rules) s.rules) where
   unfolding defaults_fault
   kept_defaults [] usable rows = λ _ fit. fit
   kept_defaults (a ∷ rest) usable rows =
-      in_turn _ _ _ (go (has_row a.id rows) a.defaults) (kept_defaults rest usable.1 (with_default rows a))
+      kept_both _ _ _ (go (has_row a.id rows) a.defaults) (kept_defaults rest usable.1 (with_default rows a))
     where
       go : (is_given : Bool) (ds : List Text) → Keeps (cond (is_given || is_empty ds) [] (given_default_fault a ds)) rows
           (cond is_given rows (default_rows a.id (reading_by a) ds rows))

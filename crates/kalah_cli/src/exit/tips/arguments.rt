@@ -77,7 +77,7 @@ fn tip_for_excess<'a>(subcommand: &str, argument: &'a str) -> Option<Tip<'a>> {
     Some((tip, argument))
 }
 
-// Returns the tip for a text with which the command line refuses arguments, the first of which has this name.
+// Returns the tip for arguments that the command line refuses with this text, and whose first has this name.
 fn tip_for_text<'a>(text: &str, name: &'a str) -> Option<Tip<'a>> {
     for (one, other, tip) in TIPS {
         if text.contains(*one) && text.contains(*other) {

@@ -5,5 +5,5 @@ use Rattle.kalah_cli.proofs.commands.show.rank_in.Given as goal
 abbrev pub invariant-loop-i : goal.invariant-loop-i
 invariant-loop-i l = record {
   rank : l.rank ≡ count_by (λ w. is_better w l.fn.value) (take l.i l.values);
-  low : l.rank ≤ l.i;
+  few : l.rank ≤ l.i;
 }

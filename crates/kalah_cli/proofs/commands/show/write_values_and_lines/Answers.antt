@@ -1,4 +1,4 @@
--- The picture, the line of values and the lines that are asked for are given in turn. If the picture fails, a prefix of all was given.
+-- The picture, the line of values and the lines asked for are given, in this order. If the picture fails, a prefix of all was given.
 use Rattle.std.proofs.Common.{◌≡◌, ◌∷◌, [], ◌++◌, ◌∙◌, Bool, ap, append_assoc, sym, false}
 use Rattle.kalah_rules.specs.Position.{Position}
 use Rattle.kalah_jobs.specs.{Files.Lines.{line_feed}, Writing.{Sink.{WasGiven}, Picture.{picture_of}, ValuesLine.{shown_of, values_line}}}

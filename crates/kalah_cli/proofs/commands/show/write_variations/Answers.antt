@@ -1,4 +1,4 @@
--- After so many ranks the lines of the moves of these ranks were given, the best first.
+-- The lines of the moves of all ranks so far were given, the best first.
 use Rattle.std.proofs.{Common.{◌≡◌, ◌<◌, ◌≤◌, ◌+◌, ◌∙◌, ap, arith, length, refl, sym}, lemmas.List.FromFn.{get_or-range_with_len, length-range_with_len}}
 use Rattle.kalah_solve.specs.Solver.MoveValues.{values_of}
 use Rattle.kalah_jobs.proofs.SinkLemmas.{given_all, given_more}

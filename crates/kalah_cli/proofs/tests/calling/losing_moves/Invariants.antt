@@ -4,5 +4,5 @@ use Rattle.kalah_cli.proofs.tests.calling.losing_moves.Given as goal
 abbrev pub invariant-loop-i : goal.invariant-loop-i
 invariant-loop-i l = record {
   count : l.count ≡ count_by (λ v. int_lt v.value (pos 0)) (take l.i l.values);
-  low : l.count ≤ l.i;
+  few : l.count ≤ l.i;
 }
