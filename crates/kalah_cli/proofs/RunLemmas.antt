@@ -1,8 +1,7 @@
 -- What a run promises of its arguments.
 use Rattle.std.proofs.{Common.{◌≡◌, ◌≢◌, ◌∙◌, ℕ, List, true, false, sym, subst, inl, inr}, lemmas.Bool.{false_from_ne_true}}
 use Rattle.kalah_jobs.specs.Writing.Sink.{SinkState}
-use Rattle.kalah_cli.specs.{FailsOrFlushes, FailsWithoutOutput, ExitStatus, Failed, LineFaults, Clean, Source, kalah_app, Task, DoesNotAskFor, IsAcceptedAs, Moves, Does, KeepsPromises, DoesWhatIsAsked, NeedsNoInput, MovesByItsArguments, version_line, about_line, about_files, about_input, conflict}
-use Rattle.std.specs.Io.KnownBytes.{Appends}
+use Rattle.kalah_cli.specs.{FailsOrFlushes, FailsWithoutOutput, ExitStatus, Failed, Source, kalah_app, Task, DoesNotAskFor, IsAcceptedAs, Moves, Does, KeepsPromises, DoesWhatIsAsked, NeedsNoInput, EndsWithoutRequest, MovesByItsArguments, about_line, about_files, about_input, conflict}
 use Rattle.clap.specs.{Words.{HasKind, IsAmong, Text, fault_of, kind_of}, declared.error.{Error.{Error}, kind.ErrorKind.{ErrorKind, TheVariants.{DisplayHelp, DisplayVersion, OutOfMemory}}}}
 use Rattle.kalah_cli.proofs.{RequestLemmas.{moves_accepted, accepted_at, accepted_once, read_is_no_flag}, EndsLemmas.{ends_unchanged, stops_at_once}}
 
@@ -31,7 +30,7 @@ module _ {O : Type 0} (state : O → SinkState) {old new : O} {status : ExitStat
 
 -- an error of arguments that ask for no help, or for no version, is no such request
 kind_not_asked_for : (k : ErrorKind) (arguments : List Text) (e : Error) → OutOfMemory ≢ k → HasKind (fault_of kalah_app arguments) e
-    → DoesNotAskFor k arguments → kind_of e ≢ k
+    → DoesNotAskFor arguments k → kind_of e ≢ k
 kind_not_asked_for k arguments e other has_kind unasked = λ asked.
     elim has_kind [
       | inl memory ↦ other (sym memory ∙ asked)
@@ -43,7 +42,7 @@ kind_not_asked_for k arguments e other has_kind unasked = λ asked.
 module _ {O : Type 0} {state : O → SinkState} {arguments : List Text} {may_give : Source → List ℕ → Type 0} {old new : O}
     {status : ExitStatus} where
   -- what is promised of arguments that are accepted covers those of `moves`
-  pub by_arguments : DoesWhatIsAsked state old new status may_give arguments → MovesByItsArguments state arguments old new status
+  by_arguments : DoesWhatIsAsked state old new status may_give arguments → MovesByItsArguments state old new status arguments
   by_arguments accepted = record {
     moves = λ name line words_are p reads.
         elim (accepted (about_line (Moves false) line) (accepted_at words_are (moves_accepted name line (read_is_no_flag line p reads)))) [
@@ -59,7 +58,7 @@ module _ {O : Type 0} {state : O → SinkState} {arguments : List Text} {may_giv
 
   -- the arguments are accepted, and what they ask for is done
   pub run_of_request : {b : Task} → (state old).has_failed ≡ false → IsAcceptedAs arguments b → Does state old new status may_give b
-      → KeepsPromises state arguments may_give old new status
+      → KeepsPromises state old new status may_give arguments
   run_of_request {b} sound accepted_as done =
       let does : (a : Task) → IsAcceptedAs arguments a → Does state old new status may_give a =
       λ a also_as. rw (accepted_once arguments b a accepted_as also_as) at done in
@@ -67,11 +66,7 @@ module _ {O : Type 0} {state : O → SinkState} {arguments : List Text} {may_giv
       record {
         accepted = accepted;
         by_arguments = by_arguments accepted;
-        no_request = record {
-          usage = λ faulty. absurd (faulty accepted_as.0);
-          version = λ faulty. absurd (faulty accepted_as.0);
-          no_line = λ faulty. absurd (faulty accepted_as.0);
-        };
+        no_request = λ faulty. absurd (faulty accepted_as.0);
         failed = run_fails state may_give sound b done;
         unchanged = λ no_input. (run_ends state may_give sound b (no_input b accepted_as) done).unchanged;
         stopped = λ question table_entries asked failed unfailed.
@@ -81,30 +76,26 @@ module _ {O : Type 0} {state : O → SinkState} {arguments : List Text} {may_giv
 
   -- the arguments are refused with this error, which asks for help or the version, or is a mistake in them
   pub run_without_request : (error : Error) → HasKind (fault_of kalah_app arguments) error
-      → (kind_of error ≢ DisplayHelp → kind_of error ≢ DisplayVersion → FailsWithoutOutput old new status)
-      → ((state new).has_failed ≡ true → status ≡ Failed)
-      → (status ≡ Failed → (state new).has_failed ≡ false → new ≡ old) → status ≢ LineFaults
-      → (kind_of error ≢ DisplayHelp → status ≡ Clean → Appends (state old).written (state new).written version_line)
-      → (status ≢ Failed → (state new).is_flushed ≡ true) → KeepsPromises state arguments may_give old new status
-  run_without_request error has_kind mistake failed unchanged no_line version all_flushed =
-      let without_output : DoesNotAskFor DisplayHelp arguments → DoesNotAskFor DisplayVersion arguments
-      → FailsWithoutOutput old new status =
-      λ no_help no_version. mistake (kind_not_asked_for DisplayHelp arguments error (λ e. cc) has_kind no_help)
-      (kind_not_asked_for DisplayVersion arguments error (λ e. cc) has_kind no_version) in
-      let fails : (a : Task) → IsAcceptedAs arguments a → FailsWithoutOutput old new status =
-      λ a accepted_as. without_output (subst (IsAmong DisplayHelp) accepted_as.0) (subst (IsAmong DisplayVersion) accepted_as.0) in
+      → EndsWithoutRequest state old new status (λ kind. kind_of error ≢ kind) → FailsOrFlushes state old new status
+      → KeepsPromises state old new status may_give arguments
+  run_without_request error has_kind by_error ends =
+      let help = kind_not_asked_for DisplayHelp arguments error (λ e. cc) has_kind in
+      let version = kind_not_asked_for DisplayVersion arguments error (λ e. cc) has_kind in
+      let without_request : EndsWithoutRequest state old new status (DoesNotAskFor arguments) = record {
+        usage = λ no_help no_version. by_error.usage (help no_help) (version no_version);
+        version = λ no_help. by_error.version (help no_help);
+        no_line = by_error.no_line;
+      } in
+      let fails : (a : Task) → IsAcceptedAs arguments a → FailsWithoutOutput old new status = λ a accepted_as.
+      without_request.usage (subst (IsAmong DisplayHelp) accepted_as.0) (subst (IsAmong DisplayVersion) accepted_as.0) in
       let accepted : DoesWhatIsAsked state old new status may_give arguments = λ a accepted_as. inr (fails a accepted_as) in
       record {
         accepted = accepted;
         by_arguments = by_arguments accepted;
-        no_request = record {
-          usage = λ _. without_output;
-          version = λ _ no_help. version (kind_not_asked_for DisplayHelp arguments error (λ e. cc) has_kind no_help);
-          no_line = λ _. no_line;
-        };
-        failed = failed;
-        unchanged = λ _. unchanged;
+        no_request = λ _. without_request;
+        failed = ends.failed;
+        unchanged = λ _. ends.unchanged;
         stopped = λ question table_entries accepted_as _ _.
             rw (fails (about_input question table_entries) accepted_as).1 (stops_at_once question (state old).written);
-        all_flushed = λ not_failed _. all_flushed not_failed;
+        all_flushed = ends.all_flushed;
       }

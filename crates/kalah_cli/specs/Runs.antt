@@ -1,6 +1,6 @@
 -- What the program does for each request.
 use Rattle.std.specs.{Prelude.{◌≡◌, ◌≢◌, ◌++◌, ◌∷◌, ◌⊎◌, ℕ, List, [], Option, codes, false, true, ⊤}, Io.KnownBytes.{Appends}}
-use Rattle.clap.specs.{Words.{Text}, declared.error.kind.ErrorKind.TheVariants.{DisplayHelp, DisplayVersion}}
+use Rattle.clap.specs.{Words.{Text}, declared.error.kind.ErrorKind.{ErrorKind, TheVariants.{DisplayHelp, DisplayVersion}}}
 use Rattle.kalah_rules.specs.Position.{Position}
 use Rattle.kalah_jobs.specs.{Files.Lines.{line_feed}, Line.Line.{Reads}, Writing.Sink.{SinkState}}
 use Rattle.kalah_cli.specs.{Commands.{LineCommand.{MayPrint, command_output}, Moves.{moves_output}, Ask.{AnswersInput, StopsBetweenLines}, Files.{AnswersFiles}, Printing.{PrintsForLine, WritesNoPosition}}, Arguments.Request.{Task, DoesNotAskFor, MakesNoRequest, IsAcceptedAs, Question, about_line, about_files, about_input, conflict}, System.Sources.{MayBeLeft, Source, standard_input}, Exit.{Ends.{FailsWithoutOutput}, Status.{ExitStatus, Clean, LineFaults, Failed}}}
@@ -14,37 +14,34 @@ NeedsNoInput _ = ⊤
 abbrev pub version_line : Text
 version_line = codes "kalah 1.4.0" ++ line_feed ∷ []
 
-module _ {O : Type 0} (state : O → SinkState) (old new : O) (status : ExitStatus)
-    (may_give : Source → List ℕ → Type 0) where
-  -- the lines of the standard input are answered, which may give these bytes
-  pub record AnswersStandardInput (question : Question) : Type 0 where
-    pub unread : Option (List ℕ)
-    pub given : MayBeLeft (may_give standard_input) unread
-    pub answered : AnswersInput state old new status question unread
-
-  -- what the program does for each request. A game that is asked to begin with a house that may not be moved fails without output, and
-  -- so do options that exclude each other
-  abbrev pub Does : Task → Type 0
-  Does (about_line command line) = PrintsForLine state old new status line (command_output command)
-      × ((p : Position) → Reads line p → (MayPrint command p → ⊥) → FailsWithoutOutput old new status)
-  Does (about_files question workers table_entries progress names) = AnswersFiles state old new status may_give question names
-  Does (about_input question table_entries) = AnswersStandardInput question
-  Does conflict = FailsWithoutOutput old new status
-
-  -- accepted arguments: the program does what they ask for (if it fails, a prefix of that), or it fails without output
-  abbrev pub DoesWhatIsAsked : List Text → Type 0
-  DoesWhatIsAsked arguments = (task : Task) → IsAcceptedAs arguments task → Does task ⊎ FailsWithoutOutput old new status
-
--- ---- what a run promises for its arguments
-
 -- an argument that is no flag: it isn't empty and doesn't begin with `-` (45)
 abbrev pub IsNoFlag : Text → Type 0
 IsNoFlag [] = ⊥
 IsNoFlag (x ∷ xs) = x ≢ 45
 
-module _ {O : Type 0} (state : O → SinkState) (arguments : List Text) (old new : O) (status : ExitStatus) where
+module _ {O : Type 0} (state : O → SinkState) (old new : O) (status : ExitStatus) where
+  module _ (may_give : Source → List ℕ → Type 0) where
+    -- the lines of the standard input are answered, which may give these bytes
+    pub record AnswersStandardInput (question : Question) : Type 0 where
+      pub unread : Option (List ℕ)
+      pub given : MayBeLeft (may_give standard_input) unread
+      pub answered : AnswersInput state old new status question unread
+
+    -- what the program does for each request. A game that is asked to begin with a house that may not be moved fails without output, and
+    -- so do options that exclude each other
+    abbrev pub Does : Task → Type 0
+    Does (about_line command line) = PrintsForLine state old new status line (command_output command)
+        × ((p : Position) → Reads line p → (MayPrint command p → ⊥) → FailsWithoutOutput old new status)
+    Does (about_files question workers table_entries progress names) = AnswersFiles state old new status may_give question names
+    Does (about_input question table_entries) = AnswersStandardInput question
+    Does conflict = FailsWithoutOutput old new status
+
+    -- accepted arguments: the program does what they ask for (if it fails, a prefix of that), or it fails without output
+    abbrev pub DoesWhatIsAsked : List Text → Type 0
+    DoesWhatIsAsked arguments = (task : Task) → IsAcceptedAs arguments task → Does task ⊎ FailsWithoutOutput old new status
+
   -- the words of `moves` without options. It shows that some arguments are accepted, so that `DoesWhatIsAsked` isn't empty
-  pub record MovesByItsArguments : Type 0 where
+  pub record MovesByItsArguments (arguments : List Text) : Type 0 where
     -- `moves` and a line that can be read: its moves are written, if nothing fails
     pub moves : (name line : Text) → arguments ≡ name ∷ codes "moves" ∷ line ∷ [] → (p : Position) → Reads line p
         → (status ≢ LineFaults) × (status ≡ Clean → Appends (state old).written (state new).written (moves_output false p))
@@ -52,27 +49,23 @@ module _ {O : Type 0} (state : O → SinkState) (arguments : List Text) (old new
     pub unread : (name line : Text) → arguments ≡ name ∷ codes "moves" ∷ line ∷ [] → IsNoFlag line → WritesNoPosition line
         → (status ≢ Clean) × (new ≡ old)
 
-  -- arguments that are refused
-  pub record EndsWithoutRequest : Type 0 where
-    -- they ask for neither help nor the version
-    pub usage : MakesNoRequest arguments → DoesNotAskFor DisplayHelp arguments → DoesNotAskFor DisplayVersion arguments
-        → (status ≡ Failed) × (new ≡ old)
-    -- they don't ask for help: with status 0 the version was written, and no more
-    pub version : MakesNoRequest arguments → DoesNotAskFor DisplayHelp arguments → status ≡ Clean
-        → Appends (state old).written (state new).written version_line
-    -- they have no line
-    pub no_line : MakesNoRequest arguments → status ≢ LineFaults
+  -- how a run ends that makes no request, by what it isn't asked for
+  pub record EndsWithoutRequest (IsUnasked : ErrorKind → Type 0) : Type 0 where
+    -- neither help nor the version: it fails
+    pub usage : IsUnasked DisplayHelp → IsUnasked DisplayVersion → FailsWithoutOutput old new status
+    -- no help: with status 0 the version was written, and no more
+    pub version : IsUnasked DisplayHelp → status ≡ Clean → Appends (state old).written (state new).written version_line
+    -- there is no line
+    pub no_line : status ≢ LineFaults
 
--- What a run promises of its arguments, of what its sources may give, and of its output before and after it.
-module _ {O : Type 0} (state : O → SinkState) (arguments : List Text) (may_give : Source → List ℕ → Type 0) (old new : O)
-    (status : ExitStatus) where
-  pub record KeepsPromises : Type 0 where
+  -- what a run promises of what its sources may give, of its arguments, and of its output before and after it
+  pub record KeepsPromises (may_give : Source → List ℕ → Type 0) (arguments : List Text) : Type 0 where
     -- Arguments that make a request: the program does what they ask for (if it fails, in part), or fails and writes nothing.
-    pub accepted : DoesWhatIsAsked state old new status may_give arguments
+    pub accepted : DoesWhatIsAsked may_give arguments
     -- The same of `moves LINE`, named by its words.
-    pub by_arguments : MovesByItsArguments state arguments old new status
+    pub by_arguments : MovesByItsArguments arguments
     -- Arguments that make no request: the program prints help or the version, or fails.
-    pub no_request : EndsWithoutRequest state arguments old new status
+    pub no_request : MakesNoRequest arguments → EndsWithoutRequest (DoesNotAskFor arguments)
     -- Any arguments: if a write fails, the program fails. If it fails for another cause, it writes nothing, except for answers of `ask`.
     pub failed : (state new).has_failed ≡ true → status ≡ Failed
     pub unchanged : ((task : Task) → IsAcceptedAs arguments task → NeedsNoInput task) → status ≡ Failed

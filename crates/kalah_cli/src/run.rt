@@ -1,7 +1,7 @@
 //! The program, run on its arguments.
-ghost use Rattle.std.specs.{Prelude.{◌≡◌, ◌≢◌, ◌<◌, false, true, vec_len}, Io.KnownBytes.{Appends}};
-ghost use Rattle.clap.specs.{Values.{kind_of}, declared.error.kind.ErrorKind.TheVariants.{DisplayHelp, DisplayVersion}};
-ghost use Rattle.kalah_cli.specs.{Commands.Printing.{IsPrinted}, Exit.Ends.{FailsWithoutOutput, exit_status_of}, Arguments.Request.{IsInRange, task_of, texts_of}, Runs.{Does, KeepsPromises, version_line}};
+ghost use Rattle.std.specs.Prelude.{◌≡◌, ◌≢◌, ◌<◌, false, vec_len};
+ghost use Rattle.clap.specs.Values.{kind_of};
+ghost use Rattle.kalah_cli.specs.{Commands.Printing.{IsPrinted}, Exit.Ends.{FailsOrFlushes, exit_status_of}, Arguments.Request.{IsInRange, task_of, texts_of}, Runs.{Does, EndsWithoutRequest, KeepsPromises}};
 
 use crate::arguments::help::VERSION_LINE;
 use crate::arguments::request::{Request, parse};
@@ -40,14 +40,8 @@ fn end_without_request<'a, O: Sink, E: Write>(
     err: &mut E,
 ) -> Result<ExitStatus, Failure<'a>>
     requires { (O.state out.old).has_failed ≡ false }
-    ensures mistake { kind_of error.now ≢ DisplayHelp → kind_of error.now ≢ DisplayVersion
-        → FailsWithoutOutput out.old out.new (exit_status_of result) }
-    ensures failed { (O.state out.new).has_failed ≡ true → exit_status_of result ≡ ExitStatus.Failed }
-    ensures unchanged { exit_status_of result ≡ ExitStatus.Failed → (O.state out.new).has_failed ≡ false → out.new ≡ out.old }
-    ensures no_line { exit_status_of result ≢ ExitStatus.LineFaults }
-    ensures version { kind_of error.now ≢ DisplayHelp → exit_status_of result ≡ ExitStatus.Clean
-        → Appends (O.state out.old).written (O.state out.new).written version_line }
-    ensures all_flushed { exit_status_of result ≢ ExitStatus.Failed → (O.state out.new).is_flushed ≡ true }
+    ensures no_request { EndsWithoutRequest O.state out.old out.new (exit_status_of result) (λ kind. kind_of error.now ≢ kind) }
+    ensures ends { FailsOrFlushes O.state out.old out.new (exit_status_of result) }
 {
     let Ok(text) = error.to_string(alloc) else {
         return Err(Failure::OUT_OF_MEMORY);
@@ -111,7 +105,7 @@ pub fn run_words<R: Sources + Clock + Terminal + Threads + Wait + Sync, O: Sink,
     requires not_failed { (O.state out.old).has_failed ≡ false }
     requires named { 0 < vec_len words }
     // What is done for arguments that make a request, how others end, and what a failure leaves.
-    ensures { KeepsPromises O.state (texts_of words.items) (R.may_give rt.now) out.old out.new result }
+    ensures { KeepsPromises O.state out.old out.new result (R.may_give rt.now) (texts_of words.items) }
 {
     let on_terminal = rt.shows_errors(); // Tips go only to a terminal.
     let arguments = words.as_slice();

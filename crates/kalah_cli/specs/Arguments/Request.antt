@@ -122,8 +122,8 @@ abbrev pub MakesNoRequest : List Text → Type 0
 MakesNoRequest arguments = fault_of kalah_app arguments ≢ []
 
 -- the arguments don't ask for this: help, or the version
-abbrev pub DoesNotAskFor : ErrorKind → List Text → Type 0
-DoesNotAskFor kind arguments = IsAmong kind (fault_of kalah_app arguments) → ⊥
+abbrev pub DoesNotAskFor : List Text → ErrorKind → Type 0
+DoesNotAskFor arguments kind = IsAmong kind (fault_of kalah_app arguments) → ⊥
 
 -- the task of a request: it is parsed from arguments that ask for the same
 abbrev pub task_of : Request → Task

@@ -11,9 +11,8 @@ returns g c =
       | in-Ok w ↦ rw (c.report_end.ensures, w.ended-is, w.out-is)
           (run_of_request c.requires.not_failed (accepted_at arguments (rw w.in-Ok.is at c.parse-parsed.ensures.accepted))
           w.run_request-ended.ensures)
-      | in-Err w ↦
-          let refused = w.end_without_request-ended.ensures in
-          rw (c.report_end.ensures, w.ended-is, w.out-is) (run_without_request w.in-Err.error
+      | in-Err w ↦ rw (c.report_end.ensures, w.ended-is, w.out-is)
+          (run_without_request w.in-Err.error
           (rw (c.as_slice-arguments.ensures.value, w.in-Err.is) at c.parse-parsed.ensures.kinds)
-          refused.mistake refused.failed refused.unchanged refused.no_line refused.version refused.all_flushed)
+          w.end_without_request-ended.ensures.no_request w.end_without_request-ended.ensures.ends)
     ]
