@@ -17,6 +17,7 @@ use std::process::ExitCode;
 use std::{env, io};
 use system::fused::Fused;
 use system::prompt_stream::PromptStream;
+use system::terminal::Messages;
 
 // Returns the arguments. The first is the program's name.
 fn arguments_of(rt: &HostRuntime) -> Result<Vec<String>, Failure<'static>> {
@@ -45,5 +46,6 @@ fn main(rt: HostRuntime) -> ExitCode {
         },
         Err(failure) => Err(failure),
     };
-    ExitCode::from(report_end(ended, false, &mut err).code())
+    let on_terminal = false;
+    ExitCode::from(report_end(ended, &mut Messages { err, on_terminal }).code())
 }

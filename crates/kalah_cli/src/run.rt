@@ -12,7 +12,7 @@ use crate::exit::failure::{Failure, report_end, status_of_sink};
 use crate::exit::status::ExitStatus;
 use crate::exit::tips::report_refused;
 use crate::system::sources::Sources;
-use crate::system::terminal::Terminal;
+use crate::system::terminal::{Messages, Terminal};
 use clap::Error;
 use clap::error::ErrorKind;
 use kalah_jobs::{Sink, flush_unless_failed, write_unless_failed};
@@ -30,14 +30,13 @@ fn print_text<O: Sink>(text: &str, out: &mut O)
     flush_unless_failed(out);
 }
 
-// Ends a run whose arguments make no request: help or the version goes to `out`, a mistake in the arguments to `err`.
+// Ends a run whose arguments make no request: help or the version goes to `out`, and a mistake in the arguments is reported.
 fn end_without_request<'a, O: Sink, E: Write>(
     alloc: Global,
     arguments: &'a [String],
     error: &Error,
-    on_terminal: bool,
     out: &mut O,
-    err: &mut E,
+    messages: &mut Messages<E>,
 ) -> Result<ExitStatus, Failure<'a>>
     requires { (O.state out.old).has_failed ≡ false }
     ensures no_request { EndsWithoutRequest O.state out.old out.new (exit_status_of result) (λ kind. kind_of error.now ≢ kind) }
@@ -51,7 +50,7 @@ fn end_without_request<'a, O: Sink, E: Write>(
         ErrorKind::DisplayVersion => print_text(VERSION_LINE, out),
         ErrorKind::OutOfMemory => return Err(Failure::OUT_OF_MEMORY),
         _ => {
-            report_refused(arguments, text.as_str(), on_terminal, err);
+            report_refused(arguments, text.as_str(), messages);
             return Ok(ExitStatus::Failed);
         }
     }
@@ -63,17 +62,16 @@ fn run_request<'a, R: Sources + Clock + Terminal + Threads + Wait + Sync, O: Sin
     rt: &R,
     alloc: Global,
     request: &Request<'a>,
-    on_terminal: bool,
     out: &mut O,
-    err: &mut E,
+    messages: &mut Messages<E>,
 ) -> Result<ExitStatus, Failure<'a>>
     requires range { IsInRange request.now }
     requires not_failed { (O.state out.old).has_failed ≡ false }
     ensures { Does O.state out.old out.new (exit_status_of result) (R.may_give rt.now) (task_of request.now) }
 {
     match request {
-        Request::Line { line, command } => run_line(alloc, line, command, on_terminal, out, err),
-        Request::Files(files) => run_files(rt, alloc, files, on_terminal, out, err),
+        Request::Line { line, command } => run_line(alloc, line, command, out, messages),
+        Request::Files(files) => run_files(rt, alloc, files, out, messages),
         Request::Ask {
             question,
             table_entries,
@@ -84,7 +82,7 @@ fn run_request<'a, R: Sources + Clock + Terminal + Threads + Wait + Sync, O: Sin
             *question,
             *table_entries,
             out,
-            err,
+            messages,
         ),
         Request::Conflict => Err(Failure::Conflict),
     }
@@ -107,14 +105,15 @@ pub fn run_words<R: Sources + Clock + Terminal + Threads + Wait + Sync, O: Sink,
     // What is done for arguments that make a request, how others end, and what a failure leaves.
     ensures { KeepsPromises O.state out.old out.new result (R.may_give rt.now) (texts_of words.items) }
 {
-    let on_terminal = rt.shows_errors(); // Tips go only to a terminal.
+    let on_terminal = rt.shows_errors();
+    let mut messages = Messages { err, on_terminal };
     let arguments = words.as_slice();
     let parsed = parse(alloc, arguments);
     let ended = match &parsed {
-        Ok(request) => run_request(rt, alloc, request, on_terminal, out, err),
-        Err(error) => end_without_request(alloc, arguments, error, on_terminal, out, err),
+        Ok(request) => run_request(rt, alloc, request, out, &mut messages),
+        Err(error) => end_without_request(alloc, arguments, error, out, &mut messages),
     };
-    report_end(ended, on_terminal, err)
+    report_end(ended, &mut messages)
 }
 
 #[cfg(test)]

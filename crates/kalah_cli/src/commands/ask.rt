@@ -6,6 +6,7 @@ ghost use Rattle.kalah_cli.specs.{Commands.{Ask.{AnswersInput}}, Exit.Ends.{exit
 
 use crate::exit::failure::Failure;
 use crate::exit::status::ExitStatus;
+use crate::system::terminal::Messages;
 use kalah_jobs::{AskFault, Question, Sink, answer_lines};
 use kalah_run::RunFault;
 use kalah_solve::{Solver, Table};
@@ -38,7 +39,7 @@ fn status_of_answers(answered: Result<bool, AskFault>) -> Result<ExitStatus, Fai
 
 /// Answers what is asked of each line of a reader, all with one solver. It reads more only after the answers to all that was read are
 /// written. Memory is requested before the first read, except for what the table takes as it grows. If the reader is a terminal,
-/// it first says on `err` what it waits for.
+/// it first says what it waits for.
 ///
 /// Returns `Clean` if each line was read, and `LineFaults` if one was not. Fails if memory was refused, or a read or a write failed.
 #[inline(never)] // Only this command's stack holds its solver.
@@ -49,7 +50,7 @@ pub(crate) fn run_ask<I: Read + Drop, O: Sink, E: Write>(
     question: Question,
     table_entries: u32,
     out: &mut O,
-    err: &mut E,
+    messages: &mut Messages<E>,
 ) -> Result<ExitStatus, Failure<'static>>
     requires table { IsTableSize table_entries }
     requires not_failed { (O.state out.old).has_failed ≡ false }
@@ -62,7 +63,7 @@ pub(crate) fn run_ask<I: Read + Drop, O: Sink, E: Write>(
         return Err(Failure::OUT_OF_MEMORY);
     };
     if is_typed {
-        let _ = err.write_all(HINT.as_bytes());
+        messages.write(HINT);
     }
     status_of_answers(answer_lines(&mut reader, question, &mut solver, out))
 }

@@ -9,7 +9,7 @@ use crate::exit::tips::advise_on_files;
 use crate::system::progress::Progress;
 use crate::system::read_files::read_files;
 use crate::system::sources::Sources;
-use crate::system::terminal::Terminal;
+use crate::system::terminal::{Messages, Terminal};
 use kalah_jobs::{FileText, Sink};
 use kalah_run::{BatchRequest, OnFailedWrite, OpenGate, answer_batch};
 use std::alloc::Global;
@@ -45,7 +45,7 @@ fn read_named<'a, R: Sources>(
     read_files(rt, alloc, names)
 }
 
-/// Answers what is asked of each line of the named files, and shows progress on `err` if that is asked for.
+/// Answers what is asked of each line of the named files, and shows progress if that is asked for.
 ///
 /// Returns `Clean` if each line was read, and `LineFaults` if one was not.
 pub(crate) fn run_files<
@@ -57,9 +57,8 @@ pub(crate) fn run_files<
     rt: &R,
     alloc: Global,
     request: &FilesRequest<'a>,
-    on_terminal: bool,
     out: &mut O,
-    err: &mut E,
+    messages: &mut Messages<E>,
 ) -> Result<ExitStatus, Failure<'a>>
     requires limits { AreFilesInRange request.now }
     requires not_failed { (O.state out.old).has_failed ≡ false }
@@ -79,15 +78,13 @@ pub(crate) fn run_files<
         table: request.table_entries,
         on_failed_write: OnFailedWrite::Leave,
     };
-    let mut progress = Progress::begin(rt, err, files, request.progress);
+    let mut progress = Progress::begin(rt, &mut messages.err, files, request.progress);
     let answered = answer_batch(rt, alloc, &batch, &OpenGate, &mut progress, out);
     progress.end();
     match answered {
         Ok(tally) if tally.faults == 0 => Ok(ExitStatus::Clean),
         Ok(_) => {
-            if on_terminal {
-                advise_on_files(files, err);
-            }
+            advise_on_files(files, messages);
             Ok(ExitStatus::LineFaults)
         }
         Err(fault) => Err(Failure::Run(fault)),

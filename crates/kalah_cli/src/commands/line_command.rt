@@ -10,6 +10,7 @@ use crate::commands::show::run_show;
 use crate::exit::failure::{Failure, status_of_sink};
 use crate::exit::status::ExitStatus;
 use crate::exit::tips::report_fault;
+use crate::system::terminal::Messages;
 use kalah_jobs::{Sink, read_line};
 use kalah_rules::Board;
 use std::alloc::Global;
@@ -38,7 +39,7 @@ fn print<O: Sink>(
     Ok(())
 }
 
-/// Prints what the command prints of the position that the line writes. A line that can't be read is answered by its fault, on `err` only.
+/// Prints what the command prints of the position that the line writes. A line that can't be read is answered by its fault, in a message.
 ///
 /// Returns `Clean`, or `LineFaults` for a line that can't be read. Fails for a house that may not be moved, or if memory was refused or a
 /// write failed.
@@ -46,9 +47,8 @@ pub(crate) fn run_line<O: Sink, E: Write>(
     alloc: Global,
     line: &str,
     command: &LineCommand,
-    on_terminal: bool,
     out: &mut O,
-    err: &mut E,
+    messages: &mut Messages<E>,
 ) -> Result<ExitStatus, Failure<'static>>
     requires range { IsCommandInRange command.now }
     requires not_failed { (O.state out.old).has_failed ≡ false }
@@ -60,7 +60,7 @@ pub(crate) fn run_line<O: Sink, E: Write>(
             Err(failure) => Err(failure),
         },
         Err(fault) => {
-            report_fault(fault, line, on_terminal, err);
+            report_fault(fault, line, messages);
             Ok(ExitStatus::LineFaults)
         }
     }

@@ -6,7 +6,7 @@ use crate::arguments::help;
 use crate::exit::status::ExitStatus;
 use crate::exit::tips::advise_on_failure;
 use crate::system::read_files::ReadFault;
-use crate::system::terminal::{write_escaped, write_text};
+use crate::system::terminal::Messages;
 use kalah_jobs::Sink;
 use kalah_run::RunFault;
 use std::io::Write;
@@ -34,20 +34,20 @@ impl Failure<'_> {
     /// Memory was refused.
     pub(crate) const OUT_OF_MEMORY: Failure<'static> = Failure::Run(RunFault::OutOfMemory);
 
-    /// Writes the message of the failure. What can't be written is dropped.
-    pub(crate) fn report<E: Write>(self, on_terminal: bool, err: &mut E) {
+    /// Writes the message of the failure.
+    pub(crate) fn report<E: Write>(self, messages: &mut Messages<E>) {
         let message = match self {
             Failure::Run(fault) => {
-                let _ = writeln!(err, "kalah: {fault}");
+                let _ = writeln!(messages.err, "kalah: {fault}");
                 return;
             }
             Failure::Unreadable { name, .. } => {
-                write_text("kalah: cannot read ", err);
-                write_escaped(name, on_terminal, err);
+                messages.write("kalah: cannot read ");
+                messages.write_escaped(name);
                 "\n"
             }
             Failure::IllegalHouse(house) => {
-                let _ = writeln!(err, "kalah: house {house} can't be moved");
+                let _ = writeln!(messages.err, "kalah: house {house} can't be moved");
                 return;
             }
             Failure::LineFeed => "kalah: line feed in a file name\n",
@@ -55,26 +55,22 @@ impl Failure<'_> {
             Failure::NotText => "kalah: a word is not UTF-8\n",
             Failure::Conflict => help::CONFLICT,
         };
-        write_text(message, err);
+        messages.write(message);
     }
 }
 
-/// Returns the exit status of a run that ended so. If it failed, it reports the failure on `err`, and on a terminal
-/// its tip.
+/// Returns the exit status of a run that ended so. If it failed, it reports the failure, and on a terminal its tip.
 pub(crate) fn report_end<E: Write>(
     ended: Result<ExitStatus, Failure<'_>>,
-    on_terminal: bool,
-    err: &mut E,
+    messages: &mut Messages<E>,
 ) -> ExitStatus
     ensures { result ≡ exit_status_of ended.entry }
 {
     match ended {
         Ok(status) => status,
         Err(failure) => {
-            failure.report(on_terminal, err);
-            if on_terminal {
-                advise_on_failure(failure, err);
-            }
+            failure.report(messages);
+            advise_on_failure(failure, messages);
             ExitStatus::Failed
         }
     }

@@ -1,7 +1,7 @@
-//! The tips that follow a message if standard error is a terminal. In a tip `{}` stands for an argument.
+//! The tips that follow a message if standard error is a terminal.
 use crate::exit::failure::Failure;
 use crate::system::read_files::ReadFault;
-use crate::system::terminal::{write_escaped, write_text};
+use crate::system::terminal::Messages;
 use kalah_jobs::{FileText, read_line};
 use kalah_run::RunFault;
 use std::io::Write;
@@ -39,26 +39,11 @@ fn is_side(text: &str) -> bool {
     for byte in text.as_bytes() {
         match *byte {
             b'/' => slashes = slashes.saturating_add(1),
-            b',' => {}
-            _ if byte.is_ascii_digit() => {}
+            b',' | b'0'..=b'9' => {}
             _ => return false,
         }
     }
     slashes == 1
-}
-
-// Writes a tip, which may be about an argument.
-fn write_tip<E: Write>(tip: &str, argument: &str, err: &mut E) {
-    write_text("  tip: ", err);
-    match tip.split_once("{}") {
-        Some((before, after)) => {
-            write_text(before, err);
-            write_escaped(argument, true, err);
-            write_text(after, err);
-        }
-        None => write_text(tip, err),
-    }
-    write_text("\n", err);
 }
 
 // Returns the tip for a file of this name that can't be read.
@@ -78,7 +63,7 @@ fn tip_for_file(name: &str, fault: ReadFault) -> &'static str {
 }
 
 /// Writes the tip for a failure, if it has one. If the name of a file that can't be read is a position, it says what draws that.
-pub(crate) fn advise_on_failure<E: Write>(failure: Failure<'_>, err: &mut E) {
+pub(crate) fn advise_on_failure<E: Write>(failure: Failure<'_>, messages: &mut Messages<E>) {
     let (tip, name) = match failure {
         Failure::Unreadable { name, fault } => (tip_for_file(name, fault), name),
         Failure::Run(RunFault::TooManyFiles) => (
@@ -95,16 +80,16 @@ pub(crate) fn advise_on_failure<E: Write>(failure: Failure<'_>, err: &mut E) {
         ),
         _ => return,
     };
-    write_tip(tip, name, err);
+    messages.write_tip(tip, name);
 }
 
 /// Writes a tip for the first of these files that begins with a byte order mark, so that its first line, or all of them, can't be read.
-pub(crate) fn advise_on_files<E: Write>(files: &[FileText], err: &mut E) {
+pub(crate) fn advise_on_files<E: Write>(files: &[FileText], messages: &mut Messages<E>) {
     for file in files {
         let bytes = file.bytes.as_slice();
         for (mark, tip) in MARKS {
             if bytes.starts_with(*mark) {
-                write_tip(tip, "", err);
+                messages.write_tip(tip, "");
                 return;
             }
         }

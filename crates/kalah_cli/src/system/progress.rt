@@ -1,5 +1,5 @@
 //! `--progress`: the progress of a batch, on standard error.
-use crate::system::terminal::{Terminal, write_text};
+use crate::system::terminal::Terminal;
 use kalah_jobs::FileText;
 use kalah_run::Watch;
 use std::io::Write;
@@ -78,7 +78,7 @@ impl<'a, R: Clock + Terminal, E: Write> Progress<'a, R, E> {
     /// Ends the line that is rewritten.
     pub(crate) fn end(&mut self) {
         if self.in_place {
-            write_text("\n", self.err);
+            let _ = self.err.write_all(b"\n");
         }
     }
 
@@ -101,7 +101,7 @@ impl<'a, R: Clock + Terminal, E: Write> Progress<'a, R, E> {
             let (count, unit) = in_units(seconds);
             let _ = write!(self.err, ", {count} {unit} left");
         }
-        write_text(end, self.err);
+        let _ = self.err.write_all(end.as_bytes());
     }
 
     // Returns how long the other lines take at the rate so far, if that is known.

@@ -1,6 +1,6 @@
 //! Why arguments are refused, and the tip that follows.
-use super::{POSITION, is_position, is_side, write_tip};
-use crate::system::terminal::{write_escaped, write_text};
+use super::{POSITION, is_position, is_side};
+use crate::system::terminal::Messages;
 use std::io::Write;
 
 const QUOTES: &str = "a position is one argument, so put it in quotes: '1,1/0 1,1/0'";
@@ -125,15 +125,14 @@ fn tip_for<'a>(arguments: &'a [String], text: &str) -> Option<Tip<'a>> {
 pub(crate) fn report_refused<E: Write>(
     arguments: &[String],
     text: &str,
-    on_terminal: bool,
-    err: &mut E,
+    messages: &mut Messages<E>,
 ) {
-    write_escaped(text, on_terminal, err);
-    if !on_terminal {
+    messages.write_escaped(text);
+    if !messages.on_terminal {
         return;
     }
     if let Some((tip, argument)) = tip_for(arguments, text) {
-        write_text("\n", err);
-        write_tip(tip, argument, err);
+        messages.write("\n");
+        messages.write_tip(tip, argument);
     }
 }

@@ -1,21 +1,21 @@
 //! Why a line can't be read, and the tip that follows.
-use super::write_tip;
+use crate::system::terminal::Messages;
 use kalah_jobs::LineFault;
 use std::io::Write;
 
 const FORM: &str = "the form is `1,1/0 1,1/0`; numbers are 0 to 99, without a zero before them";
 
-/// Writes why a line can't be read, with a tip if tips are shown. What can't be written is dropped.
-pub(crate) fn report_fault<E: Write>(fault: LineFault, line: &str, on_terminal: bool, err: &mut E) {
-    let _ = writeln!(err, "fault {}", fault.word());
-    if !on_terminal {
+/// Writes why a line can't be read, and on a terminal a tip.
+pub(crate) fn report_fault<E: Write>(fault: LineFault, line: &str, messages: &mut Messages<E>) {
+    let _ = writeln!(messages.err, "fault {}", fault.word());
+    if !messages.on_terminal {
         return;
     }
     let tip = match fault {
         LineFault::Seeds => {
             let seeds = seeds_in_houses(line);
             let _ = writeln!(
-                err,
+                messages.err,
                 "  tip: {seeds} seeds in houses; at most 31 are accepted"
             );
             return;
@@ -25,7 +25,7 @@ pub(crate) fn report_fault<E: Write>(fault: LineFault, line: &str, on_terminal: 
         LineFault::Shape => tip_for_shape(line),
         LineFault::Empty => FORM,
     };
-    write_tip(tip, "", err);
+    messages.write_tip(tip, "");
 }
 
 // Returns whether a text has a letter or a dot, as the name of a file, and no position.
