@@ -55,21 +55,24 @@ turn_leads : {a b : HousesState} {h : ℕ} → AreWithinLimits a → IsTurnOf a 
     → LeadsOnAt a (total_seeds a - total_seeds b) b
 turn_leads limits turn = played_leads_on limits turn.legal (sym turn.step)
 
--- what a turn that waited leaves of all `seeds`, by a bound of what the opponent wins after it
-pub record IsReplied (a : HousesState) (h beta seeds bound : ℕ) : Type 0 where
-  pub fits : bound ≤ seeds
-  pub left : IsSoftBound beta (won_by_step (houses_step a h)) (seeds - bound)
-  pub enough : beta ≤ seeds - bound → seeds - bound ≤ won a
+-- a turn that waited, of all `seeds`, by a bound of what the opponent wins after it; `left` and one more were asked of that player
+module _ {a b : HousesState} {h bound seeds left : ℕ} (beta : ℕ) (limits : AreWithinLimits a) (turn : IsTurnOf a h b)
+    (seeds_are : seeds ≡ total_seeds a) (left_is : left ≡ seeds - beta) (bounded : IsSoftBound (left + 1) (won b) bound) where
+  -- the opponent wins at most what is in houses
+  reply_few : won b ≤ total_seeds b
+  reply_few = (won_of_houses (turn_leads limits turn).limits).few
 
--- the opponent was asked for one more than what `beta` leaves
-pub turn_replied : {a b : HousesState} {h bound seeds rest : ℕ} (beta : ℕ) → AreWithinLimits a → IsTurnOf a h b → seeds ≡ total_seeds a
-    → rest ≡ seeds - beta → IsSoftBound (rest + 1) (won b) bound → IsReplied a h beta seeds bound
-turn_replied {a} {b} {h} {bound} {seeds} beta limits turn seeds_are rest_is bounded =
-    let leads = turn_leads limits turn in
-    let few = (won_of_houses leads.limits).few in
-    let left : IsSoftBound beta (won_by_step (houses_step a h)) (seeds - bound) =
-    rw (turn.step, seeds_are) (bound_of_rest _ (omega (arith, leads.kept)) few (rw (rest_is, seeds_are) at bounded)) in
-    record { fits = let kept = leads.kept in grind (arith, cases_lt, few); left = left; enough = enough_is_won limits turn.legal left }
+  -- what the reply leaves is a bound of the turn
+  pub reply_left : IsSoftBound beta (won_by_step (houses_step a h)) (seeds - bound)
+  reply_left = rw (turn.step, seeds_are)
+      (bound_of_rest _ (omega (arith, (turn_leads limits turn).kept)) reply_few (rw (left_is, seeds_are) at bounded))
+
+  pub reply_fits : bound ≤ seeds
+  reply_fits = let kept = (turn_leads limits turn).kept in grind (arith, cases_lt, reply_few)
+
+  -- what is left of them is no more than best play wins, if it is enough
+  pub turn_enough : beta ≤ seeds - bound → seeds - bound ≤ won a
+  turn_enough = enough_is_won limits turn.legal reply_left
 
 -- a legal house whose step is a turn
 pub step_is_turn : {a b : HousesState} {h gained : ℕ} → AreWithinLimits a → IsLegal a h → Turn gained b ≡ houses_step a h → IsTurnOf a h b

@@ -1,9 +1,9 @@
 -- Each move that was tried wins at most `most` seeds, so best play wins no more once none is left; a move that is enough wins no more than
 -- best play.
-use Rattle.std.proofs.Common.{ℕ, ◌+◌, arith, rules, sym, subst, lit≤}
+use Rattle.std.proofs.Common.{ℕ, arith, rules, sym, subst, lit≤}
 use Rattle.kalah_rules.{specs.{Sowing.{EndsDirectlyInStore}, HousesStep.{houses_step}}, proofs.PlayLemmas.{sum-set_zero}}
 use Rattle.kalah_solve.{specs.{GoesOn, IsSoftBound, won_by_step}, proofs.search.Search.+bound.Given.{Over}}
-use Rattle.kalah_solve.proofs.{HouseSetLemmas.{without_last_less, last_is_legal, each_at_last}, SearchLemmas.{lower_measure, enough_is_won, soft_if_enough, IsReplied, turn_replied, step_is_turn, taken_is_turn, bound_le_max, bound_of_rest, played_at_start, played_and_waits, played_and_bounded, played_enough, all_played, tried_at_start, tried_without_last, all_tried, untried_at_start, untried_fewer, none_untried}, WorthLemmas.{goes_on, played_leads_on, step_falls}, BoundsLemmas.{won_of_houses}}
+use Rattle.kalah_solve.proofs.{HouseSetLemmas.{without_last_less, last_is_legal, each_at_last}, SearchLemmas.{lower_measure, enough_is_won, soft_if_enough, turn_enough, reply_left, reply_fits, step_is_turn, taken_is_turn, bound_le_max, bound_of_rest, played_at_start, played_and_waits, played_and_bounded, played_enough, all_played, tried_at_start, tried_without_last, all_tried, untried_at_start, untried_fewer, none_untried}, WorthLemmas.{goes_on, played_leads_on, step_falls}, BoundsLemmas.{won_of_houses}}
 use Rattle.kalah_solve.proofs.search.Search.+bound.Goals as goal
 use Rattle.kalah_solve.proofs.search.Search.+bound.Goals.{try_remaining-Joined-step, try_remaining-in-Turn+else-gained-beta, try_remaining-in_default-step}
 
@@ -33,20 +33,17 @@ bound_by_moves-bound_by_search-requires g t c κs within =
       (within, (search rules, (goes_on c.requires.variant_is limits turn.legal step).ongoing)),
     )
 
--- the reply to the turn that was taken out
-replied : (g : Over) (t : ℕ) (c : goal.bound_by_moves-After-bound_by_search g t)
-    → IsReplied c.args.houses.now (c.in-Some.ensures.taken.at + 1) c.args.beta c.seeds-seeds.result c.bound_by_search.result
-replied g t c =
-    let seeds = c.seeds-seeds.ensures in
-    turn_replied c.args.beta seeds.limits (taken_is_turn c.loop-next.invariant.waiting c.in-Some.ensures.taken) seeds.seeds
-    c.saturating_sub-reply_beta.ensures c.bound_by_search.ensures
-
 pub bound_by_moves-overflow_sub-bound : goal.bound_by_moves-overflow_sub-bound
-bound_by_moves-overflow_sub-bound g t c = (replied g t c).fits
+bound_by_moves-overflow_sub-bound g t c =
+    let turn = taken_is_turn c.loop-next.invariant.waiting c.in-Some.ensures.taken in
+    reply_fits c.args.beta c.seeds-seeds.ensures.limits turn c.seeds-seeds.ensures.seeds c.saturating_sub-reply_beta.ensures
+    c.bound_by_search.ensures
 
 pub bound_by_moves-returns-then-beta-bound : goal.bound_by_moves-returns-then-beta-bound
 bound_by_moves-returns-then-beta-bound g t c =
-    soft_if_enough c.if-beta-bound.true ((replied g t c.before).enough c.if-beta-bound.true)
+    let turn = taken_is_turn c.loop-next.invariant.waiting c.in-Some.ensures.taken in
+    soft_if_enough c.if-beta-bound.true (turn_enough c.args.beta c.seeds-seeds.ensures.limits turn c.seeds-seeds.ensures.seeds
+    c.saturating_sub-reply_beta.ensures c.bound_by_search.ensures c.if-beta-bound.true)
 
 pub bound_by_moves-loop-next-init : goal.bound_by_moves-loop-next-init
 bound_by_moves-loop-next-init g t c =
@@ -55,8 +52,11 @@ bound_by_moves-loop-next-init g t c =
 
 pub bound_by_moves-loop-next-preserved : goal.bound_by_moves-loop-next-preserved
 bound_by_moves-loop-next-preserved g t c =
-    untried_fewer _ c.loop-next.invariant c.in-Some.ensures.taken c.in-Some.ensures.turns
-    ((replied g t c.before.before).left.upper c.if-beta-bound.false) c.if-beta-bound.false c.max-most-in-Some.ensures
+    let turn = taken_is_turn c.loop-next.invariant.waiting c.in-Some.ensures.taken in
+    let left = reply_left c.args.beta c.seeds-seeds.ensures.limits turn c.seeds-seeds.ensures.seeds c.saturating_sub-reply_beta.ensures
+    c.bound_by_search.ensures in
+    untried_fewer _ c.loop-next.invariant c.in-Some.ensures.taken c.in-Some.ensures.turns (left.upper c.if-beta-bound.false)
+    c.if-beta-bound.false c.max-most-in-Some.ensures
 
 pub bound_by_moves-loop-next-smaller : goal.bound_by_moves-loop-next-smaller
 bound_by_moves-loop-next-smaller g t c =

@@ -1,6 +1,6 @@
 -- The houses so far win less than best play, so the first that wins as much is the best one, and the last is if all others win less.
-use Rattle.std.proofs.{Common.{arith, refl, ap, ◌∙◌, ◌≡◌, ◌<◌, ◌-◌, length, get_or}, lemmas.List.Elements.{Contains-get_or}}
-use Rattle.kalah_rules.{specs.{Position.{storeless}, Lap.{HoldsSeeds}, Play.{legal_houses}}, proofs.PlayLemmas.{legal_holds}}
+use Rattle.std.proofs.{Common.{arith, refl, ap, ◌∙◌, ◌≡◌, ◌<◌, ◌-◌, ℕ, List, length, get_or}, lemmas.List.Elements.{Contains-get_or}}
+use Rattle.kalah_rules.{specs.{Position.{storeless}, Lap.{HoldsSeeds}}, proofs.PlayLemmas.{legal_holds}}
 use Rattle.kalah_solve.proofs.{WorthLemmas.{legal_some}, SolverLemmas.{first_enough_is_best, one_more_falls_short, last_is_best}, SearchLemmas.{below_if_test_fails}, solver.Solver.best_house.{Given.{Over}, Goals.{After-get-h}}}
 use Rattle.kalah_solve.proofs.solver.Solver.best_house.Goals as goal
 
@@ -11,15 +11,15 @@ pub get-requires : goal.get-requires
 get-requires g c = omega (arith, ap length c.legal-moves.ensures.moves, legal_some (storeless c.args.houses.now) c.requires.going)
 
 -- a move before the last is a legal house
-before_last : (g : Over) (c : After-get-h g) → (c.loop-i.i < length (legal_houses (storeless c.args.houses.now)))
-    × (c.get-h.result ≡ get_or (legal_houses (storeless c.args.houses.now)) c.loop-i.i 0)
-before_last g c =
-    let are = c.legal-moves.ensures.moves in
-    (omega (arith, ap length are, c.len-last.ensures, c.loop-i-test.true), c.get-h.ensures ∙ ap (λ xs. get_or xs c.loop-i.i 0) are)
+before_last : {moves legal : List ℕ} {i count house : ℕ} → count ≡ length moves → i < count - 1 → house ≡ get_or moves i 0
+    → moves ≡ legal → (i < length legal) × (house ≡ get_or legal i 0)
+before_last {i = i} many before house_is are = (omega (arith, ap length are), house_is ∙ ap (λ xs. get_or xs i 0) are)
 
 -- so it holds seeds
 looked_at_holds : (g : Over) (c : After-get-h g) → HoldsSeeds (storeless c.args.houses.now) c.get-h.result
-looked_at_holds g c = let at = before_last g c in legal_holds _ (rw at.1 (Contains-get_or _ c.loop-i.i 0 at.0))
+looked_at_holds g c =
+    let at = before_last c.len-last.ensures c.loop-i-test.true c.get-h.ensures c.legal-moves.ensures.moves in
+    legal_holds _ (rw at.1 (Contains-get_or _ c.loop-i.i 0 at.0))
 
 pub new-requires-clause-first : goal.new-requires-clause-first
 new-requires-clause-first g c = (looked_at_holds g (goal.at.new-requires-clause-first g c).After-get-h).first
@@ -30,15 +30,17 @@ new-requires-clause-last g c =
 
 pub returns-then-move_reaches : goal.returns-then-move_reaches
 returns-then-move_reaches g c =
-    let at = before_last g (goal.at.returns-then-move_reaches g c).After-get-h in
+    let enough = c.if-move_reaches.ensures.0 refl in
+    let at = before_last c.len-last.ensures c.loop-i-test.true c.get-h.ensures c.legal-moves.ensures.moves in
     at.1 ∙ first_enough_is_best c.args.houses.now c.legal-moves.ensures.limits c.loop-i.i at.0 c.loop-i.invariant
-    (rw (← at.1, ← c.new.ensures, ← c.requires.beta) (c.if-move_reaches.ensures.0 refl))
+    (rw (← at.1, ← c.new.ensures, ← c.requires.beta) enough)
 
 pub loop-i-preserved : goal.loop-i-preserved
 loop-i-preserved g c =
-    let at = before_last g (goal.at.loop-i-preserved g c).After-get-h in
+    let less = below_if_test_fails c.if-move_reaches.ensures refl in
+    let at = before_last c.len-last.ensures c.loop-i-test.true c.get-h.ensures c.legal-moves.ensures.moves in
     one_more_falls_short c.args.houses.now c.legal-moves.ensures.limits c.loop-i.i at.0 c.loop-i.invariant
-    (rw (← at.1, ← c.new.ensures, ← c.requires.beta) (below_if_test_fails c.if-move_reaches.ensures refl))
+    (rw (← at.1, ← c.new.ensures, ← c.requires.beta) less)
 
 pub returns : goal.returns
 returns g c =
