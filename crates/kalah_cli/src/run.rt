@@ -41,6 +41,7 @@ fn end_without_request<'a, O: Sink, E: Write>(
     requires { (O.state out.old).has_failed ≡ false }
     ensures no_request { EndsWithoutRequest O.state out.old out.new (exit_status_of result) (λ kind. kind_of error.now ≢ kind) }
     ensures ends { FailsOrFlushes O.state out.old out.new (exit_status_of result) }
+    ensures all_flushed { exit_status_of result ≢ ExitStatus.Failed → (O.state out.new).is_flushed ≡ true }
 {
     let Ok(text) = error.to_string(alloc) else {
         return Err(Failure::OUT_OF_MEMORY);

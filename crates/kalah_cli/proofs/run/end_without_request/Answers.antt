@@ -12,7 +12,8 @@ returns-clause-no_request g c = record {
     | in-DisplayHelp w ↦ absurd (help (sym w.in-DisplayHelp.ensures))
     | in-DisplayVersion w ↦
         let printed = rw (← w.out-is) at w.print_text-in-DisplayVersion.ensures in
-        (printed.given.whole (false_from_ne_true _ (λ failed. statuses_differ.0 (sym clean ∙ c.status_of_sink.ensures.failed.0 failed)))).1
+        let sound = false_from_ne_true _ (λ failed. statuses_differ.0 (sym clean ∙ c.status_of_sink.ensures.failed.0 failed)) in
+        (printed.given.whole sound).1
   ];
   no_line = c.status_of_sink.ensures.no_line;
 }
