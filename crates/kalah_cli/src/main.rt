@@ -16,8 +16,8 @@ use std::io::{BufWriter, ErrorKind};
 use std::process::ExitCode;
 use std::{env, io};
 use system::fused::Fused;
+use system::messages::Messages;
 use system::prompt_stream::PromptStream;
-use system::terminal::Messages;
 
 // Returns the arguments. The first is the program's name.
 fn arguments_of(rt: &HostRuntime) -> Result<Vec<String>, Failure<'static>> {

@@ -1,5 +1,5 @@
 //! The program, run on its arguments.
-ghost use Rattle.std.specs.Prelude.{◌≡◌, ◌≢◌, ◌<◌, false, vec_len};
+ghost use Rattle.std.specs.Prelude.{◌≡◌, ◌≢◌, ◌<◌, false, true, vec_len};
 ghost use Rattle.clap.specs.Values.{kind_of};
 ghost use Rattle.kalah_cli.specs.{Commands.Printing.{IsPrinted}, Exit.Ends.{FailsOrFlushes, exit_status_of}, Arguments.Request.{IsInRange, task_of, texts_of}, Runs.{Does, EndsWithoutRequest, KeepsPromises}};
 
@@ -11,8 +11,9 @@ use crate::commands::line_command::run_line;
 use crate::exit::failure::{Failure, report_end, status_of_sink};
 use crate::exit::status::ExitStatus;
 use crate::exit::tips::report_refused;
+use crate::system::messages::Messages;
 use crate::system::sources::Sources;
-use crate::system::terminal::{Messages, Terminal};
+use crate::system::terminal::Terminal;
 use clap::Error;
 use clap::error::ErrorKind;
 use kalah_jobs::{Sink, flush_unless_failed, write_unless_failed};
@@ -79,7 +80,7 @@ fn run_request<'a, R: Sources + Clock + Terminal + Threads + Wait + Sync, O: Sin
         } => run_ask(
             alloc,
             rt.standard_input(),
-            rt.is_typed(),
+            rt.stdin_is_terminal(),
             *question,
             *table_entries,
             out,
@@ -106,7 +107,7 @@ pub fn run_words<R: Sources + Clock + Terminal + Threads + Wait + Sync, O: Sink,
     // What is done for arguments that make a request, how others end, and what a failure leaves.
     ensures { KeepsPromises O.state out.old out.new result (R.may_give rt.now) (texts_of words.items) }
 {
-    let on_terminal = rt.shows_errors();
+    let on_terminal = rt.stderr_is_terminal();
     let mut messages = Messages { err, on_terminal };
     let arguments = words.as_slice();
     let parsed = parse(alloc, arguments);

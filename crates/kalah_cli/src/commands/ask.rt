@@ -6,7 +6,7 @@ ghost use Rattle.kalah_cli.specs.{Commands.{Ask.{AnswersInput}}, Exit.Ends.{exit
 
 use crate::exit::failure::Failure;
 use crate::exit::status::ExitStatus;
-use crate::system::terminal::Messages;
+use crate::system::messages::Messages;
 use kalah_jobs::{AskFault, Question, Sink, answer_lines};
 use kalah_run::RunFault;
 use kalah_solve::{Solver, Table};
@@ -46,7 +46,7 @@ fn status_of_answers(answered: Result<bool, AskFault>) -> Result<ExitStatus, Fai
 pub(crate) fn run_ask<I: Read + Drop, O: Sink, E: Write>(
     alloc: Global,
     input: I,
-    is_typed: bool,
+    stdin_is_terminal: bool,
     question: Question,
     table_entries: u32,
     out: &mut O,
@@ -62,7 +62,7 @@ pub(crate) fn run_ask<I: Read + Drop, O: Sink, E: Write>(
     let Ok(mut solver) = new_solver(alloc, table_entries) else {
         return Err(Failure::OUT_OF_MEMORY);
     };
-    if is_typed {
+    if stdin_is_terminal {
         messages.write(HINT);
     }
     status_of_answers(answer_lines(&mut reader, question, &mut solver, out))

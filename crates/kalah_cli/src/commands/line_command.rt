@@ -10,7 +10,7 @@ use crate::commands::show::run_show;
 use crate::exit::failure::{Failure, status_of_sink};
 use crate::exit::status::ExitStatus;
 use crate::exit::tips::report_fault;
-use crate::system::terminal::Messages;
+use crate::system::messages::Messages;
 use kalah_jobs::{Sink, read_line};
 use kalah_rules::Board;
 use std::alloc::Global;

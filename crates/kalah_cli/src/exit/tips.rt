@@ -1,7 +1,7 @@
 //! The tips that follow a message if standard error is a terminal.
 use crate::exit::failure::Failure;
+use crate::system::messages::Messages;
 use crate::system::read_files::ReadFault;
-use crate::system::terminal::Messages;
 use kalah_jobs::{FileText, read_line};
 use kalah_run::RunFault;
 use std::io::Write;

@@ -64,7 +64,7 @@ impl<'a, R: Clock + Terminal, E: Write> Progress<'a, R, E> {
             rt,
             err,
             lines: if is_shown { lines_of_files(files) } else { 0 },
-            in_place: is_shown && rt.shows_errors() && !rt.shows_answers(),
+            in_place: is_shown && rt.stderr_is_terminal() && !rt.stdout_is_terminal(),
             begun: rt.monotonic().unwrap_or(Duration::MAX),
             answered: 0,
             shown: 0,

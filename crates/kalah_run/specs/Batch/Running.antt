@@ -14,9 +14,9 @@ HaveOwnTables entries workers = All (HasOwnTable entries) workers
 
 -- the lists are empty, and have room for the passes of `workers` workers and that of the calling thread
 pub record HasRoom (workers : ℕ) (lists : PassLists) : Type 0 where
-  pub empty : (lists.passes.items ≡ []) × (lists.puts.items ≡ [])
-  pub passes : workers < vec_capacity lists.passes
-  pub puts : workers ≤ vec_capacity lists.puts
+  pub empty : (lists.draw_passes.items ≡ []) × (lists.put_passes.items ≡ [])
+  pub passes : workers < vec_capacity lists.draw_passes
+  pub puts : workers ≤ vec_capacity lists.put_passes
 
 module _ {G : Type 0} where
   -- for this request, with these jobs and this gate: there are the workers asked for, but at most one for each job, and one for no job;

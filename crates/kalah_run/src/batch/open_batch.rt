@@ -27,29 +27,29 @@ use std::thread::Threads;
 /// and keep their room, so all passes can return without a request for memory.
 #[derive(Drop)]
 struct PassLists {
-    passes: Vec<Pass>,
-    puts: Vec<PutPass>,
+    draw_passes: Vec<Pass>,
+    put_passes: Vec<PutPass>,
 }
 
 impl PassLists {
     // Makes a worker for each pair of passes, in their order, and leaves the lists empty. All workers share what they learn of endings.
     fn make_workers(&mut self, alloc: Global, table_entries: u32) -> Result<Vec<Worker>, AllocError>
-        requires as_many { vec_len self.old.passes ≡ vec_len self.old.puts }
+        requires as_many { vec_len self.old.draw_passes ≡ vec_len self.old.put_passes }
         requires table { IsTableSize table_entries }
-        ensures passes { IfOk result (λ workers. passes_of workers.items ≡ self.old.passes.items) }
-        ensures puts { IfOk result (λ workers. puts_of workers.items ≡ self.old.puts.items) }
+        ensures passes { IfOk result (λ workers. passes_of workers.items ≡ self.old.draw_passes.items) }
+        ensures puts { IfOk result (λ workers. puts_of workers.items ≡ self.old.put_passes.items) }
         ensures tables { IfOk result (λ workers. HaveOwnTables table_entries workers.items) }
-        ensures empty { IfOk result (λ _. (self.new.passes.items ≡ []) × (self.new.puts.items ≡ [])) }
-        ensures room { (vec_capacity self.new.passes ≡ vec_capacity self.old.passes)
-            × (vec_capacity self.new.puts ≡ vec_capacity self.old.puts) }
+        ensures empty { IfOk result (λ _. (self.new.draw_passes.items ≡ []) × (self.new.put_passes.items ≡ [])) }
+        ensures room { (vec_capacity self.new.draw_passes ≡ vec_capacity self.old.draw_passes)
+            × (vec_capacity self.new.put_passes ≡ vec_capacity self.old.put_passes) }
     {
-        let mut workers: Vec<Worker> = Vec::with_capacity(alloc, self.passes.len())?;
-        for _ in 0..self.passes.len() {
+        let mut workers: Vec<Worker> = Vec::with_capacity(alloc, self.draw_passes.len())?;
+        for _ in 0..self.draw_passes.len() {
             let solver = Worker::new_solver(alloc, table_entries, workers.last())?;
-            let Some(draw_pass) = self.passes.pop() else {
+            let Some(draw_pass) = self.draw_passes.pop() else {
                 unreachable!()
             };
-            let Some(put_pass) = self.puts.pop() else {
+            let Some(put_pass) = self.put_passes.pop() else {
                 unreachable!()
             };
             workers.push_reserved(Worker::new(draw_pass, put_pass, solver));
@@ -61,14 +61,14 @@ impl PassLists {
     // Takes the passes of the workers back, in their order, and then that of the calling thread.
     fn take_back(&mut self, workers: Vec<Worker>, rest_pass: Pass)
         requires { HasRoom (vec_len workers) self.old }
-        ensures passes { self.new.passes.items ≡ passes_of workers.items ++ rest_pass ∷ [] }
-        ensures puts { self.new.puts.items ≡ puts_of workers.items }
+        ensures passes { self.new.draw_passes.items ≡ passes_of workers.items ++ rest_pass ∷ [] }
+        ensures puts { self.new.put_passes.items ≡ puts_of workers.items }
     {
         for worker in workers {
-            self.passes.push_reserved(worker.draw_pass);
-            self.puts.push_reserved(worker.put_pass);
+            self.draw_passes.push_reserved(worker.draw_pass);
+            self.put_passes.push_reserved(worker.put_pass);
         }
-        self.passes.push_reserved(rest_pass);
+        self.draw_passes.push_reserved(rest_pass);
     }
 }
 
@@ -114,7 +114,10 @@ impl<'a, G: Gate> OpenBatch<'a, G> {
             get_pass,
             rest_pass,
         };
-        let mut lists = PassLists { passes, puts };
+        let mut lists = PassLists {
+            draw_passes: passes,
+            put_passes: puts,
+        };
         let workers = lists.make_workers(alloc, request.table)?;
         Ok(OpenBatch {
             shared,
@@ -160,10 +163,13 @@ impl<'a, G: Gate> OpenBatch<'a, G> {
         // Closing has no effect that a caller sees: here the desk proves that each number was drawn once, and the queue that each outcome
         // sent was got once. New lists of passes could be refused memory, now that the answers are written.
         lists.take_back(workers, caller.rest_pass);
-        let PassLists { passes, puts } = lists;
+        let PassLists {
+            draw_passes,
+            put_passes,
+        } = lists;
         let SharedWork { desk, queue, .. } = shared;
-        desk.close(passes);
-        queue.close(rt, puts, caller.get_pass);
+        desk.close(draw_passes);
+        queue.close(rt, put_passes, caller.get_pass);
         Ok(())
     }
 }

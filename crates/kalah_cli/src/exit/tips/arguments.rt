@@ -1,6 +1,6 @@
 //! Why arguments are refused, and the tip that follows.
 use super::{POSITION, is_position, is_side};
-use crate::system::terminal::Messages;
+use crate::system::messages::Messages;
 use std::io::Write;
 
 const QUOTES: &str = "a position is one argument, so put it in quotes: '1,1/0 1,1/0'";

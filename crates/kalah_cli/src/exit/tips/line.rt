@@ -1,5 +1,5 @@
 //! Why a line can't be read, and the tip that follows.
-use crate::system::terminal::Messages;
+use crate::system::messages::Messages;
 use kalah_jobs::LineFault;
 use std::io::Write;
 

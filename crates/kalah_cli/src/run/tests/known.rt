@@ -39,15 +39,15 @@ impl<R: Clock> Clock for Known<'_, R> {
 }
 
 impl<R> Terminal for Known<'_, R> {
-    fn is_typed(&self) -> bool {
+    fn stdin_is_terminal(&self) -> bool {
         false
     }
 
-    fn shows_answers(&self) -> bool {
+    fn stdout_is_terminal(&self) -> bool {
         false
     }
 
-    fn shows_errors(&self) -> bool {
+    fn stderr_is_terminal(&self) -> bool {
         false
     }
 }

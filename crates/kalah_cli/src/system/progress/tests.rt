@@ -14,15 +14,15 @@ use std::time::Duration;
 #[derive(Drop)]
 struct Machine {
     seconds: AtomicU64,
-    shows_errors: bool,
+    stderr_is_terminal: bool,
 }
 
 impl Machine {
     // It is 7 seconds past.
-    fn new(shows_errors: bool) -> Machine {
+    fn new(stderr_is_terminal: bool) -> Machine {
         Machine {
             seconds: AtomicU64::new(7),
-            shows_errors,
+            stderr_is_terminal,
         }
     }
 }
@@ -38,16 +38,16 @@ impl Clock for Machine {
 }
 
 impl Terminal for Machine {
-    fn is_typed(&self) -> bool {
+    fn stdin_is_terminal(&self) -> bool {
         false
     }
 
-    fn shows_answers(&self) -> bool {
+    fn stdout_is_terminal(&self) -> bool {
         false
     }
 
-    fn shows_errors(&self) -> bool {
-        self.shows_errors
+    fn stderr_is_terminal(&self) -> bool {
+        self.stderr_is_terminal
     }
 }
 

@@ -1,3 +1,4 @@
+-- One step moves the desk's number to the end. All numbers that it passes go into this pass's row, so their count is how far it moved.
 use Rattle.std.proofs.Common.{◌≡◌, ◌-◌, ap, arith, rules}
 use Rattle.kalah_run.specs.{DeskState, row_in}
 use Rattle.kalah_run.proofs.DeskLemmas.{draw_rest_is_lawful, rest_counted}

@@ -46,7 +46,7 @@ close-requires-clause-own g c =
 
 pub close-requires-2-clause-puts : goal.close-requires-2-clause-puts
 close-requires-2-clause-puts g c =
-    puts_back c.in-Some.ensures.0 c.take_back.new.self.puts.ok.0 c.take_back.ensures.puts
+    puts_back c.in-Some.ensures.0 c.take_back.new.self.put_passes.ok.0 c.take_back.ensures.puts
     (workers_counted c.in-Some.ensures.1.workers c.new-receiver.ensures.passes c.requires.get_pass)
     c.requires.put_passes
 
