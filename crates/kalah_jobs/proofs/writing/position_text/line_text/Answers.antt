@@ -1,4 +1,4 @@
-use Rattle.std.proofs.{Common.{◌≡◌, ◌++◌, ℕ, append-nil, ap, string_bytes, ◌∙◌}, lemmas.Result.{IfOk-weaker}}
+use Rattle.std.proofs.{Common.{◌≡◌, ◌++◌, append-nil, ap, string_bytes, ◌∙◌}, lemmas.Result.{IfOk-weaker}}
 use Rattle.kalah_jobs.{specs.{Reads, line_text_of}, proofs.LineTextLemmas.{every_text_is_read_back}}
 use Rattle.kalah_jobs.proofs.writing.position_text.line_text.Goals as goal
 
