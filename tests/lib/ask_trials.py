@@ -13,6 +13,7 @@ from pathlib import Path
 
 from lib import reference
 from lib.failing import Failed, read_soon
+from lib.output_trials import before_more
 from lib.random_data import LONG_GAME, SEARCHING, FILE_SUBCOMMANDS, TABLES
 from lib.reference import Run
 
@@ -55,135 +56,139 @@ def write_in_pieces(writer, data, size):
             data = data[os.write(writer, data[: size or len(data)]) :]
 
 
-class AskTrials:
-    """The trials of `ask`, for the class `Trials`."""
+def drawn_form(runs):
+    """Returns `solve`, `values` or `steps`, and the arguments of `ask` for it."""
+    form = runs.drawn.card("asked forms", FILE_SUBCOMMANDS)
+    table = runs.drawn.card("asked tables", TABLES) if form in SEARCHING else None
+    options = [[] if form == "solve" else [f"--{form}"], [] if table is None else [f"--table={table}"]]
+    runs.drawn.chance.shuffle(options)
+    return form, ["ask", *options[0], *options[1]]
 
-    def form(self):
-        """Returns `solve`, `values` or `steps`, and the arguments of `ask` for it."""
-        form = self.drawn.card("asked forms", FILE_SUBCOMMANDS)
-        table = self.drawn.card("asked tables", TABLES) if form in SEARCHING else None
-        options = [[] if form == "solve" else [f"--{form}"], [] if table is None else [f"--table={table}"]]
-        self.drawn.chance.shuffle(options)
-        return form, ["ask", *options[0], *options[1]]
 
-    def asked_one_by_one(self):
-        """Each line is sent once the answer to the previous one has come. A run that buffers an answer hangs."""
-        form, words = self.form()
-        self.put({})
-        reader, writer = two_ends(self.drawn.card("asked through", ["pipe", "sockets"]))
-        with self.start(words, stdin=reader, bufsize=0) as process:
-            os.close(reader)
-            want = got = b""
-            for _ in range(QUESTIONS):
-                line = self.drawn.line() + self.drawn.chance.choice([b"", b"\r"])
-                answer = reference.in_one_line(form, line) + b"\n"
-                os.write(writer, line + b"\n")
-                want, got = want + answer, got + read_soon(process.stdout.fileno(), len(answer))
-                if got != want:
-                    break
-            os.close(writer)
-            end = self.end_of(process)
-            self.compare(Run(want, b"", int(b"fault" in want)), end._replace(out=got + end.out))
+def asked_one_by_one(runs):
+    """Each line is sent once the answer to the previous one has come. A run that buffers an answer hangs."""
+    form, words = drawn_form(runs)
+    runs.put({})
+    reader, writer = two_ends(runs.drawn.card("asked through", ["pipe", "sockets"]))
+    with runs.start(words, stdin=reader, bufsize=0) as process:
+        os.close(reader)
+        want = got = b""
+        for _ in range(QUESTIONS):
+            line = runs.drawn.line() + runs.drawn.chance.choice([b"", b"\r"])
+            answer = reference.in_one_line(form, line) + b"\n"
+            os.write(writer, line + b"\n")
+            want, got = want + answer, got + read_soon(process.stdout.fileno(), len(answer))
+            if got != want:
+                break
+        os.close(writer)
+        end = runs.end_of(process)
+        runs.compare(Run(want, b"", int(b"fault" in want)), end._replace(out=got + end.out))
 
-    def asked_at_once(self):
-        """Lines from each source, in pieces of each size, are answered as those of a file."""
-        place, size = self.drawn.card("asked places", INPUTS)
-        form, words = self.form()
-        data = self.drawn.file(self.drawn.chance.randint(0, 20 if place == "terminal" else 500))
+
+def asked_at_once(runs):
+    """Lines from each source, in pieces of each size, are answered as those of a file."""
+    place, size = runs.drawn.card("asked places", INPUTS)
+    form, words = drawn_form(runs)
+    data = runs.drawn.file(runs.drawn.chance.randint(0, 20 if place == "terminal" else 500))
+    if place == "terminal":
+        # Only keys that a terminal does not take for commands; the key that ends its input follows.
+        lines = [line for line in reference.lines_of(data) if len(line) < 1000 and all(32 <= byte < 127 for byte in line)]
+        data = b"".join(b"%b\n" % line for line in lines)
+    runs.put({"asked": data})
+    want = reference.asked(form, data)
+    if place == "file":
+        with open(runs.files / "asked", "rb") as file:
+            runs.compare(want, runs.run(words, stdin=file))
+        return
+    reader, writer = two_ends(place)
+    with tempfile.TemporaryFile() as out, runs.start(words, stdin=reader, stdout=out) as process:
+        os.close(reader)
+        write_in_pieces(writer, data, size)
         if place == "terminal":
-            # Only keys that a terminal does not take for commands; the key that ends its input follows.
-            lines = [line for line in reference.lines_of(data) if len(line) < 1000 and all(32 <= byte < 127 for byte in line)]
-            data = b"".join(b"%b\n" % line for line in lines)
-        self.put({"asked": data})
-        want = reference.asked(form, data)
-        if place == "file":
-            with open(self.files / "asked", "rb") as file:
-                self.compare(want, self.run(words, stdin=file))
-            return
-        reader, writer = two_ends(place)
-        with tempfile.TemporaryFile() as out, self.start(words, stdin=reader, stdout=out) as process:
-            os.close(reader)
-            write_in_pieces(writer, data, size)
-            if place == "terminal":
-                os.write(writer, b"\x04")
-            else:
-                os.close(writer)
-            end = self.end_of(process)
-            out.seek(0)
-            self.compare(want._replace(err=HINT if place == "terminal" else b""), end._replace(out=out.read()))
-        if place == "terminal":
-            os.close(writer)
-
-    def asked_with_a_hard_one(self):
-        """An easy line is answered before the hard one that was sent with it is."""
-        form, place = self.drawn.card("asked with a hard one", list(product(SEARCHING, ["pipe", "terminal", "file"])))
-        line = self.drawn.line()
-        self.put({})
-        words = ["ask", "--table", "1", *["--values"] * (form == "values")]
-        want = reference.answer(form, line) + b"\n"
-        self.compare(Run(want, b"", 0), Run(self.before_more(words, place, line + b"\n" + LONG_GAME + b"\n"), b"", 0))
-
-    def asked_in_vain(self):
-        """Input that can't be read is reported, after the answers to what could; and nothing is read after an answer can't be written."""
-        what = self.drawn.card("asked in vain", ["closed", "folder", "unheard"])
-        self.put({})
-        if what == "closed":
-            self.compare(reference.failed(b"cannot read standard input"), self.run_in_shell(["ask"], "<&-"))
-        elif what == "folder":
-            self.compare(reference.failed(b"cannot read standard input"), self.run_in_shell(["ask"], "<folder"))
+            os.write(writer, b"\x04")
         else:
-            self.hear_one_answer()
-
-    def hear_one_answer(self):
-        """The reader of the output closes it after the first answer."""
-        reader, writer = os.pipe()
-        with self.start(["ask"], stdin=subprocess.PIPE, stdout=writer, bufsize=0) as process:
             os.close(writer)
-            process.stdin.write(b"1/0 1/0\n")
-            got = read_soon(reader, 10)
-            os.close(reader)
-            # It doesn't wait for the end of its input.
-            process.stdin.write(b"3/0 3/0\n")
-            said = read_soon(process.stderr.fileno(), 20)
-            if not said:
-                process.kill()
-            self.compare(Run(b"0 house 1\n", b"kalah: write failed\n", 2), Run(got, said, process.wait()))
+        end = runs.end_of(process)
+        out.seek(0)
+        runs.compare(want._replace(err=HINT if place == "terminal" else b""), end._replace(out=out.read()))
+    if place == "terminal":
+        os.close(writer)
 
-    def asked_at_length(self):
-        """A line of any length takes no more memory than any other."""
-        self.put({})
-        process = self.start(["ask", "--table", "1"], stdin=subprocess.PIPE)
-        piece = b"1" * (1 << 20)
-        for _ in range(LONG // len(piece)):
-            process.stdin.write(piece)
-        status = Path(f"/proc/{process.pid}/status").read_text()
-        most = int(status.partition("VmHWM:")[2].split()[0])
-        out, err = process.communicate(b"\n1/0 1/0")
-        self.compare(Run(b"fault long\n0 house 1\n", b"", 1), Run(out, err, process.returncode))
-        if most > ROOM:
-            raise Failed(f"{most} KB were taken for a long line")
 
-    def asked_again(self):
-        """What was learned for a line is kept for the next: a hundred equal lines take little longer than one."""
-        self.put({})
-        spent = []
-        for times in (1, 100):
-            before = resource.getrusage(resource.RUSAGE_CHILDREN).ru_utime
-            process = self.start(["ask"], stdin=subprocess.PIPE)
-            out, _ = process.communicate(AGAIN * times)
-            spent.append(resource.getrusage(resource.RUSAGE_CHILDREN).ru_utime - before)
-            if len(set(out.splitlines())) != 1 or out.count(b"\n") != times:
-                raise Failed(f"{times} times the same is answered by {out[:200]}")
-        if spent[1] > 10 * spent[0] + 0.5:
-            raise Failed(f"one question took {spent[0]:.2f} s, and a hundred times the same {spent[1]:.2f} s")
+def asked_with_a_hard_one(runs):
+    """An easy line is answered before the hard one that was sent with it is."""
+    form, place = runs.drawn.card("asked with a hard one", list(product(SEARCHING, ["pipe", "terminal", "file"])))
+    line = runs.drawn.line()
+    runs.put({})
+    words = ["ask", "--table", "1", *["--values"] * (form == "values")]
+    want = reference.answer(form, line) + b"\n"
+    runs.compare(Run(want, b"", 0), Run(before_more(runs, words, place, line + b"\n" + LONG_GAME + b"\n"), b"", 0))
+
+
+def asked_in_vain(runs):
+    """Input that can't be read is reported, after the answers to what could; and nothing is read after an answer can't be written."""
+    what = runs.drawn.card("asked in vain", ["closed", "folder", "unheard"])
+    runs.put({})
+    if what == "closed":
+        runs.compare(reference.failed(b"cannot read standard input"), runs.run_in_shell(["ask"], "<&-"))
+    elif what == "folder":
+        runs.compare(reference.failed(b"cannot read standard input"), runs.run_in_shell(["ask"], "<folder"))
+    else:
+        hear_one_answer(runs)
+
+
+def hear_one_answer(runs):
+    """The reader of the output closes it after the first answer."""
+    reader, writer = os.pipe()
+    with runs.start(["ask"], stdin=subprocess.PIPE, stdout=writer, bufsize=0) as process:
+        os.close(writer)
+        process.stdin.write(b"1/0 1/0\n")
+        got = read_soon(reader, 10)
+        os.close(reader)
+        # It doesn't wait for the end of its input.
+        process.stdin.write(b"3/0 3/0\n")
+        said = read_soon(process.stderr.fileno(), 20)
+        if not said:
+            process.kill()
+        runs.compare(Run(b"0 house 1\n", b"kalah: write failed\n", 2), Run(got, said, process.wait()))
+
+
+def asked_at_length(runs):
+    """A line of any length takes no more memory than any other."""
+    runs.put({})
+    process = runs.start(["ask", "--table", "1"], stdin=subprocess.PIPE)
+    piece = b"1" * (1 << 20)
+    for _ in range(LONG // len(piece)):
+        process.stdin.write(piece)
+    status = Path(f"/proc/{process.pid}/status").read_text()
+    most = int(status.partition("VmHWM:")[2].split()[0])
+    out, err = process.communicate(b"\n1/0 1/0")
+    runs.compare(Run(b"fault long\n0 house 1\n", b"", 1), Run(out, err, process.returncode))
+    if most > ROOM:
+        raise Failed(f"{most} KB were taken for a long line")
+
+
+def asked_again(runs):
+    """What was learned for a line is kept for the next: a hundred equal lines take little longer than one."""
+    runs.put({})
+    spent = []
+    for times in (1, 100):
+        before = resource.getrusage(resource.RUSAGE_CHILDREN).ru_utime
+        process = runs.start(["ask"], stdin=subprocess.PIPE)
+        out, _ = process.communicate(AGAIN * times)
+        spent.append(resource.getrusage(resource.RUSAGE_CHILDREN).ru_utime - before)
+        if len(set(out.splitlines())) != 1 or out.count(b"\n") != times:
+            raise Failed(f"{times} times the same is answered by {out[:200]}")
+    if spent[1] > 10 * spent[0] + 0.5:
+        raise Failed(f"one question took {spent[0]:.2f} s, and a hundred times the same {spent[1]:.2f} s")
 
 
 # How often each of these trials is made in one round of all of them.
-ASK_KINDS = {
-    "asked_one_by_one": 20,
-    "asked_at_once": 2 * len(INPUTS),
-    "asked_with_a_hard_one": 6,
-    "asked_in_vain": 3,
-    "asked_at_length": 1,
-    "asked_again": 1,
+ASK_TRIALS = {
+    asked_one_by_one: 20,
+    asked_at_once: 2 * len(INPUTS),
+    asked_with_a_hard_one: 6,
+    asked_in_vain: 3,
+    asked_at_length: 1,
+    asked_again: 1,
 }

@@ -378,109 +378,114 @@ def tip_for_marks(contents):
     return f"  tip: {tips[0]}\n".encode() if tips else b""
 
 
-class MessageTrials:
-    """The trials of messages, for the class `Trials`."""
+def refused_arguments(runs):
+    """Of the message for refused arguments only the start is compared: the rest is the command line's own."""
+    runs.put({"a": b"1/0 1/0"})
+    words = runs.drawn.card("refused_arguments", REFUSED_ARGUMENTS)
+    got = runs.run(words, runs.drawn.card("program names", PROGRAM_NAMES))
+    if all(map(is_text, words)):
+        runs.compare(Run(b"", b"error: ", 2), got._replace(err=got.err[:7]))
+    else:
+        runs.compare(reference.failed(b"a word is not UTF-8"), got)
 
-    def refused_arguments(self):
-        """Of the message for refused arguments only the start is compared: the rest is the command line's own."""
-        self.put({"a": b"1/0 1/0"})
-        words = self.drawn.card("refused_arguments", REFUSED_ARGUMENTS)
-        got = self.run(words, self.drawn.card("program names", PROGRAM_NAMES))
-        if all(map(is_text, words)):
-            self.compare(Run(b"", b"error: ", 2), got._replace(err=got.err[:7]))
-        else:
-            self.compare(reference.failed(b"a word is not UTF-8"), got)
 
-    def help(self):
-        """Help names the program by the last part of its first word. It is compared whole."""
-        self.put({"a": b"1/0 1/0"})
-        words, name = self.drawn.card("help", HELP), self.drawn.card("names in help", PROGRAM_NAMES)
-        own_name = os.path.basename(name).encode()
-        self.compare(Run(help_text(words, own_name), b"", 0), self.run(words, name))
+def help(runs):
+    """Help names the program by the last part of its first word. It is compared whole."""
+    runs.put({"a": b"1/0 1/0"})
+    words, name = runs.drawn.card("help", HELP), runs.drawn.card("names in help", PROGRAM_NAMES)
+    own_name = os.path.basename(name).encode()
+    runs.compare(Run(help_text(words, own_name), b"", 0), runs.run(words, name))
 
-    def version(self):
-        """The version names the program `kalah`, for any first argument."""
-        self.put({"a": b"1/0 1/0"})
-        words, name = self.drawn.card("version", VERSION), self.drawn.card("names in version", PROGRAM_NAMES)
-        self.compare(Run(version_line(), b"", 0), self.run(words, name))
 
-    def usage(self):
-        """All that is said of words that are not taken."""
-        words, said = self.drawn.card("usages", USAGES)
-        self.put({"a": b"1/0 1/0"})
-        self.compare(Run(b"", said.encode(), 2), self.run(words))
+def version(runs):
+    """The version names the program `kalah`, for any first argument."""
+    runs.put({"a": b"1/0 1/0"})
+    words, name = runs.drawn.card("version", VERSION), runs.drawn.card("names in version", PROGRAM_NAMES)
+    runs.compare(Run(version_line(), b"", 0), runs.run(words, name))
 
-    def no_word(self):
-        """Without any word, not even a name, nothing is written to the standard output. Newer systems hand over an empty word."""
-        self.put({})
-        none = "(ctypes.c_char_p * 1)()"
-        code = f"import ctypes, sys; ctypes.CDLL(None).execve(sys.argv[1].encode(), {none}, {none})"
-        got = self.run(["-c", code, str(self.program)], executable=sys.executable)
-        self.compare(Run(b"", got.err, 2), got)
 
-    def tips(self):
-        """A tip follows a refusal if standard error is a terminal, and only then; standard output has nothing."""
-        words, said, tip = self.drawn.card("tips", TIPS)
-        self.put({"a": b"1/0 1/0", "locked": b"", "lines": b"\n" * 1_000_001, "large": b""})
-        (self.files / "locked").chmod(0)
-        os.truncate(self.files / "large", reference.MOST_BYTES_OF_A_FILE + 1)
-        status = 1 if said.startswith("fault") else 2
-        self.compare(Run(b"", said.encode(), status), self.run_on_terminal(words, "stdout", "stderr"))
-        if tip:
-            said += "\n" * said.startswith("error") + f"  tip: {tip}\n"
-        self.compare(Run(b"", said.encode(), status), self.run_on_terminal(words, "stderr", "stdout"))
+def usage(runs):
+    """All that is said of words that are not taken."""
+    words, said = runs.drawn.card("usages", USAGES)
+    runs.put({"a": b"1/0 1/0"})
+    runs.compare(Run(b"", said.encode(), 2), runs.run(words))
 
-    def hidden_names(self):
-        """Control characters of a name or an argument are escaped on a terminal, and only there. Answers have them as they are."""
-        name, seen = self.drawn.card("hidden", HIDDEN)
-        self.put({f"{name}.txt": b"1/0 1/0"})
-        for word, said, tip in (
-            (["steps", name], "kalah: cannot read {0}\n", "  tip: there is no such file\n"),
-            (
-                [f"{name}.b"],
-                mistake("unrecognized subcommand '{0}.b'", "<COMMAND>"),
-                "\n  tip: for a file of positions, use `kalah solve {0}.b`\n",
-            ),
-        ):
-            self.compare(Run(b"", said.format(name).encode(), 2), self.run_on_terminal(word, "stdout", "stderr"))
-            self.compare(Run(b"", (said + tip).format(seen).encode(), 2), self.run_on_terminal(word, "stderr", "stdout"))
-        said = "kalah: cannot read 1/0 1/0\\015\n  tip: for a position, use `kalah show '1/0 1/0\\015'`, or `kalah ask`\n"
-        self.compare(Run(b"", said.encode(), 2), self.run_on_terminal(["solve", "1/0 1/0\r"], "stderr", "stdout"))
-        want = reference.answers("solve", [(f"{name}.txt".encode(), b"1/0 1/0")])
-        self.compare(want, self.run_on_terminal(["solve", f"{name}.txt"], "stdout", "stderr"))
 
-    def marked_files(self):
-        """A file that begins with a byte order mark gets a tip on a terminal, beside its answers."""
-        mark = self.drawn.card("marks", list(MARKS))
-        data = mark + b"1/0 1/0\n"
-        self.put({"a": b"1/0", "b": data})
-        subcommand = self.subcommand()
-        want = reference.answers(subcommand, [(b"a", b"1/0"), (b"b", data)])
-        self.compare(want, self.run_on_terminal([subcommand, "a", "b"], "stdout", "stderr"))
-        want = want._replace(err=tip_for_marks([data]))
-        self.compare(want, self.run_on_terminal([subcommand, "a", "b"], "stderr", "stdout"))
+def no_word(runs):
+    """Without any word, not even a name, nothing is written to the standard output. Newer systems hand over an empty word."""
+    runs.put({})
+    none = "(ctypes.c_char_p * 1)()"
+    code = f"import ctypes, sys; ctypes.CDLL(None).execve(sys.argv[1].encode(), {none}, {none})"
+    got = runs.run(["-c", code, str(runs.program)], executable=sys.executable)
+    runs.compare(Run(b"", got.err, 2), got)
 
-    def run_on_terminal(self, words, stream, other):
-        """Returns the result of a run in which this standard stream is a terminal, and the other one a pipe."""
-        (screen, terminal), (reader, pipe) = two_ends("terminal"), two_ends("pipe")
-        with self.start(words, **{stream: terminal, other: pipe}, preexec_fn=give_up_reading) as process:
-            os.close(terminal)
-            os.close(pipe)
-            got = {stream: read_all(screen, process), other: read_all(reader, process)}
-            status = process.wait(PATIENCE)
-        os.close(screen)
-        os.close(reader)
-        return Run(got["stdout"], got["stderr"], status)
+
+def tips(runs):
+    """A tip follows a refusal if standard error is a terminal, and only then; standard output has nothing."""
+    words, said, tip = runs.drawn.card("tips", TIPS)
+    runs.put({"a": b"1/0 1/0", "locked": b"", "lines": b"\n" * 1_000_001, "large": b""})
+    (runs.files / "locked").chmod(0)
+    os.truncate(runs.files / "large", reference.MOST_BYTES_OF_A_FILE + 1)
+    status = 1 if said.startswith("fault") else 2
+    runs.compare(Run(b"", said.encode(), status), run_on_terminal(runs, words, "stdout", "stderr"))
+    if tip:
+        said += "\n" * said.startswith("error") + f"  tip: {tip}\n"
+    runs.compare(Run(b"", said.encode(), status), run_on_terminal(runs, words, "stderr", "stdout"))
+
+
+def hidden_names(runs):
+    """Control characters of a name or an argument are escaped on a terminal, and only there. Answers have them as they are."""
+    name, seen = runs.drawn.card("hidden", HIDDEN)
+    runs.put({f"{name}.txt": b"1/0 1/0"})
+    for word, said, tip in (
+        (["steps", name], "kalah: cannot read {0}\n", "  tip: there is no such file\n"),
+        (
+            [f"{name}.b"],
+            mistake("unrecognized subcommand '{0}.b'", "<COMMAND>"),
+            "\n  tip: for a file of positions, use `kalah solve {0}.b`\n",
+        ),
+    ):
+        runs.compare(Run(b"", said.format(name).encode(), 2), run_on_terminal(runs, word, "stdout", "stderr"))
+        runs.compare(Run(b"", (said + tip).format(seen).encode(), 2), run_on_terminal(runs, word, "stderr", "stdout"))
+    said = "kalah: cannot read 1/0 1/0\\015\n  tip: for a position, use `kalah show '1/0 1/0\\015'`, or `kalah ask`\n"
+    runs.compare(Run(b"", said.encode(), 2), run_on_terminal(runs, ["solve", "1/0 1/0\r"], "stderr", "stdout"))
+    want = reference.answers("solve", [(f"{name}.txt".encode(), b"1/0 1/0")])
+    runs.compare(want, run_on_terminal(runs, ["solve", f"{name}.txt"], "stdout", "stderr"))
+
+
+def marked_files(runs):
+    """A file that begins with a byte order mark gets a tip on a terminal, beside its answers."""
+    mark = runs.drawn.card("marks", list(MARKS))
+    data = mark + b"1/0 1/0\n"
+    runs.put({"a": b"1/0", "b": data})
+    subcommand = runs.subcommand()
+    want = reference.answers(subcommand, [(b"a", b"1/0"), (b"b", data)])
+    runs.compare(want, run_on_terminal(runs, [subcommand, "a", "b"], "stdout", "stderr"))
+    want = want._replace(err=tip_for_marks([data]))
+    runs.compare(want, run_on_terminal(runs, [subcommand, "a", "b"], "stderr", "stdout"))
+
+
+def run_on_terminal(runs, words, stream, other):
+    """Returns the result of a run in which this standard stream is a terminal, and the other one a pipe."""
+    (screen, terminal), (reader, pipe) = two_ends("terminal"), two_ends("pipe")
+    with runs.start(words, **{stream: terminal, other: pipe}, preexec_fn=give_up_reading) as process:
+        os.close(terminal)
+        os.close(pipe)
+        got = {stream: read_all(screen, process), other: read_all(reader, process)}
+        status = process.wait(PATIENCE)
+    os.close(screen)
+    os.close(reader)
+    return Run(got["stdout"], got["stderr"], status)
 
 
 # How often each of these trials is made in one round of all of them.
-MESSAGE_KINDS = {
-    "refused_arguments": len(REFUSED_ARGUMENTS),
-    "help": len(HELP),
-    "version": len(VERSION),
-    "usage": len(USAGES),
-    "no_word": 1,
-    "tips": len(TIPS),
-    "hidden_names": len(HIDDEN),
-    "marked_files": len(MARKS),
+MESSAGE_TRIALS = {
+    refused_arguments: len(REFUSED_ARGUMENTS),
+    help: len(HELP),
+    version: len(VERSION),
+    usage: len(USAGES),
+    no_word: 1,
+    tips: len(TIPS),
+    hidden_names: len(HIDDEN),
+    marked_files: len(MARKS),
 }

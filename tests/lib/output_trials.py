@@ -67,160 +67,168 @@ ROW_BY_ROW = [["count", "12", LONG_GAME], ["play", "--table", "1", "--first=2", 
 FEW_WRITES = [(["solve", "--workers=1", "a"], 4), (["solve", "--workers=2", "a"], 4), (["ask"], 50)]
 
 
-class OutputTrials:
-    """The trials of output, for the class `Trials`."""
+def streams(runs):
+    """Standard streams are closed, or accept nothing."""
+    streams, (words, want) = runs.drawn.card("streams", STREAMS_OF_RUNS)
+    runs.put({"a": A_AND_FAULT})
+    if want.out and streams in TAKE_NO_ANSWER:
+        want = reference.failed(b"write failed")
+    if "2>" in streams:
+        want = want._replace(err=b"")
+    runs.compare(want, run_without_reader(runs, words) if streams == NO_READER else runs.run_in_shell(words, streams))
 
-    def streams(self):
-        """Standard streams are closed, or accept nothing."""
-        streams, (words, want) = self.drawn.card("streams", STREAMS_OF_RUNS)
-        self.put({"a": A_AND_FAULT})
-        if want.out and streams in TAKE_NO_ANSWER:
-            want = reference.failed(b"write failed")
-        if "2>" in streams:
-            want = want._replace(err=b"")
-        self.compare(want, self.run_without_reader(words) if streams == NO_READER else self.run_in_shell(words, streams))
 
-    def run_without_reader(self, words):
-        reader, writer = os.pipe()
-        os.close(reader)
-        try:
-            return self.run(words, stdout=writer)
-        finally:
-            os.close(writer)
-
-    def no_reader_is_left(self):
-        """A run whose output takes no more begins no further line. It takes at most a fifth of the processor time that all its lines
-        would take, by that of some of them. The first lines are easy, as an early hard one holds back the first write."""
-        subcommand, workers, place = self.drawn.card("no reader is left", NO_READER_IS_LEFT)
-        words = [subcommand, "--workers", workers, "a"]
-        lines = [self.drawn.full_position() + b"\n" for _ in range(2000)]
-        self.put({"a": b"".join(lines[:60])})
-        _, of_some = self.timed(lambda: self.run(words))
-        self.put({"a": EASY * 64 + b"".join(lines)})
-        first = reference.answers(subcommand, [(b"a", EASY)]).out if place == "pipe" else b""
-        got, spent = self.timed(lambda: self.run_into(place, words, len(first)))
-        self.compare(Run(first, b"kalah: write failed\n", 2), got)
-        if spent > of_some / 60 * len(lines) / 5:
-            raise Failed(f"60 lines took {of_some:.2f} s of processor, and {len(lines)} that nobody reads {spent:.2f} s")
-
-    def left_after_a_pause(self):
-        """A run ends though its reader leaves only once the pipe and all that holds answers are full. There are more workers than
-        processors, so that many of them sleep."""
-        workers = self.drawn.card("left after a pause", LEFT_AFTER_A_PAUSE)
-        self.put({"a": EASY * 200_000})
-        reader, writer = os.pipe()
-        two = sorted(os.sched_getaffinity(0))[:2]
-        words = [self.subcommand(), "--workers", f"{workers}", "a"]
-        with self.start(words, stdout=writer, preexec_fn=lambda: os.sched_setaffinity(0, two)) as process:
-            os.close(writer)
-            time.sleep(1)
-            os.close(reader)
-            self.compare(Run(b"", b"kalah: write failed\n", 2), self.end_of(process)._replace(out=b""))
-
-    def run_into(self, place, words, size):
-        """Returns the result of a run into a file that is full, or into a pipe that is closed after `size` bytes."""
-        reader, writer = os.pipe() if place == "pipe" else (os.open(os.devnull, os.O_RDONLY), os.open(place, os.O_WRONLY))
-        with self.start(words, stdout=writer) as process:
-            os.close(writer)
-            got = read_soon(reader, size)
-            os.close(reader)
-            return self.end_of(process)._replace(out=got)
-
-    def first_answers(self):
-        """Answers are read while a later line is being solved."""
-        place, lines = self.drawn.card("first answers", FIRST_ANSWERS)
-        data = self.drawn.file(lines)
-        self.put({"a": data, "b": HARD})
-        subcommand = self.searching()
-        want = reference.answers(subcommand, [(b"a", data)]).out
-        reader, writer = two_ends(place)
-        workers = f"{self.drawn.chance.randint(1, 16)}"
-        with self.start([subcommand, "--table", "1", "--workers", workers, "a", "b"], stdout=writer) as process:
-            got = read_soon(reader, len(want))
-            has_ended = process.poll() is not None
-            process.kill()
-        os.close(reader)
+def run_without_reader(runs, words):
+    reader, writer = os.pipe()
+    os.close(reader)
+    try:
+        return runs.run(words, stdout=writer)
+    finally:
         os.close(writer)
-        self.compare(Run(want, b"", 0), Run(got, b"", 0))
-        if has_ended:
-            raise Failed("the run has ended, though its last lines take long")
 
-    def first_picture(self):
-        """The first position of a game is read before its first move is found, and a picture before its values are."""
-        place, words = self.drawn.card("first pictures", FIRST_PICTURES)
-        want = reference.picture(reference.read(LONG_GAME)).encode()
-        self.put({})
-        got = self.before_more([*words, "--table", "1", LONG_GAME], place, rows=want.count(b"\n"))
-        self.compare(Run(want, b"", 0), Run(got, b"", 0))
 
-    def first_move(self):
-        """The first move of a game is read before the second is found."""
-        place, words = self.drawn.card("first moves", FIRST_MOVES)
-        rows = reference.moves(words[-1]).out.splitlines(keepends=True)
-        self.put({})
-        got = self.before_more([*words, "--table", "1"], place)
-        if got not in rows:
-            raise Failed(f"the first move came with the next ones: {got.decode()!r}")
+def no_reader_is_left(runs):
+    """A run whose output takes no more begins no further line. It takes at most a fifth of the processor time that all its lines
+    would take, by that of some of them. The first lines are easy, as an early hard one holds back the first write."""
+    subcommand, workers, place = runs.drawn.card("no reader is left", NO_READER_IS_LEFT)
+    words = [subcommand, "--workers", workers, "a"]
+    lines = [runs.drawn.full_position() + b"\n" for _ in range(2000)]
+    runs.put({"a": b"".join(lines[:60])})
+    _, of_some = runs.timed(lambda: runs.run(words))
+    runs.put({"a": EASY * 64 + b"".join(lines)})
+    first = reference.answers(subcommand, [(b"a", EASY)]).out if place == "pipe" else b""
+    got, spent = runs.timed(lambda: run_into(runs, place, words, len(first)))
+    runs.compare(Run(first, b"kalah: write failed\n", 2), got)
+    if spent > of_some / 60 * len(lines) / 5:
+        raise Failed(f"60 lines took {of_some:.2f} s of processor, and {len(lines)} that nobody reads {spent:.2f} s")
 
-    def before_more(self, words, place, lines=b"", rows=1):
-        """Returns what a run that is asked these lines writes at first, which should have this number of rows. What follows must take a
-        quarter more processor time. On a busy machine a piece may be read late, or with the next one: then it is tried again."""
-        for _ in range(3):
-            got, is_early = self.first_piece(words, place, lines)
-            if got.count(b"\n") == rows and is_early:
-                return got
-        if is_early:
+
+def left_after_a_pause(runs):
+    """A run ends though its reader leaves only once the pipe and all that holds answers are full. There are more workers than
+    processors, so that many of them sleep."""
+    workers = runs.drawn.card("left after a pause", LEFT_AFTER_A_PAUSE)
+    runs.put({"a": EASY * 200_000})
+    reader, writer = os.pipe()
+    two = sorted(os.sched_getaffinity(0))[:2]
+    words = [runs.subcommand(), "--workers", f"{workers}", "a"]
+    with runs.start(words, stdout=writer, preexec_fn=lambda: os.sched_setaffinity(0, two)) as process:
+        os.close(writer)
+        time.sleep(1)
+        os.close(reader)
+        runs.compare(Run(b"", b"kalah: write failed\n", 2), runs.end_of(process)._replace(out=b""))
+
+
+def run_into(runs, place, words, size):
+    """Returns the result of a run into a file that is full, or into a pipe that is closed after `size` bytes."""
+    reader, writer = os.pipe() if place == "pipe" else (os.open(os.devnull, os.O_RDONLY), os.open(place, os.O_WRONLY))
+    with runs.start(words, stdout=writer) as process:
+        os.close(writer)
+        got = read_soon(reader, size)
+        os.close(reader)
+        return runs.end_of(process)._replace(out=got)
+
+
+def first_answers(runs):
+    """Answers are read while a later line is being solved."""
+    place, lines = runs.drawn.card("first answers", FIRST_ANSWERS)
+    data = runs.drawn.file(lines)
+    runs.put({"a": data, "b": HARD})
+    subcommand = runs.searching()
+    want = reference.answers(subcommand, [(b"a", data)]).out
+    reader, writer = two_ends(place)
+    workers = f"{runs.drawn.chance.randint(1, 16)}"
+    with runs.start([subcommand, "--table", "1", "--workers", workers, "a", "b"], stdout=writer) as process:
+        got = read_soon(reader, len(want))
+        has_ended = process.poll() is not None
+        process.kill()
+    os.close(reader)
+    os.close(writer)
+    runs.compare(Run(want, b"", 0), Run(got, b"", 0))
+    if has_ended:
+        raise Failed("the run has ended, though its last lines take long")
+
+
+def first_picture(runs):
+    """The first position of a game is read before its first move is found, and a picture before its values are."""
+    place, words = runs.drawn.card("first pictures", FIRST_PICTURES)
+    want = reference.picture(reference.read(LONG_GAME)).encode()
+    runs.put({})
+    got = before_more(runs, [*words, "--table", "1", LONG_GAME], place, rows=want.count(b"\n"))
+    runs.compare(Run(want, b"", 0), Run(got, b"", 0))
+
+
+def first_move(runs):
+    """The first move of a game is read before the second is found."""
+    place, words = runs.drawn.card("first moves", FIRST_MOVES)
+    rows = reference.moves(words[-1]).out.splitlines(keepends=True)
+    runs.put({})
+    got = before_more(runs, [*words, "--table", "1"], place)
+    if got not in rows:
+        raise Failed(f"the first move came with the next ones: {got.decode()!r}")
+
+
+def before_more(runs, words, place, lines=b"", rows=1):
+    """Returns what a run that is asked these lines writes at first, which should have this number of rows. What follows must take a
+    quarter more processor time. On a busy machine a piece may be read late, or with the next one: then it is tried again."""
+    for _ in range(3):
+        got, is_early = first_piece(runs, words, place, lines)
+        if got.count(b"\n") == rows and is_early:
             return got
-        raise Failed(f"what is written first came as late as what follows: {got.decode()!r}")
+    if is_early:
+        return got
+    raise Failed(f"what is written first came as late as what follows: {got.decode()!r}")
 
-    def first_piece(self, words, place, lines):
-        """Returns what the run writes at first, and whether nothing follows until the run has spent a quarter more processor time."""
-        reader, writer = two_ends(place)
-        with self.start(words, stdin=subprocess.PIPE, stdout=writer, bufsize=0) as process:
-            process.stdin.write(lines)
-            got = read_piece(reader)
-            spent, end = spent_by(process), time.monotonic() + SOON
-            while not (follows := piece_in(reader)) and spent_by(process) < 1.25 * spent and time.monotonic() < end:
-                time.sleep(0.001)
-            process.kill()
-        os.close(reader)
-        os.close(writer)
-        return got, not follows
 
-    def ends_at_a_failed_write(self):
-        """A run that writes row by row ends at the first row that can't be written, and so takes a small part of its time."""
-        words = self.drawn.card("row by row", ROW_BY_ROW)
-        self.put({})
-        _, of_all = self.timed(lambda: self.run(words))
-        got, spent = self.timed(lambda: self.run_into("/dev/full", words, 0))
-        self.compare(reference.failed(b"write failed"), got)
-        if spent > of_all / 3:
-            raise Failed(f"the run took {of_all:.2f} s of processor, and {spent:.2f} s where its first row can't be written")
+def first_piece(runs, words, place, lines):
+    """Returns what the run writes at first, and whether nothing follows until the run has spent a quarter more processor time."""
+    reader, writer = two_ends(place)
+    with runs.start(words, stdin=subprocess.PIPE, stdout=writer, bufsize=0) as process:
+        process.stdin.write(lines)
+        got = read_piece(reader)
+        spent, end = spent_by(process), time.monotonic() + SOON
+        while not (follows := piece_in(reader)) and spent_by(process) < 1.25 * spent and time.monotonic() < end:
+            time.sleep(0.001)
+        process.kill()
+    os.close(reader)
+    os.close(writer)
+    return got, not follows
 
-    def few_writes(self):
-        """Lines that are answered quickly go out together."""
-        lines = 10_000
-        data = QUICK * lines
-        self.put({"a": data})
-        words, share = self.drawn.card("few writes", FEW_WRITES)
-        want = reference.asked("solve", data) if words == ["ask"] else reference.answers("solve", [(b"a", data)])
-        reader, writer = socket.socketpair(socket.AF_UNIX, socket.SOCK_SEQPACKET)
-        with reader, open(self.files / "a", "rb") as file, self.start(words, stdin=file, stdout=writer) as process:
-            writer.close()
-            pieces = list(iter(lambda: reader.recv(1 << 20), b""))
-            self.compare(want, self.end_of(process)._replace(out=b"".join(pieces)))
-        if len(pieces) > lines // share:
-            raise Failed(f"{lines} lines went out in {len(pieces)} writes")
+
+def ends_at_a_failed_write(runs):
+    """A run that writes row by row ends at the first row that can't be written, and so takes a small part of its time."""
+    words = runs.drawn.card("row by row", ROW_BY_ROW)
+    runs.put({})
+    _, of_all = runs.timed(lambda: runs.run(words))
+    got, spent = runs.timed(lambda: run_into(runs, "/dev/full", words, 0))
+    runs.compare(reference.failed(b"write failed"), got)
+    if spent > of_all / 3:
+        raise Failed(f"the run took {of_all:.2f} s of processor, and {spent:.2f} s where its first row can't be written")
+
+
+def few_writes(runs):
+    """Lines that are answered quickly go out together."""
+    lines = 10_000
+    data = QUICK * lines
+    runs.put({"a": data})
+    words, share = runs.drawn.card("few writes", FEW_WRITES)
+    want = reference.asked("solve", data) if words == ["ask"] else reference.answers("solve", [(b"a", data)])
+    reader, writer = socket.socketpair(socket.AF_UNIX, socket.SOCK_SEQPACKET)
+    with reader, open(runs.files / "a", "rb") as file, runs.start(words, stdin=file, stdout=writer) as process:
+        writer.close()
+        pieces = list(iter(lambda: reader.recv(1 << 20), b""))
+        runs.compare(want, runs.end_of(process)._replace(out=b"".join(pieces)))
+    if len(pieces) > lines // share:
+        raise Failed(f"{lines} lines went out in {len(pieces)} writes")
 
 
 # How often each of these trials is made in one round of all of them.
-OUTPUT_KINDS = {
-    "streams": len(STREAMS_OF_RUNS),
-    "no_reader_is_left": len(NO_READER_IS_LEFT),
-    "left_after_a_pause": 2 * len(LEFT_AFTER_A_PAUSE),
-    "first_answers": len(FIRST_ANSWERS),
-    "first_picture": len(FIRST_PICTURES),
-    "first_move": len(FIRST_MOVES),
-    "ends_at_a_failed_write": len(ROW_BY_ROW),
-    "few_writes": len(FEW_WRITES),
+OUTPUT_TRIALS = {
+    streams: len(STREAMS_OF_RUNS),
+    no_reader_is_left: len(NO_READER_IS_LEFT),
+    left_after_a_pause: 2 * len(LEFT_AFTER_A_PAUSE),
+    first_answers: len(FIRST_ANSWERS),
+    first_picture: len(FIRST_PICTURES),
+    first_move: len(FIRST_MOVES),
+    ends_at_a_failed_write: len(ROW_BY_ROW),
+    few_writes: len(FEW_WRITES),
 }
