@@ -165,7 +165,7 @@ def asked_at_length(runs):
     out, err = process.communicate(b"\n1/0 1/0")
     runs.compare(Run(b"fault long\n0 house 1\n", b"", 1), Run(out, err, process.returncode))
     if most > ROOM:
-        raise Failed(f"{most} KB were taken for a long line")
+        raise Failed(f"{most} kB were taken for a long line, more than {ROOM}")
 
 
 def asked_again(runs):
@@ -178,7 +178,7 @@ def asked_again(runs):
         out, _ = process.communicate(AGAIN * times)
         spent.append(resource.getrusage(resource.RUSAGE_CHILDREN).ru_utime - before)
         if len(set(out.splitlines())) != 1 or out.count(b"\n") != times:
-            raise Failed(f"{times} times the same is answered by {out[:200]}")
+            raise Failed(f"{times} times the same is not answered by {times} equal lines, but by {out[:200]}")
     if spent[1] > 10 * spent[0] + 0.5:
         raise Failed(f"one question took {spent[0]:.2f} s, and a hundred times the same {spent[1]:.2f} s")
 

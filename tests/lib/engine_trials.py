@@ -13,9 +13,10 @@ from statistics import mean, stdev
 
 from lib import reference
 from lib.client_trials import command, fake
+from lib.failing import equal, must
 from lib.game_trials import USUAL, output
 from lib.processes import soon
-from lib.tool_trials import drawn_line, fault, must
+from lib.tool_trials import drawn_line, fault
 
 from kalah import rules
 from kalah.tools import match
@@ -111,7 +112,7 @@ class GradeTrials:
             if why := is_none or (word in WRONG and f"{command} {WRONG[word]}"):
                 must(any(one.startswith(f"grade: a b.txt:{number}: {why}") for one in said), f"grade: line {number}, {word}, {err}")
         wrong = len(WRONG) + 1
-        must(len(said) == wrong + 2, f"grade says {err}")
+        equal(len(said), wrong + 2, f"grade says {err}")
         starts = len((self.folder / "starts").read_text().split())
         must(starts <= wrong + 1, f"grade: the engine was started {starts} times")
 
@@ -144,23 +145,23 @@ class GradeTrials:
                 choices.append((seeds, lost, number, good))
         with open(self.folder / "a.csv", newline="") as file:
             rows = [*csv.reader(file)][1:]
-        must(rows == [[*map(str, row)] for row in want], f"grade --csv: {rows} in place of {want}")
+        equal(rows, [[*map(str, row)] for row in want], "grade --csv")
         first = f"a b.txt: {kinds['a choice']} positions with a choice, {kinds['all best']} in which all moves are best, "
-        must(out.splitlines()[0] == f"{first}{kinds['one move']} with one move, 1 over", f"grade: {out} in place of {first}")
+        equal(out.splitlines()[0], f"{first}{kinds['one move']} with one move, 1 over", "grade")
         rows = out.partition("worst\n")[2].partition("\n\n")[0].splitlines()
         table = [row.replace(" %", "").replace("± ", "").split() for row in rows]
         want = [self.row(name, choices) for name in [*sorted({seeds for seeds, *_ in choices}), "all"]]
-        must(table == want, f"grade: {out} in place of {want}")
+        equal(table, want, f"grade: {out}")
         worst = sorted((-lost, number) for _, lost, number, _ in choices if lost)[:10]
         got = [block.splitlines() for block in out.split("\n\n")[1:]]
         numbers = [int(block[0].split(":")[1].split(" ")[0]) for block in got]
-        must(numbers == [number for _, number in worst], f"grade: the worst of {out}")
+        equal(numbers, [number for _, number in worst], f"grade: the worst of {out}")
         for block, (lost, number) in zip(got, worst):
             position, values = reference.read(lines[number - 1].encode()), values_of(lines[number - 1])
             best, house = reference.best_play(position)[1], int(words[number - 1])
             said = [f"house {one} is worth " + f"{values[one]:+d}".replace("+0", "0") for one in (house, best)]
-            must("\n".join(block[1:4]) + "\n" == reference.picture(position), f"grade: {block}")
-            must(block[4] == f"{said[0]}, which loses {-lost}; {said[1]}", f"grade: {block}")
+            equal("\n".join(block[1:4]) + "\n", reference.picture(position), "grade")
+            equal(block[4], f"{said[0]}, which loses {-lost}; {said[1]}", "grade")
 
     def row(self, name, choices):
         """A row of the table, as words: of a number of seeds, or of all."""
@@ -205,16 +206,16 @@ class MatchTrials:
                 games.append(" ".join([line, *map(str, houses)]))
                 margins.append(-margin if beginner else margin)
         out, _, record = self.match(self.command(0), self.command(-1))
-        must(record == games, f"match: {record} in place of {games}")
+        equal(record, games, "match")
         means = [mean(pair) for pair in zip(margins[::2], margins[1::2])]
         scores = [mean(map(score, pair)) for pair in zip(margins[::2], margins[1::2])]
         said = f"A scores {100 * mean(scores):.1f} % ± {196 * stdev(scores) / len(scores) ** 0.5:.1f} ({self.counts(margins)})"
         margin = f"margin {mean(means):+.1f}".replace("+0.0", "0.0") + f" ± {1.96 * stdev(means) / len(means) ** 0.5:.1f}"
         want = [f"{said}, {margin}, over {len(means)} pairs of games"]
         want += [f"{name}: {self.counts(some)}" for name, some in (("A begins", margins[::2]), ("B begins", margins[1::2]))]
-        must(out.splitlines() == want, f"match: {out} in place of {want}")
+        equal(out.splitlines(), want, "match")
         reviewed, _ = output(self.folder, "review", "--games", "record")
-        must(reviewed.count("and the game is over.") == len(games), f"review doesn't read a record: {reviewed}")
+        equal(reviewed.count("and the game is over."), len(games), f"review doesn't read a record: {reviewed}")
 
     def command(self, which, most=10_000):
         return f"{sys.executable} -B simple.py {which} {most}"
@@ -260,7 +261,7 @@ class MatchTrials:
         out, _, record = self.match(self.command(0), self.command(-1))
         must(len(record) == 2 and "over 1 pair of games" in out and "±" not in out and "looked" not in out, f"match: {out}")
         _, err = output(self.folder, "match", "no such engine", "kalah", "--positions", "a b.txt", status=2)
-        must(err == "match: there is no program 'no such engine'\n", f"match: {err}")
+        equal(err, "match: there is no program 'no such engine'\n", "match")
 
 
     def many(self, lines):
@@ -309,7 +310,8 @@ class MatchTrials:
         words = [*command("match"), "sh hangs.sh", self.command(0), "--positions", "a b.txt", "--record", "record", "--timeout", "500"]
         with subprocess.Popen(words, cwd=self.folder, stdout=subprocess.DEVNULL, stderr=subprocess.DEVNULL) as running:
             try:
-                soon(lambda: (self.folder / "record").exists() and (self.folder / "record").read_text() == "1,1/0 1,1/0 2 1\n")
+                record = self.folder / "record"
+                soon("a record of one game", lambda: record.exists() and record.read_text() == "1,1/0 1,1/0 2 1\n")
             finally:
                 running.kill()
 
@@ -333,13 +335,13 @@ class EndTrials:
         loops.unlink(missing_ok=True)
         quiet = {"stdout": subprocess.DEVNULL, "stderr": subprocess.DEVNULL}
         with subprocess.Popen([*command(words[0]), *words[1:]], cwd=self.folder, start_new_session=True, **quiet) as tool:
-            soon(lambda: loops.exists() and len(loops.read_text().split()) == 4)
+            soon("four processes", lambda: loops.exists() and len(loops.read_text().split()) == 4)
             if number:
                 tool.send_signal(number)
             tool.wait()
         must(number in (None, -tool.returncode), f"{words}: it ends with {tool.returncode}, not by {number}")
         pids = [int(pid) for pid in loops.read_text().split()]
-        soon(lambda: not any(map(is_running, pids)))
+        soon("their end", lambda: not any(map(is_running, pids)))
 
 
 def is_running(pid):
@@ -356,7 +358,7 @@ def try_worst(folder):
     out, _ = output(folder, "grade", "--houses", "houses", "a b.txt")
     blocks = out.split("\n\n")[1:]
     numbers = [int(re.match("a b.txt:([0-9]+) ", block)[1]) for block in blocks]
-    must(numbers == [*range(7, 13), *range(1, 5)], f"grade: the worst of {out}")
+    equal(numbers, [*range(7, 13), *range(1, 5)], f"grade: the worst of {out}")
     must(blocks[0].rstrip().endswith("house 3 is worth -4, which loses 6; house 1 is worth +2"), f"grade: {blocks[0]}")
     must("  all         12     0     0.0 %   58.3 %   5.00 ± 0.59      6\n" in out, f"grade: {out}")
 

@@ -1,4 +1,4 @@
-"""The error of a trial that fails, and how long trials wait for the output and the end of a run."""
+"""How a trial fails, and how long trials wait for the output and the end of a run."""
 
 import os
 import select
@@ -13,6 +13,16 @@ PATIENCE = 120
 
 class Failed(Exception):
     """A trial has failed: a run did something else than it must."""
+
+
+def must(holds, what):
+    if not holds:
+        raise Failed(what)
+
+
+def equal(got, want, what):
+    """Two values must be equal. Both are shown if they aren't."""
+    must(got == want, f"{what}:\n  {want!r} is wanted\n  {got!r} has come")
 
 
 def read_soon(reader, size):

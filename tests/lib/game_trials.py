@@ -15,9 +15,9 @@ from xml.dom import minidom
 
 from lib import reference
 from lib.client_trials import Client, command, kalah
-from lib.failing import Failed
+from lib.failing import Failed, equal, must
 from lib.random_data import FAULTS, Drawn
-from lib.tool_trials import HOSTILE, drawn_game, drawn_line, fault, must
+from lib.tool_trials import HOSTILE, drawn_game, drawn_line, fault
 from lib.http_trials import asked, served
 
 from kalah import Board, Game, rules
@@ -61,7 +61,7 @@ def try_rules(program, folder, drawn):
         answer = rules.steps(line)
         over = isinstance(answer, kalah.Over)
         got = [f"{answer.margin} over"] if over else [f"{move.house} {move.position} {move.word}" for move in answer.moves]
-        must(got == words, f"rules, {line}: {got} in place of {words}")
+        equal(got, words, f"rules, {line}")
 
 
 def position_above(draw):
@@ -81,8 +81,8 @@ def try_rules_above(draw):
         must(rules.start_line(line) == line and rules.read(line) == position, f"rules, {line}: {rules.read(line)}")
         for house in reference.legal(position):
             got, want = rules.after(rules.read(line), house), reference.after(position, house)
-            must(got == want, f"rules, {line}, house {house}: {got} in place of {want}")
-            must(rules.read(rules.text(got[0])) == want[0], f"rules, {line}, house {house}: {rules.text(got[0])} is not read again")
+            equal(got, want, f"rules, {line}, house {house}")
+            equal(rules.read(rules.text(got[0])), want[0], f"rules, {line}, house {house}: it is not read again")
 
 
 def try_faults(drawn):
@@ -122,23 +122,23 @@ def try_values(draw, solver, client):
         line = drawn_line(draw, 4, 8)
         position = reference.read(line.encode())
         values = {house: reference.value(position, house) for house in reference.legal(position)}
-        must(values_of(solver, Board(line)) == values, f"rules, {line}: {values_of(solver, Board(line))} in place of {values}")
+        equal(values_of(solver, Board(line)), values, f"rules, {line}")
         large = re.sub("/[0-9]+", "/900", line, 1)
         lead = 900 - position.own.store
         got = rules.ask(client, large).by_house
-        must(got == {house: value + lead for house, value in values.items()}, f"rules, {large}: {got}")
+        equal(got, {house: value + lead for house, value in values.items()}, f"rules, {large}")
         found = seen_of(position, rules.LOOKED_AHEAD)
-        must(rules.seen_of_moves(rules.read(line), rules.LOOKED_AHEAD) == found, f"rules, {line}: it sees something other than {found}")
-        must(rules.guess(line) == max(found, key=found.get), f"rules, {line}: it guesses {rules.guess(line)} of {found}")
-    must(rules.guess(FAR) == max(seen_of(reference.read(FAR.encode()), 4).items(), key=lambda one: one[1])[0], f"rules: {FAR}")
+        equal(rules.seen_of_moves(rules.read(line), rules.LOOKED_AHEAD), found, f"rules, {line}: what it sees")
+        equal(rules.guess(line), max(found, key=found.get), f"rules, {line}: its guess")
+    equal(rules.guess(FAR), max(seen_of(reference.read(FAR.encode()), 4).items(), key=lambda one: one[1])[0], f"rules, {FAR}: its guess")
     for line, seeds in ((USUAL, 48), ("16,0/3 0,16/0 e", 32)):
-        must(values_of(solver, Board(line)) is None, f"rules, {line}: it has values")
+        equal(values_of(solver, Board(line)), None, f"rules, {line}: its values")
         try:
             raise Failed(f"rules, {line}: {rules.ask(client, line)}")
         except rules.TooMany as why:
             must(str(why) == f"{seeds} seeds in houses: no values above 31 seeds" and why.word == "seeds", f"rules, {line}: {why}")
-    must(rules.ask(client, "16,0/3 0,15/0").by_house == {1: -4}, f"rules: {rules.ask(client, '16,0/3 0,15/0')}")
-    must(rules.ask(client, "0,0/3 40,0/1") == kalah.Over(-38), "rules: the end of a game needs values")
+    equal(rules.ask(client, "16,0/3 0,15/0").by_house, {1: -4}, "rules: values of 31 seeds")
+    equal(rules.ask(client, "0,0/3 40,0/1"), kalah.Over(-38), "rules: the end of a game above the limit")
 
 
 def try_plain(draw, folder):
@@ -192,7 +192,7 @@ class GameTrials:
                 best = max(values.values())
                 course.append((number, -best if player else best, best - values[house]))
         course.append((len(moved), margin, 0))
-        must([*game.course()] == course, f"review, {line} {moved}: {[*game.course()]} in place of {course}")
+        equal([*game.course()], course, f"review, {line} {moved}")
         self.curve(game, course)
         first, page = game.text().splitlines()[0], game.html()
         want = f"Moves 1 to {without}: no value above {LOW} seeds." if without > 1 else f"Move 1: no value above {LOW} seeds."
@@ -206,10 +206,10 @@ class GameTrials:
         said = [point.getElementsByTagName("title")[0].firstChild.data for point in points]
         want = [f"after {number} move{'s' * (number != 1)} " + f"{value:+d}".replace("+0", "0") for number, value, _ in course]
         want = [one + f"; the next one loses {lost}" * (lost > 0) for one, (_, _, lost) in zip(want, course)]
-        must(said == want, f"review: the curve says {said} in place of {want}")
+        equal(said, want, "review: what the curve says")
         placed = [(float(point.getAttribute("cx")), float(point.getAttribute("cy"))) for point in points]
         line = drawn.getElementsByTagName("polyline")[0].getAttribute("points")
-        must([tuple(map(float, point.split(","))) for point in line.split()] == placed, f"review: the curve goes through {line}")
+        equal([tuple(map(float, point.split(","))) for point in line.split()], placed, f"review: the curve goes through {line}")
         for one, (left, above) in zip(course, placed):
             for other, (right, below) in zip(course, placed):
                 holds = (one[0] < other[0]) == (left < right) and (one[1] > other[1]) == (above < below)
@@ -258,7 +258,7 @@ class GameTrials:
         for text, one in zip([*texts, "an address", "a query"], games):
             got = [played.house for played in one.played]
             must(got == houses and one.game.is_over and not one.flaw, f"review, {line} {text}: {got}, {one.flaw}")
-        must(len({one.text() for one in games}) == 1, f"review, {line}: {texts} are not one game")
+        equal(len({one.text() for one in games}), 1, f"review, {line}: {texts} are not one game")
         place = self.draw.randrange(len(houses))
         swapped = [*letters[:place], letters[place].swapcase()]
         wrong = [" ".join(swapped), " ".join([*map(str, houses[:place]), "1." if players[place] else "1...", str(houses[place])])]
@@ -266,7 +266,7 @@ class GameTrials:
         for text, word in zip(wrong[: 1 if players[place] else 2], (swapped[-1], str(houses[place]))):
             want = f"move {place + 1}: {mover} moves, and {word} is a move of {other}"
             flaw = self.reviewed(f"{line} {text}").flaw
-            must(flaw == want, f"review, {line} {text}: {flaw} in place of {want}")
+            equal(flaw, want, f"review, {line} {text}")
 
 
 def output(folder, name, *words, text="", status=0):
@@ -281,7 +281,7 @@ def try_usual_board(program, folder):
     """The scripts take the board of 48 seeds, and say where there are no values yet."""
     must(">99<" in output(folder, "board", "99,4/0 4,4/0")[0], "board: 99 seeds in a house are not drawn")
     _, err = output(folder, "board", "100,4/0 4,4/0", status=1)
-    must(err == f"board: {fault('shape', '100,4/0 4,4/0')}\n", f"board: {err}")
+    equal(err, f"board: {fault('shape', '100,4/0 4,4/0')}\n", "board")
     out, _ = output(folder, "duel", "--second", USUAL, text="6\n")
     said = f"the solver: house {rules.guess(USUAL)} (48 seeds in houses: no values above 31 seeds; it looks 4 moves ahead)\n"
     must(out.startswith(said) and "your house, " in out, f"duel: {out}")
@@ -302,15 +302,15 @@ def try_usual_board(program, folder):
     must("<script" not in page and "can&#x27;t move house &lt;/title&gt;" in page, f"review --html: {page}")
     with served(program) as server:
         reached = asked(server.server_port, "/moves", USUAL)[1]["moves"][2]
-        must(reached == {"house": 3, "position": "4,4,0,5,5,5/1 4,4,4,4,4,4/0", "word": "again"}, f"web: {reached}")
+        equal(reached, {"house": 3, "position": "4,4,0,5,5,5/1 4,4,4,4,4,4/0", "word": "again"}, "web, a move of the usual board")
         status, answer = asked(server.server_port, "/values", USUAL)
-        must((status, answer) == (422, {"error": "48 seeds in houses: no values above 31 seeds"}), f"web, /values: {status} {answer}")
+        equal((status, answer), (422, {"error": "48 seeds in houses: no values above 31 seeds"}), "web, /values")
         status, answer = asked(server.server_port, "/best", USUAL)
         why = "48 seeds in houses: no values above 31 seeds; it looks 4 moves ahead"
         want = {"is_over": False, "house": rules.guess(USUAL), "guessed": why}
-        must((status, answer) == (200, want), f"web, /best: {status} {answer} in place of {want}")
+        equal((status, answer), (200, want), "web, /best")
         status, answer = asked(server.server_port, "/best", "1,1/200 1,1/0")
-        must(answer == {"is_over": False, "margin": 202, "house": 2}, f"web, with large stores: {status} {answer}")
+        equal(answer, {"is_over": False, "margin": 202, "house": 2}, f"web, with large stores: status {status}")
 
 
 def reachable(line):
@@ -357,7 +357,7 @@ def try_drawn_positions(folder, draw):
     must(one == again != "", f"positions {words}: {one}{again}")
     try_good_games(draw)
     lines = output(folder, "positions", 6, 12, "--sample", VAIN, "--balanced", 0, "--seed", 1)[0].splitlines()
-    must(len({*lines}) == VAIN, f"positions --balanced 0: {len(lines)} of {VAIN}")
+    equal(len({*lines}), VAIN, "positions --balanced 0: how many there are")
     start = rules.read(USUAL)
     for often, least, most in ((0, 8, 30), (1, 1, 1)):
         games = positions.of_games(draw, start, [40], often)
@@ -366,7 +366,7 @@ def try_drawn_positions(folder, draw):
     every = [*positions.Positions(2, 5)]
     margins = {line: reference.best_play(reference.read(line.encode()))[0] for line in every}
     want = [line for line in every if abs(margins[line]) <= 1]
-    must(output(folder, "positions", 2, 5, "--balanced", 1)[0].splitlines() == want, "positions --balanced")
+    equal(output(folder, "positions", 2, 5, "--balanced", 1)[0].splitlines(), want, "positions --balanced")
     lines = output(folder, "positions", 2, "4-7", "--games", "--balanced", 2, "--sample", 10, "--seed", 1)[0].splitlines()
     must(all(abs(reference.best_play(reference.read(line.encode()))[0]) <= 2 for line in lines), f"positions: {lines} are not balanced")
     for words, why in (

@@ -18,7 +18,8 @@ from urllib.parse import quote
 
 from lib import reference
 from lib.client_trials import LINES, MISBEHAVING, SHORT, command, fake
-from lib.tool_trials import drawn_game, drawn_line, must
+from lib.failing import equal, must
+from lib.tool_trials import drawn_game, drawn_line
 
 from kalah import Fault
 from kalah.web import server as web
@@ -77,8 +78,8 @@ def request(port, body, path="/best", method="POST", host=None, more=()):
 
 def asked(port, path, line):
     status, headers, body = sent(port, request(port, line.encode(), path))
-    must(headers["Content-Type"] == "application/json", f"web, {path}, {line}: {headers}")
-    must((headers["Cache-Control"], headers["Kalah-Version"]) == ("no-store", web.VERSION), f"web, {path}, {line}: {headers}")
+    equal(headers["Content-Type"], "application/json", f"web, {path}, {line}: {headers}")
+    equal((headers["Cache-Control"], headers["Kalah-Version"]), ("no-store", web.VERSION), f"web, {path}, {line}: {headers}")
     return status, json.loads(body)
 
 
@@ -100,7 +101,7 @@ def wanted(path, line):
 
 
 def compare(path, line, got):
-    must(got == wanted(path, line), f"web, {path}, {line}: {got} in place of {wanted(path, line)}")
+    equal(got, wanted(path, line), f"web, {path}, {line}")
 
 
 def places_of(line, houses, player):
@@ -126,9 +127,9 @@ def compare_line(line, got):
     position, (status, answer) = reference.read(line.encode()), got
     must(status == 200 and answer["is_whole"], f"web, /line, {line}: {got}")
     for house, word in zip(answer["houses"], answer["words"]):
-        must(house == reference.best_play(position)[1], f"web, /line, {line}: {answer}")
+        equal(house, reference.best_play(position)[1], f"web, /line, {line}: {answer}")
         position, reached = reference.after(position, house)
-        must(word == reached, f"web, /line, {line}: {answer}")
+        equal(word, reached, f"web, /line, {line}: {answer}")
     must(reference.is_over(position) and len(answer["houses"]) == len(answer["words"]), f"web, /line, {line}: {answer}")
 
 
@@ -147,7 +148,7 @@ def compare_ahead(line, got):
     reached = {house: reference.after(position, house) for house in reference.legal(position)}
     seems = {house: seen(to, 1) * (-1 if word == "turn" else 1) for house, (to, word) in reached.items()}
     want = {"is_over": False, "house": max(seems, key=seems.get), "guessed": "it looks 2 moves ahead"}
-    must(got == (200, want), f"web, /ahead, {line}: {got}, and {seems}")
+    equal(got, (200, want), f"web, /ahead, {line}: {got}, and {seems}")
 
 
 def is_host(address):
@@ -218,12 +219,12 @@ class ServerTrials:
             for path, (_, kind) in web.FILES.items():
                 status, headers, body = sent(port, request(port, b"", path, "GET", host))
                 want = web.PAGES[path].replace(web.UNKNOWN, f'data-version="{web.VERSION}"'.encode())
-                must(status == 200 and body == want, f"web, {path}: status {status}")
-                must((body != web.PAGES[path]) == (path == "/"), f"web, {path}: its version")
+                equal((status, body), (200, want), f"web, {path}")
+                equal(body != web.PAGES[path], path == "/", f"web, {path}: whether it names its version")
                 policy = "default-src 'none'; script-src 'self'; "
                 is_guarded = headers["Content-Security-Policy"].startswith(policy)
                 must(headers["Content-Type"] == f"{kind}; charset=utf-8" and is_guarded, f"web, {path}: {headers}")
-                must((headers["Cache-Control"], headers["Kalah-Version"]) == ("no-store", web.VERSION), f"web, {path}: {headers}")
+                equal((headers["Cache-Control"], headers["Kalah-Version"]), ("no-store", web.VERSION), f"web, {path}: {headers}")
                 text = body.decode()
                 elsewhere = "(?:src|href|action)=\"(?!data:,|/[a-z])|(?<!\\^)https?:|url\\(|\\bimport\\b"
                 risky = [word for word in RISKY if word in text] + re.findall(elsewhere, text)
@@ -239,7 +240,7 @@ class ServerTrials:
         for line, house, after in found:
             reached, word = reference.after(reference.read(line.encode()), int(house))
             south = reached._replace(own=reached.other, other=reached.own) if word == "turn" else reached
-            must(after == reference.text(south), f"rules.html: house {house} of {line} leads to {after}")
+            equal(after, reference.text(south), f"rules.html: house {house} of {line} leads to {after}")
 
     def refused(self, port):
         for data, status, part in refusals(port):
@@ -266,11 +267,11 @@ class ServerTrials:
             want = {"is_over": False, "positions": places, "houses": houses, "flaw": ""}
             for text in (record + north, record_of(line, houses, places)):
                 status, answer = asked(port, "/game", text)
-                must((status, answer) == (200, want), f"web, /game, {text}: {status} {answer} in place of {want}")
+                equal((status, answer), (200, want), f"web, /game, {text}")
             status, answer = asked(port, "/game", f"{record} 1{north}")
             mover = ["South", "North"][places[-1]["player"]]
             want["flaw"] = f"move {len(houses) + 1}: {mover} can't move house 1: the game is over"
-            must((status, answer) == (200, want), f"web, /game, {record} 1: {answer}")
+            equal((status, answer), (200, want), f"web, /game, {record} 1")
             compare_line(line, asked(port, "/line", line))
             compare_ahead(line, asked(port, "/ahead", line))
             status, headers, body = sent(port, request(port, b"", f"/review?{quote(record + north)}", "GET"))
@@ -285,7 +286,7 @@ class ServerTrials:
             ("x/0 1 2", 422, str(Fault("shape", "x/0 1"))),
         ):
             got, answer = asked(port, "/game", text)
-            must((got, answer.get("flaw", answer.get("error"))) == (status, why), f"web, /game, {text}: {got} {answer}")
+            equal((got, answer.get("flaw", answer.get("error"))), (status, why), f"web, /game, {text}: {got} {answer}")
         for text in ("1,1/0 1,1/0 <script>", "<script>"):
             _, _, body = sent(port, request(port, b"", f"/review?{quote(text)}", "GET"))
             must(b"<script" not in body or body.startswith(b"{"), f"web, /review, {text}: {body}")
@@ -338,9 +339,9 @@ class ServerTrials:
         quota = Quota(MOST, lambda: now[0])
         for _ in range(3):
             taken = [quota.takes("one") for _ in range(2 * MOST)]
-            must(taken == [True] * MOST + [False] * MOST, f"web: a client's questions: {taken}")
+            equal(taken, [True] * MOST + [False] * MOST, "web: a client's questions")
             taken = [quota.takes(f"client {number}") for number in range(IN_ALL * MOST)]
-            must(taken.count(True) == (IN_ALL - 1) * MOST, f"web: {taken.count(True)} questions of others in a minute")
+            equal(taken.count(True), (IN_ALL - 1) * MOST, "web: questions of others in a minute")
             now[0] += 60
         must(all(Quota(0).takes("one") for _ in range(1000)), "web: this machine may ask any number of questions")
 
@@ -384,7 +385,8 @@ class ServerTrials:
             for _ in range(server.connections.of_one):
                 open_ones.enter_context(socket.create_connection((OTHER, port), SOON, ("127.0.0.4", 0)))
             refused = socket.create_connection((OTHER, port), SOON, ("127.0.0.4", 0))
-            must(b" 503 " in refused.recv(1000), "web: one connection more than a client has is kept")
+            said = refused.recv(1000)
+            must(b" 503 " in said, f"web: one connection more than a client has is not refused, but gets {said}")
             refused.close()
             status, _, body = sent(port, asks, OTHER, CLIENT)
             compare("/best", LINE, (status, json.loads(body)))
@@ -409,7 +411,7 @@ class ServerTrials:
 
             def asks(path, text):
                 status, _, body = sent(port, request(port, text.encode(), path, host=f"{OTHER}:{port}"), OTHER)
-                must(status == 200, f"web, a class, {path}, {text}: {status} {body}")
+                equal(status, 200, f"web, a class, {path}, {text}: {status} {body}")
                 return json.loads(body)
 
             def plays(draw):
@@ -418,12 +420,12 @@ class ServerTrials:
                     line = asks("/game", "3,3,3,3/0 3,3,3,3/0")["positions"][0]["line"]
                     while moves < MOVES and not (answer := asks("/moves", line))["is_over"]:
                         values, moves = asks("/values", line)["by_house"], moves + 1
-                        must({*values} == {str(move["house"]) for move in answer["moves"]}, f"web, a class, {line}: {values}")
+                        equal({*values}, {str(move["house"]) for move in answer["moves"]}, f"web, a class, {line}: {values}")
                         line = draw.choice(answer["moves"])["position"]
                 return moves
 
             made = [*pool.map(plays, [random.Random(self.draw.random()) for _ in range(PUPILS)])]
-            must(made == [MOVES] * PUPILS, f"web, a class: {made}")
+            equal(made, [MOVES] * PUPILS, "web, a class")
 
     def a_class(self):
         """By the address that is named, others ask. What takes long is refused, as are too many questions of one client."""
@@ -435,9 +437,9 @@ class ServerTrials:
                 return status, json.loads(body)
 
             late = asks(CLIENT)
-            must(late == (503, {"error": "too large here: kalah has not answered in 1 seconds"}), f"web --host: {late}")
+            equal(late, (503, {"error": "too large here: kalah has not answered in 1 seconds"}), "web --host")
             for host in (f"127.0.0.1:{port}", f"localhost:{port}", OTHER):
-                must(asks(CLIENT, host)[0] == 403, f"web --host serves {host}")
+                equal(asks(CLIENT, host)[0], 403, f"web --host serves {host}")
             # A minute may end in between.
             got = [asks() for _ in range(2 * MOST + 1)]
             refused = 429, {"error": f"too many questions from here: at most {MOST} a minute"}
@@ -468,7 +470,7 @@ class ServerTrials:
         must(page == usual.replace(web.USUAL, f'data-start="{LINE}"'.encode()) != usual, "web: the page does not begin with the position")
         _, err = self.start(self.program, f"--port={port[1]}", LINE).communicate(timeout=SOON)
         want = f"web: port {port[1]}: address already in use; with --port 0 it takes one that is free\n"
-        must(err == want, f"web, with a port that is taken: {err}")
+        equal(err, want, "web, with a port that is taken")
         for name, most in (("port", 65535), ("per-minute", 1000000)):
             for number in (f"{most + 1}", "-1", "x"):
                 _, err = self.start(self.program, f"--{name}={number}", LINE).communicate(timeout=SOON)
@@ -491,7 +493,7 @@ class ServerTrials:
             compare("/moves", LINE, asked(port, "/moves", LINE))
         os.killpg(script.pid, signal.SIGINT)
         _, err = script.communicate(timeout=SOON)
-        must(script.returncode == -signal.SIGINT, f"web, on Ctrl-C: status {script.returncode}\n{err}")
+        equal(script.returncode, -signal.SIGINT, f"web, on Ctrl-C: status {script.returncode}\n{err}")
         look_at_errors(err)
 
 

@@ -164,7 +164,7 @@ def first_move(runs):
     runs.put({})
     got = before_more(runs, [*words, "--table", "1"], place)
     if got not in rows:
-        raise Failed(f"the first move came with the next ones: {got.decode()!r}")
+        raise Failed(f"the first move came with the next ones: {got}, not one of {rows}")
 
 
 def before_more(runs, words, place, lines=b"", rows=1):
@@ -218,7 +218,7 @@ def few_writes(runs):
         pieces = list(iter(lambda: reader.recv(1 << 20), b""))
         runs.compare(want, runs.end_of(process)._replace(out=b"".join(pieces)))
     if len(pieces) > lines // share:
-        raise Failed(f"{lines} lines went out in {len(pieces)} writes")
+        raise Failed(f"{lines} lines went out in {len(pieces)} writes, more than {lines // share}")
 
 
 # How often each of these trials is made in one round of all of them.

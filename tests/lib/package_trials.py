@@ -8,6 +8,7 @@ import signal
 import subprocess
 import sys
 import tempfile
+from collections import Counter
 from itertools import count, islice
 from pathlib import Path
 from shutil import which
@@ -15,11 +16,11 @@ from types import FunctionType
 
 from lib import reference
 from lib.client_trials import PACKAGE, fake, kalah
-from lib.failing import Failed
+from lib.failing import Failed, equal, must
 from lib.skipping import skip
 from lib.game_trials import position_above
 from lib.processes import soon
-from lib.tool_trials import drawn_game, drawn_line, must
+from lib.tool_trials import drawn_game, drawn_line
 
 from kalah import Best, Board, Fault, Game, Gone, IllegalMove, KalahError, Late, Over, Solver, TooMany, Values, solve_many
 from kalah.client import Client, find
@@ -67,8 +68,8 @@ def try_boards(draw):
         board, same = Board(line), Board(line + "\r")
         must(str(board) == line and board == same and hash(board) == hash(same) and eval(repr(board)) == board, f"Board: {board!r}")
         must(pickle.loads(pickle.dumps(board)) == copy.deepcopy(board) == board, f"Board: {line} is not copied")
-        must(board.houses == tuple(side.houses for side in position[:2]), f"Board: {line} has the houses {board.houses}")
-        must(board.stores == tuple(side.store for side in position[:2]), f"Board: {line} has the stores {board.stores}")
+        equal(board.houses, tuple(side.houses for side in position[:2]), f"Board: the houses of {line}")
+        equal(board.stores, tuple(side.store for side in position[:2]), f"Board: the stores of {line}")
         must(board.seeds == sum(map(sum, board.houses)) and board.legal == reference.legal(position), f"Board: {line}: {board.legal}")
         must(board.rule == ("empty-capture" if line.endswith(" e") else "classic"), f"Board: {line}: {board.rule}")
         must(board.is_over == reference.is_over(position) and (board.margin is None) != board.is_over, f"Board: {line}: {board.margin}")
@@ -78,23 +79,23 @@ def try_boards(draw):
             if house in board.legal:
                 reached, word = reference.after(position, house)
                 got = board.play(house)
-                must(got == (Board(reference.text(reached)), word == "again"), f"Board: {line}, house {house}: {got}")
+                equal(got, (Board(reference.text(reached)), word == "again"), f"Board: {line}, house {house}")
                 must(not got[0].is_over or got[0].margin == reference.best_play(reached)[0], f"Board: {line}, {house}: {got[0].margin}")
             else:
                 m = len(board.houses[0])
                 why = "the game is over" if board.is_over else "it is empty" if 0 < house <= m else f"houses are 1 to {m}"
                 refuses(IllegalMove, lambda: board.play(house), f"house {house} can't be moved: {why}")
-    must(Board.start() == Board("4,4,4,4,4,4/0 4,4,4,4,4,4/0") and str(Board.start(2, 1, "empty-capture")) == f"{LINE} e", "Board.start")
+    equal([str(Board.start()), str(Board.start(2, 1, "empty-capture"))], ["4,4,4,4,4,4/0 4,4,4,4,4,4/0", f"{LINE} e"], "Board.start")
     sides, seeds = "a side has 1 to 6 houses, not ", "a start has 0 to 99 seeds in each house, not "
     rule = "the rule is 'classic' or 'empty-capture', not "
     for wrong, why in (((0,), sides), ((7,), sides), (("2",), sides), ((2, -1), seeds), ((2, 100), seeds), ((2, 2, "other"), rule)):
         refuses(ValueError, lambda: Board.start(*wrong), f"{why}{wrong[-1]!r}")
     refuses(ValueError, lambda: Board.of([1], [1], rule="other"), rule)
     for wrong, word in ((([1], [1, 1]), "houses"), (([], []), "shape"), (([-1], [1]), "shape"), (([1], [1], 1000), "shape")):
-        must(refuses(Fault, lambda: Board.of(*wrong)).word == word, f"Board.of{wrong} is not the fault {word}")
+        equal(refuses(Fault, lambda: Board.of(*wrong)).word, word, f"Board.of{wrong}: its fault")
     for line in NO_LINES:
         refuses(TypeError, lambda: Board(line), "a position is a line of text")
-    must(refuses(Fault, lambda: Board("1/0 1,1/0")).word == "houses", "Board: a fault has no word")
+    equal(refuses(Fault, lambda: Board("1/0 1,1/0")).word, "houses", "Board: the word of a fault")
     for line in ("1/0\n1/0", "1/0 1/0\0"):
         refuses(ValueError, lambda: Board(line), "one line")
     refuses(AttributeError, lambda: setattr(Board(LINE), "line", ""))
@@ -106,11 +107,12 @@ def try_pictures():
     board = Board("1,2,3/4 5,6,7/8")
     plain, valued = board._repr_html_(), board.with_values(Values({1: -2, 2: 0, 3: 4}))._repr_html_()
     texts = [re.findall(">([^<]+)</text>", picture) for picture in (plain, valued)]
-    must(sorted(texts[1]) == sorted([*texts[0], "-2", "0", "+4"]), f"Board: its picture has {texts}")
+    equal(sorted(texts[1]), sorted([*texts[0], "-2", "0", "+4"]), "Board: the texts of its picture")
     placed = [float(re.search(f'x="([0-9.]+)"[^>]*>{re.escape(value)}<', valued)[1]) for value in ("-2", "0", "+4")]
     must(placed == sorted(placed) and len({*placed}) == 3, f"Board: values at {placed}")
     refuses(TypeError, lambda: board.with_values(Best(1, 1)), "values are what `Solver.values` returns")
-    must(re.search('font-weight="bold">([^<]+)<', valued)[1] == "+4" and board.with_values({1: 1}) == board, "Board: the best value")
+    equal(re.search('font-weight="bold">([^<]+)<', valued)[1], "+4", "Board: the best value")
+    equal(board.with_values({1: 1}), board, "Board: with values")
 
 
 def try_game_values(draw):
@@ -126,7 +128,7 @@ def try_game_values(draw):
             game.push(house)
         must(game.is_over and game.margin == margin, f"Game: {game} ends with {game.margin}, not {margin}")
         refuses(IllegalMove, lambda: game.push(1), "the game is over")
-        must(game.houses == [house for _, house, _ in moved], f"Game: {game} has moved {game.houses}")
+        equal(game.houses, [house for _, house, _ in moved], f"Game: the houses of {game}")
         records = [Game.read(text) for text in (str(game), f"{line} {game.record()}", f"{line} {game.record(numbers=True)}")]
         must(all(one.moves == game.moves and str(one.board) == str(game.board) for one in records), f"Game: {game} is not read back")
         must(eval(repr(game)) == game == Game(game.start, game.houses), f"Game: {game!r}")
@@ -134,9 +136,9 @@ def try_game_values(draw):
         other.pop()
         must(other != game == records[0] and other == Game(line, game.houses[:-1]), f"Game: {game} and its copy {other}")
         for (_, house, _), want in zip(moved[::-1], seen[::-1]):
-            must(game.pop() == house and (game.mover, str(game.board), game.moves) == want, f"Game: {game} after pop")
+            equal((game.pop(), game.mover, str(game.board), game.moves), (house, *want), f"Game: {game} after pop")
         refuses(IndexError, game.pop)
-    must(str(Game.read("1. CF ba 2. D")) == "4,4,4,4,4,4/0 4,4,4,4,4,4/0 1. CF ba 2. D", "Game: the usual board")
+    equal(str(Game.read("1. CF ba 2. D")), "4,4,4,4,4,4/0 4,4,4,4,4,4/0 1. CF ba 2. D", "Game: the usual board")
     for record, why in (
         ("1.C 1...b", "move 2: South moves, and b is a move of North"),
         ("C F B", "move 3: North moves, and B is a move of South"),
@@ -166,26 +168,26 @@ def try_solver(draw):
                 must(got == want and got[1].margin == margin + more and got[1].house == house, f"Solver: {text}: {got}")
                 steps = [(move.house, move.position, move.word) for move in solver.steps(text).moves]
                 reached = ((legal, *Board(str(text)).after(legal)) for legal in values)
-                must(steps == [(legal, str(to), word) for legal, to, word in reached], f"Solver: {text}: {steps}")
+                equal(steps, [(legal, str(to), word) for legal, to, word in reached], f"Solver: {text}")
                 game = Game(text)
                 for move in solver.best_play(text):
-                    must(solver.best(game.board).house == move.house, f"Solver: {text}: {move} is not best")
+                    equal(solver.best(game.board).house, move.house, f"Solver: {text}: {move} is not best")
                     game.push(move.house)
-                    must(str(game.board) == move.position, f"Solver: {text}: {move} leads to {game.board}")
+                    equal(str(game.board), move.position, f"Solver: {text}: where {move} leads")
                 must(game.is_over and game.margin == margin + more, f"Solver: {text}: best play ends with {game.margin}")
-        must(solver.best_play(LINE, first=1)[0].house == 1 and solver.line("0,0/3 1,2/4") == [], "Solver: the first house of a game")
+        equal((solver.best_play(LINE, first=1)[0].house, solver.line("0,0/3 1,2/4")), (1, []), "Solver: the first house of a game")
         for question in (solver.best, solver.values, solver.steps, solver.line):
-            must(refuses(Fault, lambda: question("1/0")).word == "shape", "Solver: a fault has no word")
-            must(refuses(Fault, lambda: question(Board.start()), "48 seeds").word == "seeds", "Solver: too many seeds")
+            equal(refuses(Fault, lambda: question("1/0")).word, "shape", "Solver: the word of a fault")
+            equal(refuses(Fault, lambda: question(Board.start()), "48 seeds").word, "seeds", "Solver: too many seeds")
             for line in NO_LINES:
                 refuses(TypeError, lambda: question(line), "a position is a line of text")
         refuses(IllegalMove, lambda: solver.line(LINE, first=3), "house 3 can't be moved: houses are 1 to 2")
         for question in (solver.best, solver.values, solver.steps):
-            must(question("0,0/3 1,2/4") == Over(-4), "Solver: a game that is over")
+            equal(question("0,0/3 1,2/4"), Over(-4), "Solver: a game that is over")
         for move in solver.steps("2,1/0 1,1/0").moves:
-            must(move.board == Board(move.position), f"Move: {move} has the board {move.board}")
+            equal(move.board, Board(move.position), f"Move: the board of {move}")
         solver.close()
-        must(solver.best(LINE) == Best(2, 2), "Solver: after close")
+        equal(solver.best(LINE), Best(2, 2), "Solver: after close")
 
 
 def try_timeouts(program, folder):
@@ -196,7 +198,7 @@ def try_timeouts(program, folder):
             refuses(Late, lambda: question(LINE), "kalah has not answered in 0.3 seconds")
     slow = "for n in 1 2 3 4 5; do sleep 0.5; echo /dev/stdin:$n 2 house 2; done; exec sleep 600"
     some = solve_many([LINE] * 6, program=fake(folder, program, [slow]), timeout=2)
-    must([next(some) for _ in range(5)] == [Best(2, 2)] * 5, "solve_many: the answers before a late one")
+    equal([next(some) for _ in range(5)], [Best(2, 2)] * 5, "solve_many: the answers before a late one")
     refuses(Late, lambda: next(some), "kalah has not answered in 2 seconds")
 
 
@@ -211,17 +213,18 @@ def try_errors():
         "seeds": "fault seeds: the line has more than 31 seeds in houses",
     }
     for word, line in words.items():
-        must(str(Fault(word, line)) == meanings[word], f"Python: {Fault(word, line)}")
+        equal(str(Fault(word, line)), meanings[word], f"Python: the text of a fault {word}")
         if word != "seeds":
             for ask in (Board, Solver().best, Client(Best).ask, lambda line: raises(next(solve_many([line])))):
                 fault = refuses(Fault, lambda: ask(line), meanings[word])
-                must((fault.word, fault.line) == (word, line), f"Python: the fault of {line!r} is {fault!r} of {fault.line!r}")
+                equal((fault.word, fault.line), (word, line), f"Python: the fault of {line!r}")
     errors = [Fault("shape", "1/0"), TooMany(48), Gone("gone"), Late("late"), IllegalMove("no"), NoMove("none")]
     for error in errors:
         same = pickle.loads(pickle.dumps(error))
         must(isinstance(error, KalahError) and (repr(same), str(same), vars(same)) == (repr(error), str(error), vars(error)), f"{error!r}")
-    must(all(isinstance(one, ValueError) == (type(one) not in (Gone, Late)) for one in errors), "Python: the errors that are a ValueError")
-    must(isinstance(errors[1], Fault) and errors[1].seeds == 48 and isinstance(errors[3], Gone), "Python: TooMany and Late")
+    others = [type(one) for one in errors if not isinstance(one, ValueError)]
+    equal(others, [Gone, Late], "Python: the errors that are no ValueError")
+    equal((isinstance(errors[1], Fault), errors[1].seeds, isinstance(errors[3], Gone)), (True, 48, True), "Python: TooMany and Late")
 
 
 def raises(error):
@@ -232,7 +235,7 @@ def try_find(program, folder):
     """The program is the one that KALAH names when it is asked for."""
     usual, other = os.environ["KALAH"], folder / "another kalah"
     other.symlink_to(program)
-    must(find() == usual, f"Python: it finds {find()}")
+    equal(find(), usual, "Python: what it finds")
     os.environ["KALAH"] = str(other)
     try:
         must(find() == str(other) and find(program) == str(program), f"Python: it finds {find()} when KALAH names {other}")
@@ -243,9 +246,9 @@ def try_find(program, folder):
 def try_positions():
     """All positions of a size are a sequence, with slices and places from its end."""
     every, listed = Positions(3, 5), [*Positions(3, 5)]
-    must([every[place] for place in range(-len(every), 0)] == listed, "Positions: places from the end")
+    equal([every[place] for place in range(-len(every), 0)], listed, "Positions: places from the end")
     for some in (slice(None), slice(3, 9), slice(-4, None), slice(None, None, -7), slice(1000, None)):
-        must(every[some] == listed[some], f"Positions: {some}")
+        equal(every[some], listed[some], f"Positions: {some}")
     for place in (len(every), -len(every) - 1):
         refuses(IndexError, lambda: every[place])
 
@@ -265,11 +268,12 @@ def try_many(draw, program, folder):
         known = {line: (wanted(solver.best, line), wanted(solver.values, line)) for line in {*lines}}
     for place, question in enumerate(("best", "values")):
         got = [f"{one!r} {one}" if isinstance(one, Fault) else one for one in solve_many(iter(lines), 3, question)]
-        must(got == [known[line][place] for line in lines], f"solve_many, {question}: {got}")
+        equal(got, [known[line][place] for line in lines], f"solve_many, {question}")
     boards = (Board(LINE) for _ in count())
-    must([*islice(solve_many(boards), 12_000)] == [Best(2, 2)] * 12_000 and [*solve_many([])] == [], "solve_many: many boards")
+    equal(Counter(islice(solve_many(boards), 12_000)), {Best(2, 2): 12_000}, "solve_many: many boards")
+    equal([*solve_many([])], [], "solve_many: no board")
     some = solve_many([LINE, LINE, None, LINE])
-    must([next(some), next(some)] == [Best(2, 2)] * 2, "solve_many: what comes before a mistake")
+    equal([next(some), next(some)], [Best(2, 2)] * 2, "solve_many: what comes before a mistake")
     refuses(TypeError, lambda: next(some), "a position is a line of text")
     refuses(TypeError, lambda: solve_many(LINE), f"solve_many takes a list of boards, as ['{LINE}']")
     for words in ({"workers": 0}, {"workers": 65}, {"question": "moves"}):
@@ -285,7 +289,7 @@ def try_ends(program):
     environment = {**os.environ, "KALAH": str(program)}
     words = [sys.executable, "-B", "-W", "error", "-X", "dev", "-c", DROPPED]
     done = subprocess.run(words, env=environment, capture_output=True, text=True)
-    must((done.stdout, done.stderr) == ("done\n", ""), f"Python: a solver that is dropped: {done}")
+    equal((done.stdout, done.stderr), ("done\n", ""), "Python: a solver that is dropped")
     with tempfile.TemporaryDirectory() as folder:
         # The program under a name that no other process has.
         own = Path(folder) / "kalah-of-this-trial"
@@ -296,7 +300,7 @@ def try_ends(program):
             running.send_signal(signal.SIGINT)
             running.stdout.read()
             running.wait()
-        soon(lambda: not [path for path in Path("/proc").glob("[0-9]*/cmdline") if str(own).encode() in read(path)])
+        soon("the end of each run", lambda: not [path for path in Path("/proc").glob("[0-9]*/cmdline") if str(own).encode() in read(path)])
 
 
 def read(path):
@@ -319,7 +323,7 @@ def try_types():
         return skip("mypy", "the types of the Python package")
     with tempfile.TemporaryDirectory() as folder:
         done = subprocess.run(["mypy", "--strict", "--cache-dir", folder, "kalah"], cwd=PACKAGE, capture_output=True, text=True)
-    must(done.returncode == 0, f"mypy --strict: {done.stdout}{done.stderr}")
+    equal(done.returncode, 0, f"mypy --strict: {done.stdout}{done.stderr}")
 
 
 def try_library(program, folder, draw):

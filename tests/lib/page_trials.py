@@ -5,7 +5,8 @@ from contextlib import contextmanager
 from urllib.parse import quote, unquote
 
 from lib import browser, reference
-from lib.tool_trials import drawn_game, drawn_line, must
+from lib.failing import equal, must
+from lib.tool_trials import drawn_game, drawn_line
 from lib.page_wanted import (
     BUTTON,
     CLASSED,
@@ -148,7 +149,7 @@ class PageTrials:
         (north, *above), (south, *below) = boxes[:4], boxes[4:]
         columns = [box["x"] for box in (north, *above, south)]
         must(columns == sorted({*columns}) and columns[1:4] == [box["x"] for box in below], f"the page: the columns of {boxes}")
-        must({box["bottom"] < below[0]["top"] for box in above} == {True}, f"the page: the rows of {boxes}")
+        equal({box["bottom"] < below[0]["top"] for box in above}, {True}, f"the page: the rows of {boxes}")
 
     def mouse_and_keys(self):
         self.open(START)
@@ -316,7 +317,7 @@ class PageTrials:
         self.says("North is to move.")
         self.choose(1, 2)
         reached, word = reference.after(reference.read(b"3,3/0 3,3/0 e"), 2)
-        must(word == "turn", word)
+        equal(word, "turn", f"{line}: how its first move ends")
         self.shows(reference.text(reached), rest="&first=North")
         for _ in range(2):
             self.click("undo")
@@ -496,7 +497,7 @@ class PageTrials:
         self.set("solver", 1)
         self.choose(0, 2)
         moved = course_of(line, [2])[1]
-        must(moved.player == 1, f"house 2 of {line} does not pass the turn")
+        equal(moved.player, 1, f"who moves after house 2 of {line}")
         while moved.player:
             self.played.append(moved.best)
             moved = course_of(line, self.played[1:])[-1]
@@ -661,7 +662,7 @@ class PageTrials:
             self.page.send("Page.navigate", url=f"http://127.0.0.1:{self.server.server_port}/#{text if text == '%' else quote(text)}")
             self.soon("document.getElementById('wrong')?.textContent.startsWith(" + repr(text) + " + ': ')", True)
             self.says("South is to move.")
-            must(self.page.eval("document.querySelectorAll('img, #wrong span *').length") == 0, f"the page: {text} is not escaped")
+            equal(self.page.eval("document.querySelectorAll('img, #wrong span *').length"), 0, f"the page: {text} is not escaped")
         self.open(START, 1)
         self.shows("1,1/0 0,2/0", player=1)
         self.enter("1,1/0 <b>")
@@ -726,7 +727,7 @@ class PageTrials:
                     must(node.get("name", {}).get("value"), f"the page, {width}: a {role} has no name: {node}")
             if dialog:
                 self.page.eval(f"element('{dialog}').close()")
-        must(self.page.eval("element('said').ariaLive") == "polite", "the page: what is said isn't said aloud")
+        equal(self.page.eval("element('said').ariaLive"), "polite", "the page: how what is said is said aloud")
 
     def motion(self):
         """Seeds fall one after another, unless the system's setting is for less motion."""
@@ -737,7 +738,7 @@ class PageTrials:
             self.page.click("house-0-2")
             self.soon("element('played').children.length", 1)
             got = self.page.eval("element('board').getAnimations({ subtree: true }).length > 0")
-            must(got == moves, f"the page, with {setting}: seeds are {'' if got else 'not '}moving")
+            equal(got, moves, f"the page, with {setting}: whether seeds move")
         self.page.settings(prefers_reduced_motion="no-preference")
         self.open(START)
         self.set("solver", 1)

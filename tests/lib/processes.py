@@ -91,12 +91,12 @@ def give_up_reading():
         ctypes.CDLL(None).prctl(24, capability, 0, 0, 0)
 
 
-def soon(holds):
-    """Waits until it holds."""
+def soon(what, holds):
+    """Waits until this holds."""
     end = time.monotonic() + SOON
     while not holds():
         if time.monotonic() > end:
-            raise Failed("what is waited for has not come")
+            raise Failed(f"{SOON} seconds have passed without this: {what}")
         time.sleep(0.001)
 
 
@@ -109,9 +109,9 @@ def fill(pipe, data, process):
             opened.append(os.open(pipe, os.O_WRONLY | os.O_NONBLOCK))
         return opened
 
-    soon(is_opened)
+    soon(f"the run opens {pipe}", is_opened)
     os.set_blocking(opened[0], True)
     with open(opened[0], "wb", buffering=0) as writer, suppress(BrokenPipeError):
         writer.write(data)
-        soon(lambda: has_open(process, pipe))
-    soon(lambda: not has_open(process, pipe))
+        soon(f"the run has {pipe} open", lambda: has_open(process, pipe))
+    soon(f"the run closes {pipe}", lambda: not has_open(process, pipe))

@@ -95,7 +95,7 @@ def progress_is_ended(runs):
     rows = rb"(\rkalah: \d+ of 200 lines, \d+ %(, \d+ \w+ left)?\x1b\[K)+\nkalah: write failed\n"
     tip = rb"  tip: the disk is full, or the reader of the output has left\n"
     if status != 2 or not re.fullmatch(rows + tip, said) or b" 200 of " in said:
-        raise Failed(f"status {status}, and progress is shown as {said[-200:]!r}")
+        raise Failed(f"status {status}, and progress is shown as {said[-200:]!r}, not as 2 and {(rows + tip).decode()}")
 
 
 def files_of_progress(runs, lines):
@@ -117,14 +117,15 @@ def look_at_progress(runs, said, lines, in_place, took, tip):
     again = [f"{begin}kalah: {n} of {lines} lines, {100 * n // lines if lines else 100} %{left}{end}" for n, left in rows]
     counts = [n for n, _ in rows]
     if shown != "".join(again) + "\n" * in_place or counts != sorted(set(counts)) or rows[0] != (0, "") or rows[-1] != (lines, ""):
-        raise Failed(f"progress is shown as {shown[:300]!r} .. {shown[-100:]!r}")
+        form = f"{again[:2]} .. {again[-2:]}, from 0 to {lines}"
+        raise Failed(f"progress is shown as {shown[:300]!r} .. {shown[-100:]!r}, in place of {form}")
     for answered, left in rows:
         if left and in_seconds(left) > took * (lines - answered) / answered:
             raise Failed(f"{left} is shown after {answered} of {lines} lines, in a run of {took:.1f} s")
     parts = 1000 if in_place else 100
     steps = {-(-lines * part // parts) for part in range(parts + 1)}
     if steps - set(counts) or (set(counts) - steps and not in_place):
-        raise Failed(f"progress leaves out a share, or shows one twice: {shown[:300]!r}")
+        raise Failed(f"progress leaves out {sorted(steps - set(counts))} of {lines} lines, or shows a share twice: {counts}")
 
 
 # How often each of these trials is made in one round of all of them.

@@ -9,6 +9,7 @@ from lib.crates import TOP, crates
 
 INTERFACE = "docs/INTERFACE.md"
 PROMISES, EXCERPTS = "docs/PROOFS.md", "CONTRIBUTING.md"
+TESTS = "tests"
 CERTIFICATES, CHECKER = "docs/CERTIFICATES.md", "python/kalah/check.py"
 # Pages that also name what is not there: what has gone, and what a caller has added.
 CHANGELOG = "CHANGELOG.md"
@@ -116,13 +117,16 @@ def items_named(name, files):
 
 
 def promises_differ():
-    """Each row of the table names functions, types or files, and then clauses there, laws, or definitions. A clause is an `ensures`, or a
-    `requires` where the row says that it is required. A definition has a capital, or stands after `over`."""
+    """Each item of the list names functions, types or files, and then clauses there, laws, or definitions. A clause is an `ensures`, or a
+    `requires` if the item says that it is required. A definition has a capital, or stands after `over`."""
     files = {path: path.read_text() for path in (TOP / "crates").glob("*/src/**/*.rt") if "tests" not in path.parts}
     laws = "\n".join(text for path, text in files.items() if path.name in ("laws.rt", "limits.rt"))
     specs = "\n".join(path.read_text() for path in (TOP / "crates").glob("*/specs/**/*.antt"))
-    rows = re.findall(r"^\| (.*) \| (.*) \| (.*) \|$", (TOP / PROMISES).read_text(), re.MULTILINE)[1:]
-    for promise, places, carried in rows:
+    items = re.findall(r"^- ((?:.|\n  )*)$", (TOP / PROMISES).read_text().partition("\n## What carries each promise\n")[2], re.MULTILINE)
+    for item in (" ".join(item.split()) for item in items):
+        if not (found := re.fullmatch(r"(.*)\. At (.*?): (.*)", item)):
+            return f"{PROMISES}: this has not the form `PROMISE. At PLACES: CLAUSES`: {item}"
+        promise, places, carried = found.groups()
         code = ""
         for place in re.findall(r"`([\w:.]+)`", places):
             there = [text for path, text in files.items() if path.name == place] or items_named(place.rpartition("::")[2], files)
@@ -135,7 +139,7 @@ def promises_differ():
             is_definition = (name[0].isupper() or f"over `{name}`" in carried) and re.search(rf"\bpub (record )?{name}\b", specs)
             if not (is_clause or is_law or is_definition):
                 return f"{PROMISES}: {promise}: there is no {name}"
-    return None if rows else f"{PROMISES}: no promise"
+    return None if items else f"{PROMISES}: no promise"
 
 
 def pages():
@@ -165,14 +169,16 @@ def checker_differs():
 
 def files_differ():
     """Each file of the repository that a page names in backticks is there, with as many of its folders as are named. `MODULE.edits` and the
-    like are no files."""
+    like are no files. The page of the tests names each file of their library."""
     tops = [TOP / folder for folder in ("crates", "tests", "docs", "examples", "python", "bench", "packaging", "completions")]
     paths = [f"/{path.relative_to(TOP)}" for top in tops for path in top.rglob("*.*") if "/out/" not in f"{path}"]
     for page in pages():
         for name in set(re.findall(r"`([\w/.]+\.(?:rt|antt|py|c|js|sh|gp|svg|css|html|txt|md|edits))`", page.read_text())):
             if name.rpartition("/")[2] not in FORMS and not (TOP / name).exists() and not any(path.endswith(f"/{name}") for path in paths):
                 return f"{page.relative_to(TOP)}: there is no file {name}"
-    return None
+    named = (TOP / TESTS / "README.md").read_text()
+    unnamed = sorted(path.name for path in (TOP / TESTS / "lib").iterdir() if path.is_file() and f"`{path.name}`" not in named)
+    return f"{TESTS}/README.md doesn't name {unnamed}" if unnamed else None
 
 
 def names_differ():

@@ -15,7 +15,7 @@ from xml.dom import minidom
 
 from lib import reference
 from lib.client_trials import EXAMPLES, Client, command, kalah
-from lib.failing import Failed
+from lib.failing import Failed, equal, must
 
 from kalah import check, rules
 from kalah.game import Record
@@ -30,11 +30,6 @@ STRAYS = "4,0,1/0 0,1,1/9 e"
 HOSTILE = "</title><script>alert(1)</script>"
 # The most memory of a script, in kilobytes.
 KILOBYTES = 100_000
-
-
-def must(holds, what):
-    if not holds:
-        raise Failed(what)
 
 
 def fault(word, line):
@@ -70,7 +65,7 @@ def try_each_step():
                 follows = needed != [] and all(check.holds(one, Truth()) for one in needed)
                 is_legal = house in reference.legal(position)
                 is_true = is_legal and reference.value(position, house) >= bound if is_first else margin <= bound
-                must(follows == is_true, f"check, {line}{rule}, {is_first}, {bound}, {house}: {follows}")
+                equal(follows, is_true, f"check, {line}{rule}, {is_first}, {bound}, {house}")
 
 
 class CertificateTrials:
@@ -85,7 +80,7 @@ class CertificateTrials:
             margin, lines = self.best.ask(line).margin, list(certify.certificate(line, self.solver))
             for asked in ([], [line, str(margin)]):
                 got = check.check(lines, *asked)
-                must(got == f"{line} has the margin {margin}: all {len(lines)} lines follow", f"certificate of {line}: {got}")
+                equal(got, f"{line} has the margin {margin}: all {len(lines)} lines follow", f"certificate of {line}")
             self.change(line, margin, lines)
             self.cut(line, str(margin), lines)
             for wrong in (f"{margin} house 1", f"{margin}\n", f"{margin} ", f"0{margin}"):
@@ -94,10 +89,10 @@ class CertificateTrials:
     def change(self, line, margin, lines):
         most, least = f"{line} at most {margin}", lines[-1]
         half = lines[: lines.index(most) + 1]
-        must(check.check(half) == f"{most}: all {len(half)} lines follow", f"check: half a certificate of {line}")
+        equal(check.check(half), f"{most}: all {len(half)} lines follow", f"check: half a certificate of {line}")
         weaker = f"{line} at least {margin - 1}"
         got = check.check([*lines[:-1], least.replace(f"{line} at least {margin}", weaker)])
-        must(got == f"{weaker}: all {len(lines)} lines follow", f"check: bounds of {line} that don't meet: {got}")
+        equal(got, f"{weaker}: all {len(lines)} lines follow", f"check: bounds of {line} that don't meet")
         for root, stronger in ((most, f"{line} at most {margin - 1}"), (least, least.replace(f"least {margin}", f"least {margin + 1}"))):
             self.refuse([stronger if one == root else one for one in lines], "no line proves")
         changed = least.replace(" at least", ""), least.replace("/", ",0/", 1)
@@ -175,10 +170,10 @@ class ReviewTrials:
         got = [(played.player, played.house, played.values) for played in game.played]
         must(got == moved and game.game.is_over and not game.flaw, f"review: {line} {houses}: {got}")
         lost = [sum(played.lost for played in game.of(player)) for player in (0, 1)]
-        must(margin == self.solver.best(line).margin - lost[0] + lost[1], f"review: {line} {houses} loses {lost}")
+        equal(margin, self.solver.best(line).margin - lost[0] + lost[1], f"review: {line} {houses}, which loses {lost}")
         must("draw" in game.end() if margin == 0 else f"{'North' if margin < 0 else 'South'} wins" in game.end(), f"{line}: {game.end()}")
         worst = [max(played.lost for played in game.of(player)) > 0 for player in (0, 1) if game.of(player)]
-        must(game.html().count("worst move") == sum(worst), f"review --html: {line} {houses}")
+        equal(game.html().count("worst move"), sum(worst), f"review --html: {line} {houses}")
         self.flaws(line, houses, moved)
 
     def flaws(self, line, houses, moved):
@@ -192,7 +187,7 @@ class ReviewTrials:
         must(game.flaw == want and len(game.played) == number, f"review: {game.flaw} in place of {want}")
         game = self.review(line, [*houses, 1])
         want = f"move {len(houses) + 1}: {game.game.mover} can't move house 1: the game is over"
-        must(game.flaw == want, f"review: {line} {houses} 1: {game.flaw} in place of {want}")
+        equal(game.flaw, want, f"review: {line} {houses} 1")
         must(not number or "isn't over" in self.review(line, houses[:number]).end(), f"review: {line} {houses[:number]}")
 
 
@@ -200,7 +195,7 @@ def try_board():
     """The numbers of a board, from left to right and downwards: North's houses are counted from the right."""
     texts = minidom.parseString(kalah.Board("1,2,3/4 5,6,7/8").svg()).getElementsByTagName("text")
     placed = sorted((float(text.getAttribute("y")), float(text.getAttribute("x")), text.firstChild.data) for text in texts)
-    must("".join(words for _, _, words in placed) == "321" "765" "84" "123" "123", f"board: {placed}")
+    equal("".join(words for _, _, words in placed), "321" "765" "84" "123" "123", f"board: the words of {placed}")
 
 
 def try_pictures(draw):
@@ -208,7 +203,7 @@ def try_pictures(draw):
     for _ in range(GAMES):
         line = drawn_line(draw, 6, 31)
         picture = kalah.Board(line).picture()
-        must(f"{picture}\n" == reference.picture(reference.read(line.encode())), f"Board, {line}: {picture}")
+        equal(f"{picture}\n", reference.picture(reference.read(line.encode())), f"Board: the picture of {line}")
 
 
 def try_positions():
@@ -302,18 +297,18 @@ class ScriptTrials:
         first, again, other = (self.script("positions", *sizes, seed)[0].splitlines() for seed in (1, 1, 2))
         must(first == again != other and len({*first}) == 100, "positions: a sample is not that of its seed")
         _, err = self.script("positions", 3, 5, "--sample", 1000, status=2)
-        must(err == "positions: --sample 1000: there are only 210 positions\n", f"positions: {err}")
+        equal(err, "positions: --sample 1000: there are only 210 positions\n", "positions")
 
     def puzzles(self):
         """Each puzzle has exactly one move that wins, and others; no other position has; and faults are named."""
         lines = [*positions.Positions(2, 6), "1,1,1/0 3,0,0/0 e", "2,1/0 3,0/0 e", "1,1/0", "0,0/3 1,2/4"]
         (self.folder / "a b.txt").write_text("".join(line + "\n" for line in lines))
         out, err = self.script("puzzles", "--again", "--greedy", "a b.txt", status=1)
-        must(err == f"puzzles: a b.txt:{len(lines) - 1}: {fault('shape', '1,1/0')}\n", f"puzzles: {err}")
+        equal(err, f"puzzles: a b.txt:{len(lines) - 1}: {fault('shape', '1,1/0')}\n", "puzzles")
         rows, near = ([one for line in lines if (one := puzzle_of(line, most))] for most in (8, 2))
         for some in (rows, near):
             some.sort(key=lambda one: (-one.level, -one.far, one.gap, one.line))
-        must(out.splitlines() == [one.text for one in rows], f"puzzles: {out} in place of {rows}")
+        equal(out.splitlines(), [one.text for one in rows], "puzzles")
         for options, kept in (
             ([], [one for one in rows if not one.again and not one.greedy]),
             (["--again"], [one for one in rows if not one.greedy]),
@@ -335,9 +330,9 @@ class ScriptTrials:
             must(f"{position} has the margin " in self.script("check", "certificate")[0], f"certify {position}")
         (self.folder / "certificate").write_text("1,1/0 1,1/0 at least 3 house 2\n")
         _, err = self.script("check", "certificate", status=1)
-        must(err == "check: line 1 doesn't follow: it needs 1,0/1 1,1/0 at least 3, which no line proves\n", f"check: {err}")
+        equal(err, "check: line 1 doesn't follow: it needs 1,0/1 1,1/0 at least 3, which no line proves\n", "check")
         _, err = self.script("check", "no file", status=2)
-        must(err == "check: cannot read no file: No such file or directory\n", f"check: {err}")
+        equal(err, "check: cannot read no file: No such file or directory\n", "check")
 
     def measured(self, name, *words, seconds):
         """Returns what a script prints within these seconds, with little memory."""
@@ -366,23 +361,23 @@ class ScriptTrials:
         (self.folder / "drawn.txt").write_text("\n".join(lines))
         page, _ = self.script("booklet", "--paper", "Letter", "drawn.txt")
         found = re.findall(r"<section><p><b>(\d+)\.</b> (.*?) <i>Level (\d)\.</i></p>\n.*?<title>(.*?)</title>", page, re.DOTALL)
-        must([int(number) for number, *_ in found] == [*range(1, GAMES + 1)], f"booklet: the numbers of {found}")
-        must(sorted(line for *_, line in found) == sorted(lines), f"booklet: the positions of {found}")
+        equal([int(number) for number, *_ in found], [*range(1, GAMES + 1)], f"booklet: the numbers of {found}")
+        equal(sorted(line for *_, line in found), sorted(lines), f"booklet: the positions of {found}")
         levels, solutions = [int(level) for _, _, level, _ in found], re.findall("<li>(.*)</li>", page)
-        must(levels == sorted(levels), f"booklet: the levels {levels}")
+        equal(levels, sorted(levels), "booklet: the levels")
         for (_, question, level, line), solution in zip(found, solutions, strict=True):
             position = reference.read(line.encode())
             values = {house: reference.value(position, house) for house in reference.legal(position)}
             wins = sum(value > 0 for value in values.values())
             asked = "South moves and wins." if wins == 1 else "South moves. Which house is best?"
             asked += " The empty-capture rule holds." * line.endswith(" e")
-            must((question, solution) == (asked, solution_of(position)), f"booklet, {line}: {question} {solution}")
-            must(int(level) == level_of(far_of(rules.read(line), values) or 9, values), f"booklet, {line}: level {level}")
+            equal((question, solution), (asked, solution_of(position)), f"booklet: question and solution of {line}")
+            equal(int(level), level_of(far_of(rules.read(line), values) or 9, values), f"booklet: the level of {line}")
         pages = page.split('<div class="page')[1:]
         counts = [one.count("<section>") for one in pages]
-        must(counts == [0, *[4] * 7, 2, 0, 0, 0], f"booklet: pages with {counts} puzzles")
+        equal(counts, [0, *[4] * 7, 2, 0, 0, 0], "booklet: the puzzles of its pages")
         numbers = [re.findall("<footer>(.*)</footer>", one) for one in pages]
-        must(numbers == [[str(number)] for number in range(1, 13)], f"booklet: the pages are {numbers}")
+        equal(numbers, [[str(number)] for number in range(1, 13)], "booklet: the numbers of its pages")
         starts = [int(number) for number in re.findall('<ol start="(.*?)">', page)]
         must(starts == [1, 11, 21] and "size: Letter" in page, f"booklet: solutions begin with {starts}")
         must(".page { break-after: page; }" in page and 'name="viewport"' in page, "booklet: a page begins nowhere")
@@ -421,7 +416,7 @@ class ScriptTrials:
             quoted = name.replace('"', '""')
             stored = sqlite3.connect(self.folder / "data.db").execute(f'SELECT {", ".join(columns)} FROM "{quoted}"')
             found = [["" if cell is None else str(cell) for cell in row] for row in stored]
-            must(found == want, f"table, {name}: {found}")
+            equal(found, want, f"table, {name}")
         for wrong, why in (
             (answers[:5], "answers has 5 answers, and a b.txt 6 lines"),
             ([*answers, "x:7 0 over"], "answers has 7 answers, and a b.txt 6 lines"),
@@ -429,7 +424,7 @@ class ScriptTrials:
         ):
             (self.folder / "answers").write_text("\n".join(wrong))
             got = self.script("table", "--answers", "answers", "a b.txt", status=2)
-            must(got == ("", f"table: {why}\n"), f"table, {wrong}: {got}")
+            equal(got, ("", f"table: {why}\n"), f"table, {wrong}")
         (self.folder / "a b.txt").write_text(f"{lines[5]}\n\n")
         out, err = self.script("table", "a b.txt", status=1)
         rows = [*csv.reader(out.splitlines())]
@@ -440,13 +435,13 @@ class ScriptTrials:
         """Of a file without a line there is nothing, or that is said."""
         (self.folder / "empty").write_text("")
         for name, *options in (["table", "--json"], ["puzzles"]):
-            must(self.script(name, *options, "empty") == ("", ""), f"{name} {options} of an empty file")
-        must(self.script("table", "empty")[0].count("\n") == 1, "table of an empty file")
+            equal(self.script(name, *options, "empty"), ("", ""), f"{name} {options} of an empty file")
+        equal(self.script("table", "empty")[0].count("\n"), 1, "table of an empty file")
         for name, *options in (["booklet"], ["review", "--games"], ["match", "kalah", "kalah", "--positions"]):
             out, err = self.script(name, *options, "empty", status=2)
             must(out == "" and err.startswith(f"{name}: empty has no "), f"{name} {options} of an empty file: {out}{err}")
         _, err = self.script("puzzles", "-", status=2)
-        must(err == "puzzles: cannot read -: there is no such file; standard input is /dev/stdin\n", f"puzzles -: {err}")
+        equal(err, "puzzles: cannot read -: there is no such file; standard input is /dev/stdin\n", "puzzles -")
 
     def games(self):
         (self.folder / "a b.txt").write_text("1,1/0 1,1/0 2 1\n\n1,1/0 1,1/0 1 2 2\n1/0 1 2\n")
@@ -457,10 +452,10 @@ class ScriptTrials:
         want = "1. South moves house 1, worth -2, which loses 4 (house 2 is worth +2).\n"
         must(want in out and "\nSouth: moves 1, mistakes 1, lost 4.\n" in out, f"review: {out}")
         want = "review: a b.txt:3: move 3: North can't move house 2: it is empty\nreview: a b.txt:4: " + fault("shape", "1/0 1") + "\n"
-        must(err == want, f"review: {err}")
+        equal(err, want, "review")
         page, _ = self.script("review", "--html", "--games", "a b.txt", status=1)
         counts = [page.count(part) for part in ("<h2>", "<svg xmlns", '<svg class="curve"', "worst move", "which loses 4")]
-        must(counts == [3, 6, 2, 1, 1], f"review --html: {counts}")
+        equal(counts, [3, 6, 2, 1, 1], "review --html")
         page, _ = self.script("review", "--html", HOSTILE, status=1)
         must("<script" not in page, f"review --html: {page}")
 

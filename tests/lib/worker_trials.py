@@ -54,9 +54,9 @@ def busy_workers(runs):
         busy, kilobytes = busy_threads(process), in_memory(process)
         process.kill()
     if busy < workers:
-        raise Failed(f"{busy} threads are at work")
+        raise Failed(f"{busy} threads are at work, of {workers}")
     if kilobytes > 4000 + 200 * workers:
-        raise Failed(f"{workers} workers take {kilobytes} kB")
+        raise Failed(f"{workers} workers take {kilobytes} kB, more than {4000 + 200 * workers}")
 
 
 def few_lines(runs):
@@ -84,7 +84,7 @@ def many_large_tables(runs):
     runs.compare(want, run_within(runs, SPACE_OF_MANY, [*words, "a"]))
     kilobytes = memory_of(runs, [*words, "b"])
     if kilobytes > MEMORY_OF_MANY:
-        raise Failed(f"64 workers with large tables take {kilobytes} kB for quick lines")
+        raise Failed(f"64 workers with large tables take {kilobytes} kB for quick lines, more than {MEMORY_OF_MANY}")
 
 
 def memory_of(runs, words):
@@ -93,7 +93,7 @@ def memory_of(runs, words):
     with runs.start(words, stdout=writer) as process:
         os.close(writer)
         try:
-            soon(lambda: bytes_in(reader))
+            soon("the run writes", lambda: bytes_in(reader))
             before = None
             while before != bytes_in(reader):
                 before = bytes_in(reader)
@@ -110,7 +110,7 @@ def tables_as_asked(runs):
     runs.put({"a": LONG_GAME})
     small, large = (memory_of_search(runs, subcommand, entries) for entries in (1, 1 << 20))
     if large < small + FILLED:
-        raise Failed(f"{subcommand} takes {small} kB with a table of one entry, and {large} kB with the largest")
+        raise Failed(f"{subcommand} takes {small} kB with a table of one entry, and {large} kB with the largest, not {FILLED} more")
 
 
 def memory_of_search(runs, subcommand, entries):
@@ -118,7 +118,8 @@ def memory_of_search(runs, subcommand, entries):
     rest = {"ask": [], "play": [LONG_GAME], "show": [LONG_GAME]}.get(subcommand, ["--workers=1", "a"])
     with runs.start([subcommand, f"--table={entries}", *rest], stdin=subprocess.PIPE, bufsize=0) as process:
         process.stdin.write(LONG_GAME + b"\n")
-        soon(lambda: process.poll() is not None or sum(ticks_of(process).values()) >= SEARCHED)
+        at_work = f"{SEARCHED} ticks of the clock at work"
+        soon(at_work, lambda: process.poll() is not None or sum(ticks_of(process).values()) >= SEARCHED)
         kilobytes = in_memory(process, "VmHWM")
         process.kill()
     return kilobytes
