@@ -39,20 +39,11 @@ PATIENCE = 60
 
 # Programs in the shell that misbehave once they are asked.
 MISBEHAVING = [
-    "exit",
-    "read -r line; exit",
-    "read -r line; printf '2 hou'; exit",
-    "read -r line; printf '2 house 2'; exit",
-    "read -r line; printf '2 house 2\\n2 house 2\\n'; exec sleep 600",
-    "read -r line; printf '2 hou'; exec sleep 600",
-    "exec sleep 600",
+    "exit", "read -r line; exit", "read -r line; printf '2 hou'; exit", "read -r line; printf '2 house 2'; exit",
+    "read -r line; printf '2 house 2\\n2 house 2\\n'; exec sleep 600", "read -r line; printf '2 hou'; exec sleep 600", "exec sleep 600",
     "exec cat 3>&1 > /dev/null",
-    "read -r line; sleep 1.2; echo '2 house 2'; exec cat 3>&1 > /dev/null",
-    "exec < /dev/null; sleep 2",
-    "read -r line; exec yes 2",
-    "read -r line; exec tr '\\0' 2 < /dev/zero",
-    "read -r line; while printf 2; do sleep 0.3; done",
-    "exec cat > /dev/null",
+    "read -r line; sleep 1.2; echo '2 house 2'; exec cat 3>&1 > /dev/null", "exec < /dev/null; sleep 2", "read -r line; exec yes 2",
+    "read -r line; exec tr '\\0' 2 < /dev/zero", "read -r line; while printf 2; do sleep 0.3; done", "exec cat > /dev/null",
 ]
 
 # Programs that don't read a question that is longer than a pipe.

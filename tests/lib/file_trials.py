@@ -14,15 +14,9 @@ from lib.random_data import BYTES, DEPTHS, FILES, LINES, LINES_OF_MOVES, MORE, N
 # The names that a subcommand is given which answers files, and the size of the file `a`, which is all there is. Its last line is one
 # that is read.
 LIMITS = [
-    (["a"] * 256 + ["./a"], 8),
-    (["a"] * 398 + ["b"], 8),
-    (["a"] * 398 + ["a\na"], 8),
-    (["a\n", "b"], 8),
-    (["./" * 2045 + "a"] * 256, 8),
-    (["a"], reference.MOST_BYTES_OF_A_FILE),
-    (["a"], reference.MOST_BYTES_OF_A_FILE + 1),
-    (["a", "b"], reference.MOST_BYTES_OF_A_FILE + 1),
-    (["b", "a"], reference.MOST_BYTES_OF_A_FILE + 1),
+    (["a"] * 256 + ["./a"], 8), (["a"] * 398 + ["b"], 8), (["a"] * 398 + ["a\na"], 8), (["a\n", "b"], 8),
+    (["./" * 2045 + "a"] * 256, 8), (["a"], reference.MOST_BYTES_OF_A_FILE), (["a"], reference.MOST_BYTES_OF_A_FILE + 1),
+    (["a", "b"], reference.MOST_BYTES_OF_A_FILE + 1), (["b", "a"], reference.MOST_BYTES_OF_A_FILE + 1),
 ]
 
 

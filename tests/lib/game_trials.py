@@ -237,9 +237,7 @@ class GameTrials:
         game = Game(line, houses)
         seeds = [board.houses[0][house - 1] for board, house in zip(game.boards, houses)]
         texts = [
-            " ".join(map(str, houses)),
-            ", ".join(map(str, houses)),
-            " ".join(letters),
+            " ".join(map(str, houses)), ", ".join(map(str, houses)), " ".join(letters),
             " ".join(f"{number}. {house}" for number, house in enumerate(houses, 1)),
             " ".join(f"{number}.{letter}" for number, letter in enumerate(letters, 1)),
             " ".join(f"{number} {letter}," for number, letter in enumerate(letters, 1)),
@@ -248,8 +246,7 @@ class GameTrials:
             " ".join("-".join(str(house) for _, house, _ in turn) for turn in turns),
             " ".join(f"{letter}{count}" for letter, count in zip(letters, seeds)),
             " ".join(f"{letter}{house}" for letter, house in zip(letters, houses)),
-            " ".join(f"1{'...' if player else '.'} {house} {{so}}" for player, house in zip(players, houses)),
-            game.record(),
+            " ".join(f"1{'...' if player else '.'} {house} {{so}}" for player, house in zip(players, houses)), game.record(),
             game.record(numbers=True),
         ]
         games = [self.reviewed(f"{line} {text}") for text in texts]
@@ -370,11 +367,8 @@ def try_drawn_positions(folder, draw):
     lines = output(folder, "positions", 2, "4-7", "--games", "--balanced", 2, "--sample", 10, "--seed", 1)[0].splitlines()
     must(all(abs(reference.best_play(reference.read(line.encode()))[0]) <= 2 for line in lines), f"positions: {lines} are not balanced")
     for words, why in (
-        ((2, "x"), "'x' is not a number from 2 to 31"),
-        ((2, "9-8"), "'9-8' is not a number from 2 to 31"),
-        ((2, "1-4"), "'1-4' is not a number"),
-        ((2, "30-32"), "'30-32' is not a number"),
-        ((2, 4, "--games"), "--games needs --sample"),
+        ((2, "x"), "'x' is not a number from 2 to 31"), ((2, "9-8"), "'9-8' is not a number from 2 to 31"),
+        ((2, "1-4"), "'1-4' is not a number"), ((2, "30-32"), "'30-32' is not a number"), ((2, 4, "--games"), "--games needs --sample"),
         ((2, 4, "--sample", 3, "--start", USUAL), "--start needs --games"),
         ((2, 4, "--sample", 3, "--games", "--start", USUAL), "no game starts there with 2 houses a side and 4 seeds or more"),
         ((2, 4, "--balanced", "-1"), "'-1' is not a number from 0 on"),

@@ -16,151 +16,82 @@ from lib.reference import Run
 # Words that begin with no subcommand.
 NO_SUBCOMMAND = [
     # No word, and words that are no subcommand.
-    [],
-    [""],
-    ["stop"],
-    ["stop", "-V"],
-    ["help"],
-    ["Solve", "a"],
-    ["--", "solve", "a"],
-    [b"\xff"],
+    [], [""], ["stop"], ["stop", "-V"], ["help"], ["Solve", "a"], ["--", "solve", "a"], [b"\xff"],
     # Options that are not taken before a subcommand.
-    ["-x"],
-    ["--versio"],
-    ["--version=1"],
-    ["--workers", "1", "solve", "a"],
+    ["-x"], ["--versio"], ["--version=1"], ["--workers", "1", "solve", "a"],
 ]
 
 # Words behind each subcommand that answers files.
 REFUSED_WITH_FILES = [
     # No file.
-    [],
-    ["--"],
-    ["--workers", "1"],
+    [], ["--"], ["--workers", "1"],
     # An option that is not taken.
-    ["a", "-b"],
-    ["a", "-V"],
-    ["--version", "a"],
-    ["--worker", "1", "a"],
+    ["a", "-b"], ["a", "-V"], ["--version", "a"], ["--worker", "1", "a"],
     # An option without a number, or twice; a number that is out of range, or is no number.
-    ["--workers", "a"],
-    ["a", "--table"],
-    ["a", "--workers", "1", "--workers", "1"],
-    ["a", "--table=1", "--table=1"],
+    ["--workers", "a"], ["a", "--table"], ["a", "--workers", "1", "--workers", "1"], ["a", "--table=1", "--table=1"],
     *([f"--workers={n}", "a"] for n in ("", "0", "65", "-1", "four", "4.0", " 4", "4 ", "1e1", "0x4", "４", 2**32 + 4, 2**64 + 4)),
     *(["a", f"--table={n}"] for n in ("", "0", "1048577", "-1", "1_000", 2**32 + 1, 2**64 + 1)),
     # Words that are no text.
-    ["a", b"\xed\xa0\x80"],
-    ["a", "--workers", b"4\xc3"],
+    ["a", b"\xed\xa0\x80"], ["a", "--workers", b"4\xc3"],
 ]
 
 # Words behind each subcommand.
 REFUSED_AFTER = {
-    "solve": REFUSED_WITH_FILES,
-    "values": REFUSED_WITH_FILES,
+    "solve": REFUSED_WITH_FILES, "values": REFUSED_WITH_FILES,
     "steps": [
         *REFUSED_WITH_FILES,
         # Options of other subcommands.
-        ["--table", "1", "a"],
-        ["a", "--table=65536"],
-        ["--boards", "a"],
+        ["--table", "1", "a"], ["a", "--table=65536"], ["--boards", "a"],
     ],
     "moves": [
         # No line, two lines, one that begins as an option does, and one that is no text.
-        [],
-        ["--"],
-        ["1/0 1/0", "1/0 1/0"],
-        ["-1/0 1/0"],
-        [b"1/0 1/0\x80"],
+        [], ["--"], ["1/0 1/0", "1/0 1/0"], ["-1/0 1/0"], [b"1/0 1/0\x80"],
         # An option without a line, with a value, or twice.
-        ["--boards"],
-        ["--boards=true", "1/0 1/0"],
-        ["--boards", "--boards", "1/0 1/0"],
+        ["--boards"], ["--boards=true", "1/0 1/0"], ["--boards", "--boards", "1/0 1/0"],
         # Options of other subcommands, and one that stands before a subcommand.
-        ["--workers", "1", "1/0 1/0"],
-        ["--table", "1", "1/0 1/0"],
-        ["--first=1", "1/0 1/0"],
-        ["--lines", "1/0 1/0"],
-        ["--values", "1/0 1/0"],
-        ["--version"],
+        ["--workers", "1", "1/0 1/0"], ["--table", "1", "1/0 1/0"], ["--first=1", "1/0 1/0"], ["--lines", "1/0 1/0"],
+        ["--values", "1/0 1/0"], ["--version"],
     ],
     "play": [
         # No line, and two lines.
-        [],
-        ["--"],
-        ["1/0 1/0", "1/0 1/0"],
+        [], ["--"], ["1/0 1/0", "1/0 1/0"],
         # A first house that is out of range, no number or missing, or that stands twice.
-        *([f"--first={n}", "1/0 1/0"] for n in ("", "0", "7", "-1", "a", "1.0", 2**32 + 1)),
-        ["--first", "1/0 1/0"],
+        *([f"--first={n}", "1/0 1/0"] for n in ("", "0", "7", "-1", "a", "1.0", 2**32 + 1)), ["--first", "1/0 1/0"],
         ["--first=1", "--first=1", "1/0 1/0"],
         # A table without a number, or with one that is out of range.
-        ["--table", "1/0 1/0"],
-        ["--table=0", "1/0 1/0"],
-        ["--table=1048577", "1/0 1/0"],
+        ["--table", "1/0 1/0"], ["--table=0", "1/0 1/0"], ["--table=1048577", "1/0 1/0"],
         # An option with a value, twice, or cut short.
-        ["--boards=1", "1/0 1/0"],
-        ["--board", "1/0 1/0"],
-        ["--values=1", "1/0 1/0"],
-        ["--values", "--values", "1/0 1/0"],
+        ["--boards=1", "1/0 1/0"], ["--board", "1/0 1/0"], ["--values=1", "1/0 1/0"], ["--values", "--values", "1/0 1/0"],
         # Options of other subcommands, and one that stands before a subcommand.
-        ["--workers", "1", "1/0 1/0"],
-        ["--lines", "1/0 1/0"],
-        ["-V", "1/0 1/0"],
+        ["--workers", "1", "1/0 1/0"], ["--lines", "1/0 1/0"], ["-V", "1/0 1/0"],
     ],
     "show": [
         # No line, two lines, one that begins as an option does, and one that is no text.
-        [],
-        ["--"],
-        ["1/0 1/0", "1/0 1/0"],
-        ["-1/0 1/0"],
-        [b"1/0 1/0\x80"],
+        [], ["--"], ["1/0 1/0", "1/0 1/0"], ["-1/0 1/0"], [b"1/0 1/0\x80"],
         # An option with a value, or twice; a number that is out of range.
-        ["--plain=1", "1/0 1/0"],
-        ["--plain", "--plain", "1/0 1/0"],
-        ["--lines=1", "1/0 1/0"],
-        ["--lines", "--lines", "1/0 1/0"],
+        ["--plain=1", "1/0 1/0"], ["--plain", "--plain", "1/0 1/0"], ["--lines=1", "1/0 1/0"], ["--lines", "--lines", "1/0 1/0"],
         ["--table=0", "1/0 1/0"],
         # Options of other subcommands.
-        ["--boards", "1/0 1/0"],
-        ["--first=1", "1/0 1/0"],
-        ["--values", "1/0 1/0"],
-        ["--workers", "1", "1/0 1/0"],
+        ["--boards", "1/0 1/0"], ["--first=1", "1/0 1/0"], ["--values", "1/0 1/0"], ["--workers", "1", "1/0 1/0"],
     ],
     "count": [
         # A depth that is out of range, or is no number.
         *([str(depth), "1/0 1/0"] for depth in ("", "21", "-1", "a", "1.0", " 1", "1 ", "0x1", "++1", "１", 256, 2**32, 2**64, 2**64 + 1)),
         ["--", "-1", "1/0 1/0"],
         # No depth, no line, two lines, and a line before the depth.
-        [],
-        ["1"],
-        ["--", "1"],
-        ["1/0 1/0"],
-        ["1/0 1/0", "1"],
-        ["1", "1/0 1/0", "1/0 1/0"],
+        [], ["1"], ["--", "1"], ["1/0 1/0"], ["1/0 1/0", "1"], ["1", "1/0 1/0", "1/0 1/0"],
         # A line that begins as an option does, one that is no text, and an option of other subcommands.
-        ["1", "-1/0 1/0"],
-        ["1", b"1/0 1/0\x80"],
-        ["--table=1", "1", "1/0 1/0"],
+        ["1", "-1/0 1/0"], ["1", b"1/0 1/0\x80"], ["--table=1", "1", "1/0 1/0"],
     ],
     "ask": [
         # A file: lines come from the standard input.
         ["a"],
         # An option with a value, twice, cut short, or of other subcommands.
-        ["--values=1"],
-        ["--values", "--values"],
-        ["--steps=1"],
-        ["--steps", "--steps"],
-        ["--step"],
-        ["--workers", "1"],
-        ["-V"],
+        ["--values=1"], ["--values", "--values"], ["--steps=1"], ["--steps", "--steps"], ["--step"], ["--workers", "1"], ["-V"],
         # A number that is out of range, or is no number.
-        ["--table", "a"],
-        ["--table=", "--values"],
-        ["--table=0"],
+        ["--table", "a"], ["--table=", "--values"], ["--table=0"],
         # `--steps` beside `--values` or `--table`.
-        ["--values", "--steps"],
-        ["--table=1", "--steps"],
-        ["--table", "65536", "--values", "--steps"],
+        ["--values", "--steps"], ["--table=1", "--steps"], ["--table", "65536", "--values", "--steps"],
     ],
 }
 
@@ -224,8 +155,7 @@ TIPS = [
     *((["solve", name], f"kalah: cannot read {name}\n", "there is no such file") for name in ("b", "", "a/b", "a b", "1,0")),
     *(
         (
-            [name, "1,1/0", "1,1/0"],
-            "kalah: cannot read 1,1/0\n",
+            [name, "1,1/0", "1,1/0"], "kalah: cannot read 1,1/0\n",
             "for a position, use `kalah show '1,1/0 1,1/0'`, in quotes, or `kalah ask`",
         )
         for name in FILE_SUBCOMMANDS
@@ -233,8 +163,7 @@ TIPS = [
     (["values", "a", "folder"], "kalah: cannot read folder\n", "it is a folder; name the files in it"),
     (["steps", "locked"], "kalah: cannot read locked\n", "you have no permission to read it"),
     (
-        ["solve", "large"],
-        "kalah: cannot read large\n",
+        ["solve", "large"], "kalah: cannot read large\n",
         "it has more than 67108864 bytes; `kalah ask` has no limit, or split it (docs/LARGE.md)",
     ),
     *((["steps", name], f"kalah: cannot read {name}\n", "it can't be opened, or a read failed") for name in ("/proc/self/mem", "n" * 256)),
@@ -242,8 +171,7 @@ TIPS = [
     (["solve", POSITION], f"kalah: cannot read {POSITION}\n", f"for a position, use `kalah show '{POSITION}'`, or `kalah ask`"),
     (["solve", *["a"] * 257], "kalah: too many files\n", "at most 256 files a run; give them to several runs (docs/LARGE.md)"),
     (
-        ["values", "lines"],
-        "kalah: too many lines\n",
+        ["values", "lines"], "kalah: too many lines\n",
         "at most 1000000 lines a run; `kalah ask` has no limit, or split the files (docs/LARGE.md)",
     ),
     (["steps", "a\n"], "kalah: line feed in a file name\n", None),
@@ -260,8 +188,7 @@ TIPS = [
     (["moves", "--boards", "x" * 81], "fault long\n", "a line has at most 80 bytes"),
     *(
         (
-            [name],
-            mistake(f"{MISSING}  <FILE>...", f"{name} <FILE>..."),
+            [name], mistake(f"{MISSING}  <FILE>...", f"{name} <FILE>..."),
             "for standard input, use /dev/stdin, as in `kalah solve /dev/stdin`",
         )
         for name in FILE_SUBCOMMANDS
@@ -289,8 +216,7 @@ TIPS = [
     (["best", POSITION], mistake("unrecognized subcommand 'best'", "<COMMAND>"), "use `kalah show LINE`, or `kalah solve FILE`"),
     (["go"], mistake("unrecognized subcommand 'go'", "<COMMAND>"), None),
     (
-        ["ask", "--steps", POSITION],
-        mistake(EXCESS.format(POSITION), "ask [OPTIONS]"),
+        ["ask", "--steps", POSITION], mistake(EXCESS.format(POSITION), "ask [OPTIONS]"),
         f"`kalah ask` reads standard input; for one position, use `kalah show '{POSITION}'`",
     ),
     (["ask", "p.txt"], mistake(EXCESS.format("p.txt"), "ask [OPTIONS]"), "`kalah ask` reads standard input: use `kalah ask < p.txt`"),
@@ -330,10 +256,8 @@ TIPS = [
     *(
         ([*words, "1,1/0", "1,1/0"], mistake(EXCESS.format("1,1/0"), usage), QUOTES)
         for words, usage in (
-            (["moves"], "moves [OPTIONS] <LINE>"),
-            (["moves", "--boards"], "moves [OPTIONS] <LINE>"),
-            (["show"], "show [OPTIONS] <LINE>"),
-            (["count", "2"], "count <DEPTH> <LINE>"),
+            (["moves"], "moves [OPTIONS] <LINE>"), (["moves", "--boards"], "moves [OPTIONS] <LINE>"),
+            (["show"], "show [OPTIONS] <LINE>"), (["count", "2"], "count <DEPTH> <LINE>"),
         )
     ),
     (["count", "1,1/0", "1,1/0", "3"], mistake("invalid value '1,1/0' for '<DEPTH>': invalid digit found in string"), QUOTES),
@@ -440,8 +364,7 @@ def hidden_names(runs):
     for word, said, tip in (
         (["steps", name], "kalah: cannot read {0}\n", "  tip: there is no such file\n"),
         (
-            [f"{name}.b"],
-            mistake("unrecognized subcommand '{0}.b'", "<COMMAND>"),
+            [f"{name}.b"], mistake("unrecognized subcommand '{0}.b'", "<COMMAND>"),
             "\n  tip: for a file of positions, use `kalah solve {0}.b`\n",
         ),
     ):

@@ -8,21 +8,7 @@ from lib import browser, reference
 from lib.failing import equal, must
 from lib.tool_trials import drawn_game, drawn_line
 from lib.page_wanted import (
-    BUTTON,
-    CLASSED,
-    CONTRAST,
-    LABELS,
-    LINES_SHOWN,
-    NAMES,
-    ROWS,
-    SECOND,
-    SOWN,
-    board_of,
-    counted,
-    course_of,
-    signed,
-    values_of,
-    way_of,
+    BUTTON, CLASSED, CONTRAST, LABELS, LINES_SHOWN, NAMES, ROWS, SECOND, SOWN, board_of, counted, course_of, signed, values_of, way_of,
 )
 
 from kalah import rules

@@ -42,11 +42,10 @@ class Form:
     """The form of a function."""
 
     def __init__(self, text):
-        head, *self.lines = text.splitlines()
+        head, *lines = text.splitlines()
         self.file, _, self.function = head.partition(": ")
-        self.lines = [line.strip() for line in self.lines if line]
-        self.patterns = [GAP if line == ".." else " " + pattern_of(line) for line in self.lines]
-        self.marks = [mark for line in self.lines for mark in MARK.findall(line)]
+        self.pieces = [piece for line in lines if line for piece in pieces_of(" " + line.strip())]
+        self.marks = [mark for line in lines for mark in MARK.findall(line)]
 
     def body(self):
         """Returns the body of the function in the source."""
@@ -55,28 +54,36 @@ class Form:
 
     def steps(self, body):
         """Returns the steps of a function with this body, in the order of the code, or None if it hasn't this form."""
-        found = re.fullmatch("".join(self.patterns), body)
+        found = re.fullmatch("".join(map(pattern_of, self.pieces)), body)
         operands = iter(found.groups() if found else ())
         return found and [Step(name, tuple(next(operands) for _ in range(re.compile(STEPS[name]).groups)), under or None)
                           for name, under in self.marks]
 
     def difference(self, body):
         """Returns where a body leaves this form."""
-        for count in range(len(self.lines), -1, -1):
-            if begins := re.match("".join(self.patterns[:count]), body):
+        for count in range(len(self.pieces), -1, -1):
+            if begins := re.match("".join(map(pattern_of, self.pieces[:count])), body):
                 break
-        rest, wanted = body[begins.end():], " ".join(self.lines[count:][:1]) or "its end"
-        if count and self.lines[count - 1] == ".." and (hidden := CONTROL.search(rest)):
+        rest, wanted = body[begins.end():], "".join(self.pieces[count:])
+        if count and self.pieces[count - 1] == " .." and (hidden := CONTROL.search(rest)):
             rest = rest[hidden.start():]
-        found = rest.strip()[:120] or "its end"
+        wanted, found = (text.strip()[:120] or "its end" for text in (wanted, rest))
         return f"`{self.function}` of {SOURCES}/{self.file} differs from its form:\n  wanted: {wanted}\n  found:  {found}"
 
 
-def pattern_of(line):
-    """Returns the regular expression of a line of a form."""
+def pieces_of(line):
+    """Returns the words and the marks of a line of a form, with the blanks before them."""
+    if line == " ..":
+        return [line]
     begins = [0, *(place for mark in MARK.finditer(line) for place in mark.span()), len(line)]
     texts = [line[begin:end] for begin, end in pairwise(begins)]
-    return "".join(STEPS[MARK.match(text)[1]] if i % 2 else re.escape(text) for i, text in enumerate(texts))
+    return [piece for i, text in enumerate(texts) for piece in ([text] if i % 2 else re.findall(r" *[^ ]+| +$", text))]
+
+
+def pattern_of(piece):
+    """Returns the regular expression of a piece of a form."""
+    mark = MARK.fullmatch(piece)
+    return STEPS[mark[1]] if mark else GAP if piece == " .." else re.escape(piece)
 
 
 def body_of(name, text):
