@@ -185,10 +185,6 @@ def asked_again(runs):
 
 # How often each of these trials is made in one round of all of them.
 ASK_TRIALS = {
-    asked_one_by_one: 20,
-    asked_at_once: 2 * len(INPUTS),
-    asked_with_a_hard_one: 6,
-    asked_in_vain: 3,
-    asked_at_length: 1,
-    asked_again: 1,
+    asked_one_by_one: 20, asked_at_once: 2 * len(INPUTS), asked_with_a_hard_one: 6, asked_in_vain: 3,
+    asked_at_length: 1, asked_again: 1,
 }

@@ -160,18 +160,8 @@ def run_on_line(runs, line, drawn, answer, *more):
 
 # How often each trial is made in one round of all of them.
 FILE_TRIALS = {
-    many_files: len(FILES),
-    many_bytes: len(BYTES),
-    many_lines: len(LINES),
-    stored_answers: 18,
-    unread_files: len(NO_FILES),
-    limits: len(LIMITS),
-    a_pipe_as_file: 10,
-    one_pipe_twice: 2,
-    a_named_pipe_twice: 2,
-    moves: len(LINES_OF_MOVES),
-    play: len(LINES_OF_MOVES),
-    show: len(LINES_OF_MOVES),
-    count: 4 * len(DEPTHS) + len(LINES_OF_MOVES),
-    plain_positions: 10,
+    many_files: len(FILES), many_bytes: len(BYTES), many_lines: len(LINES), stored_answers: 18,
+    unread_files: len(NO_FILES), limits: len(LIMITS), a_pipe_as_file: 10, one_pipe_twice: 2, a_named_pipe_twice: 2,
+    moves: len(LINES_OF_MOVES), play: len(LINES_OF_MOVES), show: len(LINES_OF_MOVES),
+    count: 4 * len(DEPTHS) + len(LINES_OF_MOVES), plain_positions: 10,
 }

@@ -403,12 +403,6 @@ def run_on_terminal(runs, words, stream, other):
 
 # How often each of these trials is made in one round of all of them.
 MESSAGE_TRIALS = {
-    refused_arguments: len(REFUSED_ARGUMENTS),
-    help: len(HELP),
-    version: len(VERSION),
-    usage: len(USAGES),
-    no_word: 1,
-    tips: len(TIPS),
-    hidden_names: len(HIDDEN),
-    marked_files: len(MARKS),
+    refused_arguments: len(REFUSED_ARGUMENTS), help: len(HELP), version: len(VERSION), usage: len(USAGES), no_word: 1,
+    tips: len(TIPS), hidden_names: len(HIDDEN), marked_files: len(MARKS),
 }

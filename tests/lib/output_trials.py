@@ -223,12 +223,8 @@ def few_writes(runs):
 
 # How often each of these trials is made in one round of all of them.
 OUTPUT_TRIALS = {
-    streams: len(STREAMS_OF_RUNS),
-    no_reader_is_left: len(NO_READER_IS_LEFT),
-    left_after_a_pause: 2 * len(LEFT_AFTER_A_PAUSE),
-    first_answers: len(FIRST_ANSWERS),
-    first_picture: len(FIRST_PICTURES),
-    first_move: len(FIRST_MOVES),
-    ends_at_a_failed_write: len(ROW_BY_ROW),
+    streams: len(STREAMS_OF_RUNS), no_reader_is_left: len(NO_READER_IS_LEFT),
+    left_after_a_pause: 2 * len(LEFT_AFTER_A_PAUSE), first_answers: len(FIRST_ANSWERS),
+    first_picture: len(FIRST_PICTURES), first_move: len(FIRST_MOVES), ends_at_a_failed_write: len(ROW_BY_ROW),
     few_writes: len(FEW_WRITES),
 }

@@ -303,7 +303,7 @@ class PageTrials:
         self.says("North is to move.")
         self.choose(1, 2)
         reached, word = reference.after(reference.read(b"3,3/0 3,3/0 e"), 2)
-        equal(word, "turn", f"{line}: how its first move ends")
+        equal(word, "turn", "how house 2 of 3,3/0 3,3/0 e ends")
         self.shows(reference.text(reached), rest="&first=North")
         for _ in range(2):
             self.click("undo")

@@ -130,7 +130,5 @@ def look_at_progress(runs, said, lines, in_place, took, tip):
 
 # How often each of these trials is made in one round of all of them.
 PROGRESS_TRIALS = {
-    progress: len(PROGRESS),
-    progress_beside_answers: len(TERMINALS),
-    progress_is_ended: 1,
+    progress: len(PROGRESS), progress_beside_answers: len(TERMINALS), progress_is_ended: 1,
 }

@@ -117,7 +117,5 @@ def waits_at_rest(runs):
 
 # How often each of these trials is made in one round of all of them.
 WAIT_TRIALS = {
-    left_with_lines_under_way: 2 * len(LEFT_WITH_LINES_UNDER_WAY),
-    late_outcomes: 1,
-    waits_at_rest: 3,
+    left_with_lines_under_way: 2 * len(LEFT_WITH_LINES_UNDER_WAY), late_outcomes: 1, waits_at_rest: 3,
 }

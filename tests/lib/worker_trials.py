@@ -140,10 +140,7 @@ def run_within(runs, kilobytes, words):
 
 # How often each of these trials is made in one round of all of them.
 WORKER_TRIALS = {
-    endings_are_kept: len(ENDINGS_KEPT),
-    busy_workers: len(BUSY_WORKERS),
-    few_lines: len(FEW_LINES),
-    many_large_tables: len(SEARCHING),
-    tables_as_asked: len(ONE_SEARCH),
+    endings_are_kept: len(ENDINGS_KEPT), busy_workers: len(BUSY_WORKERS), few_lines: len(FEW_LINES),
+    many_large_tables: len(SEARCHING), tables_as_asked: len(ONE_SEARCH),
     few_lines_in_little_space: len(FILE_SUBCOMMANDS),
 }
