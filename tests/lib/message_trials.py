@@ -120,11 +120,9 @@ USAGES = [
     (["solve", "--workers=0", "a"], f"error: invalid value '0' for '--workers <N>': 0 is not in 1..=64{FOR_MORE}"),
     (["values", "a", "--table=0"], f"error: invalid value '0' for '--table <N>': 0 is not in 1..=1048576{FOR_MORE}"),
     *((["ask", "--steps", option], f"{CONFLICT}{FOR_MORE}") for option in ("--values", "--table=65536")),
-    (
-        ["play", "--board", "1/0 1/0"],
-        "error: unexpected argument '--board' found\n\n  tip: a similar argument exists: '--boards'\n\n"
-        f"Usage: kalah play --boards <LINE>{FOR_MORE}",
-    ),
+    (["play", "--board", "1/0 1/0"],
+     "error: unexpected argument '--board' found\n\n  tip: a similar argument exists: '--boards'\n\n"
+     f"Usage: kalah play --boards <LINE>{FOR_MORE}"),
 ]
 
 
@@ -154,26 +152,20 @@ def as_value(words, usage, tip):
 TIPS = [
     *((["solve", name], f"kalah: cannot read {name}\n", "there is no such file") for name in ("b", "", "a/b", "a b", "1,0")),
     *(
-        (
-            [name, "1,1/0", "1,1/0"], "kalah: cannot read 1,1/0\n",
-            "for a position, use `kalah show '1,1/0 1,1/0'`, in quotes, or `kalah ask`",
-        )
+        ([name, "1,1/0", "1,1/0"], "kalah: cannot read 1,1/0\n",
+         "for a position, use `kalah show '1,1/0 1,1/0'`, in quotes, or `kalah ask`")
         for name in FILE_SUBCOMMANDS
     ),
     (["values", "a", "folder"], "kalah: cannot read folder\n", "it is a folder; name the files in it"),
     (["steps", "locked"], "kalah: cannot read locked\n", "you have no permission to read it"),
-    (
-        ["solve", "large"], "kalah: cannot read large\n",
-        "it has more than 67108864 bytes; `kalah ask` has no limit, or split it (docs/LARGE.md)",
-    ),
+    (["solve", "large"], "kalah: cannot read large\n",
+     "it has more than 67108864 bytes; `kalah ask` has no limit, or split it (docs/LARGE.md)"),
     *((["steps", name], f"kalah: cannot read {name}\n", "it can't be opened, or a read failed") for name in ("/proc/self/mem", "n" * 256)),
     (["values", "-"], "kalah: cannot read -\n", "for standard input, use /dev/stdin"),
     (["solve", POSITION], f"kalah: cannot read {POSITION}\n", f"for a position, use `kalah show '{POSITION}'`, or `kalah ask`"),
     (["solve", *["a"] * 257], "kalah: too many files\n", "at most 256 files a run; give them to several runs (docs/LARGE.md)"),
-    (
-        ["values", "lines"], "kalah: too many lines\n",
-        "at most 1000000 lines a run; `kalah ask` has no limit, or split the files (docs/LARGE.md)",
-    ),
+    (["values", "lines"], "kalah: too many lines\n",
+     "at most 1000000 lines a run; `kalah ask` has no limit, or split the files (docs/LARGE.md)"),
     (["steps", "a\n"], "kalah: line feed in a file name\n", None),
     (["play", "--first=3", POSITION], "kalah: house 3 can't be moved\n", None),
     (["moves", "4,4,4,4,4,4/0 4,4,4,4,4,4/0"], "fault seeds\n", "48 seeds in houses; at most 31 are accepted"),
@@ -187,10 +179,8 @@ TIPS = [
     (["play", "--boards", "1/0 1,1/0"], "fault houses\n", "each side has the same number of houses, 1 to 6"),
     (["moves", "--boards", "x" * 81], "fault long\n", "a line has at most 80 bytes"),
     *(
-        (
-            [name], mistake(f"{MISSING}  <FILE>...", f"{name} <FILE>..."),
-            "for standard input, use /dev/stdin, as in `kalah solve /dev/stdin`",
-        )
+        ([name], mistake(f"{MISSING}  <FILE>...", f"{name} <FILE>..."),
+         "for standard input, use /dev/stdin, as in `kalah solve /dev/stdin`")
         for name in FILE_SUBCOMMANDS
     ),
     *(
@@ -199,11 +189,9 @@ TIPS = [
     ),
     (["count"], mistake(f"{MISSING}  <DEPTH>\n  <LINE>", "count <DEPTH> <LINE>"), DEPTH_FIRST),
     (["count", "3"], mistake(f"{MISSING}  <LINE>", "count <DEPTH> <LINE>"), DEPTH_FIRST),
-    (
-        [POSITION],
-        mistake(f"unrecognized subcommand '{POSITION}'", "<COMMAND>"),
-        f"for a position, use `kalah show '{POSITION}'`, or `kalah ask`",
-    ),
+    ([POSITION],
+     mistake(f"unrecognized subcommand '{POSITION}'", "<COMMAND>"),
+     f"for a position, use `kalah show '{POSITION}'`, or `kalah ask`"),
     (["1,1/0", "1,1/0"], mistake("unrecognized subcommand '1,1/0'", "<COMMAND>"), QUOTES),
     (["p.txt"], mistake("unrecognized subcommand 'p.txt'", "<COMMAND>"), "for a file of positions, use `kalah solve p.txt`"),
     (["help", "solve"], mistake("unrecognized subcommand 'help'", "<COMMAND>"), "use `kalah solve --help`"),
@@ -215,10 +203,8 @@ TIPS = [
     (["perft", "3", POSITION], mistake("unrecognized subcommand 'perft'", "<COMMAND>"), "use `kalah count DEPTH LINE`"),
     (["best", POSITION], mistake("unrecognized subcommand 'best'", "<COMMAND>"), "use `kalah show LINE`, or `kalah solve FILE`"),
     (["go"], mistake("unrecognized subcommand 'go'", "<COMMAND>"), None),
-    (
-        ["ask", "--steps", POSITION], mistake(EXCESS.format(POSITION), "ask [OPTIONS]"),
-        f"`kalah ask` reads standard input; for one position, use `kalah show '{POSITION}'`",
-    ),
+    (["ask", "--steps", POSITION], mistake(EXCESS.format(POSITION), "ask [OPTIONS]"),
+     f"`kalah ask` reads standard input; for one position, use `kalah show '{POSITION}'`"),
     (["ask", "p.txt"], mistake(EXCESS.format("p.txt"), "ask [OPTIONS]"), "`kalah ask` reads standard input: use `kalah ask < p.txt`"),
     (["ask", "--best"], mistake(EXCESS.format("--best"), "ask [OPTIONS]"), None),
     (["ask", "--values", "--steps"], CONFLICT + FOR_MORE, None),
@@ -234,16 +220,12 @@ TIPS = [
             (["play", "--first"], "--first <H>", "H is a house from 1 to 6"),
         )
     ),
-    (
-        ["solve", "--values", "a"],
-        mistake(f"{EXCESS.format('--values')}\n\n  tip: a similar argument exists: '--table'", "solve --table <N> <FILE>..."),
-        "use `kalah values FILE`",
-    ),
-    (
-        ["show", "--values", POSITION],
-        mistake(f"{EXCESS.format('--values')}\n\n  tip: a similar argument exists: '--table'", "show --table <N> <LINE>"),
-        "use `kalah show --lines LINE`, or `kalah values FILE`",
-    ),
+    (["solve", "--values", "a"],
+     mistake(f"{EXCESS.format('--values')}\n\n  tip: a similar argument exists: '--table'", "solve --table <N> <FILE>..."),
+     "use `kalah values FILE`"),
+    (["show", "--values", POSITION],
+     mistake(f"{EXCESS.format('--values')}\n\n  tip: a similar argument exists: '--table'", "show --table <N> <LINE>"),
+     "use `kalah show --lines LINE`, or `kalah values FILE`"),
     as_value(["steps", "--values", "a"], OF_FILES.format("steps"), "use `kalah values FILE`"),
     *(as_value([name, "--steps", "a"], OF_FILES.format(name), "use `kalah steps FILE`") for name in SEARCHING),
     *(
@@ -363,10 +345,8 @@ def hidden_names(runs):
     runs.put({f"{name}.txt": b"1/0 1/0"})
     for word, said, tip in (
         (["steps", name], "kalah: cannot read {0}\n", "  tip: there is no such file\n"),
-        (
-            [f"{name}.b"], mistake("unrecognized subcommand '{0}.b'", "<COMMAND>"),
-            "\n  tip: for a file of positions, use `kalah solve {0}.b`\n",
-        ),
+        ([f"{name}.b"], mistake("unrecognized subcommand '{0}.b'", "<COMMAND>"),
+         "\n  tip: for a file of positions, use `kalah solve {0}.b`\n"),
     ):
         runs.compare(Run(b"", said.format(name).encode(), 2), run_on_terminal(runs, word, "stdout", "stderr"))
         runs.compare(Run(b"", (said + tip).format(seen).encode(), 2), run_on_terminal(runs, word, "stderr", "stdout"))
