@@ -43,7 +43,7 @@ def terminal():
     return screen, keyboard
 
 
-def two_ends(place):
+def ends_of_input(place):
     """Returns the end of such a source that is read, and the end that is written."""
     if place == "sockets":
         return tuple(end.detach() for end in socket.socketpair())
@@ -69,7 +69,7 @@ def asked_one_by_one(runs):
     """Each line is sent once the answer to the previous one has come. A run that buffers an answer hangs."""
     form, words = drawn_form(runs)
     runs.put({})
-    reader, writer = two_ends(runs.drawn.card("asked through", ["pipe", "sockets"]))
+    reader, writer = ends_of_input(runs.drawn.card("asked through", ["pipe", "sockets"]))
     with runs.start(words, stdin=reader, bufsize=0) as process:
         os.close(reader)
         want = got = b""
@@ -100,7 +100,7 @@ def asked_at_once(runs):
         with open(runs.files / "asked", "rb") as file:
             runs.compare(want, runs.run(words, stdin=file))
         return
-    reader, writer = two_ends(place)
+    reader, writer = ends_of_input(place)
     with tempfile.TemporaryFile() as out, runs.start(words, stdin=reader, stdout=out) as process:
         os.close(reader)
         write_in_pieces(writer, data, size)

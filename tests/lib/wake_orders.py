@@ -73,7 +73,7 @@ class Side:
         # A pause first spins, which is no step, then announces the thread, and then sleeps.
         self.enters, self.sleeps = (atomic(taken(code["pause"], condition)) for condition in ("spun", "announced"))
         self.drops = atomic(code["drop"])
-        # The end of a wait drops it first, and then calls the other side.
+        # The end of a wait drops it first, and then wakes the other side.
         self.has = atomic(step for step in steps[names.index("try") + 1:names.index("pause")] if step.name in ("drop", "send"))
 
 
