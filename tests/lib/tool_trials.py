@@ -238,7 +238,7 @@ Puzzle = namedtuple("Puzzle", "line level far gap again greedy text")
 
 
 def far_of(position, values, most=8):
-    """How many moves a plain search of at most so many looks ahead until its best moves are best, and stay so; None if it never does."""
+    """How many moves, at most `most`, a plain search looks ahead until its best moves are best, and stay so; None if it never does."""
     best = {house for house, value in values.items() if value == max(values.values())}
     wrong = 0
     for depth in range(1, most + 1):

@@ -56,7 +56,7 @@ def hardly_runs(threads):
 
 
 def left_with_lines_under_way(runs):
-    """A run ends soon once its reader has left, whatever its workers do then: they wait for room, or solve a line that takes long while
+    """A run ends soon once its reader has left, if its workers then wait for room as well as if they solve a line that takes long while
     the calling thread sleeps."""
     workers, hard = runs.drawn.card("left with lines under way", LEFT_WITH_LINES_UNDER_WAY)
     runs.put({"a": EASY * 4000 + (HARD_LINE + EASY * 200) * hard + EASY * 100_000})
