@@ -5,21 +5,17 @@ mod known;
 
 use super::run_words;
 use crate::exit::status::ExitStatus;
+use crate::exit::status::ExitStatus::{Clean, Failed, LineFaults};
 use crate::system::sources::Sources;
 use crate::system::terminal::Terminal;
 use kalah_jobs::{Sink, Stream};
+use std::alloc::Global;
 use std::io::{ErrorKind, Write};
 use std::process::Abort;
 use std::rt::{Clock, Files};
 use std::sync::Wait;
 use std::thread::Threads;
 use std::{fs, io, str};
-
-/// What a run needs of its runtime, and what a test does with it.
-trait Host: Abort + AllocGlobal + Files + Sources + Clock + Terminal + Threads + Wait + Sync {}
-
-impl<R: Abort + AllocGlobal + Files + Sources + Clock + Terminal + Threads + Wait + Sync> Host
-    for R {}
 
 /// Returns an error at its `fails_at`th call, counted from 1, and at each later one.
 #[derive(Drop)]
@@ -30,9 +26,9 @@ struct Failing {
 }
 
 impl Failing {
-    fn new(rt: &impl Host, fails_at: u32) -> Failing {
+    fn new(alloc: Global, fails_at: u32) -> Failing {
         Failing {
-            bytes: Vec::new(rt.alloc()),
+            bytes: Vec::new(alloc),
             calls: 0,
             fails_at,
         }
@@ -55,7 +51,7 @@ impl Write for Failing {
 }
 
 // The arguments of the command line; the first is the program's name.
-fn arguments_of(rt: &impl Host, texts: &[&str]) -> Vec<String>
+fn arguments_of(rt: &(impl Abort + AllocGlobal), texts: &[&str]) -> Vec<String>
     ensures { 0 < vec_len result }
 {
     let mut arguments = Vec::new(rt.alloc());
@@ -69,7 +65,7 @@ fn arguments_of(rt: &impl Host, texts: &[&str]) -> Vec<String>
 }
 
 // Writes a file.
-fn write_file(rt: &impl Host, name: &str, bytes: &[u8]) {
+fn write_file(rt: &(impl Abort + Files), name: &str, bytes: &[u8]) {
     fs::write(rt, name, bytes).expect(rt, name);
 }
 
@@ -81,7 +77,11 @@ struct Run {
     err: Vec<u8>,
 }
 
-fn run_on(rt: &impl Host, texts: &[&str]) -> Run {
+// The run on these arguments.
+fn run_on(
+    rt: &(impl Abort + AllocGlobal + Sources + Clock + Terminal + Threads + Wait + Sync),
+    texts: &[&str],
+) -> Run {
     let arguments = arguments_of(rt, texts);
     let mut out = Stream::new(Vec::<u8>::new(rt.alloc()));
     let mut err = Vec::<u8>::new(rt.alloc());
@@ -93,68 +93,75 @@ fn run_on(rt: &impl Host, texts: &[&str]) -> Run {
     }
 }
 
-// A run with these arguments ends with this status, and with these bytes on both outputs.
-fn assert_answers(
-    rt: &impl Host,
-    arguments: &[&str],
-    status: ExitStatus,
-    (out, err): (&str, &str),
+// Arguments, the status with which a run on them ends, and what both outputs get.
+type Case = (
+    &'static [&'static str],
+    ExitStatus,
+    &'static str,
+    &'static str,
+);
+
+// Runs do what these cases say.
+fn assert_runs(
+    rt: &(impl Abort + AllocGlobal + Sources + Clock + Terminal + Threads + Wait + Sync),
+    cases: &[Case],
 ) {
-    let run = run_on(rt, arguments);
-    assert!(rt; run.status == status, "{arguments:?}");
-    assert!(rt; run.out.as_slice() == out.as_bytes(), "{arguments:?}");
-    assert!(rt; run.err.as_slice() == err.as_bytes(), "{arguments:?}");
-}
-
-// Runs with these arguments are clean, and write these texts.
-fn assert_written(rt: &impl Host, cases: &[(&[&str], &str)]) {
-    for (arguments, text) in cases {
-        assert_answers(rt, *arguments, ExitStatus::Clean, (*text, ""));
+    for (arguments, status, out, err) in cases {
+        let run = run_on(rt, *arguments);
+        assert!(rt; run.status == *status, "{arguments:?}");
+        assert!(rt; run.out.as_slice() == out.as_bytes(), "{arguments:?}");
+        assert!(rt; run.err.as_slice() == err.as_bytes(), "{arguments:?}");
     }
 }
 
-// Runs with these arguments end so, with these texts on standard error only.
-fn assert_said(rt: &impl Host, status: ExitStatus, cases: &[(&[&str], &str)]) {
-    for (arguments, text) in cases {
-        assert_answers(rt, *arguments, status, ("", *text));
-    }
-}
-
-// Arguments, and what is printed for them.
-const WRITTEN: &[(&[&str], &str)] = &[
+// What is asked is printed.
+const PRINTED: &[Case] = &[
     (
         &["moves", "1,1/0 1,1/0"],
+        Clean,
         "1 1,1/0 0,2/0 turn\n2 1,0/1 1,1/0 again\n",
+        "",
     ),
     (
         &["play", "--values", "--first", "1", "1,1/0 1,1/0"],
+        Clean,
         "1 1,1/0 0,2/0 turn 2\n1 0,2/0 0,2/0 turn 2\n2 0,0/1 0,0/3 over -2\n",
+        "",
     ),
     (
         &["show", "--lines", "1,1/0 1,1/0"],
+        Clean,
         "       1   1\n   0           0\n       1   1\n      -2   2\n2  2  2 1\n1  -2  1 1 2\n",
+        "",
     ),
     (
         &["count", "3", "1,0,0,1/0 0,1,0,1/0 e"],
+        Clean,
         "1 2\n4 0\ntotal 2\n",
+        "",
     ),
-    (&["--version"], "kalah 1.4.0\n"),
+    (&["--version"], Clean, "kalah 1.4.0\n", ""),
 ];
 
 #[test]
 fn prints_what_is_asked(rt: HostRuntime) {
-    assert_written(&rt, WRITTEN);
+    assert_runs(&rt, PRINTED);
 }
 
-// Arguments with a line that can't be read, and the message.
-const UNREAD: &[(&[&str], &str)] = &[
-    (&["moves", "1/0"], "fault shape\n"),
-    (&["play", "--first=3", "16/0 16/0"], "fault seeds\n"),
+// A line that can't be read is answered by its fault.
+const UNREAD: &[Case] = &[
+    (&["moves", "1/0"], LineFaults, "", "fault shape\n"),
+    (
+        &["play", "--first=3", "16/0 16/0"],
+        LineFaults,
+        "",
+        "fault seeds\n",
+    ),
 ];
 
 #[test]
 fn a_line_that_is_not_read_is_answered_by_its_fault(rt: HostRuntime) {
-    assert_said(&rt, ExitStatus::LineFaults, UNREAD);
+    assert_runs(&rt, UNREAD);
 }
 
 // Arguments that the program refuses.
@@ -164,7 +171,7 @@ const MISTAKES: &[&[&str]] = &[&[], &["stop"], &["solve", "--workers", "65", "a.
 fn mistakes_in_the_arguments(rt: HostRuntime) {
     for arguments in MISTAKES {
         let run = run_on(&rt, *arguments);
-        let is_usage = run.status == ExitStatus::Failed
+        let is_usage = run.status == Failed
             && run.out.is_empty()
             && run.err.starts_with(b"error: ");
         assert!(rt; is_usage, "{arguments:?}");
@@ -172,7 +179,10 @@ fn mistakes_in_the_arguments(rt: HostRuntime) {
 }
 
 // The files that are read have any lines, and the last may lack its line feed. A name may be given again.
-const BATCH_ANSWERS: &str = "\
+const BATCH: &[Case] = &[(
+    &["solve", "--workers=2", "a.txt", "b.txt", "c.txt", "b.txt"],
+    LineFaults,
+    "\
 b.txt:1 0 house 1
 b.txt:2 -2 house 1
 c.txt:1 6 house 1
@@ -180,47 +190,62 @@ c.txt:2 fault empty
 c.txt:3 fault shape
 b.txt:1 0 house 1
 b.txt:2 -2 house 1
-";
+",
+    "",
+)];
 
 #[test]
 fn answers_each_line_of_each_file(rt: HostRuntime) {
     write_file(&rt, "a.txt", b"");
     write_file(&rt, "b.txt", b"1/0 1/0\n2/0 2/0");
     write_file(&rt, "c.txt", b"3/0 3/0\r\n\r\n01/0 1/0\r\n");
-    let arguments = ["solve", "--workers=2", "a.txt", "b.txt", "c.txt", "b.txt"];
-    assert_answers(&rt, &arguments, ExitStatus::LineFaults, (BATCH_ANSWERS, ""));
+    assert_runs(&rt, BATCH);
 }
 
-// Arguments with a file that can't be read, and the message.
-const NOT_READ: &[(&[&str], &str)] = &[
+// A file that can't be read ends the run.
+const NOT_READ: &[Case] = &[
     (
         &["solve", "one.txt", "none.txt", "/"],
+        Failed,
+        "",
         "kalah: cannot read none.txt\n",
     ),
-    (&["solve", "/"], "kalah: cannot read /\n"),
+    (&["solve", "/"], Failed, "", "kalah: cannot read /\n"),
     (
         &["solve", "none.txt", "x\ny"],
+        Failed,
+        "",
         "kalah: line feed in a file name\n",
     ),
-    (&["solve", "odd\0name"], "kalah: cannot read odd\0name\n"),
+    (
+        &["solve", "odd\0name"],
+        Failed,
+        "",
+        "kalah: cannot read odd\0name\n",
+    ),
 ];
 
 #[test]
 fn a_file_that_is_not_read(rt: HostRuntime) {
     write_file(&rt, "one.txt", b"1/0 1/0\n");
-    assert_said(&rt, ExitStatus::Failed, NOT_READ);
+    assert_runs(&rt, NOT_READ);
 }
 
 // If the output fails at its call number `k`, and at each later one, the run ends there. It makes `calls` calls if none fails.
-fn assert_stops_at(rt: &impl Host, texts: &[&str], calls: u32, k: u32) {
+fn assert_stops_at(
+    rt: &(impl Abort + AllocGlobal + Sources + Clock + Terminal + Threads + Wait + Sync),
+    texts: &[&str],
+    calls: u32,
+    k: u32,
+) {
     let arguments = arguments_of(rt, texts);
-    let mut out = Stream::new(Failing::new(rt, k));
+    let mut out = Stream::new(Failing::new(rt.alloc(), k));
     let mut err = Vec::<u8>::new(rt.alloc());
     let status = run_words(rt, rt.alloc(), arguments, &mut out, &mut err);
     let ends = if k <= calls {
-        (ExitStatus::Failed, true, "kalah: write failed\n")
+        (Failed, true, "kalah: write failed\n")
     } else {
-        (ExitStatus::Clean, false, "")
+        (Clean, false, "")
     };
     let has_failed = out.failed();
     let said = str::from_utf8(err.as_slice()).unwrap_or("no text");

@@ -2,7 +2,7 @@
 ghost use Rattle.std.specs.Prelude.{◌<◌, vec_len};
 ghost use Rattle.kalah_cli.specs.{KnownRuns.{AnswersWhatIsKnown}, Arguments.Request.{texts_of}, System.Sources.{known_bytes}};
 
-use super::{Host, arguments_of, run_words};
+use super::{arguments_of, run_words};
 use crate::exit::status::ExitStatus;
 use crate::exit::status::ExitStatus::{Clean, Failed, LineFaults};
 use crate::system::sources::Sources;
@@ -11,6 +11,7 @@ use kalah_jobs::{FileText, Stream};
 use std::alloc::Global;
 use std::io;
 use std::io::ErrorKind;
+use std::process::Abort;
 use std::rt::Clock;
 use std::sync::Wait;
 use std::thread::Threads;
@@ -90,7 +91,7 @@ fn run_over<R: Clock + Threads + Wait + Sync>(
 }
 
 // A file of this name and these bytes.
-fn file(rt: &impl Host, name: &str, bytes: &[u8]) -> FileText {
+fn file(rt: &(impl Abort + AllocGlobal), name: &str, bytes: &[u8]) -> FileText {
     FileText {
         name: String::from_str(rt.alloc(), name).expect(rt, "no memory"),
         bytes: bytes.to_vec(rt.alloc()).expect(rt, "no memory"),
