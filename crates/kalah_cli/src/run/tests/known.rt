@@ -18,7 +18,7 @@ use std::thread::Threads;
 use std::time::Duration;
 
 /// A runtime with this disk and this standard input.
-#[derive(Clone, Copy)]
+#[derive(Drop)]
 struct Known<'a, R> {
     rt: &'a R,
     disk: &'a [FileText],
