@@ -12,10 +12,30 @@ use Rattle.kalah_rules.proofs.PlayLemmas.{IsLegal, legal_holds}
 
 -- ==== The measure of a call (`Invariants.antt` of the search)
 
--- A call to the function of number i, for houses with fewer moves left, by the function of number j, has a lower measure: nine times fewer
--- moves, and up to eight more, are less than nine times the moves.
-pub lower_measure : {m n t : ℕ} (i j : ℕ) → 9 * n + j ≡ t → m < n → i ≤ 8 → 9 * m + i < t
-lower_measure i j measure fewer few = omega arith
+-- On the same houses each function calls only those of a lower rank: a step calls `bound`, that calls `bound_by_search`, and so on. The two
+-- that play moves call higher ones, for houses with fewer moves left; five for each move is more than any rank.
+abbrev pub rank_of_play : ℕ
+rank_of_play = 0
+
+abbrev pub rank_of_moves : ℕ
+rank_of_moves = 1
+
+abbrev pub rank_of_search : ℕ
+rank_of_search = 2
+
+abbrev pub rank_of_bound : ℕ
+rank_of_bound = 3
+
+abbrev pub rank_of_step : ℕ
+rank_of_step = 4
+
+-- the measure of a call to a function of this rank
+abbrev pub measure : (moves rank : ℕ) → ℕ
+measure moves rank = 5 * moves + rank
+
+-- a call for houses with fewer moves left has a lower measure
+pub lower_measure : {m n t : ℕ} (called caller : ℕ) → measure n caller ≡ t → m < n → called ≤ rank_of_step → measure m called < t
+lower_measure called caller is fewer last = omega arith
 
 -- ==== Bounds that are enough, and bounds that fall short
 

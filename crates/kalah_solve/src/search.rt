@@ -17,7 +17,7 @@ use crate::bounds::seed_bounds::{SeedBounds, margin_of};
 use crate::bounds::window::Window;
 use crate::house_set::HouseSet;
 use crate::search::move_order::MoveOrder;
-use crate::search::node_counts::{EndingLimit, NodeCounts, SEEDS_THAT_ALWAYS_PAY};
+use crate::search::node_counts::{NodeCounts, SEEDS_THAT_ALWAYS_PAY};
 use crate::search::waiting_turns::WaitingTurns;
 use crate::table::Table;
 use kalah_rules::{House, Houses, HousesStep};
@@ -61,8 +61,6 @@ pub struct Search<A: Allocator + Clone = Global> {
     most_slot_seeds: u8,
     // `LEAST_ENTRY_NODES`; 0 in such a test.
     least_entry_nodes: u64,
-    // Endings with at most this many seeds are looked up.
-    ending_limit: EndingLimit,
     counts: NodeCounts,
 }
 
@@ -71,14 +69,12 @@ impl<A: Allocator + Clone> Search<A> {
     pub fn new(table: Table<A>) -> Search<A>
         ensures { result.table ≡ table }
     {
-        let counts = NodeCounts::new();
         Search {
             table,
             order: MoveOrder::new(),
             most_slot_seeds: MOST_SLOT_SEEDS,
             least_entry_nodes: LEAST_ENTRY_NODES,
-            ending_limit: counts.ending_limit(),
-            counts,
+            counts: NodeCounts::new(),
         }
     }
 
@@ -90,8 +86,7 @@ impl<A: Allocator + Clone> Search<A> {
             order: MoveOrder::new(),
             most_slot_seeds: 0,
             least_entry_nodes: 0,
-            ending_limit: EndingLimit::none(),
-            counts: NodeCounts::new(),
+            counts: NodeCounts::without_endings(),
         }
     }
 
@@ -119,9 +114,8 @@ impl<A: Allocator + Clone> Search<A> {
         // Fewer seeds are always looked up, and no nodes are counted for them.
         if seeds > SEEDS_THAT_ALWAYS_PAY {
             self.counts.resume(houses);
-            self.set_ending_limit();
         }
-        if seeds <= self.ending_limit.seeds {
+        if seeds <= self.counts.ending_limit {
             let won = self.table.won::<VARIANT>(*houses);
             return window.clamp(margin_of(won, seeds));
         }
@@ -139,10 +133,10 @@ impl<A: Allocator + Clone> Search<A> {
         let Some(narrow) = window.narrowed(known) else {
             return window.clamp(known.lo as i32);
         };
-        let before = self.counts.nodes();
+        let before = self.counts.nodes;
         let won = self.won_within::<VARIANT>(houses, SeedBounds::of_window(narrow, seeds));
         let answer = narrow.clamp(margin_of(won, seeds));
-        let nodes = self.counts.nodes().saturating_sub(before);
+        let nodes = self.counts.nodes.saturating_sub(before);
         self.learn_margins(
             *houses,
             narrow.interval_of(answer).intersection(known),
@@ -208,7 +202,7 @@ impl<A: Allocator + Clone> Search<A> {
         requires { IsOngoing VARIANT houses }
         ensures { IsSoftBound beta (won houses) result }
     {
-        if houses.seeds() <= self.ending_limit.seeds {
+        if houses.seeds() <= self.counts.ending_limit {
             return self.table.won::<VARIANT>(houses);
         }
         self.bound_by_search::<VARIANT>(&houses, beta)
@@ -232,7 +226,7 @@ impl<A: Allocator + Clone> Search<A> {
         }
         let before = self.begin_node();
         let bound = self.bound_by_moves::<VARIANT>(&houses, beta);
-        let nodes = self.counts.nodes().saturating_sub(before);
+        let nodes = self.counts.nodes.saturating_sub(before);
         let learned = if beta <= bound {
             SeedBounds {
                 least: bound,
@@ -319,17 +313,14 @@ impl<A: Allocator + Clone> Search<A> {
         let mut untried = HouseSet::remaining(houses);
         while let Some(house) = untried.pop_last() {
             let step = houses.play_with(&self.table.endings.sowings, house);
-            let bound = match step {
-                HousesStep::Turn { gained, next } => {
-                    if gained < beta && next.seeds() > self.ending_limit.seeds {
-                        let priority = self.order.priority(houses.m(), house, gained, &next);
-                        waiting.add(priority, next);
-                        continue;
-                    }
-                    self.bound_turn::<VARIANT>(gained, next, beta)
+            if let HousesStep::Turn { gained, next } = step {
+                if gained < beta && next.seeds() > self.counts.ending_limit {
+                    let priority = self.order.priority(house, gained, &next);
+                    waiting.add(priority, next);
+                    continue;
                 }
-                _ => self.bound_step::<VARIANT>(step, beta),
-            };
+            }
+            let bound = self.bound_step::<VARIANT>(step, beta);
             if beta <= bound {
                 return bound;
             }
@@ -354,24 +345,17 @@ impl<A: Allocator + Clone> Search<A> {
                     gained + self.bound::<VARIANT>(next, beta - gained)
                 }
             }
-            HousesStep::Turn { gained, next } => self.bound_turn::<VARIANT>(gained, next, beta),
-        }
-    }
-
-    // Returns a fail-soft bound of what a turn wins: the `gained` seeds that it brought to the store, and what the opponent leaves.
-    #[inline(always)]
-    #[cycle(bound)]
-    fn bound_turn<const VARIANT: u8>(&mut self, gained: u8, next: Houses, beta: u8) -> u8
-        requires on { GoesOnAt VARIANT gained next }
-        ensures { IsSoftBound beta (gained + (total_seeds next - won next)) result }
-    {
-        let all = gained + next.seeds();
-        if beta <= gained {
-            gained
-        } else if all < beta {
-            all
-        } else {
-            all - self.bound::<VARIANT>(next, all - beta + 1)
+            // What the opponent wins of the next houses does not come to the mover.
+            HousesStep::Turn { gained, next } => {
+                let all = gained + next.seeds();
+                if beta <= gained {
+                    gained
+                } else if all < beta {
+                    all
+                } else {
+                    all - self.bound::<VARIANT>(next, all - beta + 1)
+                }
+            }
         }
     }
 }

@@ -46,19 +46,18 @@ impl MoveOrder {
         weight
     }
 
-    /// Returns the priority of a turn of this house of `m` that brought `gained` seeds to the store and leaves these houses to the other
+    /// Returns the priority of a turn of this house that brought `gained` seeds to the store and leaves these houses to the other
     /// player. It is an estimate times 8, plus the house's number less 1, which names it. So two turns of a position are never equal, and
     /// of equal estimates the house nearest the store comes first.
     ///
     /// The estimate counts what came to the store, the place of the house, and each house that is left, by its place and its seeds.
     #[inline(always)]
-    pub(crate) fn priority(&self, m: u8, house: House, gained: u8, next: &Houses) -> u16
-        requires first { 1 ≤ m }
-        requires last { m ≤ 6 }
+    pub(crate) fn priority(&self, house: House, gained: u8, next: &Houses) -> u16
         requires few { gained ≤ most_seeds }
         ensures some { 0 < result }
         ensures house { result % 8 + 1 ≡ house }
     {
+        let m = next.m();
         let without_place = GAIN_WEIGHT * gained as u32 + self.weight(m, next);
         let of_place = PLACE_PRIORITIES[(m / 6) as usize][(m + house.bit() - 1) as usize];
         (8 * without_place + of_place as u32) as u16

@@ -21,35 +21,23 @@ const NODES_FOR_9_SEEDS: u64 = 120_000;
 // Houses with this many seeds or more have many.
 const MANY_SEEDS: u8 = 17;
 
-/// Houses with at most this many seeds are looked up among the endings.
-#[derive(Clone, Copy)]
-pub(super) struct EndingLimit {
-    pub(super) seeds: u8,
-    ghost few: { seeds ≤ most_ending_seeds },
-}
-
-impl EndingLimit {
-    /// Returns the limit by which no ending is looked up.
-    #[cfg(test)]
-    pub(super) fn none() -> EndingLimit {
-        EndingLimit { seeds: 0 }
-    }
-}
-
 /// The nodes of a search.
 #[derive(Drop)]
 pub(super) struct NodeCounts {
     // The variant that is searched: houses a side and rule, as in the upper bits of a key.
     variant: usize,
-    // The nodes of that variant so far.
-    nodes: u64,
+    /// The nodes of that variant so far.
+    pub(super) nodes: u64,
     // The nodes of each variant when it was last left, by its number.
     nodes_before: [u64; 16],
     // The number of its nodes at which the search may grow next. Up to it, a node is only counted.
     next_threshold: u64,
+    /// Endings with at most this many seeds pay, so they are looked up; 0 in a test without endings.
+    pub(super) ending_limit: u8,
     // Whether houses with many seeds were asked about.
     seen_many_seeds: bool,
     ghost is_variant: { variant < 16 },
+    ghost few: { ending_limit ≤ most_ending_seeds },
 }
 
 impl NodeCounts {
@@ -60,8 +48,17 @@ impl NodeCounts {
             nodes: 0,
             nodes_before: [0; 16],
             next_threshold: NODES_FOR_ALL_SLOTS,
+            ending_limit: SEEDS_THAT_ALWAYS_PAY,
             seen_many_seeds: false,
         }
+    }
+
+    /// Makes a count of no nodes for a search that looks up no endings.
+    #[cfg(test)]
+    pub(super) fn without_endings() -> NodeCounts {
+        let mut counts = NodeCounts::new();
+        counts.ending_limit = 0;
+        counts
     }
 
     /// Goes on with the variant of these houses, which are asked about.
@@ -69,40 +66,27 @@ impl NodeCounts {
         self.nodes_before[self.variant] = self.nodes;
         self.variant = houses.variant() as usize;
         self.nodes = self.nodes_before[self.variant];
-        self.set_next_threshold();
         self.seen_many_seeds |= houses.seeds() >= MANY_SEEDS;
+        self.set_limits();
     }
 
-    /// Returns the limit of endings that pays now.
-    pub(super) fn ending_limit(&self) -> EndingLimit {
-        EndingLimit {
-            seeds: if self.nodes < NODES_FOR_8_SEEDS {
-                SEEDS_THAT_ALWAYS_PAY
-            } else if self.nodes < NODES_FOR_9_SEEDS || !self.seen_many_seeds {
-                // Endings of 8 seeds pay, and those of 9 don't yet.
-                8
-            } else {
-                MOST_ENDING_SEEDS
-            },
-        }
-    }
-
-    /// Returns how many nodes of the variant there were.
-    pub(super) fn nodes(&self) -> u64 {
-        self.nodes
-    }
-
-    /// Sets when the search may grow next.
-    pub(super) fn set_next_threshold(&mut self) {
-        self.next_threshold = if self.nodes < NODES_FOR_ALL_SLOTS {
-            NODES_FOR_ALL_SLOTS
+    /// Sets which endings pay by now, and when the search may grow next.
+    pub(super) fn set_limits(&mut self) {
+        let (paying, next_threshold) = if self.nodes < NODES_FOR_ALL_SLOTS {
+            (SEEDS_THAT_ALWAYS_PAY, NODES_FOR_ALL_SLOTS)
         } else if self.nodes < NODES_FOR_8_SEEDS {
-            NODES_FOR_8_SEEDS
+            (SEEDS_THAT_ALWAYS_PAY, NODES_FOR_8_SEEDS)
         } else if self.nodes < NODES_FOR_9_SEEDS {
-            NODES_FOR_9_SEEDS
+            (8, NODES_FOR_9_SEEDS)
+        } else if self.seen_many_seeds {
+            (MOST_ENDING_SEEDS, u64::MAX)
         } else {
-            u64::MAX
+            (8, u64::MAX)
         };
+        self.next_threshold = next_threshold;
+        if self.ending_limit > 0 {
+            self.ending_limit = paying;
+        }
     }
 
     /// Counts a node, and returns whether more endings or slots may pay by now.

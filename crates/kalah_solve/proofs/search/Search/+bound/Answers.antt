@@ -1,27 +1,27 @@
 -- Each move that was tried wins at most `most` seeds, so best play wins no more once none is left; a move that is enough wins no more than
 -- best play.
-use Rattle.std.proofs.Common.{ℕ, arith, rules, sym, subst, lit≤}
+use Rattle.std.proofs.Common.{◌≡◌, ℕ, ◌∙◌, arith, rules, sym, subst, lit≤}
 use Rattle.kalah_rules.{specs.{Sowing.{EndsDirectlyInStore}, HousesStep.{houses_step}}, proofs.PlayLemmas.{sum-set_zero}}
-use Rattle.kalah_solve.{specs.{GoesOn, IsSoftBound, won_by_step}, proofs.search.Search.+bound.Given.{Over}}
-use Rattle.kalah_solve.proofs.{HouseSetLemmas.{without_last_less, last_is_legal, each_at_last}, SearchLemmas.{lower_measure, enough_is_won, soft_if_enough, turn_enough, reply_left, reply_fits, step_is_turn, taken_is_turn, bound_le_max, bound_of_rest, played_at_start, played_and_waits, played_and_bounded, played_enough, all_played, tried_at_start, tried_without_last, all_tried, untried_at_start, untried_fewer, none_untried}, WorthLemmas.{goes_on, played_leads_on, step_falls}, BoundsLemmas.{won_of_houses}}
+use Rattle.kalah_solve.{specs.{GoesOn}, proofs.search.Search.+bound.Given.{Over}}
+use Rattle.kalah_solve.proofs.{HouseSetLemmas.{without_last_less, last_is_legal, each_at_last}, SearchLemmas.{rank_of_play, rank_of_moves, rank_of_search, rank_of_step, lower_measure, enough_is_won, soft_if_enough, turn_enough, reply_left, reply_fits, step_is_turn, taken_is_turn, bound_le_max, bound_of_rest, played_at_start, played_and_waits, played_and_bounded, played_enough, all_played, tried_at_start, tried_without_last, all_tried, untried_at_start, untried_fewer, none_untried}, WorthLemmas.{goes_on, played_leads_on, step_falls}, BoundsLemmas.{won_of_houses}}
 use Rattle.kalah_solve.proofs.search.Search.+bound.Goals as goal
 use Rattle.kalah_solve.proofs.search.Search.+bound.Goals.{try_remaining-Joined-step, try_remaining-in-Turn+else-gained-beta, try_remaining-in_default-step}
 
--- ==== bound_step and bound_turn: the bound of one move
+-- ==== bound_step: the bound of one move
 pub bound_step-overflow_add-result : goal.bound_step-overflow_add-result
 bound_step-overflow_add-result g t c =
     let on = subst (GoesOn _) c.in-Again.is c.requires.on in
     omega (arith, (won_of_houses on.limits).few, bound_le_max c.bound.ensures)
 
-pub bound_turn-overflow_sub-result : goal.bound_turn-overflow_sub-result
-bound_turn-overflow_sub-result g t c =
-    let few = (won_of_houses c.requires.on.limits).few in
-    omega (arith, bound_le_max c.bound.ensures)
+pub bound_step-overflow_sub-result : goal.bound_step-overflow_sub-result
+bound_step-overflow_sub-result g t c =
+    let on = subst (GoesOn _) c.in-Turn.is c.requires.on in
+    omega (arith, (won_of_houses on.limits).few, bound_le_max c.bound-else-all-beta.ensures)
 
-pub bound_turn-returns-else-all-beta : goal.bound_turn-returns-else-all-beta
-bound_turn-returns-else-all-beta g t c =
-    let few = (won_of_houses c.requires.on.limits).few in
-    bound_of_rest c.args.gained (omega arith) few c.bound.ensures
+pub bound_step-returns-else-all-beta : goal.bound_step-returns-else-all-beta
+bound_step-returns-else-all-beta g t c =
+    let on = subst (GoesOn _) c.in-Turn.is c.requires.on in
+    rw c.in-Turn.is (bound_of_rest c.in-Turn.gained (omega arith) (won_of_houses on.limits).few c.bound-else-all-beta.ensures)
 
 -- ==== bound_by_moves: moves into the store, the remaining moves, and the turns that wait, by their priority
 pub bound_by_moves-bound_by_search-requires : goal.bound_by_moves-bound_by_search-requires
@@ -29,7 +29,7 @@ bound_by_moves-bound_by_search-requires g t c κs within =
     let limits = c.seeds-seeds.ensures.limits in
     let turn = taken_is_turn c.loop-next.invariant.waiting c.in-Some.ensures.taken in
     let step = sym turn.step in (
-      lower_measure 5 4 c.decreases (step_falls limits turn.legal step) (lit≤ tt),
+      lower_measure rank_of_search rank_of_moves c.decreases (step_falls limits turn.legal step) (lit≤ tt),
       (within, (search rules, (goes_on c.requires.variant_is limits turn.legal step).ongoing)),
     )
 
@@ -84,7 +84,7 @@ bound_into_store-bound_step-bound-requires g t c κs within =
     let limits = c.ending_in_store-untried.ensures.limits in
     let legal = last_is_legal c.loop-house.invariant.movable c.in-Some.ensures.0 in
     let step = c.play_into_store.ensures in (
-      lower_measure 8 3 c.decreases (step_falls limits legal step) (lit≤ tt),
+      lower_measure rank_of_step rank_of_play c.decreases (step_falls limits legal step) (lit≤ tt),
       (within, (search rules, goes_on c.requires.variant_is limits legal step)),
     )
 
@@ -115,51 +115,38 @@ pub try_remaining-play_with-step-requires : goal.try_remaining-play_with-step-re
 try_remaining-play_with-step-requires g t c = last_is_legal c.loop-house.invariant.movable c.in-Some.ensures.0
 
 pub try_remaining-priority-priority-requires : goal.try_remaining-priority-priority-requires
-try_remaining-priority-priority-requires g t c = record {
-  first = rw c.m.ensures.side c.m.ensures.limits.some_house;
-  last = rw c.m.ensures.side c.m.ensures.limits.at_most_six;
-  few =
-      let leads = played_leads_on c.m.ensures.limits (last_is_legal c.loop-house.invariant.movable c.in-Some.ensures.0)
-      (rw c.in-Turn.is at c.play_with-step.ensures.step) in
-      omega (arith, leads.kept);
-}
+try_remaining-priority-priority-requires g t c =
+    let leads = played_leads_on c.remaining-untried.ensures.limits (last_is_legal c.loop-house.invariant.movable c.in-Some.ensures.0)
+    (rw c.in-Turn.is at c.play_with-step.ensures.step) in
+    omega (arith, leads.kept)
+
+-- the step that doesn't wait is the one that was played
+step_played : (g : Over) (t : ℕ) (c : try_remaining-Joined-step g t)
+    → c.match-step.step ≡ houses_step c.args.houses.now c.in-Some.house
+step_played g t c = elim c.match-step.branch [
+  | try_remaining-in-Turn+else-gained-beta w ↦ w.step-is ∙ sym w.in-Turn.is ∙ c.play_with-step.ensures.step
+  | try_remaining-in_default-step w ↦ w.step-is ∙ c.play_with-step.ensures.step
+]
 
 pub try_remaining-bound_step-bound-requires : goal.try_remaining-bound_step-bound-requires
 try_remaining-bound_step-bound-requires g t c κs within =
     let limits = c.remaining-untried.ensures.limits in
     let legal = last_is_legal c.loop-house.invariant.movable c.in-Some.ensures.0 in
-    let step = c.play_with-step.ensures.step in (
-      lower_measure 8 3 c.decreases (step_falls limits legal step) (lit≤ tt),
+    let step = step_played g t (goal.at.try_remaining-bound_step-bound-requires g t c).Joined-step in (
+      lower_measure rank_of_step rank_of_play c.decreases (step_falls limits legal step) (lit≤ tt),
       (within, (search rules, goes_on c.requires.ongoing.variant_is limits legal step)),
     )
-
-pub try_remaining-bound_turn-bound-requires : goal.try_remaining-bound_turn-bound-requires
-try_remaining-bound_turn-bound-requires g t c κs within =
-    let limits = c.remaining-untried.ensures.limits in
-    let legal = last_is_legal c.loop-house.invariant.movable c.in-Some.ensures.0 in
-    let step = rw c.in-Turn.is at c.play_with-step.ensures.step in (
-      lower_measure 7 3 c.decreases (step_falls limits legal step) (lit≤ tt),
-      (within, (search rules, goes_on c.requires.ongoing.variant_is limits legal step)),
-    )
-
--- the bound is one of the step that was played
-played_bound : (g : Over) (t : ℕ) (c : try_remaining-Joined-step g t)
-    → IsSoftBound c.args.beta (won_by_step (houses_step c.args.houses.now c.in-Some.house)) c.match-step.bound
-played_bound g t c = elim c.match-step.branch [
-  | try_remaining-in-Turn+else-gained-beta w ↦ rw (w.bound-is, ← c.play_with-step.ensures.step, w.in-Turn.is) w.bound_turn-bound.ensures
-  | try_remaining-in_default-step w ↦ rw (w.bound-is, ← c.play_with-step.ensures.step) w.bound_step-bound.ensures
-]
 
 pub try_remaining-returns-then-beta-bound : goal.try_remaining-returns-then-beta-bound
 try_remaining-returns-then-beta-bound g t c =
     let played = c.loop-house.invariant in
     let legal = last_is_legal played.movable c.in-Some.ensures.0 in
-    let bounded = played_bound g t (goal.at.try_remaining-returns-then-beta-bound g t c).Joined-step in
+    let bounded = rw (step_played g t (goal.at.try_remaining-returns-then-beta-bound g t c).Joined-step) at c.bound_step-bound.ensures in
     played_enough played c.if-beta-bound.true (enough_is_won c.remaining-untried.ensures.limits legal bounded c.if-beta-bound.true)
 
 pub try_remaining-loop-house-preserved : goal.try_remaining-loop-house-preserved
 try_remaining-loop-house-preserved g t c =
-    let bounded = played_bound g t (goal.at.try_remaining-loop-house-preserved g t c).Joined-step in
+    let bounded = rw (step_played g t (goal.at.try_remaining-loop-house-preserved g t c).Joined-step) at c.bound_step-bound.ensures in
     played_and_bounded c.loop-house.invariant c.in-Some.ensures _ _ (bounded.upper c.if-beta-bound.false)
     c.if-beta-bound.false c.max-most.ensures
 

@@ -1,31 +1,26 @@
 -- Each call has fewer moves left or a lower number, and each round of a loop has fewer moves to try.
 use Rattle.kalah_rules.specs.{Position.{storeless}, Measure.{moves_left}}
-use Rattle.std.proofs.Common.{◌+◌, ◌*◌, sum}
-use Rattle.kalah_solve.proofs.{WorthLemmas.{moves_after}, SearchLemmas.{AreTriedIntoStore, ArePlayed, AreUntried}}
+use Rattle.std.proofs.Common.{sum}
+use Rattle.kalah_solve.proofs.{WorthLemmas.{moves_after}, SearchLemmas.{measure, rank_of_play, rank_of_moves, rank_of_search, rank_of_bound, rank_of_step, AreTriedIntoStore, ArePlayed, AreUntried}}
 use Rattle.kalah_solve.proofs.search.Search.+bound.Given as goal
 
--- On the same houses each function calls only those of a lower number: a step (8) calls a turn (7), which calls `bound` (6), and so on. The
--- functions that play moves (3, 4) call higher ones for houses with fewer moves left, and 9 for each move is more than 8.
 abbrev pub decreases-bound : goal.decreases-bound
-decreases-bound g l = 9 * moves_left (storeless l.houses) + 6
+decreases-bound g l = measure (moves_left (storeless l.houses)) rank_of_bound
 
 abbrev pub decreases-bound_by_search : goal.decreases-bound_by_search
-decreases-bound_by_search g l = 9 * moves_left (storeless l.houses.now) + 5
+decreases-bound_by_search g l = measure (moves_left (storeless l.houses.now)) rank_of_search
 
 abbrev pub decreases-bound_by_moves : goal.decreases-bound_by_moves
-decreases-bound_by_moves g l = 9 * moves_left (storeless l.houses.now) + 4
+decreases-bound_by_moves g l = measure (moves_left (storeless l.houses.now)) rank_of_moves
 
 abbrev pub decreases-bound_into_store : goal.decreases-bound_into_store
-decreases-bound_into_store g l = 9 * moves_left (storeless l.houses.now) + 3
+decreases-bound_into_store g l = measure (moves_left (storeless l.houses.now)) rank_of_play
 
 abbrev pub decreases-try_remaining : goal.decreases-try_remaining
-decreases-try_remaining g l = 9 * moves_left (storeless l.houses.now) + 3
+decreases-try_remaining g l = measure (moves_left (storeless l.houses.now)) rank_of_play
 
 abbrev pub decreases-bound_step : goal.decreases-bound_step
-decreases-bound_step g l = 9 * moves_after l.step + 8
-
-abbrev pub decreases-bound_turn : goal.decreases-bound_turn
-decreases-bound_turn g l = 9 * moves_left (storeless l.next) + 7
+decreases-bound_step g l = measure (moves_after l.step) rank_of_step
 
 abbrev pub invariant-bound_into_store-loop-house : goal.invariant-bound_into_store-loop-house
 invariant-bound_into_store-loop-house g l = AreTriedIntoStore l.houses l.beta l.most l.untried

@@ -18,10 +18,10 @@ all_right (suc zero) k few within = agree_below_at (is_right 1) (λ k. true) 31 
 all_right (suc (suc list)) k few within = absurd (omega arith)
 
 pub overflow_cast-result-2 : goal.overflow_cast-result-2
-overflow_cast-result-2 c = grind (arith, nat_tests, all_right (c.args.m / 6) (c.args.m + c.bit.result - 1) (omega arith) (omega arith))
+overflow_cast-result-2 c = grind (arith, nat_tests, all_right (c.m-m.result / 6) (c.m-m.result + c.bit.result - 1) (omega arith) (omega arith))
 
 pub returns-clause-some : goal.returns-clause-some
-returns-clause-some c = grind (arith, nat_tests, all_right (c.args.m / 6) (c.args.m + c.bit.result - 1) (omega arith) (omega arith))
+returns-clause-some c = grind (arith, nat_tests, all_right (c.m-m.result / 6) (c.m-m.result + c.bit.result - 1) (omega arith) (omega arith))
 
 pub returns-clause-house : goal.returns-clause-house
-returns-clause-house c = grind (arith, nat_tests, all_right (c.args.m / 6) (c.args.m + c.bit.result - 1) (omega arith) (omega arith))
+returns-clause-house c = grind (arith, nat_tests, all_right (c.m-m.result / 6) (c.m-m.result + c.bit.result - 1) (omega arith) (omega arith))
