@@ -31,7 +31,7 @@ const MOST_SLOT_SEEDS: u8 = 24;
 const LEAST_ENTRY_NODES: u64 = 60;
 
 // Calls a method that has the number of the variant of some houses as its constant parameter. It is compiled for each variant. The number
-// is that of houses a side, and 8 more under the empty-capture rule.
+// is that of houses a side, and 8 more under the empty-capture rule; in the last arm it is 14.
 macro_rules! in_its_variant {
     ($self:ident.$method:ident($houses:ident, $($more:expr),*)) => {
         match $houses.variant() {
@@ -46,8 +46,7 @@ macro_rules! in_its_variant {
             11 => $self.$method::<11>($houses, $($more),*),
             12 => $self.$method::<12>($houses, $($more),*),
             13 => $self.$method::<13>($houses, $($more),*),
-            14 => $self.$method::<14>($houses, $($more),*),
-            _ => unreachable!(),
+            _ => $self.$method::<14>($houses, $($more),*),
         }
     };
 }

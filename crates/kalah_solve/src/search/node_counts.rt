@@ -62,6 +62,8 @@ impl NodeCounts {
     }
 
     /// Goes on with the variant of these houses, which are asked about.
+    // Out of line, so that an ending takes few instructions.
+    #[inline(never)]
     pub(super) fn resume(&mut self, houses: &Houses) {
         self.nodes_before[self.variant] = self.nodes;
         self.variant = houses.variant() as usize;
