@@ -1,13 +1,14 @@
 -- Rows as numbers, and what a key determines of its houses.
 use Rattle.std.proofs.Common.{zero, suc, ◌≡◌, ℕ, ◌+◌, ◌-◌, ◌*◌, ◌/◌, ◌%◌, ◌^◌, ◌<◌, ◌≤◌, inl, inr, List, [], ◌∷◌, ◌++◌, length, get_or}
 use Rattle.std.proofs.Common.{arith, ap, sym, ◌∙◌, refl, add-one, take, drop, replicate, rules, Option, Some, None, length-take-le}
-use Rattle.std.proofs.Common.{length-append, slice_set, sum, nat_lt, min, if◌then◌else◌, ◌==◌, nat_eq, All, IsSome, IfSome, ◌↔◌, length-set}
+use Rattle.std.proofs.Common.{length-append, slice_set, sum, nat_lt, min, if◌then◌else◌, ◌==◌, nat_eq, All, IsSome, IfSome, ◌↔◌, length-set, lit≤}
 use Rattle.std.proofs.lemmas.Nat.{pow-add, mul-le}
 use Rattle.std.proofs.lemmas.List.{map_push, length-drop, length-replicate, get_or-replicate, take-append-drop}
 use Rattle.std.proofs.lemmas.List.{Sums.{sum_by-cons, sum_by-append}, Folds.{sum_by-replicate}, Elements.{All-replicate}}
 use Rattle.std.proofs.lemmas.{Bool.{cases_eq}, Grind.{same_number_lists}}
-use Rattle.std.proofs.Math.{Nat.{pow-succ', mul_assoc, div-div-eq-div-mul}, Seq.{take-append_seam, drop-append_seam}}
-use Rattle.kalah_rules.specs.{seeds, HousesState, AreWithinLimits, total_seeds, without_seeds, row_of, lap_length, gain, own_distance, other_distance, packed_row, cells, rule_bit, packed_rows, key_of, variant_of, side_in_key, houses_in_key, IsKey, ones, up_to, houses_of_fields, AreFieldsOf, AreFields, AreRowFields, own_gains, other_gains, store_gains, padded, houses_from, CanBeHouses, declared.{rule.Rule.{Rule, TheVariants.{Classic, EmptyCapture}}, houses.numbers.TheConstants.{MOST_LAPS, ONE_EACH}}}
+use Rattle.std.proofs.Math.{Nat.{pow-succ', pow-le-pow_right, mul_assoc, div-div-eq-div-mul}, Seq.{take-append_seam, drop-append_seam}}
+use Rattle.kalah_rules.specs.{seeds, HousesState, AreWithinLimits, total_seeds, without_seeds, row_of, lap_length, gain, own_distance, other_distance, padded, houses_from, CanBeHouses}
+use Rattle.kalah_rules.specs.{packed_row, cells, rule_bit, packed_rows, key_of, variant_of, side_in_key, houses_in_key, IsKey, ones, up_to, houses_of_fields, AreFieldsOf, AreFields, AreRowFields, own_gains, other_gains, store_gains, declared.{rule.Rule.{Rule, TheVariants.{Classic, EmptyCapture}}, houses.numbers.TheConstants.{MOST_LAPS, ONE_EACH}}}
 use Rattle.kalah_rules.proofs.PlayLemmas.{range-suc, length-row_of, same_as_row, row_of_same, seeds-set_same, seeds-set_other, sum-zeros}
 
 -- ==== Rows as numbers: houses read and written, and rows of seeds added
@@ -21,20 +22,15 @@ pow_five (suc k) =
 pub pow_other : (k : ℕ) → 2 ^ (30 + 5 * k) ≡ 2 ^ 30 * 32 ^ k
 pow_other k = simp (pow-add, pow_five)
 
--- what holds of 0 to 5 holds of each number up to 5
-cases_to_five : (P : ℕ → Type 0) (k : ℕ) → k ≤ 5 → P 0 → P 1 → P 2 → P 3 → P 4 → P 5 → P k
-cases_to_five P zero few a b c d e f = a
-cases_to_five P (suc zero) few a b c d e f = b
-cases_to_five P (suc (suc zero)) few a b c d e f = c
-cases_to_five P (suc (suc (suc zero))) few a b c d e f = d
-cases_to_five P (suc (suc (suc (suc zero)))) few a b c d e f = e
-cases_to_five P (suc (suc (suc (suc (suc zero))))) few a b c d e f = f
-cases_to_five P (suc (suc (suc (suc (suc (suc k)))))) few a b c d e f = absurd (omega arith)
-
--- an own house is read off both rows as off its own
+-- an own house is read off both rows as off its own: computed for each of the six
 pub own_house_of_rows : (rows k : ℕ) → k ≤ 5 → rows / 32 ^ k % 32 ≡ rows % 2 ^ 30 / 32 ^ k % 32
-own_house_of_rows rows k few = cases_to_five (λ k. rows / 32 ^ k % 32 ≡ rows % 2 ^ 30 / 32 ^ k % 32) k few
-    (omega arith) (omega arith) (omega arith) (omega arith) (omega arith) (omega arith)
+own_house_of_rows rows zero few = omega arith
+own_house_of_rows rows (suc zero) few = omega arith
+own_house_of_rows rows (suc (suc zero)) few = omega arith
+own_house_of_rows rows (suc (suc (suc zero))) few = omega arith
+own_house_of_rows rows (suc (suc (suc (suc zero)))) few = omega arith
+own_house_of_rows rows (suc (suc (suc (suc (suc zero))))) few = omega arith
+own_house_of_rows rows (suc (suc (suc (suc (suc (suc k)))))) few = absurd (omega arith)
 
 times_power : (k n : ℕ) → 32 ^ suc k * n ≡ 32 * (32 ^ k * n)
 times_power k n = simp (pow-succ', mul_assoc)
@@ -177,19 +173,16 @@ ones_le a (suc b) fewer = elim (cases_eq a (suc b)) [
   | inr less ↦ let on = ones_le a b (omega arith) in omega (arith, packed_row-suc)
 ]
 
+-- the seeds of a house, where they stand in its row, are below the end of the row
+pub placed_small : (k x : ℕ) → k ≤ 5 → x < 32 → 32 ^ k * x < 2 ^ 30
+placed_small k x place few = omega (arith, mul-le (32 ^ k) x (32 ^ 5) 31 (pow-le-pow_right (lit≤ tt) place) (omega arith))
+
 pub moved_fits : (k x : ℕ) → k ≤ 5 → x < 2 ^ 30 → x * 32 ^ k % 2 ^ 64 ≡ 32 ^ k * x
-moved_fits k x place few = cases_to_five (λ k. x * 32 ^ k % 2 ^ 64 ≡ 32 ^ k * x) k place
-    (omega arith) (omega arith) (omega arith) (omega arith) (omega arith) (omega arith)
+moved_fits k x place few = omega (arith, mul-le (32 ^ k) x (32 ^ 5) (2 ^ 30) (pow-le-pow_right (lit≤ tt) place) (omega arith))
 
 -- a few seeds moved past the own row fit sixty-four bits
 pub moved_across_fits : (k x : ℕ) → k ≤ 5 → x < 32 → x * (2 ^ 30 * 32 ^ k) % 2 ^ 64 ≡ 2 ^ 30 * (32 ^ k * x)
-moved_across_fits k x place few = cases_to_five (λ k. x * (2 ^ 30 * 32 ^ k) % 2 ^ 64 ≡ 2 ^ 30 * (32 ^ k * x)) k place
-    (omega arith) (omega arith) (omega arith) (omega arith) (omega arith) (omega arith)
-
--- the seeds of a house, where they stand in its row, are below the end of the row
-pub placed_small : (k x : ℕ) → k ≤ 5 → x < 32 → 32 ^ k * x < 2 ^ 30
-placed_small k x place few = cases_to_five (λ k. 32 ^ k * x < 2 ^ 30) k place
-    (omega arith) (omega arith) (omega arith) (omega arith) (omega arith) (omega arith)
+moved_across_fits k x place few = omega (arith, placed_small k x place few)
 
 -- the product of two bounded numbers is at most that of their bounds
 pub product_small : (x y : ℕ) → x ≤ MOST_LAPS → y ≤ ONE_EACH → x * y ≤ MOST_LAPS * ONE_EACH

@@ -1,7 +1,9 @@
 -- Moves on the numbers of two rows, and the cells of the table of sowings.
 use Rattle.kalah_rules.specs.Position as position
-use Rattle.std.proofs.{Common.{◌≡◌, ℕ, zero, suc, ◌+◌, ◌-◌, ◌*◌, ◌/◌, ◌%◌, ◌^◌, ◌<◌, ◌≤◌, inl, inr, length, arith, ap, sym, ◌∙◌, refl, subst, eq-eqb, List, true, false, sum, ◌==◌, ◌&&◌, Option, Some, MatchBool, slice_set, bit_and, length-set}, lemmas.{Nat.{mod_below, div-add-mod', and_block, and_mask, and_le_r, pow_pos}, Bool.{cases_Bool, cases_eq, cases_lt, and_parts, eqb-true}, List.{get_or-set_same, get_or-set_other}}, Math.{Nat.{div-eq_of_lt, mod-eq_of_lt, div-div-eq-div-mul}}}
-use Rattle.kalah_rules.specs.{HousesState, AreWithinLimits, side_length, seeds, opposite, seeds_in_houses, storeless, houses_in, HoldsSeeds, lifted, lap_length, own_distance, other_distance, store_distance, sow, sown, last_distance, moves_again, captures, can_capture, after_capture, after, packed_row, packed_rows, ShowsPosition, ones, AreFieldsOf, own_gains, other_gains, store_gains, last_house, last_place, IsLastHouse, IsNoHouse, IsSowing, IsSowingCell, AreSowings, Position.{Position}, declared.{houses.{play.RowNumbers.{RowNumbers}, sowing_table.Sowing.{Sowing}}, rule.Rule.{Rule}}}
+use Rattle.std.proofs.Common.{◌≡◌, ℕ, zero, suc, ◌+◌, ◌-◌, ◌*◌, ◌/◌, ◌%◌, ◌^◌, ◌<◌, ◌≤◌, inl, inr, length, arith, ap, sym, ◌∙◌, refl, subst, eq-eqb, List, true, false, sum, ◌==◌, ◌&&◌, Option, Some, MatchBool, slice_set, bit_and, length-set}
+use Rattle.std.proofs.{lemmas.{Nat.{mod_below, div-add-mod', and_block, and_mask, and_le_r, pow_pos}, Bool.{cases_Bool, cases_eq, cases_lt, and_parts, eqb-true}, List.{get_or-set_same, get_or-set_other}}, Math.{Nat.{div-eq_of_lt, mod-eq_of_lt, div-div-eq-div-mul}}}
+use Rattle.kalah_rules.specs.{HousesState, AreWithinLimits, side_length, seeds, opposite, seeds_in_houses, storeless, houses_in, HoldsSeeds, lifted, lap_length, own_distance, other_distance, store_distance, sow, sown, last_distance, moves_again, captures, can_capture, after_capture, after, Position.{Position}}
+use Rattle.kalah_rules.specs.{packed_row, packed_rows, ShowsPosition, ones, AreFieldsOf, own_gains, other_gains, store_gains, last_house, last_place, IsLastHouse, IsNoHouse, IsSowing, IsSowingCell, AreSowings, declared.{houses.{play.RowNumbers.{RowNumbers}, sowing_table.Sowing.{Sowing}}, rule.Rule.{Rule}}}
 use Rattle.kalah_rules.proofs.{PlayLemmas.{sum-set_zero, sow_side, sow_keeps, own_distance_past, own_distance_back, last_house_own, last_house_store, last_house_other, after_at}, KeyLemmas.{packed_row-small, pow_five, pow_other, own_house_of_rows, moved_across_fits, placed_small, packed_row-set, packed_row-all, packed_row-up_to, read_seeds, own_sown, other_sown, own_gain, other_gain}}
 
 -- ==== A move on the numbers of two rows

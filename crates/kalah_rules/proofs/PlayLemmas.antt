@@ -13,7 +13,8 @@ use Rattle.std.proofs.lemmas.List.Elements.{filter-append, filter_passes, All-fi
 use Rattle.std.proofs.lemmas.List.Elements.{Contains-append_right, Contains-push}
 use Rattle.std.proofs.lemmas.{Option.{slice_get-get_or}, Grind.{same_number_lists}}
 use Rattle.std.specs.List.{range_with_len}
-use Rattle.kalah_rules.specs.{own_distance, gain, row_of, lap_length, store_distance, other_distance, sow, last_distance, last_house, sown, after, after_capture, with_capture, HousesState, seeds, side_length, seeds_in_houses, is_over, houses_in, storeless, HasEqualSides, swapped, Cell, Own, Store, Other, distance, IsCellOf, with_seed, lifted, HoldsSeeds, legal_houses, row_distance, distance_to_stores, IsNearerEnd, moves_left, position_after, Position.{Position}, declared.step.Step.{Step, TheVariants.{Again, Turn, Over}}}
+use Rattle.kalah_rules.specs.{own_distance, gain, row_of, lap_length, store_distance, other_distance, sow, last_distance, last_house, sown, after, after_capture, with_capture, with_seed, lifted}
+use Rattle.kalah_rules.specs.{HousesState, seeds, side_length, seeds_in_houses, is_over, houses_in, storeless, HasEqualSides, swapped, Cell, Own, Store, Other, distance, IsCellOf, HoldsSeeds, legal_houses, row_distance, distance_to_stores, IsNearerEnd, moves_left, position_after, Position.{Position}, declared.step.Step.{Step, TheVariants.{Again, Turn, Over}}}
 
 -- ==== Numbers, sums and lists of them, as the sections below need them
 

@@ -2,7 +2,8 @@
 use Rattle.kalah_rules.specs.declared.step.Step.TheVariants as step
 use Rattle.kalah_rules.specs.Position as position
 use Rattle.std.proofs.{Common.{◌≡◌, ◌≢◌, ℕ, ◌+◌, ◌-◌, ◌*◌, ◌/◌, ◌%◌, ◌^◌, ◌<◌, ◌≤◌, length, arith, ap, sym, ◌∙◌, refl, subst, eq-eqb, Bool, true, false, sum, ◌==◌, Contains}, lemmas.{Bool.{cases_Bool, cond_both, eqb-true, Decides.{nat_tests}}, List.{length-replicate}}, Math.{Bool.{or_comm}}}
-use Rattle.kalah_rules.specs.{HousesState, AreWithinLimits, side_length, seeds, storeless, IsWithinLimits, is_over, swapped, houses_in, with_stores, without_seeds, HoldsSeeds, sown, last_distance, moves_again, after, rule_bit, ShowsPosition, ones, houses_of_fields, AreFieldsOf, AreFields, last_place, legal_houses, step_to, step_of, position_after, IsNearerEnd, houses_step_to, houses_step, Over, Again, Turn, Position.{Position}, HousesStep.{HousesStep}, declared.{houses.{play.RowNumbers.{RowNumbers}}, step.Step.{Step}}}
+use Rattle.kalah_rules.specs.{HousesState, AreWithinLimits, side_length, seeds, storeless, IsWithinLimits, is_over, swapped, houses_in, with_stores, without_seeds, HoldsSeeds, sown, last_distance, moves_again, after, legal_houses, step_to, step_of, position_after, IsNearerEnd, Position.{Position}}
+use Rattle.kalah_rules.specs.{rule_bit, ShowsPosition, ones, houses_of_fields, AreFieldsOf, AreFields, last_place, houses_step_to, houses_step, Over, Again, Turn, HousesStep.{HousesStep}, declared.{houses.{play.RowNumbers.{RowNumbers}}, step.Step.{Step}}}
 use Rattle.kalah_rules.proofs.{PlayLemmas.{IsLegal, legal_holds, after_nearer, sum-zeros, with_store_seeds, after_of_houses, legal_going}, KeyLemmas.{ones_le, fields_of, rows_of_fields, are_fields, sum-zero, packed_row-zero}}
 use Rattle.kalah_rules.proofs.PackedLemmas.{KeepsSeeds, CanSow, short_distance, after_past, packed_row-lifted, packed_row-sown_other, after_keeps, again_at, into_store}
 

@@ -1,5 +1,6 @@
 -- The ways to play on: stores do not influence them, and how they are summed up.
-use Rattle.std.proofs.{Common.{zero, suc, ◌≡◌, ℕ, ◌+◌, ◌-◌, ◌*◌, ◌<◌, ◌≤◌, List, [], ◌∷◌, length, arith, ap, ◌∙◌, refl, sym, add-one, ◌++◌, lt-ltb, ◌^◌, append-nil, sum_by, Bool, true, false, filter, nat_lt, ◌==◌, if◌then◌else◌, le-ltb}, lemmas.{List.Sums.{sum_by_push}, Bool.{cases_Bool}}, Math.Nat.{mul-le-mul_right, pow-succ', pow-le-pow_right}}
+use Rattle.std.proofs.Common.{zero, suc, ◌≡◌, ℕ, ◌+◌, ◌-◌, ◌*◌, ◌<◌, ◌≤◌, List, [], ◌∷◌, length, arith, ap, ◌∙◌, refl, sym, add-one, ◌++◌, lt-ltb, ◌^◌, append-nil, sum_by, Bool, true, false, filter, nat_lt, ◌==◌, if◌then◌else◌, le-ltb}
+use Rattle.std.proofs.{lemmas.{List.Sums.{sum_by_push}, Bool.{cases_Bool}}, Math.Nat.{mul-le-mul_right, pow-succ', pow-le-pow_right}}
 use Rattle.std.specs.List.{range_with_len}
 use Rattle.kalah_rules.specs.{after, moves_again, seeds, side_length, is_over, houses_in, storeless, HousesState, swept, legal_houses, position_after, step_to, most_depth, most_houses, houses_step, houses_step_to, ways, ways_by, Over, Again, Turn, Position.{Position}, HousesStep.{HousesStep}}
 use Rattle.kalah_rules.proofs.PlayLemmas.{sum-zeros, same_position, filter_range-suc, length-filter_range, with_store_seeds, after-store_seeds, storeless-store_seeds}
