@@ -1,5 +1,6 @@
 -- What the words of endings state is what the mover wins, and stays so: each ending has digits of its own in its word.
-use Rattle.std.proofs.{Common.{nat_le, true, ℕ, ◌≡◌, ◌≢◌, zero, suc, ◌+◌, ◌*◌, ◌/◌, ◌%◌, ◌^◌, ◌-◌, ◌<◌, ◌≤◌, arith, refl, List, ◌++◌, length, get_or, length-append, lit≤, pow_mono, sum, slice_set, slice_index, false, max, ◌↔◌}, Math.{Nat.{add-mul-div_right, div-div-eq-div-mul}, ListN.{replicate, length-replicate, length-set}}, lemmas.{Nat.{pow_pos, pow-add, mul-le}, Bool.{cases_lt, cases_eq, agree_below_at, Decides.{nat_tests}}, List.{get_or-set_same, get_or-set_other, get_or-replicate, get_or_past, Sums.{sum_by-append}}}}
+use Rattle.std.proofs.Common.{nat_le, true, ℕ, ◌≡◌, ◌≢◌, zero, suc, ◌+◌, ◌*◌, ◌/◌, ◌%◌, ◌^◌, ◌-◌, ◌<◌, ◌≤◌, arith, refl, List, ◌++◌, length, get_or, length-append, lit≤, pow_mono, sum, slice_set, slice_index, false, max, ◌↔◌}
+use Rattle.std.proofs.{Math.{Nat.{add-mul-div_right, div-div-eq-div-mul}, ListN.{replicate, length-replicate, length-set}}, lemmas.{Nat.{pow_pos, pow-add, mul-le}, Bool.{cases_lt, cases_eq, agree_below_at, Decides.{nat_tests}}, List.{get_or-set_same, get_or-set_other, get_or-replicate, get_or_past, Sums.{sum_by-append}}}}
 use Rattle.kalah_rules.specs.{Position.{HousesState, AreWithinLimits, storeless, is_over, total_seeds}, HousesStep.{houses_step}}
 use Rattle.kalah_rules.proofs.{KeyLemmas.{rule_bit-small}, PlayLemmas.{IsLegal, legal_holds}}
 use Rattle.kalah_solve.specs.{choose, rank_of_houses, most_ending_seeds, IsEnding, HoldsWon, AreTrueWords, word_index, stored_at, won, won_by_step, cell, IsLastIn, without_house, declared.table.ending_table.words.TheConstants.{FIRST_WORDS, WORDS}}

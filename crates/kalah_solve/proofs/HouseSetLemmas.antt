@@ -1,5 +1,6 @@
 -- Sets of houses, read off the cells of their masks, and the moves of their houses.
-use Rattle.std.proofs.{Common.{◌≡◌, ◌≢◌, ℕ, zero, suc, ◌+◌, ◌*◌, ◌/◌, ◌%◌, ◌^◌, ◌-◌, ◌<◌, ◌≤◌, inl, inr, List, [], ◌∷◌, get_or, arith, sym, refl, ap, ◌∙◌, length, subst, min, sum, ◌↔◌, slice_index, false, Contains, pow_mono}, lemmas.{Nat.{leading_top, xor_lt, and_block, or_block, and_mask, and_le_l, and_le_r, or_lt, le_or_l, le_or_r, xor_mod, xor_shr}, List.{get_or_past, Sums.{get_or-le-sum_by}, FromFn.{get_or-map-range_with_len}}, Bool.{cases_lt, cases_eq}}}
+use Rattle.std.proofs.Common.{◌≡◌, ◌≢◌, ℕ, zero, suc, ◌+◌, ◌*◌, ◌/◌, ◌%◌, ◌^◌, ◌-◌, ◌<◌, ◌≤◌, inl, inr, List, [], ◌∷◌, get_or, arith, sym, refl, ap, ◌∙◌, length, subst, min, sum, ◌↔◌, slice_index, false, Contains, pow_mono}
+use Rattle.std.proofs.lemmas.{Nat.{leading_top, xor_lt, and_block, or_block, and_mask, and_le_l, and_le_r, or_lt, le_or_l, le_or_r, xor_mod, xor_shr}, List.{get_or_past, Sums.{get_or-le-sum_by}, FromFn.{get_or-map-range_with_len}}, Bool.{cases_lt, cases_eq}}
 use Rattle.std.specs.Int.{Bits.{bit_and, bit_or, bit_xor, xor_add_and, xor_self}, Count.{count_leading_zeros}}
 use Rattle.kalah_rules.specs.{Position.{HousesState, AreWithinLimits, is_over, storeless}, Sowing.{row_of, EndsDirectlyInStore}, Key.{packed_row}, Fields.{BeginsHouse, ones}}
 use Rattle.kalah_rules.proofs.{KeyLemmas.{pow_five, ones_le}, PlayLemmas.{IsLegal, holds_legal, legal_holds, length-row_of}}

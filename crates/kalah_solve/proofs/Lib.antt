@@ -1,3 +1,4 @@
+pub mod ListLemmas
 pub mod WorthLemmas
 pub mod BoundsLemmas
 pub mod HouseSetLemmas

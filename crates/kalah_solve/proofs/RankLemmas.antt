@@ -1,5 +1,6 @@
 -- The rank of a row of cells determines the row, and is added up from binomial coefficients and pairs of cells.
-use Rattle.std.proofs.{Common.{sym, ◌∙◌, ℕ, ◌≡◌, ◌≢◌, zero, suc, ◌+◌, ◌*◌, ◌/◌, ◌%◌, ◌^◌, ◌-◌, ◌<◌, ◌≤◌, arith, refl, ap, List, [], ◌∷◌, ◌++◌, length, get_or, drop, length-append, pow_mono, sum, slice_set, mul_comm, take}, lemmas.{Nat.{pow_pos, mul-le}, Bool.{cases_eq}, List.{append_cancel_left, drop_more, length-drop, get_or-set_same, get_or-set_other, Sums.{sum_by-cons, sum_by-take-drop}}}, Math.{Nat.{div-eq_of_eq-mul_right}, Seq.{take-append_seam}}}
+use Rattle.std.proofs.Common.{sym, ◌∙◌, ℕ, ◌≡◌, ◌≢◌, zero, suc, ◌+◌, ◌*◌, ◌/◌, ◌%◌, ◌^◌, ◌-◌, ◌<◌, ◌≤◌, arith, refl, ap, List, [], ◌∷◌, ◌++◌, length, get_or, drop, length-append, pow_mono, sum, slice_set, mul_comm, take}
+use Rattle.std.proofs.{lemmas.{Nat.{pow_pos, mul-le}, Bool.{cases_eq}, List.{append_cancel_left, drop_more, length-drop, get_or-set_same, get_or-set_other, Sums.{sum_by-cons, sum_by-take-drop}}}, Math.{Nat.{div-eq_of_eq-mul_right}, Seq.{take-append_seam}}}
 use Rattle.kalah_rules.specs.{Position.{HousesState, AreWithinLimits}, Key.{packed_row, variant_of}}
 use Rattle.kalah_rules.proofs.KeyLemmas.{key-injective, packed_row-append, pow_five}
 use Rattle.kalah_solve.specs.{choose, row_rank, packed_sums, rank_of_houses, most_ending_seeds, binomial_at, AreBinomials, pair_at, ArePairs, declared.table.ending_table.TheConstants.{COUNTS, BINOMIALS, INVERSE_OF_31}}

@@ -1,5 +1,6 @@
 -- What the slots of houses state stays true: a slot and a tag determine the key.
-use Rattle.std.proofs.{Common.{ℕ, ◌≡◌, ◌+◌, ◌*◌, ◌/◌, ◌%◌, ◌^◌, ◌-◌, ◌<◌, ◌≤◌, arith, sym, refl, ap, List, length, ◌∙◌, pow_mono, slice_set, pow_pos, pow-add}, Math.{Nat.{div-div-eq-div-mul, div-lt_iff_lt-mul}, ListN.{replicate, length-replicate, length-set}}, lemmas.{Bool.{cases_lt, cases_eq}, List.{get_or-set_same, get_or-set_other, get_or-replicate}}}
+use Rattle.std.proofs.Common.{ℕ, ◌≡◌, ◌+◌, ◌*◌, ◌/◌, ◌%◌, ◌^◌, ◌-◌, ◌<◌, ◌≤◌, arith, sym, refl, ap, List, length, ◌∙◌, pow_mono, slice_set, pow_pos, pow-add}
+use Rattle.std.proofs.{Math.{Nat.{div-div-eq-div-mul, div-lt_iff_lt-mul}, ListN.{replicate, length-replicate, length-set}}, lemmas.{Bool.{cases_lt, cases_eq}, List.{get_or-set_same, get_or-set_other, get_or-replicate}}}
 use Rattle.kalah_rules.specs.{Limits.{most_seeds}, Position.{HousesState, AreWithinLimits}, Key.{key_of}}
 use Rattle.kalah_rules.proofs.KeyLemmas.{key-injective, key_fits}
 use Rattle.kalah_solve.specs.{won, mixed, slot_index, tag_of, stored_tag, stored_least, stored_most, IsWithinSlot, AreTrueSlots, declared.table.slot_table.Slot.{Slot}}

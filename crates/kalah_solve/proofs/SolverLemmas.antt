@@ -1,5 +1,6 @@
 -- Games, best play, and what a solver says of it.
-use Rattle.std.proofs.{Common.{zero, suc, ◌≡◌, ℕ, ◌<◌, ◌≤◌, inl, inr, List, [], ◌∷◌, length, get_or, arith, ap, sym, subst, ◌∙◌, refl, ◌+◌, w32, to_z, of_z, FitsSigned, false, Contains, ℤ, ◌≤ℤ◌, nat_lt, neg_ℤ, true, map, pos, ◌<ℤ◌, find, option_map, ◌+ℤ◌, ◌-ℤ◌, int_eq}, lemmas.{Bool.{both_ways, cases_Bool, cases_eq, cond_both}, Int.{ints, clamps}, List.{get_or_default, map-id, Elements.{All-map, All-from_get_or, Contains-get_or}}, Simd.{map-map}}}
+use Rattle.std.proofs.Common.{zero, suc, ◌≡◌, ℕ, ◌<◌, ◌≤◌, inl, inr, List, [], ◌∷◌, length, get_or, arith, ap, sym, subst, ◌∙◌, refl, ◌+◌, w32, to_z, of_z, FitsSigned, false, Contains, ℤ, ◌≤ℤ◌, nat_lt, neg_ℤ, true, map, pos, ◌<ℤ◌, find, option_map, ◌+ℤ◌, ◌-ℤ◌, int_eq}
+use Rattle.std.proofs.lemmas.{Bool.{both_ways, cases_Bool, cases_eq, cond_both}, Int.{ints, clamps}, List.{get_or_default, map-id, Elements.{All-map, All-from_get_or, Contains-get_or}}, Simd.{map-map}}
 use Rattle.kalah_rules.specs.{Limits.{most_houses}, Position.{Position, HasEqualSides, is_over, swapped, final_margin, side_length, seeds, IsWithinLimits, IsMarginInRange, HousesState, AreWithinLimits, houses_in, storeless}, Play.{legal_houses}, Measure.{moves_left}, HousesStep.{houses_step}}
 use Rattle.kalah_rules.proofs.{PlayLemmas.{IsLegal, legal_holds, after_equal_sides, after_fewer, find_first, moves_left-swapped}, StepLemmas.{houses_within, is_over-swapped}}
 use Rattle.kalah_solve.specs.{worth, value_of_move, best_house, houses_worth}
@@ -12,7 +13,7 @@ use Rattle.kalah_solve.specs.{AreValuesByBestPlay, ValueIsWorthOfMove, WorthOfMo
 use Rattle.kalah_solve.specs.{IsMoveValue, least_margin, most_margin, clamped, won, won_by_step}
 use Rattle.kalah_solve.specs.Solver.BestPlay.Game.{is_at_end, moves_on, passes_turn}
 use Rattle.kalah_solve.specs.declared.solver.{Verdict.{Verdict, TheVariants.{Best, Over}}, move_values.MoveValue.{MoveValue}}
-use Rattle.kalah_solve.proofs.{WorthLemmas.{swapped_equal_sides, over_at_end, worth_of_over, final_swapped, value_moving_again, value_passing, best_found, best_attains, value_most, int_eq-same, find_lowest, worth_of_going, int_eq-lower, greatest_reached, worth_of_houses, value_of_houses}, BoundsLemmas.{worth_low, worth_high, won_of_houses, won_of_move, won_at_most}}
+use Rattle.kalah_solve.proofs.{ListLemmas.{find_lowest, greatest_reached}, WorthLemmas.{swapped_equal_sides, over_at_end, worth_of_over, final_swapped, value_moving_again, value_passing, best_found, best_attains, value_most, int_eq-same, worth_of_going, int_eq-lower, worth_of_houses, value_of_houses}, BoundsLemmas.{worth_low, worth_high, won_of_houses, won_of_move, won_at_most}}
 use Rattle.lru.proofs.Splits.{Contains-head}
 
 -- ==== The games that players play

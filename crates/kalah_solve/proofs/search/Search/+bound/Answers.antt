@@ -3,7 +3,8 @@
 use Rattle.std.proofs.Common.{◌≡◌, ℕ, ◌∙◌, arith, rules, sym, subst, lit≤}
 use Rattle.kalah_rules.{specs.{Sowing.{EndsDirectlyInStore}, HousesStep.{houses_step}}, proofs.PlayLemmas.{sum-set_zero}}
 use Rattle.kalah_solve.{specs.{GoesOn}, proofs.search.Search.+bound.Given.{Over}}
-use Rattle.kalah_solve.proofs.{HouseSetLemmas.{without_last_less, last_is_legal, each_at_last}, SearchLemmas.{rank_of_play, rank_of_moves, rank_of_search, rank_of_step, lower_measure, enough_is_won, soft_if_enough, turn_enough, reply_left, reply_fits, step_is_turn, taken_is_turn, bound_le_max, bound_of_rest, played_at_start, played_and_waits, played_and_bounded, played_enough, all_played, tried_at_start, tried_without_last, all_tried, untried_at_start, untried_fewer, none_untried}, WorthLemmas.{goes_on, played_leads_on, step_falls}, BoundsLemmas.{won_of_houses}}
+use Rattle.kalah_solve.proofs.{HouseSetLemmas.{without_last_less, last_is_legal, each_at_last}, WorthLemmas.{goes_on, played_leads_on, step_falls}, BoundsLemmas.{won_of_houses}}
+use Rattle.kalah_solve.proofs.SearchLemmas.{rank_of_play, rank_of_moves, rank_of_search, rank_of_step, lower_measure, enough_is_won, soft_if_enough, turn_enough, reply_left, reply_fits, step_is_turn, taken_is_turn, bound_le_max, bound_of_rest, played_at_start, played_and_waits, played_and_bounded, played_enough, all_played, tried_at_start, tried_without_last, all_tried, untried_at_start, untried_fewer, none_untried}
 use Rattle.kalah_solve.proofs.search.Search.+bound.Goals as goal
 use Rattle.kalah_solve.proofs.search.Search.+bound.Goals.{try_remaining-Joined-step, try_remaining-in-Turn+else-gained-beta, try_remaining-in_default-step}
 
