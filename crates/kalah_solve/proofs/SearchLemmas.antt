@@ -5,9 +5,9 @@
 -- waiting: its turn must be searched (`AreTurns`; `AreWaiting` once all were played);
 -- tried: it wins at most `most`, a bound for all that were tried. In `bound_by_moves` all that don't wait were tried (`AreUntried`).
 use Rattle.std.proofs.{Common.{◌≡◌, ℕ, ◌+◌, ◌*◌, ◌-◌, ◌<◌, ◌≤◌, inl, inr, List, get_or, arith, refl, sym, ap, ◌∙◌, length, subst, ◌↔◌, Bool, false, IsTrue, Contains, ◌%◌, max, slice_set}, lemmas.{Bool.{cases_lt, cases_eq}, List.{get_or-set_same, get_or-set_other, get_or_default, get_or_past, set_past}}}
-use Rattle.kalah_solve.specs.{cell, IsLastIn, without_house, IsSoftBound, WinsAtMost, IsTurnOf, AreTurns, AreWaiting, ArePlaced, IsEmpty, IsTaken, won, won_by_step}
-use Rattle.kalah_solve.proofs.{HouseSetLemmas.{AreMovable, EachOutside, cell_of_zero, into_store_legal, seeded_is_legal, movable_before_last, each_before_last, each_outside_without_last}, WorthLemmas.{LeadsOnAt, played_leads_on}, BoundsLemmas.{won_at_most, won_of_houses, won_reached}}
-use Rattle.kalah_rules.specs.{Position.{HousesState, AreWithinLimits, total_seeds, is_over, storeless}, Sowing.{EndsDirectlyInStore}, HousesStep.{houses_step}, declared.step.HousesStep.TheVariants.{Turn}}
+use Rattle.kalah_solve.specs.{cell, IsLastIn, without_house, IsSoftBound, WinsAtMost, IsTurnOf, AreTurns, AreWaiting, ArePlaced, IsEmpty, IsTaken, GoesOn, won, won_by_step}
+use Rattle.kalah_solve.proofs.{HouseSetLemmas.{AreMovable, EachOutside, cell_of_zero, into_store_legal, seeded_is_legal, movable_before_last, each_before_last, each_outside_without_last}, WorthLemmas.{LeadsOnAt, played_leads_on, moves_after, goes_on, step_falls}, BoundsLemmas.{won_at_most, won_of_houses, won_reached}}
+use Rattle.kalah_rules.specs.{Position.{HousesState, AreWithinLimits, total_seeds, is_over, storeless}, Sowing.{EndsDirectlyInStore}, Measure.{moves_left}, Key.{variant_of}, HousesStep.{houses_step}, declared.step.HousesStep.{HousesStep, TheVariants.{Turn}}}
 use Rattle.kalah_rules.proofs.PlayLemmas.{IsLegal, legal_holds}
 
 -- ==== The measure of a call (`Invariants.antt` of the search)
@@ -37,6 +37,13 @@ measure moves rank = 5 * moves + rank
 pub lower_measure : {m n t : ℕ} (called caller : ℕ) → measure n caller ≡ t → m < n → called ≤ rank_of_step → measure m called < t
 lower_measure called caller is fewer last = omega arith
 
+-- the call for the step of a move that is played: its measure is lower, and the step goes on in the variant
+pub step_called : {a : HousesState} {variant h t : ℕ} {s : HousesStep} → AreWithinLimits a → IsLegal a h → variant_of a ≡ variant
+    → s ≡ houses_step a h → measure (moves_left (storeless a)) rank_of_play ≡ t
+    → (measure (moves_after s) rank_of_step < t) × GoesOn variant s
+step_called limits legal variant_is step is =
+    (lower_measure rank_of_step rank_of_play is (step_falls limits legal step) (omega arith), goes_on variant_is limits legal step)
+
 -- ==== Bounds that are enough, and bounds that fall short
 
 -- the meaning of a failed test
@@ -48,7 +55,7 @@ pub bound_le_max : {beta number bound : ℕ} → IsSoftBound beta number bound �
 bound_le_max {beta} {number} {bound} bounded = grind arith
 
 -- one that is enough, and is no more than the number, is a bound of it
-pub soft_if_enough : {beta number bound : ℕ} → beta ≤ bound → bound ≤ number → IsSoftBound beta number bound
+soft_if_enough : {beta number bound : ℕ} → beta ≤ bound → bound ≤ number → IsSoftBound beta number bound
 soft_if_enough enough low = record { lower = λ e. low; upper = λ short. absurd (omega arith) }
 
 -- the most of some bounds that fall short falls short too, unless it is 0
@@ -68,31 +75,7 @@ pub enough_is_won : {a : HousesState} {beta h bound : ℕ} → AreWithinLimits a
     → IsSoftBound beta (won_by_step (houses_step a h)) bound → beta ≤ bound → bound ≤ won a
 enough_is_won {a} {h = h} limits legal bounded enough = omega (arith, won_at_most limits h legal)
 
--- ==== Turns, and what the reply to one leaves
-
--- a turn leads on to the houses that it leaves
-turn_leads : {a b : HousesState} {h : ℕ} → AreWithinLimits a → IsTurnOf a h b
-    → LeadsOnAt a (total_seeds a - total_seeds b) b
-turn_leads limits turn = played_leads_on limits turn.legal (sym turn.step)
-
--- a turn that waited, of all `seeds`, by a bound of what the opponent wins after it; `left` and one more were asked of that player
-module _ {a b : HousesState} {h bound seeds left : ℕ} (beta : ℕ) (limits : AreWithinLimits a) (turn : IsTurnOf a h b)
-    (seeds_are : seeds ≡ total_seeds a) (left_is : left ≡ seeds - beta) (bounded : IsSoftBound (left + 1) (won b) bound) where
-  -- the opponent wins at most what is in houses
-  reply_few : won b ≤ total_seeds b
-  reply_few = (won_of_houses (turn_leads limits turn).limits).few
-
-  -- what the reply leaves is a bound of the turn
-  pub reply_left : IsSoftBound beta (won_by_step (houses_step a h)) (seeds - bound)
-  reply_left = rw (turn.step, seeds_are)
-      (bound_of_rest _ (omega (arith, (turn_leads limits turn).kept)) reply_few (rw (left_is, seeds_are) at bounded))
-
-  pub reply_fits : bound ≤ seeds
-  reply_fits = let kept = (turn_leads limits turn).kept in grind (arith, cases_lt, reply_few)
-
-  -- what is left of them is no more than best play wins, if it is enough
-  pub turn_enough : beta ≤ seeds - bound → seeds - bound ≤ won a
-  turn_enough = enough_is_won limits turn.legal reply_left
+-- ==== Turns that wait, and what the reply to one leaves
 
 -- a legal house whose step is a turn
 pub step_is_turn : {a b : HousesState} {h gained : ℕ} → AreWithinLimits a → IsLegal a h → Turn gained b ≡ houses_step a h → IsTurnOf a h b
@@ -100,8 +83,6 @@ step_is_turn {a} {b} {h} {gained} limits legal step_is =
     let on = played_leads_on limits legal step_is in
     let brought : gained ≡ total_seeds a - total_seeds b = omega arith in
     record { legal = legal; step = sym step_is ∙ ap (λ g. Turn g b) brought }
-
--- ==== Turns that wait
 
 -- the place that a priority names is one of those of the turns
 pub place_inside : {priorities : List ℕ} {turns : List HousesState} {priority : ℕ} → ArePlaced priorities turns
@@ -131,6 +112,32 @@ turns_without_one a priorities turns at waiting k some d = elim (cases_eq k at) 
 pub taken_is_turn : {a b : HousesState} {priorities rest : List ℕ} {turns : List HousesState} → AreTurns a priorities turns
     → (taken : IsTaken priorities turns b rest) → IsTurnOf a (taken.at + 1) b
 taken_is_turn {a} {b} waiting taken = subst (IsTurnOf a _) (sym taken.turn_is) (waiting taken.at taken.some b)
+
+-- One that was taken out, of all `seeds`, by a bound of what the opponent wins after it; `left` and one more were asked of that player.
+module _ {a b : HousesState} {priorities rest : List ℕ} {turns : List HousesState} {bound seeds left : ℕ} (beta : ℕ)
+    (limits : AreWithinLimits a) (waiting : AreTurns a priorities turns) (taken : IsTaken priorities turns b rest)
+    (seeds_are : seeds ≡ total_seeds a) (left_is : left ≡ seeds - beta) (bounded : IsSoftBound (left + 1) (won b) bound) where
+  turn_taken : IsTurnOf a (taken.at + 1) b
+  turn_taken = taken_is_turn waiting taken
+
+  -- it leads on to the houses that it leaves
+  leads : LeadsOnAt a (total_seeds a - total_seeds b) b
+  leads = played_leads_on limits turn_taken.legal (sym turn_taken.step)
+
+  -- the opponent wins at most what is in houses
+  reply_few : won b ≤ total_seeds b
+  reply_few = (won_of_houses leads.limits).few
+
+  -- what the reply leaves is a bound of the turn
+  pub reply_left : IsSoftBound beta (won_by_step (houses_step a (taken.at + 1))) (seeds - bound)
+  reply_left = rw (turn_taken.step, seeds_are) (bound_of_rest _ (omega (arith, leads.kept)) reply_few (rw (left_is, seeds_are) at bounded))
+
+  pub reply_fits : bound ≤ seeds
+  reply_fits = let kept = leads.kept in grind (arith, cases_lt, reply_few)
+
+  -- what is left of them is a bound of what best play wins, if it is enough
+  pub turn_enough : beta ≤ seeds - bound → IsSoftBound beta (won a) (seeds - bound)
+  turn_enough enough = soft_if_enough enough (enough_is_won limits turn_taken.legal reply_left enough)
 
 -- ==== The remaining moves, played one by one
 

@@ -4,7 +4,7 @@ use Rattle.std.proofs.Common.{◌≡◌, ℕ, ◌∙◌, arith, rules, sym, subs
 use Rattle.kalah_rules.{specs.{Sowing.{EndsDirectlyInStore}, HousesStep.{houses_step}}, proofs.PlayLemmas.{sum-set_zero}}
 use Rattle.kalah_solve.{specs.{GoesOn}, proofs.search.Search.+bound.Given.{Over}}
 use Rattle.kalah_solve.proofs.{HouseSetLemmas.{without_last_less, last_is_legal, each_at_last}, WorthLemmas.{goes_on, played_leads_on, step_falls}, BoundsLemmas.{won_of_houses}}
-use Rattle.kalah_solve.proofs.SearchLemmas.{rank_of_play, rank_of_moves, rank_of_search, rank_of_step, lower_measure, enough_is_won, soft_if_enough, turn_enough, reply_left, reply_fits, step_is_turn, taken_is_turn, bound_le_max, bound_of_rest, played_at_start, played_and_waits, played_and_bounded, played_enough, all_played, tried_at_start, tried_without_last, all_tried, untried_at_start, untried_fewer, none_untried}
+use Rattle.kalah_solve.proofs.SearchLemmas.{rank_of_moves, rank_of_search, lower_measure, step_called, enough_is_won, turn_enough, reply_left, reply_fits, step_is_turn, taken_is_turn, bound_le_max, bound_of_rest, played_at_start, played_and_waits, played_and_bounded, played_enough, all_played, tried_at_start, tried_without_last, all_tried, untried_at_start, untried_fewer, none_untried}
 use Rattle.kalah_solve.proofs.search.Search.+bound.Goals as goal
 use Rattle.kalah_solve.proofs.search.Search.+bound.Goals.{try_remaining-Joined-step, try_remaining-in-Turn+else-gained-beta, try_remaining-in_default-step}
 
@@ -36,15 +36,13 @@ bound_by_moves-bound_by_search-requires g t c κs within =
 
 pub bound_by_moves-overflow_sub-bound : goal.bound_by_moves-overflow_sub-bound
 bound_by_moves-overflow_sub-bound g t c =
-    let turn = taken_is_turn c.loop-next.invariant.waiting c.in-Some.ensures.taken in
-    reply_fits c.args.beta c.seeds-seeds.ensures.limits turn c.seeds-seeds.ensures.seeds c.saturating_sub-reply_beta.ensures
-    c.bound_by_search.ensures
+    reply_fits c.args.beta c.seeds-seeds.ensures.limits c.loop-next.invariant.waiting c.in-Some.ensures.taken c.seeds-seeds.ensures.seeds
+    c.saturating_sub-reply_beta.ensures c.bound_by_search.ensures
 
 pub bound_by_moves-returns-then-beta-bound : goal.bound_by_moves-returns-then-beta-bound
 bound_by_moves-returns-then-beta-bound g t c =
-    let turn = taken_is_turn c.loop-next.invariant.waiting c.in-Some.ensures.taken in
-    soft_if_enough c.if-beta-bound.true (turn_enough c.args.beta c.seeds-seeds.ensures.limits turn c.seeds-seeds.ensures.seeds
-    c.saturating_sub-reply_beta.ensures c.bound_by_search.ensures c.if-beta-bound.true)
+    turn_enough c.args.beta c.seeds-seeds.ensures.limits c.loop-next.invariant.waiting c.in-Some.ensures.taken c.seeds-seeds.ensures.seeds
+    c.saturating_sub-reply_beta.ensures c.bound_by_search.ensures c.if-beta-bound.true
 
 pub bound_by_moves-loop-next-init : goal.bound_by_moves-loop-next-init
 bound_by_moves-loop-next-init g t c =
@@ -53,9 +51,8 @@ bound_by_moves-loop-next-init g t c =
 
 pub bound_by_moves-loop-next-preserved : goal.bound_by_moves-loop-next-preserved
 bound_by_moves-loop-next-preserved g t c =
-    let turn = taken_is_turn c.loop-next.invariant.waiting c.in-Some.ensures.taken in
-    let left = reply_left c.args.beta c.seeds-seeds.ensures.limits turn c.seeds-seeds.ensures.seeds c.saturating_sub-reply_beta.ensures
-    c.bound_by_search.ensures in
+    let left = reply_left c.args.beta c.seeds-seeds.ensures.limits c.loop-next.invariant.waiting c.in-Some.ensures.taken
+    c.seeds-seeds.ensures.seeds c.saturating_sub-reply_beta.ensures c.bound_by_search.ensures in
     untried_fewer _ c.loop-next.invariant c.in-Some.ensures.taken c.in-Some.ensures.turns (left.upper c.if-beta-bound.false)
     c.if-beta-bound.false c.max-most-in-Some.ensures
 
@@ -82,12 +79,9 @@ bound_into_store-play_into_store-requires g t c = record {
 
 pub bound_into_store-bound_step-bound-requires : goal.bound_into_store-bound_step-bound-requires
 bound_into_store-bound_step-bound-requires g t c κs within =
-    let limits = c.ending_in_store-untried.ensures.limits in
-    let legal = last_is_legal c.loop-house.invariant.movable c.in-Some.ensures.0 in
-    let step = c.play_into_store.ensures in (
-      lower_measure rank_of_step rank_of_play c.decreases (step_falls limits legal step) (lit≤ tt),
-      (within, (search rules, goes_on c.requires.variant_is limits legal step)),
-    )
+    let called = step_called c.ending_in_store-untried.ensures.limits (last_is_legal c.loop-house.invariant.movable c.in-Some.ensures.0)
+    c.requires.variant_is c.play_into_store.ensures c.decreases in
+    (called.0, (within, (search rules, called.1)))
 
 pub bound_into_store-returns-then-beta-bound-clause-lower : goal.bound_into_store-returns-then-beta-bound-clause-lower
 bound_into_store-returns-then-beta-bound-clause-lower g t c =
@@ -131,12 +125,9 @@ step_played g t c = elim c.match-step.branch [
 
 pub try_remaining-bound_step-bound-requires : goal.try_remaining-bound_step-bound-requires
 try_remaining-bound_step-bound-requires g t c κs within =
-    let limits = c.remaining-untried.ensures.limits in
-    let legal = last_is_legal c.loop-house.invariant.movable c.in-Some.ensures.0 in
-    let step = step_played g t (goal.at.try_remaining-bound_step-bound-requires g t c).Joined-step in (
-      lower_measure rank_of_step rank_of_play c.decreases (step_falls limits legal step) (lit≤ tt),
-      (within, (search rules, goes_on c.requires.ongoing.variant_is limits legal step)),
-    )
+    let called = step_called c.remaining-untried.ensures.limits (last_is_legal c.loop-house.invariant.movable c.in-Some.ensures.0)
+    c.requires.ongoing.variant_is (step_played g t (goal.at.try_remaining-bound_step-bound-requires g t c).Joined-step) c.decreases in
+    (called.0, (within, (search rules, called.1)))
 
 pub try_remaining-returns-then-beta-bound : goal.try_remaining-returns-then-beta-bound
 try_remaining-returns-then-beta-bound g t c =
