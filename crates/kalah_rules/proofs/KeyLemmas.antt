@@ -1,12 +1,12 @@
 -- Rows as numbers, and what a key determines of its houses.
 use Rattle.std.proofs.Common.{zero, suc, ◌≡◌, ℕ, ◌+◌, ◌-◌, ◌*◌, ◌/◌, ◌%◌, ◌^◌, ◌<◌, ◌≤◌, inl, inr, List, [], ◌∷◌, ◌++◌, length, get_or}
-use Rattle.std.proofs.Common.{arith, ap, sym, ◌∙◌, refl, add-one, take, drop, replicate, rules, Option, Some, None, length-take-le}
+use Rattle.std.proofs.Common.{arith, ap, sym, ◌∙◌, refl, subst, add-one, take, drop, replicate, rules, Option, Some, None, length-take-le}
 use Rattle.std.proofs.Common.{length-append, slice_set, sum, nat_lt, min, if◌then◌else◌, ◌==◌, nat_eq, All, IsSome, IfSome, ◌↔◌, length-set, lit≤}
 use Rattle.std.proofs.lemmas.Nat.{pow-add, mul-le}
 use Rattle.std.proofs.lemmas.List.{map_push, length-drop, length-replicate, get_or-replicate, take-append-drop}
 use Rattle.std.proofs.lemmas.List.{Sums.{sum_by-cons, sum_by-append}, Folds.{sum_by-replicate}, Elements.{All-replicate}}
 use Rattle.std.proofs.lemmas.{Bool.{cases_eq}, Grind.{same_number_lists}}
-use Rattle.std.proofs.Math.{Nat.{pow-succ', pow-le-pow_right, mul_assoc, div-div-eq-div-mul}, Seq.{take-append_seam, drop-append_seam}}
+use Rattle.std.proofs.Math.{Pow.{field, mod-mod-pow}, Nat.{pow-succ', pow-le-pow_right, mul_assoc, div-div-eq-div-mul}, Seq.{take-append_seam, drop-append_seam}}
 use Rattle.kalah_rules.specs.{seeds, HousesState, AreWithinLimits, total_seeds, without_seeds, row_of, lap_length, gain, own_distance, other_distance, padded, houses_from, CanBeHouses}
 use Rattle.kalah_rules.specs.{packed_row, cells, rule_bit, packed_rows, key_of, variant_of, side_in_key, houses_in_key, IsKey, ones, up_to, houses_of_fields, AreFieldsOf, AreFields, AreRowFields, own_gains, other_gains, store_gains, declared.{rule.Rule.{Rule, TheVariants.{Classic, EmptyCapture}}, houses.numbers.TheConstants.{MOST_LAPS, ONE_EACH}}}
 use Rattle.kalah_rules.proofs.PlayLemmas.{range-suc, length-row_of, same_as_row, row_of_same, seeds-set_same, seeds-set_other, sum-zeros}
@@ -22,15 +22,12 @@ pow_five (suc k) =
 pub pow_other : (k : ℕ) → 2 ^ (30 + 5 * k) ≡ 2 ^ 30 * 32 ^ k
 pow_other k = simp (pow-add, pow_five)
 
--- an own house is read off both rows as off its own: computed for each of the six
+-- an own house is read off both rows as off its own
 pub own_house_of_rows : (rows k : ℕ) → k ≤ 5 → rows / 32 ^ k % 32 ≡ rows % 2 ^ 30 / 32 ^ k % 32
-own_house_of_rows rows zero few = omega arith
-own_house_of_rows rows (suc zero) few = omega arith
-own_house_of_rows rows (suc (suc zero)) few = omega arith
-own_house_of_rows rows (suc (suc (suc zero))) few = omega arith
-own_house_of_rows rows (suc (suc (suc (suc zero)))) few = omega arith
-own_house_of_rows rows (suc (suc (suc (suc (suc zero))))) few = omega arith
-own_house_of_rows rows (suc (suc (suc (suc (suc (suc k)))))) few = absurd (omega arith)
+own_house_of_rows rows k few =
+    let bits : 25 - 5 * k + 5 + 5 * k ≡ 30 = omega arith in
+    let own = subst (λ n. rows % 2 ^ n / 2 ^ (5 * k) ≡ rows / 2 ^ (5 * k) % 2 ^ (25 - 5 * k + 5)) bits (field rows _ (5 * k)) in
+    sym (ap (λ n. n % 32) (rw (pow_five k) at own) ∙ mod-mod-pow _ (25 - 5 * k) 5)
 
 times_power : (k n : ℕ) → 32 ^ suc k * n ≡ 32 * (32 ^ k * n)
 times_power k n = simp (pow-succ', mul_assoc)
