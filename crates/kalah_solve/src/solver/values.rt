@@ -18,9 +18,7 @@ impl<A: Allocator + Clone> Solver<A> {
     {
         let moves = board.legal();
         let mut values = MoveValues::none();
-        let mut i = moves.len();
-        while i > 0 {
-            i -= 1;
+        for i in (0..moves.len()).rev() {
             values.prepend(self.move_value(board, moves.get(i)));
         }
         values

@@ -19,24 +19,22 @@ module _ (moves : List ℕ) {i h : ℕ} (some : 0 < i) (within : i ≤ length mo
 
 pub move_value-requires : goal.move_value-requires
 move_value-requires g c =
-    at_place c.legal-moves.result c.loop-i-test.true c.loop-i.invariant.within c.get.ensures c.legal-moves.ensures.moves
+    at_place c.legal-moves.result c.loop-i-test.true (omega arith) c.get.ensures c.legal-moves.ensures.moves
 
 pub prepend-requires-clause-small : goal.prepend-requires-clause-small
 prepend-requires-clause-small g c =
-    let legal = at_place c.legal-moves.result c.loop-i-test.true c.loop-i.invariant.within c.get.ensures c.legal-moves.ensures.moves in
+    let legal = at_place c.legal-moves.result c.loop-i-test.true (omega arith) c.get.ensures c.legal-moves.ensures.moves in
     subst IsMoveValue (sym c.move_value.ensures) (move_value_small c.legal-moves.ensures.limits legal)
 
 pub loop-i-preserved : goal.loop-i-preserved
-loop-i-preserved g c = record {
-  done = one_more c.legal-moves.result c.loop-i-test.true c.loop-i.invariant.within c.get.ensures
-      c.args.board.now c.move_value.ensures c.loop-i.invariant.done c.prepend.ensures;
-  within = omega arith;
-}
+loop-i-preserved g c =
+    one_more c.legal-moves.result c.loop-i-test.true (omega arith) c.get.ensures c.args.board.now c.move_value.ensures c.loop-i.invariant
+    c.prepend.ensures
 
 pub returns-clause-best_play : goal.returns-clause-best_play
 returns-clause-best_play g c =
     let none : c.loop-i.i ≡ 0 = omega arith in
-    let done = rw (none, c.legal-moves.ensures.moves) at c.loop-i.invariant.done in
+    let done = rw (none, c.legal-moves.ensures.moves) at c.loop-i.invariant in
     subst (AreValuesByBestPlay c.args.board.now) (sym done) (values_state _)
 
 pub prepend-requires-clause-room : goal.prepend-requires-clause-room

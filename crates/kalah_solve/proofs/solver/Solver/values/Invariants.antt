@@ -1,10 +1,7 @@
-use Rattle.std.proofs.Common.{◌≡◌, ◌≤◌, drop, length, map}
+use Rattle.std.proofs.Common.{◌≡◌, drop, map}
 use Rattle.kalah_solve.specs.{move_value}
 use Rattle.kalah_solve.proofs.solver.Solver.values.Given as goal
 
 -- the values of the moves from place i on
 abbrev pub invariant-loop-i : goal.invariant-loop-i
-invariant-loop-i g l = record { done : l.values ≡ map (move_value l.board) (drop l.i l.moves); within : l.i ≤ length l.moves }
-
-abbrev pub decreases-loop-i : goal.decreases-loop-i
-decreases-loop-i g l = l.i
+invariant-loop-i g l = l.values ≡ map (move_value l.board) (drop l.i l.moves)
