@@ -226,17 +226,12 @@ impl<A: Allocator + Clone> Search<A> {
         let before = self.begin_node();
         let bound = self.bound_by_moves::<VARIANT>(&houses, beta);
         let nodes = self.counts.nodes.saturating_sub(before);
-        let learned = if beta <= bound {
-            SeedBounds {
-                least: bound,
-                most: known.most,
-            }
+        let mut learned = known;
+        if beta <= bound {
+            learned.least = bound;
         } else {
-            SeedBounds {
-                least: known.least,
-                most: bound,
-            }
-        };
+            learned.most = bound;
+        }
         self.learn_seeds(&houses, learned, nodes);
         bound
     }
