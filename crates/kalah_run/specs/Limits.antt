@@ -1,6 +1,6 @@
--- The most workers of a batch, the largest table of each, and the largest capacity of a results queue.
+-- The most workers of a batch, and the largest capacity of a results queue.
 use Rattle.std.specs.Prelude.{◌<◌, ◌≤◌, ℕ, suc}
-use Rattle.kalah_solve.specs.Table.Entries.{most_entries}
+pub use Rattle.kalah_solve.specs.Table.Entries.{IsTableSize}
 use Rattle.kalah_run.specs.declared.limits.TheConstants.{MOST_CAPACITY, MOST_WORKERS}
 
 abbrev pub most_workers : ℕ
@@ -13,10 +13,6 @@ IsWorkerCount workers = (0 < workers) × (workers ≤ most_workers)
 -- the most passes of a desk: one for each worker, and one for the calling thread
 abbrev pub most_passes : ℕ
 most_passes = suc most_workers
-
--- a number of entries that a table may have
-abbrev pub IsTableSize : ℕ → Type 0
-IsTableSize entries = (0 < entries) × (entries ≤ most_entries)
 
 abbrev pub most_capacity : ℕ
 most_capacity = MOST_CAPACITY

@@ -1,7 +1,7 @@
 //! The solver: the worth of positions, by a search with a table.
-ghost use Rattle.std.specs.Prelude.{◌≡◌, ◌≤◌, IfOk, false};
+ghost use Rattle.std.specs.Prelude.{◌≡◌, IfOk, false};
 ghost use Rattle.kalah_rules.specs.Position.{is_over, storeless, houses_in, AreWithinLimits, IsWithinLimits, IsMarginInRange};
-ghost use Rattle.kalah_solve.specs.{Solver.{Worth.{best_house, houses_worth, worth}, Verdict.{verdict_of, StatesBestPlay, IsVerdictInRange}, EmptyTable.{HasEmptyTable}}, Table.Entries.{most_entries}, Bounds.Won.{won}};
+ghost use Rattle.kalah_solve.specs.{Solver.{Worth.{best_house, houses_worth, worth}, Verdict.{verdict_of, StatesBestPlay, IsVerdictInRange}, EmptyTable.{HasEmptyTable}}, Table.Entries.{IsTableSize}, Bounds.Won.{won}};
 
 pub(crate) mod laws;
 pub(crate) mod move_values;
@@ -58,8 +58,7 @@ impl<A: Allocator + Clone> Solver<A> {
     ///
     /// Fails with `AllocError` only if memory was refused.
     pub fn sharing_endings(&self, alloc: A, capacity: u32) -> Result<Solver<A>, AllocError>
-        requires low { 1 ≤ capacity }
-        requires high { capacity ≤ most_entries }
+        requires { IsTableSize capacity }
         ensures { IfOk result (HasEmptyTable capacity) }
     {
         let endings = Arc::try_clone(&self.search.table.endings)?;

@@ -1,7 +1,7 @@
 //! The transposition table: what is known of houses.
-ghost use Rattle.std.specs.{Prelude.{◌≡◌, ◌≤◌, ◌⊎◌, nat_eq, IfOk, IfSome, IsSome, Some}, Map.{lookup}};
+ghost use Rattle.std.specs.{Prelude.{◌≡◌, ◌⊎◌, nat_eq, IfOk, IfSome, IsSome, Some}, Map.{lookup}};
 ghost use Rattle.kalah_rules.specs.Key.{key_of};
-ghost use Rattle.kalah_solve.specs.{Table.{Entries.{most_entries, empty_table}, EndingTable.{IsEnding}}, Search.{IsOngoing}, Solver.Worth.{houses_worth}};
+ghost use Rattle.kalah_solve.specs.{Table.{Entries.{most_entries, IsTableSize, empty_table}, EndingTable.{IsEnding}}, Search.{IsOngoing}, Solver.Worth.{houses_worth}};
 
 pub(crate) mod ending_table;
 pub(crate) mod slot_table;
@@ -57,8 +57,7 @@ impl<A: Allocator + Clone> Table<A> {
     ///
     /// Fails with `AllocError` only if memory was refused.
     pub fn new(alloc: A, capacity: u32) -> Result<Table<A>, AllocError>
-        requires low { 1 ≤ capacity }
-        requires high { capacity ≤ most_entries }
+        requires { IsTableSize capacity }
         ensures { IfOk result (λ t. t ≡ empty_table capacity) }
     {
         let endings = Arc::new(alloc.clone()?, EndingTable::new(alloc.clone()?)?)?;
@@ -71,8 +70,7 @@ impl<A: Allocator + Clone> Table<A> {
         capacity: u32,
         endings: Arc<EndingTable<A>, A>,
     ) -> Result<Table<A>, AllocError>
-        requires low { 1 ≤ capacity }
-        requires high { capacity ≤ most_entries }
+        requires { IsTableSize capacity }
         ensures { IfOk result (λ t. t ≡ empty_table capacity) }
     {
         let room = NonZeroUsize::new(capacity as usize).unwrap();

@@ -1,7 +1,7 @@
 //! A worker of a batch. No other module can use the solver of a worker.
 ghost use Rattle.std.specs.Prelude.{◌≡◌, ◌<◌, Some, slice_get, true, IfOk};
 ghost use Rattle.kalah_jobs.specs.Files.{JobList.{job_list}, Jobs.{job_count}};
-ghost use Rattle.kalah_run.specs.Limits.{IsTableSize};
+ghost use Rattle.kalah_solve.specs.Table.Entries.{IsTableSize};
 ghost use Rattle.crossbeam_utils.specs.Padded.{padded_value};
 ghost use Rattle.kalah_solve.specs.Solver.EmptyTable.{HasEmptyTable};
 

@@ -1,11 +1,15 @@
 -- How a table of intervals is represented, and what it stores; no part of what is promised to players.
-use Rattle.std.specs.Prelude.{◌≡◌, ℕ, List, [], Contains}
+use Rattle.std.specs.Prelude.{◌≡◌, ◌<◌, ◌≤◌, ℕ, List, [], Contains}
 use Rattle.kalah_rules.specs.{Position.{HousesState, AreWithinLimits}, Key.{key_of}}
 use Rattle.kalah_solve.specs.{Solver.Worth.{houses_worth}, Bounds.Intervals.{Encloses}, declared.{bounds.interval.Interval.{Interval}, table.TheConstants.{MOST_ENTRIES}}}
 
 -- the most entries of a table
 abbrev pub most_entries : ℕ
 most_entries = MOST_ENTRIES
+
+-- a number of entries that a table may have room for
+abbrev pub IsTableSize : ℕ → Type 0
+IsTableSize entries = (0 < entries) × (entries ≤ most_entries)
 
 -- a table as its caller knows it: its entries, the most recently used first, and how many there may be
 pub record TableState : Type 0 where
