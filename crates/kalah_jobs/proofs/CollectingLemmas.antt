@@ -9,7 +9,7 @@ use Rattle.std.proofs.lemmas.List.Elements.{Contains-append_left, Contains-push,
 use Rattle.std.proofs.lemmas.List.{FromFn.{length-enumerate_from, get_or-enumerate_from}, Sums.{sum_by-append}}
 use Rattle.std.proofs.lemmas.Option.{slice_get_within, get_or_from_slice_get, slice_get-get_or}
 use Rattle.std.specs.List.{enumerate_from}
-use Rattle.kalah_jobs.specs.{IsPermutationOfJobs, AcceptsEachJob, MakesEveryLineReady, Event, Offers, Gives, offered_in, taken_in, with_taken, HasArrived, answered_line, answered_lines, IsAfterEvents, KeepsItsLaw, front_of, ArrivalsState, no_file, state_of, line_count, arrived_for, HasLinesOf, with_answer, with_one_taken, after_offer, after_take, new_files, front, IsNext, HasEnded, IsOffered, HoldsOffered, AgreeWithOffers, IsWanted, IsRefusedFor, AnswersInOneWay, entries_of, entry_at, line_job, no_job, Answer, OutcomeState, Entry, Refusal, Taken, answer_of, Offered, Took}
+use Rattle.kalah_jobs.specs.{IsPermutationOfJobs, AcceptsEachJob, MakesEveryLineReady, Event, Offers, Gives, offered_in, taken_in, with_taken, HasArrived, answered_line, answered_lines, IsAfterEvents, KeepsItsLaw, front_of, ArrivalsState, no_file, state_of, line_count, arrived_for, HasLinesOf, with_answer, with_one_taken, after_offer, after_take, new_files, front, IsNext, HasEnded, IsOffered, HoldsOffered, AgreeWithOffers, IsWanted, IsRefusedFor, AnswersInOneWay, JobsState, entries_of, entry_at, line_job, no_job, Answer, OutcomeState, Entry, Refusal, Taken, answer_of, Offered, Took}
 use Rattle.kalah_jobs.proofs.{CountingLemmas.{same_job, same_entry_itself, times_offered, contains_from_times, times_from_contains, hits, hit, times_in_jobs}, ListLemmas.{count_by-cons, some_value}}
 
 -- ==== How many of the first lines of a file have come without a gap
@@ -82,12 +82,12 @@ each_line files o a file_low line_low P here others =
 -- ---- counts of lines
 
 -- there are as many files as lists of jobs
-pub files_many : (jobs : List (List Entry)) (files : List ArrivalsState) → HasLinesOf jobs files → length files ≡ length jobs
+pub files_many : (jobs : JobsState) (files : List ArrivalsState) → HasLinesOf jobs files → length files ≡ length jobs
 files_many jobs files has_lines = sym (length-map files line_count) ∙ ap length has_lines
     ∙ length-map jobs length
 
 -- each file has as many lines as its jobs, also if there is no such file
-pub lines_are : (jobs : List (List Entry)) (files : List ArrivalsState) → HasLinesOf jobs files → (f : ℕ)
+pub lines_are : (jobs : JobsState) (files : List ArrivalsState) → HasLinesOf jobs files → (f : ℕ)
     → line_count (state_of files f) ≡ length (entries_of jobs f)
 lines_are [] [] has_lines f = refl
 lines_are (entries ∷ jobs) (s ∷ files) has_lines (suc f) = lines_are jobs files (cc) f
@@ -103,7 +103,7 @@ counts_set (x ∷ files) (suc f) s same = ap (line_count x ∷◌) (counts_set f
 -- ---- what has arrived
 
 -- what was offered is offered with one offer more
-still_offered : {jobs : List (List Entry)} {past : List OutcomeState} {f k : ℕ} {a : Answer} (o : OutcomeState) → IsOffered jobs past f k a
+still_offered : {jobs : JobsState} {past : List OutcomeState} {f k : ℕ} {a : Answer} (o : OutcomeState) → IsOffered jobs past f k a
     → IsOffered jobs (past ++ o ∷ []) f k a
 still_offered {jobs} {past} {f} {k} o old = record {
   entry = old.entry;
@@ -117,7 +117,7 @@ file_there : (files : List ArrivalsState) (f k : ℕ) → k < line_count (state_
 file_there files f k low = grind (arith, get_or_past files f no_file)
 
 -- what had arrived before an offer or a take
-module _ {jobs : List (List Entry)} {past : List OutcomeState} {files : List ArrivalsState} (holds : HoldsOffered jobs past files) where
+module _ {jobs : JobsState} {past : List OutcomeState} {files : List ArrivalsState} (holds : HoldsOffered jobs past files) where
   -- an accepted offer keeps what holds
   holds_accepted : (o : OutcomeState) → IsWanted jobs files o
       → HoldsOffered jobs (past ++ o ∷ []) (after_offer files o.file o.line (answer_of o.entry))
@@ -196,11 +196,11 @@ pub taken_is : (t : Taken) (k : ℕ) (e : Entry) → t.line ≡ k → t.answer �
 taken_is t k e line_is answer_is = λ i. record { line = line_is i; answer = answer_is i }
 
 -- the lines of file f, each with its answer
-abbrev answered_lines_of : List (List Entry) → ℕ → List Taken
+abbrev answered_lines_of : JobsState → ℕ → List Taken
 answered_lines_of jobs f = answered_lines (entries_of jobs f)
 
 -- the list of the first lines grows by the line that is taken
-first_lines_more : {jobs : List (List Entry)} {past : List OutcomeState} {files : List ArrivalsState} (f : ℕ) (t : Taken) →
+first_lines_more : {jobs : JobsState} {past : List OutcomeState} {files : List ArrivalsState} (f : ℕ) (t : Taken) →
     HoldsOffered jobs past files → IsNext (state_of files f) t
     → take (state_of files f).taken (answered_lines_of jobs f) ++ t ∷ [] ≡ take ((state_of files f).taken + 1) (answered_lines_of jobs f)
 first_lines_more {jobs} {files = files} f t holds is_next =
@@ -221,12 +221,12 @@ first_lines_more {jobs} {files = files} f t holds is_next =
 -- ---- any list of events
 
 -- from one state to the other, these were taken of each file: its next lines
-abbrev WereTaken : List (List Entry) → List ArrivalsState → (ℕ → List Taken) → List ArrivalsState → Type 0
+abbrev WereTaken : JobsState → List ArrivalsState → (ℕ → List Taken) → List ArrivalsState → Type 0
 WereTaken jobs files took after = (f : ℕ) →
     take (state_of files f).taken (answered_lines_of jobs f) ++ took f ≡ take (state_of after f).taken (answered_lines_of jobs f)
 
 -- the state is kept by each event
-module _ {jobs : List (List Entry)} {past : List OutcomeState} {files after : List ArrivalsState}
+module _ {jobs : JobsState} {past : List OutcomeState} {files after : List ArrivalsState}
     (kept : AgreeWithOffers jobs past files) where
   -- by an offer, accepted or refused, which takes nothing
   pub kept_by_offer : (o : OutcomeState) (result : Result ℕ Refusal) → Offers jobs files o result after
@@ -268,7 +268,7 @@ module _ {jobs : List (List Entry)} {past : List OutcomeState} {files after : Li
       (λ f other. rw (ne_eqb g f (λ same. other (sym same))) (append-nil (take (state_of files f).taken (answered_lines_of jobs f)))))
 
 -- any list of events
-runs_keep : (jobs : List (List Entry)) (past : List OutcomeState) (events : List Event) (files after : List ArrivalsState)
+runs_keep : (jobs : JobsState) (past : List OutcomeState) (events : List Event) (files after : List ArrivalsState)
     → IsAfterEvents jobs files events after → AgreeWithOffers jobs past files
     → AgreeWithOffers jobs (past ++ offered_in events) after × WereTaken jobs files (λ f. taken_in f events) after
 runs_keep jobs past [] files after run kept =
@@ -289,24 +289,24 @@ runs_keep jobs past (Took g (Some t) ∷ events) files after run kept =
 -- ---- new files
 
 -- no answer has come for new files
-none_arrived_at_first : (jobs : List (List Entry)) (f k : ℕ) → arrived_for (state_of (new_files jobs) f) k ≡ None
+none_arrived_at_first : (jobs : JobsState) (f k : ℕ) → arrived_for (state_of (new_files jobs) f) k ≡ None
 none_arrived_at_first [] f k = refl
 none_arrived_at_first (entries ∷ jobs) zero k = grind (arith, get_or-replicate, get_or_past, length-replicate)
 none_arrived_at_first (entries ∷ jobs) (suc f) k = none_arrived_at_first jobs f k
 
 -- new files have the jobs' lines
-pub new_lines : (jobs : List (List Entry)) → HasLinesOf jobs (new_files jobs)
+pub new_lines : (jobs : JobsState) → HasLinesOf jobs (new_files jobs)
 new_lines [] = refl
 new_lines (entries ∷ jobs) = grind (arith, new_lines jobs, length-replicate)
 
 -- nothing was taken of new files
-pub new_taken : (jobs : List (List Entry)) (f : ℕ) → (state_of (new_files jobs) f).taken ≡ 0
+pub new_taken : (jobs : JobsState) (f : ℕ) → (state_of (new_files jobs) f).taken ≡ 0
 new_taken [] f = refl
 new_taken (entries ∷ jobs) zero = refl
 new_taken (entries ∷ jobs) (suc f) = new_taken jobs f
 
 -- to new files nothing was offered, and nothing was taken of them
-pub new_files_agree : (jobs : List (List Entry)) → AgreeWithOffers jobs [] (new_files jobs)
+pub new_files_agree : (jobs : JobsState) → AgreeWithOffers jobs [] (new_files jobs)
 new_files_agree jobs = record {
   offered = record {
     counts = new_lines jobs;
@@ -319,7 +319,7 @@ new_files_agree jobs = record {
 -- ---- the law
 
 -- after these events the offers have come
-offers_held : (jobs : List (List Entry)) (events : List Event) (files : List ArrivalsState)
+offers_held : (jobs : JobsState) (events : List Event) (files : List ArrivalsState)
     → IsAfterEvents jobs (new_files jobs) events files → HoldsOffered jobs (offered_in events) files
 offers_held jobs events files run = (runs_keep jobs [] events (new_files jobs) files run (new_files_agree jobs)).0.offered
 
@@ -352,14 +352,14 @@ pub ruleset new_counts = (new_lines, take_all)
 -- ==== Offers of each job once, in any order
 
 -- each line was offered with its entry
-each_arrived : {jobs : List (List Entry)} {got : List OutcomeState} → IsPermutationOfJobs jobs got → (f k : ℕ) (e : Entry)
+each_arrived : {jobs : JobsState} {got : List OutcomeState} → IsPermutationOfJobs jobs got → (f k : ℕ) (e : Entry)
     → entry_at jobs f k ≡ Some e → Contains got (line_job f k e)
 each_arrived {jobs} {got} each_once f k e entry_is =
     let o : OutcomeState = line_job f k e in
     contains_from_times o got (grind (arith, each_once.same_counts (same_job o), times_in_jobs o jobs, same_entry_itself e))
 
 -- an offer among the jobs that was not offered before
-module _ {jobs : List (List Entry)} {past : List OutcomeState} {files : List ArrivalsState} (o : OutcomeState) (rest : List OutcomeState)
+module _ {jobs : JobsState} {past : List OutcomeState} {files : List ArrivalsState} (o : OutcomeState) (rest : List OutcomeState)
     (each_once : IsPermutationOfJobs jobs (past ++ o ∷ rest)) (holds : HoldsOffered jobs past files) where
   -- this offer is not refused, for any cause
   not_refused : (r : Refusal) → IsRefusedFor jobs files o r → ⊥
@@ -382,7 +382,7 @@ module _ {jobs : List (List Entry)} {past : List OutcomeState} {files : List Arr
       omega (arith, is_hit.1, times_from_contains o past (rw same at offer.offered))
 
 -- if each job was offered, each file has ended
-pub fronts_full : {jobs : List (List Entry)} {past : List OutcomeState} {files : List ArrivalsState} → IsPermutationOfJobs jobs past
+pub fronts_full : {jobs : JobsState} {past : List OutcomeState} {files : List ArrivalsState} → IsPermutationOfJobs jobs past
     → HoldsOffered jobs past files → (f : ℕ) → HasEnded (state_of files f)
 fronts_full {jobs} {files = files} each_once holds f =
     let arrived = (state_of files f).arrived in

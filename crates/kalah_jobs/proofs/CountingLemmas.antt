@@ -10,7 +10,7 @@ use Rattle.std.proofs.lemmas.List.FromFn.{fill_by_all, length-range_with_len, le
 use Rattle.std.proofs.lemmas.List.Sums.{get_or-le-sum_by, sum_by-le, sum_by-set, sum-map, sum_by-append}
 use Rattle.std.specs.{Coded.{Coded, codes}, List.{All, flat_map, range_with_len}}
 use base.Stored.{Gv, gnil, gnum, gcons}
-use Rattle.kalah_jobs.specs.{job, GetsEachJobOnce, times_in, sent_by_worker, AreShared, line_job, no_job, job_list, entry_at, file_jobs, jobs_from, Job, Entry}
+use Rattle.kalah_jobs.specs.{job, GetsEachJobOnce, times_in, sent_by_worker, AreShared, line_job, no_job, JobsState, job_list, entry_at, file_jobs, jobs_from, Job, Entry}
 use Rattle.kalah_jobs.proofs.ListLemmas.{count_by-cons, count_map, count_flat}
 
 -- ==== What is got of jobs that were shared out: each job's result, once
@@ -210,19 +210,19 @@ times_in_file o f k (suc i) (e ∷ entries) file line =
     grind (arith, nat_tests, times_in_file o f (suc k) i entries file (omega arith))
 
 -- in the first file, and in those after it
-times_in_both : (o : Job) (f : ℕ) (entries : List Entry) (jobs : List (List Entry)) → times_offered o (jobs_from f (entries ∷ jobs))
+times_in_both : (o : Job) (f : ℕ) (entries : List Entry) (jobs : JobsState) → times_offered o (jobs_from f (entries ∷ jobs))
     ≡ times_offered o (file_jobs f 0 entries) + times_offered o (jobs_from (suc f) jobs)
 times_in_both o f entries jobs = sum_by-append (λ x. cond (same_job o x) 1 0) (file_jobs f 0 entries) (jobs_from (suc f) jobs)
 
 -- not in later files
-times_later : (o : Job) (f : ℕ) (jobs : List (List Entry)) → o.file < f → times_offered o (jobs_from f jobs) ≡ 0
+times_later : (o : Job) (f : ℕ) (jobs : JobsState) → o.file < f → times_offered o (jobs_from f jobs) ≡ 0
 times_later o f [] low = refl
 times_later o f (entries ∷ jobs) low =
     let first = times_elsewhere o f 0 entries (λ same _. omega arith) in
     omega (arith, times_in_both o f entries jobs, times_later o (suc f) jobs (omega arith))
 
 -- at its place in the files' lines
-times_from_file : (o : Job) (f g : ℕ) (jobs : List (List Entry)) → o.file ≡ f + g
+times_from_file : (o : Job) (f g : ℕ) (jobs : JobsState) → o.file ≡ f + g
     → times_offered o (jobs_from f jobs) ≡ hits o.entry (entry_at jobs g o.line)
 times_from_file o f g [] file = refl
 times_from_file o f zero (entries ∷ jobs) file =
@@ -233,5 +233,5 @@ times_from_file o f (suc g) (entries ∷ jobs) file =
     omega (arith, times_in_both o f entries jobs, times_from_file o (suc f) g jobs (omega arith))
 
 -- an offer stands among the jobs once if it is one of them, and else never
-pub times_in_jobs : (o : Job) (jobs : List (List Entry)) → times_offered o (job_list jobs) ≡ hits o.entry (entry_at jobs o.file o.line)
+pub times_in_jobs : (o : Job) (jobs : JobsState) → times_offered o (job_list jobs) ≡ hits o.entry (entry_at jobs o.file o.line)
 times_in_jobs o jobs = times_from_file o 0 o.file jobs (omega arith)

@@ -3,7 +3,7 @@ use Rattle.std.proofs.{Common.{◌≡◌, ℕ, ◌+◌, ◌<◌, ◌≤◌, List
 use Rattle.kalah_rules.proofs.{KeyLemmas.{key-injective}, StepLemmas.{houses_within}}
 use Rattle.kalah_rules.specs.{Position.{Position, IsWithinLimits, houses_in}, contracts.board.BoardEq.TheImpl.Laws.{laws-law}}
 use Rattle.kalah_rules.specs.contracts.board.BoardPartialEq.TheImpl as board_eq
-use Rattle.kalah_jobs.specs.{ReadsAs, entry_asked, entry_of_reading, entry_of, entry_for, is_faulty, is_faulty_entry, EntriesAreOne, entries_of, line_job, file_jobs, jobs_from, job_list, is_faulty_job, lines_in_all, lines_in, entries_for, jobs_for, job_count, AreStarts, lines_of, NamedBytes, reading_of, BestMove, Entry, BestMoveOf, Bad, Job, Question}
+use Rattle.kalah_jobs.specs.{ReadsAs, entry_asked, entry_of_reading, entry_of, entry_for, is_faulty, is_faulty_entry, EntriesAreOne, JobsState, entries_of, line_job, file_jobs, jobs_from, job_list, is_faulty_job, lines_in_all, lines_in, entries_for, jobs_for, job_count, AreStarts, lines_of, NamedBytes, reading_of, BestMove, Entry, BestMoveOf, Bad, Job, Question}
 use Rattle.kalah_jobs.proofs.{LineLemmas.{is_reading, only_reading}, ListLemmas.{count_map, count_flat, slice_get-append_left, slice_get-append_right}}
 
 -- ==== Each line has one entry
@@ -25,7 +25,7 @@ abbrev entry_in : Job → Entry
 entry_in job = job.entry
 
 -- the entries of all files
-abbrev pub all_entries : List (List Entry) → List Entry
+abbrev pub all_entries : JobsState → List Entry
 all_entries jobs = flat_map (λ entries. entries) jobs
 
 -- the jobs of a file have the entries of its lines
@@ -34,13 +34,13 @@ entries_of_file f k [] = refl
 entries_of_file f k (e ∷ entries) = ap (e ∷◌) (entries_of_file f (suc k) entries)
 
 -- the jobs of the files have the entries of all lines
-entries_from : (f : ℕ) (jobs : List (List Entry)) → map entry_in (jobs_from f jobs) ≡ all_entries jobs
+entries_from : (f : ℕ) (jobs : JobsState) → map entry_in (jobs_from f jobs) ≡ all_entries jobs
 entries_from f [] = refl
 entries_from f (entries ∷ jobs) =
     grind (arith, map-append entry_in (file_jobs f 0 entries), entries_of_file f 0 entries, entries_from (suc f) jobs)
 
 -- there are as many jobs as lines
-pub length-job_list : (jobs : List (List Entry)) → length (job_list jobs) ≡ job_count jobs
+pub length-job_list : (jobs : JobsState) → length (job_list jobs) ≡ job_count jobs
 length-job_list jobs =
     sym (length-map (job_list jobs) entry_in) ∙ ap length (entries_from 0 jobs)
     ∙ length-flat_map (λ (entries : List Entry). entries) jobs
@@ -55,7 +55,7 @@ slice_get-file_jobs f k zero (x ∷ entries) e entry_is = grind arith
 slice_get-file_jobs f k (suc i) (x ∷ entries) e entry_is = grind (arith, slice_get-file_jobs f (suc k) i entries e entry_is)
 
 -- among the jobs of the files each comes after those of the files before its own
-slice_get-jobs_from : (f g k : ℕ) (jobs : List (List Entry)) (e : Entry) → slice_get (entries_of jobs g) k ≡ Some e
+slice_get-jobs_from : (f g k : ℕ) (jobs : JobsState) (e : Entry) → slice_get (entries_of jobs g) k ≡ Some e
     → slice_get (jobs_from f jobs) (job_count (take g jobs) + k) ≡ Some (line_job (f + g) k e)
 slice_get-jobs_from f g k [] e entry_is = cc
 slice_get-jobs_from f zero k (entries ∷ jobs) e entry_is =
@@ -76,14 +76,14 @@ slice_get-jobs_from f (suc g) k (entries ∷ jobs) e entry_is =
     )
 
 -- line k of file f comes after the jobs of the files before f
-pub slice_get-job_list : (jobs : List (List Entry)) (f k n : ℕ) (e : Entry) → n ≡ job_count (take f jobs) + k
+pub slice_get-job_list : (jobs : JobsState) (f k n : ℕ) (e : Entry) → n ≡ job_count (take f jobs) + k
     → slice_get (entries_of jobs f) k ≡ Some e → slice_get (job_list jobs) n ≡ Some (line_job f k e)
 slice_get-job_list jobs f k n e n_is entry_is = grind (arith, slice_get-jobs_from 0 f k jobs e entry_is)
 
 -- ---- the place of a job among the files
 
 -- after the jobs of some files come those of the next one
-pub lines_between : (jobs : List (List Entry)) (f : ℕ) → f < length jobs
+pub lines_between : (jobs : JobsState) (f : ℕ) → f < length jobs
     → job_count (take (f + 1) jobs) ≡ job_count (take f jobs) + length (entries_of jobs f)
 lines_between jobs f within = ap job_count (take_more jobs f [] within) ∙ sum_by_push length (take f jobs) (entries_of jobs f)
 
@@ -107,7 +107,7 @@ job_count-jobs_for question (file ∷ files) =
     )
 
 -- one file more starts after all jobs so far
-starts_more : {jobs : List (List Entry)} {starts : List ℕ} {start : ℕ} (entries : List Entry) → AreStarts jobs starts
+starts_more : {jobs : JobsState} {starts : List ℕ} {start : ℕ} (entries : List Entry) → AreStarts jobs starts
     → start ≡ job_count jobs → AreStarts (jobs ++ entries ∷ []) (starts ++ start ∷ [])
 starts_more {jobs} {starts} {start} entries so_far start_is = record {
   as_many = omega (arith, so_far.as_many, length-append starts (start ∷ []), length-append jobs (entries ∷ []));
@@ -126,7 +126,7 @@ starts_more {jobs} {starts} {start} entries so_far start_is = record {
 }
 
 -- The first files are read: these are their jobs, with the number of jobs before each, the number of all and that of faults.
-pub record AreRead (question : Question) (files : List NamedBytes) (count : ℕ) (jobs : List (List Entry)) (starts : List ℕ)
+pub record AreRead (question : Question) (files : List NamedBytes) (count : ℕ) (jobs : JobsState) (starts : List ℕ)
     (before faults : ℕ) : Type 0 where
   pub read : jobs ≡ jobs_for question (take count files)
   pub starts_are : AreStarts jobs starts
@@ -137,7 +137,7 @@ pub record AreRead (question : Question) (files : List NamedBytes) (count : ℕ)
   pub many : length jobs ≡ count
 
 -- one file more is read
-pub one_more_read : {question : Question} {files : List NamedBytes} {count : ℕ} {jobs : List (List Entry)} {starts : List ℕ}
+pub one_more_read : {question : Question} {files : List NamedBytes} {count : ℕ} {jobs : JobsState} {starts : List ℕ}
     {before faults many found : ℕ} {entries : List Entry} (file : NamedBytes) → AreRead question files count jobs starts before faults
     → count < length files → file ≡ get_or files count file → entries ≡ entries_for question file.bytes → many ≡ length entries
     → count_by is_faulty_entry entries ≡ found
@@ -160,7 +160,7 @@ one_more_read {question} {files} {count} {jobs} {entries = entries} file so_far 
     }
 
 -- a file has no more lines than all together
-pub no_more_than_all : (jobs : List (List Entry)) (f : ℕ) → f < length jobs → length (entries_of jobs f) ≤ job_count jobs
+pub no_more_than_all : (jobs : JobsState) (f : ℕ) → f < length jobs → length (entries_of jobs f) ≤ job_count jobs
 no_more_than_all jobs f within = get_or-le-sum_by length jobs f [] within
 
 -- what the functions of jobs need of what is counted
@@ -182,11 +182,11 @@ asked_fault question line =
     ]
 
 -- as many jobs are answered by a fault as entries
-pub faulty_jobs : (jobs : List (List Entry)) → count_by is_faulty_job (job_list jobs) ≡ count_by is_faulty_entry (all_entries jobs)
+pub faulty_jobs : (jobs : JobsState) → count_by is_faulty_job (job_list jobs) ≡ count_by is_faulty_entry (all_entries jobs)
 faulty_jobs jobs = sym (count_map is_faulty_entry entry_in (job_list jobs)) ∙ ap (count_by is_faulty_entry) (entries_from 0 jobs)
 
 -- counted file by file
-pub faults_by_file : (jobs : List (List Entry)) → count_by is_faulty_job (job_list jobs) ≡ sum_by (count_by is_faulty_entry) jobs
+pub faults_by_file : (jobs : JobsState) → count_by is_faulty_job (job_list jobs) ≡ sum_by (count_by is_faulty_entry) jobs
 faults_by_file jobs = faulty_jobs jobs ∙ count_flat is_faulty_entry jobs
 
 -- ==== Two boards are equal by `==` exactly when they show the same position

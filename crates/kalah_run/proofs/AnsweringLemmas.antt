@@ -1,7 +1,7 @@
 -- What a batch answers: the output of its files, each result, and a batch whose files have no line.
 use Rattle.std.proofs.{Common.{[], IfErr, ◌≡◌, ℕ, List, ◌++◌, arith, sym, ap, ◌∙◌, true, false, refl, length, take, inl, inr, Some, Option, None, Result, Ok, Err, OnOk, count_by, IfOk, flat_map}, lemmas.List.{nil_from_length, append-nil}, Math.Seq.{take-nil}, KnownBytes.{Keeps-refl}}
-use Rattle.kalah_run.specs.{Entry, Job, Tally, Question, text_of_job, whole_output, AnswersBatch, counts_of, AnswersNothing, declared.batch.{ordered_output.OrderedOutput.{OrderedOutput}, run_fault.RunFault.{RunFault, TheVariants.{TooManyFiles, TooManyLines, OutOfMemory, NoWorker, Write}}}}
-use Rattle.kalah_jobs.specs.{Files.{JobList.{job_list, is_faulty_job}, NamedBytes.{NamedBytes}, Jobs.{MakesJobs, job_count, jobs_for, lines_in_all}}, Writing.{Sink.{SinkState, WasGiven}, Output.{taken_output, output_for, output_of_jobs, names_of, tally_of}}}
+use Rattle.kalah_run.specs.{Job, Tally, Question, text_of_job, whole_output, AnswersBatch, counts_of, AnswersNothing, declared.batch.{ordered_output.OrderedOutput.{OrderedOutput}, run_fault.RunFault.{RunFault, TheVariants.{TooManyFiles, TooManyLines, OutOfMemory, NoWorker, Write}}}}
+use Rattle.kalah_jobs.specs.{Files.{JobList.{JobsState, job_list, is_faulty_job}, NamedBytes.{NamedBytes}, Jobs.{MakesJobs, job_count, jobs_for, lines_in_all}}, Writing.{Sink.{SinkState, WasGiven}, Output.{taken_output, output_for, output_of_jobs, names_of, tally_of}}}
 use Rattle.std.specs.Io.KnownBytes.{Appends, Keeps}
 use Rattle.kalah_jobs.proofs.{WritingLemmas.{files_are_their_jobs}, FilesLemmas.{length-job_list, job_count-jobs_for}}
 use Rattle.kalah_run.proofs.OutputLemmas.{texts_from}
@@ -13,7 +13,7 @@ whole_output_is question files r of_files of_jobs =
     (λ i. output_of_jobs (names_of (of_files i)) (of_jobs i)) ∙ sym (files_are_their_jobs.output question files)
 
 -- there are as many jobs as lines
-pub as_many_jobs : (question : Question) (files : List NamedBytes) {jobs : List (List Entry)} → jobs ≡ jobs_for question files
+pub as_many_jobs : (question : Question) (files : List NamedBytes) {jobs : JobsState} → jobs ≡ jobs_for question files
     → job_count jobs ≡ lines_in_all files
 as_many_jobs question files value = ap job_count value ∙ job_count-jobs_for question files
 
@@ -27,7 +27,7 @@ counted_tally question files = λ i. record {
 
 module _ {W : Type 0} (state : W → SinkState) (question : Question) (files : List NamedBytes) (old : W) where
   -- a batch keeps its promise if the sink was given the answers to all lines, and either all is flushed or a write failed
-  pub answered : {jobs : List (List Entry)} → MakesJobs question files (Ok jobs) → (new : W) (result : Result Tally RunFault)
+  pub answered : {jobs : JobsState} → MakesJobs question files (Ok jobs) → (new : W) (result : Result Tally RunFault)
       → WasGiven state old new (output_for question files) → IfOk result (λ tally. tally ≡ counts_of jobs)
       → OnOk result (((state new).has_failed ≡ false) × ((state new).is_flushed ≡ true))
       → IfErr result (λ e. (e ≡ Write) × ((state new).has_failed ≡ true))

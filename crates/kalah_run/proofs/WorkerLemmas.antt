@@ -1,14 +1,14 @@
 -- The workers of a batch: what each sends, and what is known once all have run.
 use Rattle.std.proofs.{Common.{[], ◌≡◌, ◌≤◌, ◌<◌, ◌+◌, ◌-◌, ℕ, suc, List, ◌∷◌, ◌++◌, arith, sym, ap, ◌∙◌, Bool, true, length, get_or, append_assoc, subst, zero, map, reverse, ◌==◌, if◌then◌else◌, ne_eqb, inl, inr, All, Some, fold, slice_get, count_by}, lemmas.{List.{map-append, reverse-append, get_or-map, length-append, length-map, Sums.{fold-append, sum_by-cons}, Elements.{All-cons, All-map, All-tail}}, Option.{get_or_from_slice_get}, Bool.{cases_eq, cases_lt, lt-ltb}}}
-use Rattle.kalah_run.specs.{Entry, OutcomeState, WorkerOutcome, DrawnRow, drawn_jobs, passes_of, puts_of, AreAtWork, HasRun, HaveRun, PutPassState, ArePassesFrom, sent_by, Accounts, outcomes_in, PassState, IsPassAt, AreNewPasses, new_pass, drawn_rows, HasOwnTable, HaveOwnTables, drawn_numbers, DealsEachOnce, spent_in, declared.batch.{worker.Worker.{Worker}, shared_work.SharedWork.{SharedWork}}}
-use Rattle.kalah_jobs.specs.{Files.{JobList.{job_list, no_job}, Jobs.{job_count}}, Collecting.{AnyOrder.{job, IsPermutationOfJobs}, Shares.{AreShared, times_in}}}
+use Rattle.kalah_run.specs.{OutcomeState, WorkerOutcome, DrawnRow, drawn_jobs, passes_of, puts_of, AreAtWork, HasRun, HaveRun, PutPassState, ArePassesFrom, sent_by, Accounts, outcomes_in, PassState, IsPassAt, AreNewPasses, new_pass, drawn_rows, HasOwnTable, HaveOwnTables, drawn_numbers, DealsEachOnce, spent_in, declared.batch.{worker.Worker.{Worker}, shared_work.SharedWork.{SharedWork}}}
+use Rattle.kalah_jobs.specs.{Files.{JobList.{JobsState, job_list, no_job}, Jobs.{job_count}}, Collecting.{AnyOrder.{job, IsPermutationOfJobs}, Shares.{AreShared, times_in}}}
 use Rattle.kalah_jobs.proofs.{CountingLemmas.{gets_each_job_once, as_many_as_numbers}, FilesLemmas.{length-job_list}}
 use Rattle.kalah_run.proofs.PassLemmas.{length-drawn_numbers, all_are_of}
 
 -- ==== A worker with one job more: what it sends, and that less is left to draw
 
 -- the outcome of the job that was drawn stands after those of the row so far
-pub drawn_jobs-more : (jobs : List (List Entry)) (numbers : List ℕ) (n : ℕ) (o : OutcomeState) → slice_get (job_list jobs) n ≡ Some o
+pub drawn_jobs-more : (jobs : JobsState) (numbers : List ℕ) (n : ℕ) (o : OutcomeState) → slice_get (job_list jobs) n ≡ Some o
     → drawn_jobs jobs (numbers ++ n ∷ []) ≡ drawn_jobs jobs numbers ++ o ∷ []
 drawn_jobs-more jobs numbers n o job_is =
     map-append (job jobs) numbers (n ∷ [])
@@ -151,12 +151,12 @@ shares_of_workers {shared = shared} {before} {after} run pairs count_is deals ac
 -- Each number below the count of those drawn stands in the rows once, the pairs that were got and those left inside account for what was
 -- sent, and at least as many were got as there are jobs: so each job was got once.
 pub each_job_got : {G : Type 0} {knows : G → ℕ → Bool} {shared : SharedWork G} {before after : List Worker} {count drawn left : ℕ}
-    {puts : List PutPassState} {jobs : List (List Entry)} (run : HaveRun knows shared before after) (got : List WorkerOutcome)
+    {puts : List PutPassState} {jobs : JobsState} (run : HaveRun knows shared before after) (got : List WorkerOutcome)
     → count ≡ length before → DealsEachOnce (job_count shared.jobs.now) drawn (drawn_rows (passes_of after))
     → puts ≡ puts_of after → (rest : List WorkerOutcome) × (length rest ≡ left) × Accounts count (sent_by puts) (got ++ rest)
     → jobs ≡ shared.jobs.now → job_count jobs ≤ length got → IsPermutationOfJobs jobs (outcomes_in got)
 each_job_got {shared = shared} {after = after} {drawn = drawn} run got count_is deals puts_are inside jobs_are all =
-    let own : List (List Entry) = shared.jobs.now in
+    let own : JobsState = shared.jobs.now in
     let rows = drawn_numbers (drawn_rows (passes_of after)) in
     let rest = inside.0 in
     let are_shared = shares_of_workers run (got ++ rest) count_is deals (rw puts_are at inside.2) in

@@ -1,6 +1,7 @@
 -- Types that definitions and proofs of several files name, passed on from one place. Declares nothing.
 pub use Rattle.kalah_jobs.specs.declared.files.question.Question.{Question}
 pub use Rattle.kalah_jobs.specs.declared.files.entry.Entry.{Entry}
+pub use Rattle.kalah_jobs.specs.Files.JobList.{JobsState}
 pub use Rattle.kalah_jobs.specs.declared.files.job.Job.{Job}
 pub use Rattle.kalah_jobs.specs.declared.writing.answer.Taken.{Taken}
 pub use Rattle.kalah_jobs.specs.declared.writing.tally.Tally.{Tally}

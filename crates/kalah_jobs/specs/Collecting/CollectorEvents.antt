@@ -1,22 +1,22 @@
 -- What offers and takes do, and what a list of them determines without the collector.
 use Rattle.std.specs.{List.{enumerate_from}, Prelude.{◌≡◌, ℕ, ◌+◌, ◌<◌, ◌≤◌, ◌==◌, if◌then◌else◌, List, [], ◌∷◌, length, map, Option, Some, None, Result, MatchOption, MatchResult, IsSomeAnd, Contains}}
-use Rattle.kalah_jobs.specs.{Collecting.{CollectorState.{ArrivalsState, state_of, front, IsNext, HasNoNext, after_offer, after_take}, OutcomeState.{OutcomeState}, Refusals.{IsWanted, IsRefusedFor}}, Files.JobList.{entries_of, entry_at, line_job}, Types.{Entry, Taken, Refusal}, Writing.Answer.{answer_of}}
+use Rattle.kalah_jobs.specs.{Collecting.{CollectorState.{ArrivalsState, state_of, front, IsNext, HasNoNext, after_offer, after_take}, OutcomeState.{OutcomeState}, Refusals.{IsWanted, IsRefusedFor}}, Files.JobList.{JobsState, entries_of, entry_at, line_job}, Types.{Entry, Taken, Refusal}, Writing.Answer.{answer_of}}
 
 -- an offer is accepted: the answer of its entry is kept, and `ready` lines of its file became ready
-pub record Accepts (jobs : List (List Entry)) (files : List ArrivalsState) (o : OutcomeState) (ready : ℕ) (after : List ArrivalsState)
+pub record Accepts (jobs : JobsState) (files : List ArrivalsState) (o : OutcomeState) (ready : ℕ) (after : List ArrivalsState)
     : Type 0 where
   pub wanted : IsWanted jobs files o
   pub kept : after ≡ after_offer files o.file o.line (answer_of o.entry)
   pub more_ready : front (state_of after o.file) ≡ front (state_of files o.file) + ready
 
 -- an offer is refused: for the first refusal that holds, and nothing is changed
-pub record Refuses (jobs : List (List Entry)) (files : List ArrivalsState) (o : OutcomeState) (refusal : Refusal)
+pub record Refuses (jobs : JobsState) (files : List ArrivalsState) (o : OutcomeState) (refusal : Refusal)
     (after : List ArrivalsState) : Type 0 where
   pub cause : IsRefusedFor jobs files o refusal
   pub unchanged : after ≡ files
 
 -- the result of an offer, and the files after it
-abbrev pub Offers : List (List Entry) → List ArrivalsState → OutcomeState → Result ℕ Refusal → List ArrivalsState → Type 0
+abbrev pub Offers : JobsState → List ArrivalsState → OutcomeState → Result ℕ Refusal → List ArrivalsState → Type 0
 Offers jobs files o result after = MatchResult result (λ ready. Accepts jobs files o ready after)
     (λ refusal. Refuses jobs files o refusal after)
 
@@ -58,11 +58,11 @@ taken_in f (Offered o result ∷ events) = taken_in f events
 taken_in f (Took g result ∷ events) = with_taken f g result (taken_in f events)
 
 -- line k of file f was offered with its entry
-abbrev pub HasArrived : List (List Entry) → List Event → ℕ → ℕ → Type 0
+abbrev pub HasArrived : JobsState → List Event → ℕ → ℕ → Type 0
 HasArrived jobs events f k = IsSomeAnd (entry_at jobs f k) (λ e. Contains (offered_in events) (line_job f k e))
 
 -- n is the greatest number, at most the count of lines of file f, with all lines below it come
-pub record IsFront (jobs : List (List Entry)) (events : List Event) (f n : ℕ) : Type 0 where
+pub record IsFront (jobs : JobsState) (events : List Event) (f n : ℕ) : Type 0 where
   pub within : n ≤ length (entries_of jobs f)
   pub below : (k : ℕ) → k < n → HasArrived jobs events f k
   pub greatest : (m : ℕ) → m ≤ length (entries_of jobs f) → ((k : ℕ) → k < m → HasArrived jobs events f k) → m ≤ n

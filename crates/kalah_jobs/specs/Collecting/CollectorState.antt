@@ -1,6 +1,6 @@
 -- What has come to a collector, as plain data.
 use Rattle.std.specs.Prelude.{◌≡◌, ℕ, ◌+◌, ◌<◌, ◌≤◌, List, [], ◌∷◌, length, map, Option, Some, None, slice_index_or, slice_set, replicate}
-use Rattle.kalah_jobs.specs.Types.{Answer, Taken, Entry}
+use Rattle.kalah_jobs.specs.{Files.JobList.{JobsState}, Types.{Answer, Taken}}
 
 -- Of a file: for each of its lines the answer that has arrived for it, if one has; and how many answers were taken, from the first line
 -- on.
@@ -43,11 +43,11 @@ abbrev pub state_of : List ArrivalsState → ℕ → ArrivalsState
 state_of files f = slice_index_or files f no_file
 
 -- files to which nothing has come, with a line for each entry
-abbrev pub new_files : List (List Entry) → List ArrivalsState
+abbrev pub new_files : JobsState → List ArrivalsState
 new_files jobs = map (λ entries. new_file (length entries)) jobs
 
 -- the files have as many lines as the jobs
-abbrev pub HasLinesOf : List (List Entry) → List ArrivalsState → Type 0
+abbrev pub HasLinesOf : JobsState → List ArrivalsState → Type 0
 HasLinesOf jobs files = map line_count files ≡ map length jobs
 
 -- the file with an answer for line k

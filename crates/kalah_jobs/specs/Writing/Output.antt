@@ -1,6 +1,6 @@
 -- What a batch writes, and what it counts.
 use Rattle.std.specs.{List.{flat_map, enumerate_from}, Prelude.{◌≡◌, ℕ, List, [], length, map, sum_by, count_by, slice_index_or}}
-use Rattle.kalah_jobs.specs.{Files.{Entry.{entry_for, is_faulty}, JobList.{job_list, is_faulty_job}, Jobs.{jobs_for, lines_in_all}, Lines.{lines_of}, NamedBytes.{NamedBytes}}, Types.{BestMove, Entry, Taken, Tally, Question}, Writing.Answer.{answer_of, answer_output}}
+use Rattle.kalah_jobs.specs.{Files.{Entry.{entry_for, is_faulty}, JobList.{JobsState, job_list, is_faulty_job}, Jobs.{jobs_for, lines_in_all}, Lines.{lines_of}, NamedBytes.{NamedBytes}}, Types.{BestMove, Entry, Taken, Tally, Question}, Writing.Answer.{answer_of, answer_output}}
 
 -- what is written for a line of a file, given with its number, which counts from 0, if this is asked of its position
 abbrev pub line_output : Question → List ℕ → ℕ × List ℕ → List ℕ
@@ -36,7 +36,7 @@ abbrev pub text_of_file : (ℕ → Taken → List ℕ) → ℕ × List Entry →
 text_of_file text p = flat_map (text_of_line text p.0) (enumerate_from 0 p.1)
 
 -- for each file in order, for each of its lines in order, its text
-abbrev pub text_of_jobs : (ℕ → Taken → List ℕ) → List (List Entry) → List ℕ
+abbrev pub text_of_jobs : (ℕ → Taken → List ℕ) → JobsState → List ℕ
 text_of_jobs text jobs = flat_map (text_of_file text) (enumerate_from 0 jobs)
 
 -- what is written for what is taken of file f, if the files have these names
@@ -44,7 +44,7 @@ abbrev pub taken_output : List (List ℕ) → ℕ → Taken → List ℕ
 taken_output names f taken = answer_output (slice_index_or names f []) taken
 
 -- for each job in order what is written for it, if the files have these names
-abbrev pub output_of_jobs : List (List ℕ) → List (List Entry) → List ℕ
+abbrev pub output_of_jobs : List (List ℕ) → JobsState → List ℕ
 output_of_jobs names jobs = text_of_jobs (taken_output names) jobs
 
 -- the names of files

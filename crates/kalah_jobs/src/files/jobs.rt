@@ -64,10 +64,9 @@ pub struct Jobs {
 }
 
 impl Model for Jobs {
-    ghost use Rattle.std.specs.Prelude.{List};
-    ghost use Rattle.kalah_jobs.specs.{declared.files.entry.Entry.{Entry}, Files.Jobs.{AreCounted, AreStarts, entries_in, starts_in}};
+    ghost use Rattle.kalah_jobs.specs.Files.{JobList.{JobsState}, Jobs.{AreCounted, AreStarts, entries_in, starts_in}};
 
-    ghost Value = { List (List Entry) };
+    ghost Value = { JobsState };
 
     ghost view = { λ j. entries_in j.files.items };
 

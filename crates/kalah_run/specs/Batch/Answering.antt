@@ -1,7 +1,7 @@
 -- What a batch promises, for each question.
 use Rattle.std.specs.{Prelude.{◌≡◌, ◌<◌, ◌≤◌, ℕ, List, Bool, Result, Ok, Err, length, count_by, true, false, IfErr, ◌⊎◌, Option, IfOk}, Io.KnownBytes.{Appends, Keeps}}
-use Rattle.kalah_jobs.specs.{Writing.{Sink.{AppendsPrefix, SinkState}, Output.{tally_of, output_for}}, Limits.{most_files, most_lines}, Files.{Jobs.{AreWithinBatchLimits, lines_in_all}, JobList.{job_list, is_faulty_job}, NamedBytes.{NamedBytes}}, declared.files.jobs.JobsFault.{JobsFault}}
-use Rattle.kalah_run.specs.{Types.{Entry, Tally, Question}, declared.batch.run_fault.RunFault.{RunFault, TheVariants.{TooManyFiles, TooManyLines, OutOfMemory, NoWorker, Write}}}
+use Rattle.kalah_jobs.specs.{Writing.{Sink.{AppendsPrefix, SinkState}, Output.{tally_of, output_for}}, Limits.{most_files, most_lines}, Files.{Jobs.{AreWithinBatchLimits, lines_in_all}, JobList.{JobsState, job_list, is_faulty_job}, NamedBytes.{NamedBytes}}, declared.files.jobs.JobsFault.{JobsFault}}
+use Rattle.kalah_run.specs.{Types.{Tally, Question}, declared.batch.run_fault.RunFault.{RunFault, TheVariants.{TooManyFiles, TooManyLines, OutOfMemory, NoWorker, Write}}}
 use Rattle.kalah_jobs.specs.declared.files.jobs.JobsFault.TheVariants as jobs
 
 -- the fault of a batch whose jobs could not be made
@@ -11,7 +11,7 @@ run_fault_of jobs.TooManyLines = TooManyLines
 run_fault_of jobs.OutOfMemory = OutOfMemory
 
 -- the lines of these jobs, and those of them that are answered by a fault
-abbrev pub counts_of : List (List Entry) → Tally
+abbrev pub counts_of : JobsState → Tally
 counts_of jobs = record { lines = length (job_list jobs); faults = count_by is_faulty_job (job_list jobs) }
 
 -- The gate hears of the job of each line, unless the batch failed otherwise than by a write.

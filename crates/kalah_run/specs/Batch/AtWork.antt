@@ -1,10 +1,10 @@
 -- What is known of workers, before and after they have run.
 use Rattle.std.specs.Prelude.{◌≡◌, ℕ, ◌<◌, Bool, true, List, length, map, slice_index_or, All}
-use Rattle.kalah_run.specs.{Types.{Entry, Job}, Desk.States.{PassState, IsPassAt}, Queue.States.{PutPassState}, declared.batch.{shared_work.SharedWork.{SharedWork}, worker.Worker.{Worker}}}
+use Rattle.kalah_run.specs.{Types.{JobsState, Job}, Desk.States.{PassState, IsPassAt}, Queue.States.{PutPassState}, declared.batch.{shared_work.SharedWork.{SharedWork}, worker.Worker.{Worker}}}
 use Rattle.kalah_jobs.specs.Collecting.AnyOrder.{job}
 
 -- the jobs of these numbers, in their order
-abbrev pub drawn_jobs : List (List Entry) → List ℕ → List Job
+abbrev pub drawn_jobs : JobsState → List ℕ → List Job
 drawn_jobs jobs numbers = map (job jobs) numbers
 
 -- the passes by which the workers draw, and those by which they send

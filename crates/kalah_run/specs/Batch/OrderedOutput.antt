@@ -1,14 +1,14 @@
 -- What is known of the output of a batch: what has come, and what was written of it.
 use Rattle.std.specs.Prelude.{◌≡◌, ℕ, ◌+◌, ◌<◌, List, Result, length, take, flat_map}
-use Rattle.kalah_run.specs.{Types.{Entry, Taken, Job, OutcomeState, Refusal}, declared.batch.ordered_output.OrderedOutput.{OrderedOutput}}
-use Rattle.kalah_jobs.specs.{Files.{JobList.{entries_of, job_list}, Jobs.{job_count}}, Collecting.{CollectorState.{ArrivalsState, state_of, new_files, HasEnded}, CollectorEvents.{Offers}, Held.{AgreeWithOffers}}, Writing.{Output.{text_of_line, names_of, output_of_jobs, taken_output}, Sink.{SinkState, WasGiven}}}
+use Rattle.kalah_run.specs.{Types.{Taken, Job, OutcomeState, Refusal}, declared.batch.ordered_output.OrderedOutput.{OrderedOutput}}
+use Rattle.kalah_jobs.specs.{Files.{JobList.{JobsState, entries_of, job_list}, Jobs.{job_count}}, Collecting.{CollectorState.{ArrivalsState, state_of, new_files, HasEnded}, CollectorEvents.{Offers}, Held.{AgreeWithOffers}}, Writing.{Output.{text_of_line, names_of, output_of_jobs, taken_output}, Sink.{SinkState, WasGiven}}}
 
 -- the text of a job, if `text` gives the text of what is taken of a file
 abbrev pub text_of_job : (ℕ → Taken → List ℕ) → Job → List ℕ
 text_of_job text job = text_of_line text job.file (job.line, job.entry)
 
 -- the texts of the jobs of the files before f, and of the first n lines of f
-unfoldable pub written_up_to : (ℕ → Taken → List ℕ) → List (List Entry) → ℕ → ℕ → List ℕ
+unfoldable pub written_up_to : (ℕ → Taken → List ℕ) → JobsState → ℕ → ℕ → List ℕ
 written_up_to text jobs f n = flat_map (text_of_job text) (take (job_count (take f jobs) + n) (job_list jobs))
 
 -- of an output nothing has come, and the first file is the current one
@@ -34,7 +34,7 @@ AwaitsLine r = r.current < length r.collector → HasEnded (state_of r.collector
 
 -- how far the output of some jobs has come: which were offered, what each file has, and the file whose lines are written next
 pub record CollectingState : Type 0 where
-  pub jobs : List (List Entry)
+  pub jobs : JobsState
   pub past : List OutcomeState
   pub files : List ArrivalsState
   pub current : ℕ
