@@ -147,8 +147,7 @@ impl Desk {
         let (_, mut closer) = table.shared.load_new_seat::<StartClosing>(0);
         let mut rest = passes;
         while let Some(pass) = rest.pop() {
-            let Pass { seat, is_spent: _ } = pass;
-            table.shared.join_seat::<Reclaim>(&mut closer, seat);
+            table.shared.join_seat::<Reclaim>(&mut closer, pass.seat);
         }
         let closed = table.close_with(closer);
         let word = closed.word(0);
