@@ -1,6 +1,11 @@
 -- A batch under way: the pass of the calling thread, what it collects, and what stands written when it has ended.
 use Rattle.std.proofs.{Common.{[], ◌≡◌, ◌+◌, ℕ, List, ◌∷◌, ◌++◌, arith, sym, ap, ◌∙◌, Bool, true, false, refl, ⊎_elim, length, ◌⊎◌, inl, inr, All, Some, None}, lemmas.{List.{map-append, length-append, length-map, Elements.{All-push}}, Bool.{both_ways}}}
-use Rattle.kalah_run.specs.{OutcomeState, WorkerOutcome, passes_of, puts_of, HaveRun, HasBeenOffered, HasWritten, whole_output, AwaitsLine, WritesOn, IsAbandoned, IsLeft, DrawsOnlyTheRest, GetPassState, PutPassState, ArePassesFrom, outcomes_in, PassState, IsPassAt, HasCollected, IsAtStart, GetsNext, declared.batch.{ordered_output.OrderedOutput.{OrderedOutput}, worker.Worker.{Worker}, receiver.{CallerPasses.{CallerPasses}, Receiver.{Receiver}}, shared_work.SharedWork.{SharedWork}, request.OnFailedWrite.{OnFailedWrite, TheVariants.{Solve, Leave}}}}
+use Rattle.kalah_run.specs.{OutcomeState, WorkerOutcome, passes_of, puts_of, HaveRun, HasBeenOffered, HasWritten, whole_output, AwaitsLine, WritesOn}
+use Rattle.kalah_run.specs.{IsAbandoned, IsLeft, DrawsOnlyTheRest, GetPassState, PutPassState, ArePassesFrom, outcomes_in, PassState, IsPassAt}
+use Rattle.kalah_run.specs.{HasCollected, IsAtStart, GetsNext}
+use Rattle.kalah_run.specs.declared.batch.{ordered_output.OrderedOutput.{OrderedOutput}, worker.Worker.{Worker}}
+use Rattle.kalah_run.specs.declared.batch.{receiver.{CallerPasses.{CallerPasses}, Receiver.{Receiver}}, shared_work.SharedWork.{SharedWork}}
+use Rattle.kalah_run.specs.declared.batch.request.OnFailedWrite.{OnFailedWrite, TheVariants.{Solve, Leave}}
 use Rattle.kalah_jobs.specs.{Collecting.AnyOrder.{IsPermutationOfJobs}, Writing.{Sink.{SinkState, WasGiven}, Output.{output_of_jobs, names_of}}}
 use Rattle.kalah_run.proofs.{OutputLemmas.{new_has_written_nothing, sink_was_given_all, failed_sink_was_given_all, written_after_offer, under_way_after_no_text}, WorkerLemmas.{puts_after, run_passes}}
 

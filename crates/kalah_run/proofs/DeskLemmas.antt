@@ -1,10 +1,18 @@
 -- The desk: each step keeps its protocol, and what the rows are at the end.
-use Rattle.std.proofs.{Common.{◌≡◌, ⊎_elim, inl, inr, ℕ, zero, suc, ◌+◌, ◌≤◌, List, [], ◌∷◌, ◌++◌, length, set, refl, sym, ap, ◌∙◌, subst, arith, length-append, append-nil, append_assoc, ◌%◌, ◌^◌, ◌<◌, get_or, true, false, cond, ◌-◌, ◌==◌, sum_by, count_by, All, nat_lt, AllPairs, if◌then◌else◌, slice_index, max, min, IsTrue, ◌↔◌, mod-eq_of_lt}, lemmas.{List.{set-set, FromFn.{length-range_with_len}, Sums.{sum_by-cons, sum_by_push, count_by-le-length, get_or-le-sum_by}, Elements.{All-append, All-nil, All-cons, All-head}, Quantifiers.{all_pairs_push}}, Bool.{lt-ltb, le-ltb, cases_lt, Decides.{nat_tests}}}}
+use Rattle.std.proofs.Common.{◌≡◌, ⊎_elim, inl, inr, ℕ, zero, suc, ◌+◌, ◌≤◌, List, [], ◌∷◌, ◌++◌, length, set, refl, sym, ap, ◌∙◌, subst, arith}
+use Rattle.std.proofs.Common.{length-append, append-nil, append_assoc, ◌%◌, ◌^◌, ◌<◌, get_or, true, false, cond, ◌-◌, ◌==◌, sum_by, count_by, All}
+use Rattle.std.proofs.Common.{nat_lt, AllPairs, if◌then◌else◌, slice_index, max, min, IsTrue, ◌↔◌, mod-eq_of_lt}
+use Rattle.std.proofs.lemmas.List.{set-set, FromFn.{length-range_with_len}, Sums.{sum_by-cons, sum_by_push, count_by-le-length, get_or-le-sum_by}}
+use Rattle.std.proofs.lemmas.List.{Elements.{All-append, All-nil, All-cons, All-head}, Quantifiers.{all_pairs_push}}
+use Rattle.std.proofs.lemmas.Bool.{lt-ltb, le-ltb, cases_lt, Decides.{nat_tests}}
 use mathlib.Core.Option.{some, some-injective, some-ne-none, none}
 use lib.ListN.{get_elem?}
 use Rattle.atomic_table.proofs.Lists.{set_again, set_here}
 use Rattle.kalah_run.proofs.{ViewLemmas.{Each, each_more, each_set, in_views, was_there}, RowLemmas.{times_in_row, times_rows, sum_set, rows_set, rows_push, rows_at, all_at, all_from, rows_within_passes, has_all, Ascends, deals_alike, none_or_all}}
-use Rattle.kalah_run.specs.{DrawnRow, DeskPlan, DeskView, drawn_row, drawn_in, spent_in, DealsEachOnce, most_passes, as_pass_view, row_in, total_in, number_in, declared.desk.protocol.DeskView.TheVariants.{Opening, Drawing, Closing, Reclaimed}, Desk.Protocol.{rows_in, all_rows, passes_in, HasTotal, IsLawful, opening_view, CountsWhatItDeals, DrawsFrom, Draws, DrawsRest, StartsClosing, after_handing_out, pass_handed_out, after_reclaiming}}
+use Rattle.kalah_run.specs.{DrawnRow, DeskPlan, DeskView, drawn_row, drawn_in, spent_in, DealsEachOnce, most_passes, as_pass_view, row_in, total_in}
+use Rattle.kalah_run.specs.{number_in, declared.desk.protocol.DeskView.TheVariants.{Opening, Drawing, Closing, Reclaimed}}
+use Rattle.kalah_run.specs.Desk.Protocol.{rows_in, all_rows, passes_in, HasTotal, IsLawful, opening_view, CountsWhatItDeals, DrawsFrom, Draws}
+use Rattle.kalah_run.specs.Desk.Protocol.{DrawsRest, StartsClosing, after_handing_out, pass_handed_out, after_reclaiming}
 use Rattle.atomic_table.specs.Table.{State, Me, step, keeps, Allows, opening, Splits, Joins, Enters, Seen, Final}
 use Rattle.kalah_jobs.specs.Limits.{most_lines}
 use Rattle.std.specs.List.{range_with_len}

@@ -1,7 +1,17 @@
 -- The output of a batch: the loop that writes each line once it is ready.
-use Rattle.std.proofs.{Common.{[], add-one, ◌≡◌, ◌≤◌, ◌<◌, ◌+◌, ℕ, suc, List, ◌∷◌, ◌++◌, arith, sym, ap, ◌∙◌, true, refl, ⊎_elim, length, get_or, get_or-set_other, get_or-set_same, take, drop, Some, slice_get, None, Result}, lemmas.{List.{take-append-drop, take_all, take_more, flat_map_more, get_or-map}, Option.{get_or_from_slice_get, slice_get_within}, Bool.{cases_eq, cases_lt}, Grind.{flat_map-append}}}
+use Rattle.std.proofs.Common.{[], add-one, ◌≡◌, ◌≤◌, ◌<◌, ◌+◌, ℕ, suc, List, ◌∷◌, ◌++◌, arith, sym, ap, ◌∙◌, true, refl, ⊎_elim, length, get_or}
+use Rattle.std.proofs.Common.{get_or-set_other, get_or-set_same, take, drop, Some, slice_get, None, Result}
+use Rattle.std.proofs.lemmas.List.{take-append-drop, take_all, take_more, flat_map_more, get_or-map}
+use Rattle.std.proofs.lemmas.{Option.{get_or_from_slice_get, slice_get_within}, Bool.{cases_eq, cases_lt}, Grind.{flat_map-append}}
 use Rattle.kalah_run.specs.{Entry, OutcomeState, Taken, Refusal, text_of_job, written_up_to, CollectingState, taken_of, written_so_far, IsUnderWay, IsNew, HasBeenOffered, HasWritten, WritesOn, declared.batch.ordered_output.OrderedOutput.{OrderedOutput}}
-use Rattle.kalah_jobs.specs.{Files.{JobList.{JobsState, job_list, jobs_from, file_jobs, line_job, entries_of, entry_at}, Lines.{line_feed}, NamedBytes.{NamedBytes}, Jobs.{job_count}}, Collecting.{AnyOrder.{IsPermutationOfJobs}, CollectorState.{ArrivalsState, no_file, state_of, front, HasEnded, HasNoNext, with_one_taken, new_files, after_take}, CollectorEvents.{Offers, Takes, answered_line}}, Writing.{Sink.{SinkState, WasGiven}, Answer.{answer_line}, Output.{text_of_line, text_of_file, text_of_jobs, taken_output, names_of}}}
+use Rattle.kalah_jobs.specs.Files.{JobList.{JobsState, job_list, jobs_from, file_jobs, line_job, entries_of, entry_at}, Lines.{line_feed}}
+use Rattle.kalah_jobs.specs.Files.{NamedBytes.{NamedBytes}, Jobs.{job_count}}
+use Rattle.kalah_jobs.specs.Collecting.AnyOrder.{IsPermutationOfJobs}
+use Rattle.kalah_jobs.specs.Collecting.CollectorState.{ArrivalsState, no_file, state_of, front, HasEnded, HasNoNext, with_one_taken, new_files}
+use Rattle.kalah_jobs.specs.Collecting.CollectorState.{after_take}
+use Rattle.kalah_jobs.specs.Collecting.CollectorEvents.{Offers, Takes, answered_line}
+use Rattle.kalah_jobs.specs.Writing.{Sink.{SinkState, WasGiven}, Answer.{answer_line}}
+use Rattle.kalah_jobs.specs.Writing.Output.{text_of_line, text_of_file, text_of_jobs, taken_output, names_of}
 use Rattle.kalah_jobs.proofs.{SinkLemmas.{given_none, given_then, given_then_flush, given_more_after_failure}, CollectingLemmas.{files_many, lines_are, new_files_agree, taken_is, new_taken, fronts_full, kept_by_offer, kept_by_take}, FilesLemmas.{length-job_list, lines_between, slice_get-job_list}}
 use Rattle.std.specs.List.{flat_map, enumerate_from}
 

@@ -1,6 +1,13 @@
 -- The results queue: its pairs, and each step keeps its protocol.
-use Rattle.std.proofs.{Common.{◌≡◌, ◌≢◌, ℕ, suc, ◌+◌, ◌<◌, ◌≤◌, ◌==◌, if◌then◌else◌, Bool, List, [], ◌∷◌, ◌++◌, length, All, slice_index_or, refl, sym, ap, ◌∙◌, eq-eqb, ne_eqb, arith, set, append_assoc, inl, inr, length-append}, lemmas.{List.{append-nil, length-map, length-set, length_push, map-append, get_or_at, get_or_append_left, get_or_push, Elements.{All-push}}, Bool.{cases_lt}}}
-use Rattle.kalah_run.specs.{OutcomeState, WorkerOutcome, QueueView, Accounts, outcomes_in, declared.queue.protocol.QueueView.TheVariants.{Getting, Putting, Reclaimed}, Queue.Protocol.{FitsPairs, FitsPut, IsLawful, IsWholeAndInOrder, opening_view, after_handing_out, pass_handed_out, after_put, after_reclaiming, IsGot, KnowsSent}}
+use Rattle.std.proofs.Common.{◌≡◌, ◌≢◌, ℕ, suc, ◌+◌, ◌<◌, ◌≤◌, ◌==◌, if◌then◌else◌, Bool, List, [], ◌∷◌, ◌++◌, length, All, slice_index_or, refl, sym}
+use Rattle.std.proofs.Common.{ap, ◌∙◌, eq-eqb, ne_eqb, arith, set, append_assoc, inl, inr, length-append}
+use Rattle.std.proofs.lemmas.List.{append-nil, length-map, length-set, length_push, map-append, get_or_at, get_or_append_left, get_or_push}
+use Rattle.std.proofs.lemmas.List.Elements.{All-push}
+use Rattle.std.proofs.lemmas.Bool.{cases_lt}
+use Rattle.kalah_run.specs.{OutcomeState, WorkerOutcome, QueueView, Accounts, outcomes_in}
+use Rattle.kalah_run.specs.declared.queue.protocol.QueueView.TheVariants.{Getting, Putting, Reclaimed}
+use Rattle.kalah_run.specs.Queue.Protocol.{FitsPairs, FitsPut, IsLawful, IsWholeAndInOrder, opening_view, after_handing_out, pass_handed_out}
+use Rattle.kalah_run.specs.Queue.Protocol.{after_put, after_reclaiming, IsGot, KnowsSent}
 use Rattle.kalah_jobs.specs.Collecting.Shares.{sent_by_worker}
 use mathlib.Core.Option.{some, some-injective, some-ne-none}
 use lib.ListN.{get_elem?}

@@ -1,5 +1,10 @@
 -- The rows that the seats of a desk know: sums over them and facts of each, after a change of one seat, and what they deal.
-use Rattle.std.proofs.{Common.{◌≡◌, ◌⊎◌, inl, inr, ℕ, zero, suc, ◌+◌, ◌≤◌, List, [], ◌∷◌, ◌++◌, length, set, refl, sym, ap, ◌∙◌, arith, length-append, append-nil, ◌<◌, ◌==◌, sum_by, count_by, All, AllPairs, Some, if◌then◌else◌}, lemmas.{List.{map-append, nil_from_length, take_at, drop_at, Sums.{sum_by-cons, sum_by-append, sum_by_push, sum_by-set, get_or-le-sum_by}, Elements.{All-append, All-nil, All-pop, All-take, All-drop}}, Bool.{cases_lt}}}
+use Rattle.std.proofs.Common.{◌≡◌, ◌⊎◌, inl, inr, ℕ, zero, suc, ◌+◌, ◌≤◌, List, [], ◌∷◌, ◌++◌, length, set, refl, sym, ap, ◌∙◌, arith, length-append}
+use Rattle.std.proofs.Common.{append-nil, ◌<◌, ◌==◌, sum_by, count_by, All, AllPairs, Some, if◌then◌else◌}
+use Rattle.std.proofs.lemmas.List.{map-append, nil_from_length, take_at, drop_at}
+use Rattle.std.proofs.lemmas.List.Sums.{sum_by-cons, sum_by-append, sum_by_push, sum_by-set, get_or-le-sum_by}
+use Rattle.std.proofs.lemmas.List.Elements.{All-append, All-nil, All-pop, All-take, All-drop}
+use Rattle.std.proofs.lemmas.Bool.{cases_lt}
 use mathlib.Core.Option.{some, some-injective, some-ne-none}
 use lib.ListN.{get_elem?}
 use Rattle.kalah_run.proofs.ViewLemmas.{Each, in_views, view_at}

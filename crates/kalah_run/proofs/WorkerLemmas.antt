@@ -1,6 +1,13 @@
 -- The workers of a batch: what each sends, and what is known once all have run.
-use Rattle.std.proofs.{Common.{[], ◌≡◌, ◌≤◌, ◌<◌, ◌+◌, ◌-◌, ℕ, suc, List, ◌∷◌, ◌++◌, arith, sym, ap, ◌∙◌, Bool, true, length, get_or, append_assoc, subst, zero, map, reverse, ◌==◌, if◌then◌else◌, ne_eqb, inl, inr, All, Some, fold, slice_get, count_by}, lemmas.{List.{map-append, reverse-append, get_or-map, length-append, length-map, Sums.{fold-append, sum_by-cons}, Elements.{All-cons, All-map, All-tail}}, Option.{get_or_from_slice_get}, Bool.{cases_eq, cases_lt, lt-ltb}}}
-use Rattle.kalah_run.specs.{OutcomeState, WorkerOutcome, DrawnRow, drawn_jobs, passes_of, puts_of, AreAtWork, HasRun, HaveRun, PutPassState, ArePassesFrom, sent_by, Accounts, outcomes_in, PassState, IsPassAt, AreNewPasses, new_pass, drawn_rows, HasOwnTable, HaveOwnTables, drawn_numbers, DealsEachOnce, spent_in, declared.batch.{worker.Worker.{Worker}, shared_work.SharedWork.{SharedWork}}}
+use Rattle.std.proofs.Common.{[], ◌≡◌, ◌≤◌, ◌<◌, ◌+◌, ◌-◌, ℕ, suc, List, ◌∷◌, ◌++◌, arith, sym, ap, ◌∙◌, Bool, true, length, get_or, append_assoc}
+use Rattle.std.proofs.Common.{subst, zero, map, reverse, ◌==◌, if◌then◌else◌, ne_eqb, inl, inr, All, Some, fold, slice_get, count_by}
+use Rattle.std.proofs.lemmas.List.{map-append, reverse-append, get_or-map, length-append, length-map, Sums.{fold-append, sum_by-cons}}
+use Rattle.std.proofs.lemmas.List.Elements.{All-cons, All-map, All-tail}
+use Rattle.std.proofs.lemmas.{Option.{get_or_from_slice_get}, Bool.{cases_eq, cases_lt, lt-ltb}}
+use Rattle.kalah_run.specs.{OutcomeState, WorkerOutcome, DrawnRow, drawn_jobs, passes_of, puts_of, AreAtWork, HasRun, HaveRun, PutPassState}
+use Rattle.kalah_run.specs.{ArePassesFrom, sent_by, Accounts, outcomes_in, PassState, IsPassAt, AreNewPasses, new_pass, drawn_rows, HasOwnTable}
+use Rattle.kalah_run.specs.{HaveOwnTables, drawn_numbers, DealsEachOnce, spent_in}
+use Rattle.kalah_run.specs.declared.batch.{worker.Worker.{Worker}, shared_work.SharedWork.{SharedWork}}
 use Rattle.kalah_jobs.specs.{Files.{JobList.{JobsState, job_list, no_job}, Jobs.{job_count}}, Collecting.{AnyOrder.{job, IsPermutationOfJobs}, Shares.{AreShared, times_in}}}
 use Rattle.kalah_jobs.proofs.{CountingLemmas.{gets_each_job_once, as_many_as_numbers}, FilesLemmas.{length-job_list}}
 use Rattle.kalah_run.proofs.PassLemmas.{length-drawn_numbers, all_are_of}

@@ -1,7 +1,10 @@
 -- What is known of the output of a batch: what has come, and what was written of it.
 use Rattle.std.specs.Prelude.{◌≡◌, ℕ, ◌+◌, ◌<◌, List, Result, length, take, flat_map}
 use Rattle.kalah_run.specs.{Types.{Taken, Job, OutcomeState, Refusal}, declared.batch.ordered_output.OrderedOutput.{OrderedOutput}}
-use Rattle.kalah_jobs.specs.{Files.{JobList.{JobsState, entries_of, job_list}, Jobs.{job_count}}, Collecting.{CollectorState.{ArrivalsState, state_of, new_files, HasEnded}, CollectorEvents.{Offers}, Held.{AgreeWithOffers}}, Writing.{Output.{text_of_line, names_of, output_of_jobs, taken_output}, Sink.{SinkState, WasGiven}}}
+use Rattle.kalah_jobs.specs.Files.{JobList.{JobsState, entries_of, job_list}, Jobs.{job_count}}
+use Rattle.kalah_jobs.specs.Collecting.{CollectorState.{ArrivalsState, state_of, new_files, HasEnded}, CollectorEvents.{Offers}}
+use Rattle.kalah_jobs.specs.Collecting.Held.{AgreeWithOffers}
+use Rattle.kalah_jobs.specs.Writing.{Output.{text_of_line, names_of, output_of_jobs, taken_output}, Sink.{SinkState, WasGiven}}
 
 -- the text of a job, if `text` gives the text of what is taken of a file
 abbrev pub text_of_job : (ℕ → Taken → List ℕ) → Job → List ℕ

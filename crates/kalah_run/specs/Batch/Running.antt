@@ -2,7 +2,13 @@
 use Rattle.std.specs.{Prelude.{◌≡◌, ℕ, ◌+◌, ◌<◌, ◌≤◌, Bool, min, List, [], length, vec_capacity, ◌⊎◌, Option, IfNone, MatchOption, All}, declared.alloc.Global.{Global}}
 use Rattle.crossbeam_utils.specs.Padded.{padded_value}
 use Rattle.kalah_solve.specs.{declared.solver.Solver.{Solver}, Solver.EmptyTable.{HasEmptyTable}}
-use Rattle.kalah_run.specs.{Types.{JobsState, OutcomeState}, Desk.States.{IsPassAt, new_pass}, Queue.States.{ArePassesFrom, MayGet, outcomes_in}, Batch.{AtWork.{puts_of, AreAtWork}, OrderedOutput.{IsNew, whole_output}, Leaving.{IsLeft, HasDrawnNothing, IsAbandoned, DrawsOnlyTheRest}}, declared.{batch.{request.BatchRequest.{BatchRequest}, worker.Worker.{Worker}, open_batch.{OpenBatch.{OpenBatch}, PassLists.{PassLists}}, receiver.{CallerPasses.{CallerPasses}, Receiver.{Receiver}}, ordered_output.OrderedOutput.{OrderedOutput}}, limits.TheConstants.{QUEUE_CAPACITY}}}
+use Rattle.kalah_run.specs.{Types.{JobsState, OutcomeState}, Desk.States.{IsPassAt, new_pass}, Queue.States.{ArePassesFrom, MayGet, outcomes_in}}
+use Rattle.kalah_run.specs.Batch.{AtWork.{puts_of, AreAtWork}, OrderedOutput.{IsNew, whole_output}}
+use Rattle.kalah_run.specs.Batch.Leaving.{IsLeft, HasDrawnNothing, IsAbandoned, DrawsOnlyTheRest}
+use Rattle.kalah_run.specs.declared.batch.{request.BatchRequest.{BatchRequest}, worker.Worker.{Worker}}
+use Rattle.kalah_run.specs.declared.batch.open_batch.{OpenBatch.{OpenBatch}, PassLists.{PassLists}}
+use Rattle.kalah_run.specs.declared.batch.{receiver.{CallerPasses.{CallerPasses}, Receiver.{Receiver}}, ordered_output.OrderedOutput.{OrderedOutput}}
+use Rattle.kalah_run.specs.declared.limits.TheConstants.{QUEUE_CAPACITY}
 use Rattle.kalah_jobs.specs.{Files.Jobs.{job_count}, Writing.Sink.{SinkState, WasGiven}, Collecting.AnyOrder.{IsPermutationOfJobs}}
 
 -- the worker has an empty table with room for this many entries
