@@ -1,8 +1,14 @@
 -- Lines that come as a stream: what is answered of them, and how far.
-use Rattle.std.proofs.{Common.{◌≡◌, ◌≢◌, ◌∙◌, ℕ, zero, suc, ◌+◌, ◌≤◌, Bool, true, false, List, [], ◌∷◌, ◌++◌, length, take, inl, inr, refl, sym, ap, ap₂, arith, append-nil, append_assoc, Err, not, ◌||◌, ◌&&◌, subst, length-take-le, take_all, Result, Ok, Option, Some, None, option_to_list}, KnownBytes.{Appends-kept, Appends-nil, Appends-trans, Consumes-kept, Consumes-nil, Consumes-trans, Consumes-whole, Keeps-refl}, Math.Bool.{and-true}, lemmas.{Bool.{cases_lt, cond_both}, Grind.{flat_map-append}, List.{Elements.{All-nil, All-push}, Folds.{list_any-append}}}}
+use Rattle.std.proofs.Common.{◌≡◌, ◌≢◌, ◌∙◌, ℕ, zero, suc, ◌+◌, ◌≤◌, Bool, true, false, List, [], ◌∷◌, ◌++◌, length, take, inl, inr, refl, sym, ap, ap₂, arith, append-nil, append_assoc, Err}
+use Rattle.std.proofs.Common.{not, ◌||◌, ◌&&◌, subst, length-take-le, take_all, Result, Ok, Option, Some, None, option_to_list}
+use Rattle.std.proofs.{KnownBytes.{Appends-kept, Appends-nil, Appends-trans, Consumes-kept, Consumes-nil, Consumes-trans, Consumes-whole, Keeps-refl}, Math.Bool.{and-true}}
+use Rattle.std.proofs.lemmas.{Bool.{cases_lt, cond_both}, Grind.{flat_map-append}, List.{Elements.{All-nil, All-push}, Folds.{list_any-append}}}
 use Rattle.std.specs.{Io.KnownBytes.{Appends, Consumes, IsAtEnd, Keeps}, List.{flat_map, enumerate_from}}
 use Rattle.kalah_rules.specs.Position.{Position, is_over}
-use Rattle.kalah_jobs.specs.{kept_bytes, reply, last_reply, is_last_read, answers_for, are_all_read, AnswersAreThoseOfAFile, AnswersLines, AreAnswered, IsAnswered, IsBegun, IsCutOff, LeavesBy, StreamStart, entry_of_reading, entry_for, is_faulty, is_faulty_entry, line_feed, lines_of, EndsWithItsLine, HasNoLineFeed, without_cr, reading_of, AskFault, Question, LineFault, Read, Write, Long, answer_of, joined_text, place_text, HasOneText, line_output, AppendsPrefix, SinkState, Bad, declared.files.question.Question.TheVariants.{BestMove, Values, Steps}}
+use Rattle.kalah_jobs.specs.{kept_bytes, reply, last_reply, is_last_read, answers_for, are_all_read, AnswersAreThoseOfAFile, AnswersLines, AreAnswered, IsAnswered, IsBegun, IsCutOff}
+use Rattle.kalah_jobs.specs.{LeavesBy, StreamStart, entry_of_reading, entry_for, is_faulty, is_faulty_entry, line_feed, lines_of, EndsWithItsLine, HasNoLineFeed, without_cr, reading_of}
+use Rattle.kalah_jobs.specs.{AskFault, Question, LineFault, Read, Write, Long, answer_of, joined_text, place_text, HasOneText, line_output, AppendsPrefix, SinkState, Bad}
+use Rattle.kalah_jobs.specs.declared.files.question.Question.TheVariants.{BestMove, Values, Steps}
 use Rattle.kalah_jobs.proofs.{FileLinesLemmas.{IsNoFeed, lines_of-ended, lines_of-open, lines_of-empty}, LineLemmas.{long_is_read}, TextLemmas.{one_line_parts}, WritingLemmas.{files_split_between_lines}}
 
 -- ==== What is answered, line by line

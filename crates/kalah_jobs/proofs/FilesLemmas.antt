@@ -1,5 +1,11 @@
 -- The entries of lines, the jobs of a batch, and equal boards.
-use Rattle.std.proofs.{Common.{◌≡◌, ℕ, ◌+◌, ◌<◌, ◌≤◌, List, [], ◌∷◌, ◌++◌, length, get_or, take, drop, refl, ap, sym, ◌∙◌, arith, length-append, Some, count_by, Ok, Err, zero, suc, Bool, true, false, map, slice_get, sum_by, flat_map}, Math.Seq.{get_or-append_seam}, lemmas.{Bool.Decides.{nat_tests}, List.{take_all, take_more, take-append-le, get_or_append_left, length-map, map-append, get_or-map, Concat.{length-flat_map}, Sums.{sum_by-cons, sum_by_push, sum_by-drop_more, get_or-le-sum_by, count_by-le-length}}, Option.{slice_get_within}}}
+use Rattle.std.proofs.Common.{◌≡◌, ℕ, ◌+◌, ◌<◌, ◌≤◌, List, [], ◌∷◌, ◌++◌, length, get_or, take, drop, refl, ap, sym, ◌∙◌, arith, length-append, Some, count_by, Ok, Err, zero, suc, Bool}
+use Rattle.std.proofs.Common.{true, false, map, slice_get, sum_by, flat_map}
+use Rattle.std.proofs.Math.Seq.{get_or-append_seam}
+use Rattle.std.proofs.lemmas.Bool.Decides.{nat_tests}
+use Rattle.std.proofs.lemmas.List.{take_all, take_more, take-append-le, get_or_append_left, length-map, map-append, get_or-map, Concat.{length-flat_map}}
+use Rattle.std.proofs.lemmas.List.Sums.{sum_by-cons, sum_by_push, sum_by-drop_more, get_or-le-sum_by, count_by-le-length}
+use Rattle.std.proofs.lemmas.Option.{slice_get_within}
 use Rattle.kalah_rules.proofs.{KeyLemmas.{key-injective}, StepLemmas.{houses_within}}
 use Rattle.kalah_rules.specs.{Position.{Position, IsWithinLimits, houses_in}, contracts.board.BoardEq.TheImpl.Laws.{laws-law}}
 use Rattle.kalah_rules.specs.contracts.board.BoardPartialEq.TheImpl as board_eq

@@ -2,7 +2,7 @@
 use Rattle.std.specs.Prelude.{ℕ, suc, List, [], ◌∷◌, ◌++◌, Bool, Option, slice_get, slice_index_or}
 use Rattle.kalah_jobs.specs.{Files.Entry.{is_faulty_entry}, Types.{Entry, Bad, Job, Empty}}
 
--- the jobs: of each file, in order, the entries of its lines, in order
+-- of each file the entries of its lines
 abbrev pub JobsState : Type 0
 JobsState = List (List Entry)
 
