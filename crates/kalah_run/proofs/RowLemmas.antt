@@ -1,10 +1,10 @@
 -- The rows that the seats of a desk know: sums over them and facts of each, after a change of one seat, and what they deal.
 use Rattle.std.proofs.Common.{◌≡◌, ◌⊎◌, inl, inr, ℕ, zero, suc, ◌+◌, ◌≤◌, List, [], ◌∷◌, ◌++◌, length, set, refl, sym, ap, ◌∙◌, arith, length-append}
-use Rattle.std.proofs.Common.{append-nil, ◌<◌, ◌==◌, sum_by, count_by, All, AllPairs, Some, if◌then◌else◌}
+use Rattle.std.proofs.Common.{append-nil, ◌<◌, ◌==◌, sum_by, count_by, All, AllPairs, Some, Bool, if◌then◌else◌, ne_eqb, subst}
 use Rattle.std.proofs.lemmas.List.{map-append, nil_from_length, take_at, drop_at}
 use Rattle.std.proofs.lemmas.List.Sums.{sum_by-cons, sum_by-append, sum_by_push, sum_by-set, get_or-le-sum_by}
-use Rattle.std.proofs.lemmas.List.Elements.{All-append, All-nil, All-pop, All-take, All-drop}
-use Rattle.std.proofs.lemmas.Bool.{cases_lt}
+use Rattle.std.proofs.lemmas.List.Elements.{All-append, All-nil, All-pop, All-tail, All-take, All-drop}
+use Rattle.std.proofs.lemmas.Bool.{cases_eq, cases_lt}
 use mathlib.Core.Option.{some, some-injective, some-ne-none}
 use lib.ListN.{get_elem?}
 use Rattle.kalah_run.proofs.ViewLemmas.{Each, in_views, view_at}
@@ -131,3 +131,31 @@ deals_to_others {total} {drawn} passes p empty deals =
     (λ x. omega (arith, sum_by_push (times_in_row x) rows p.row, ap (λ (l : List ℕ). count_by (λ y. y == x) l) empty))
     (All-pop Ascends (rows ++ p.row ∷ []) rows (Some p.row) refl all.ascending).0
     (λ some. all.spent (omega (arith, some, sum_by_push (λ (x : DrawnRow). if x.spent then 1 else 0) rows p.row)))
+
+-- ==== What all numbers of some rows have
+
+-- what a test adds to a count
+abbrev pub one_if : Bool → ℕ
+one_if passed = if passed then 1 else 0
+
+-- a number that stands in a list has what all numbers there have
+All-at_member : (P : ℕ → Type 0) (x : ℕ) (xs : List ℕ) → 0 < count_by (λ y. y == x) xs → All P xs → P x
+All-at_member P x [] there all = absurd (omega arith)
+All-at_member P x (y ∷ ys) there all =
+    elim (cases_eq y x) [
+      | inl same ↦ subst P same (all 0 y (omega arith))
+      | inr other ↦ All-at_member P x ys
+          (omega (arith, ap one_if (ne_eqb y x other), sum_by-cons (λ z. one_if (z == x)) y ys)) (All-tail P y ys all)
+    ]
+
+-- a number that stands in some row has what all numbers there have
+pub All-at_dealt : (P : ℕ → Type 0) (x : ℕ) (rows : List DrawnRow) → 0 < times_in x (drawn_numbers rows)
+    → All (λ r. All P r.numbers) rows → P x
+All-at_dealt P x [] there all = absurd (omega arith)
+All-at_dealt P x (r ∷ rs) there all =
+    elim (cases_lt 0 (count_by (λ y. y == x) r.numbers)) [
+      | inl here ↦ All-at_member P x r.numbers here (all 0 r (omega arith))
+      | inr none ↦ All-at_dealt P x rs
+          (omega (arith, sum_by-cons (λ (l : List ℕ). count_by (λ y. y == x) l) r.numbers (drawn_numbers rs)))
+          (All-tail (λ r. All P r.numbers) r rs all)
+    ]

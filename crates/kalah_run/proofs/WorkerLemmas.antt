@@ -1,16 +1,16 @@
 -- The workers of a batch: what each sends, and what is known once all have run.
 use Rattle.std.proofs.Common.{[], ◌≡◌, ◌≤◌, ◌<◌, ◌+◌, ◌-◌, ℕ, suc, List, ◌∷◌, ◌++◌, arith, sym, ap, ◌∙◌, Bool, true, length, get_or, append_assoc}
-use Rattle.std.proofs.Common.{subst, zero, map, reverse, ◌==◌, if◌then◌else◌, ne_eqb, inl, inr, All, Some, fold, slice_get, count_by}
+use Rattle.std.proofs.Common.{zero, map, reverse, All, Some, fold, slice_get}
 use Rattle.std.proofs.lemmas.List.{map-append, reverse-append, get_or-map, length-append, length-map, Sums.{fold-append, sum_by-cons}}
-use Rattle.std.proofs.lemmas.List.Elements.{All-cons, All-map, All-tail}
-use Rattle.std.proofs.lemmas.{Option.{get_or_from_slice_get}, Bool.{cases_eq, cases_lt, lt-ltb}}
+use Rattle.std.proofs.lemmas.List.Elements.{All-cons, All-map}
+use Rattle.std.proofs.lemmas.{Option.{get_or_from_slice_get}, Bool.{lt-ltb}}
 use Rattle.kalah_run.specs.{OutcomeState, WorkerOutcome, DrawnRow, drawn_jobs, passes_of, puts_of, AreAtWork, HasRun, HaveRun, PutPassState}
 use Rattle.kalah_run.specs.{ArePassesFrom, sent_by, Accounts, outcomes_in, PassState, IsPassAt, AreNewPasses, new_pass, drawn_rows, HasOwnTable}
 use Rattle.kalah_run.specs.{HaveOwnTables, drawn_numbers, DealsEachOnce, spent_in}
 use Rattle.kalah_run.specs.declared.batch.{worker.Worker.{Worker}, shared_work.SharedWork.{SharedWork}}
-use Rattle.kalah_jobs.specs.{Files.{JobList.{JobsState, job_list, no_job}, Jobs.{job_count}}, Collecting.{AnyOrder.{job, IsPermutationOfJobs}, Shares.{AreShared, times_in}}}
+use Rattle.kalah_jobs.specs.{Files.{JobList.{JobsState, job_list, no_job}, Jobs.{job_count}}, Collecting.{AnyOrder.{job, IsPermutationOfJobs}, Shares.{AreShared}}}
 use Rattle.kalah_jobs.proofs.{CountingLemmas.{gets_each_job_once, as_many_as_numbers}, FilesLemmas.{length-job_list}}
-use Rattle.kalah_run.proofs.PassLemmas.{length-drawn_numbers, all_are_of}
+use Rattle.kalah_run.proofs.{PassLemmas.{length-drawn_numbers, all_are_of}, RowLemmas.{one_if, All-at_dealt}}
 
 -- ==== A worker with one job more: what it sends, and that less is left to draw
 
@@ -176,32 +176,6 @@ each_job_got {shared = shared} {after = after} {drawn = drawn} run got count_is 
     rw jobs_are (gets_each_job_once own rows got rest (rw whole at are_shared) many)
 
 -- ==== The gate knows each job, if all are drawn
-
--- what a test adds to a count
-abbrev one_if : Bool → ℕ
-one_if passed = if passed then 1 else 0
-
--- a number that stands in a list has what all numbers there have
-All-at_member : (P : ℕ → Type 0) (x : ℕ) (xs : List ℕ) → 0 < count_by (λ y. y == x) xs → All P xs → P x
-All-at_member P x [] some all = absurd (omega arith)
-All-at_member P x (y ∷ ys) some all =
-    elim (cases_eq y x) [
-      | inl same ↦ subst P same (all 0 y (omega arith))
-      | inr other ↦ All-at_member P x ys
-          (omega (arith, ap one_if (ne_eqb y x other), sum_by-cons (λ z. one_if (z == x)) y ys)) (All-tail P y ys all)
-    ]
-
--- a number that stands in some row has what all numbers there have
-All-at_dealt : (P : ℕ → Type 0) (x : ℕ) (rows : List DrawnRow) → 0 < times_in x (drawn_numbers rows)
-    → All (λ r. All P r.numbers) rows → P x
-All-at_dealt P x [] some all = absurd (omega arith)
-All-at_dealt P x (r ∷ rs) some all =
-    elim (cases_lt 0 (count_by (λ y. y == x) r.numbers)) [
-      | inl here ↦ All-at_member P x r.numbers here (all 0 r (omega arith))
-      | inr none ↦ All-at_dealt P x rs
-          (omega (arith, sum_by-cons (λ (l : List ℕ). count_by (λ y. y == x) l) r.numbers (drawn_numbers rs)))
-          (All-tail (λ r. All P r.numbers) r rs all)
-    ]
 
 -- some pass is spent, if each is
 some_spent : (workers : List Worker) → 0 < length workers → All (λ (w : Worker). w.draw_pass.row.spent ≡ true) workers

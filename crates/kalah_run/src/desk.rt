@@ -10,7 +10,7 @@ use crate::desk::pass::Pass;
 use crate::desk::protocol::{
     DeskPlan, DeskProtocol, DeskView, DrawNumber, DrawRest, HandOut, Reclaim, StartClosing,
 };
-use atomic_table::Table;
+use atomic_table::Table as AtomicTable;
 use std::alloc::{AllocError, Global};
 use std::marker::Model;
 
@@ -21,7 +21,7 @@ mod tests;
 /// of passes.
 #[derive(Drop)]
 pub struct Desk {
-    table: Table<(), DeskView, DeskPlan, DeskProtocol, Global>,
+    table: AtomicTable<(), DeskView, DeskPlan, DeskProtocol, Global>,
     total: u32,
 }
 
@@ -56,7 +56,7 @@ impl Desk {
         ensures passes { IfOk result (λ r. AreNewPasses r.0 passes r.1.items) }
     {
         let plan = DeskPlan { total, passes };
-        let (table, mut opener) = Table::of_words(alloc, &[0], &plan)?;
+        let (table, mut opener) = AtomicTable::of_words(alloc, &[0], &plan)?;
         let mut handed_out = Vec::with_capacity(alloc, passes as usize)?;
         for _ in 0..passes {
             let seat = table.shared.split_seat::<HandOut>(&mut opener);

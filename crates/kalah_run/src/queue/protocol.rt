@@ -2,7 +2,8 @@
 ghost use Rattle.std.specs.Prelude.{◌≡◌};
 ghost use Rattle.kalah_run.specs.{Queue.Protocol.{IsLawful, opening_view, after_handing_out, pass_handed_out, after_put, IsGot, after_reclaiming, KnowsSent}, declared.queue.protocol.QueueView.TheVariants.{Reclaimed}};
 
-use crossbeam_queue::{Pass, RuledArrayQueue, protocol};
+use crossbeam_queue::protocol::{Join, Lesson, Outcome as StepOutcome, Protocol, Split};
+use crossbeam_queue::{Pass, RuledArrayQueue};
 use kalah_jobs::Outcome;
 use std::collections::LinkedList;
 
@@ -28,7 +29,7 @@ pub enum QueueView {
 /// sent, in its order.
 pub struct QueueProtocol;
 
-impl protocol::Protocol<Outcome, QueueView> for QueueProtocol {
+impl Protocol<Outcome, QueueView> for QueueProtocol {
     ghost holds = { IsLawful };
 
     ghost first = { opening_view };
@@ -37,7 +38,7 @@ impl protocol::Protocol<Outcome, QueueView> for QueueProtocol {
 /// The pass of the next worker is handed out.
 pub struct HandOut;
 
-impl protocol::Split<QueueView> for HandOut {
+impl Split<QueueView> for HandOut {
     ghost left = { after_handing_out };
 
     ghost right = { pass_handed_out };
@@ -46,21 +47,21 @@ impl protocol::Split<QueueView> for HandOut {
 /// A worker puts an outcome.
 pub struct PutOutcome;
 
-impl protocol::Outcome<Outcome, QueueView> for PutOutcome {
+impl StepOutcome<Outcome, QueueView> for PutOutcome {
     ghost then = { λ before outcome after. after ≡ after_put before outcome };
 }
 
 /// The oldest outcome is got.
 pub struct GetOutcome;
 
-impl protocol::Outcome<Outcome, QueueView> for GetOutcome {
+impl StepOutcome<Outcome, QueueView> for GetOutcome {
     ghost then = { IsGot };
 }
 
 /// A pass to put is reclaimed, and what its worker has sent is known.
 pub struct Reclaim;
 
-impl protocol::Join<QueueView> for Reclaim {
+impl Join<QueueView> for Reclaim {
     ghost both = { after_reclaiming };
 
     ghost spent = { Reclaimed };
@@ -69,7 +70,7 @@ impl protocol::Join<QueueView> for Reclaim {
 /// What was got, followed by what the queue holds, is all that the workers whose passes were reclaimed have sent.
 pub struct LearnSent;
 
-impl protocol::Lesson<Outcome, QueueView> for LearnSent {
+impl Lesson<Outcome, QueueView> for LearnSent {
     ghost fact = { KnowsSent };
 }
 
