@@ -1,5 +1,5 @@
 -- The sink is given the output of the files, by the batch that was run, or because it is empty; the flush adds nothing to it.
-use Rattle.std.proofs.{Common.{◌≡◌, Err, rules, ◌∙◌, sym, ap, ⊎_elim, inl, inr, arith}}
+use Rattle.std.proofs.{lemmas.Grind.{common_steps}, Common.{◌≡◌, Err, rules, ◌∙◌, sym, ap, ⊎_elim, inl, inr, arith}}
 use Rattle.kalah_jobs.specs.{Writing.{Sink.{WasGiven}, Output.{output_for}}}
 use Rattle.kalah_jobs.proofs.SinkLemmas.{given_none, given_then_flush}
 use Rattle.kalah_run.specs.declared.batch.run_fault.RunFault.TheVariants.{NoWorker}
@@ -55,6 +55,9 @@ returns-clause-gate_hears_all g c = λ unless ok job low.
           (rw (asked.of_jobs, jobs) low))
       | else-total-gt0 w ↦ absurd (omega (arith, w.if-total-gt0.false, c.total.ensures.lines))
     ]
+
+pub open-requires-clause-as_many : goal.open-requires-clause-as_many
+open-requires-clause-as_many g c = grind (arith, common_steps)
 
 pub run-requires-after_bounds : goal.run-requires-after_bounds
 run-requires-after_bounds g c κs within = c.in_ok-open.ensures.ready

@@ -1,5 +1,5 @@
 -- One step moves the desk's number to the end. All numbers that it passes go into this pass's row, so their count is how far it moved.
-use Rattle.std.proofs.Common.{◌≡◌, ◌-◌, ap, arith, rules}
+use Rattle.std.proofs.{Common.{◌≡◌, ◌-◌, ap, arith, rules}, lemmas.Grind.{common_steps}}
 use Rattle.kalah_run.specs.{DeskState, row_in}
 use Rattle.kalah_run.proofs.DeskLemmas.{draw_rest_is_lawful, rest_counted}
 use Rattle.kalah_run.proofs.desk.Desk.draw_rest.Goals as goal
@@ -23,3 +23,6 @@ loop-drawn-init c =
           (search rules) drawn;
       few = omega arith;
     }
+
+pub loop-drawn-preserved : goal.loop-drawn-preserved
+loop-drawn-preserved c = grind (arith, common_steps)

@@ -24,3 +24,6 @@ returns-clause-empty c = grind (arith, common_steps)
 
 pub returns-clause-puts : goal.returns-clause-puts
 returns-clause-puts c = grind (arith, common_steps)
+
+pub returns-clause-passes : goal.returns-clause-passes
+returns-clause-passes c = grind (arith, common_steps)

@@ -1,0 +1,5 @@
+use Rattle.std.proofs.{Common.{arith}, lemmas.Grind.{common_steps}}
+use Rattle.kalah_run.proofs.batch.receiver.Receiver.get.Goals as goal
+
+pub invariant_of-self : goal.invariant_of-self
+invariant_of-self g c = grind (arith, common_steps)
