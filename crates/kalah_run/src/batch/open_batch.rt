@@ -46,12 +46,8 @@ impl PassLists {
         let mut workers: Vec<Worker> = Vec::with_capacity(alloc, self.draw_passes.len())?;
         for _ in 0..self.draw_passes.len() {
             let solver = Worker::new_solver(alloc, table_entries, workers.last())?;
-            let Some(draw_pass) = self.draw_passes.pop() else {
-                unreachable!()
-            };
-            let Some(put_pass) = self.put_passes.pop() else {
-                unreachable!()
-            };
+            let draw_pass = self.draw_passes.pop().unwrap();
+            let put_pass = self.put_passes.pop().unwrap();
             workers.push_reserved(Worker::new(draw_pass, put_pass, solver));
         }
         workers.reverse();
@@ -108,9 +104,7 @@ impl<'a, G: Gate> OpenBatch<'a, G> {
             jobs,
             gate,
         };
-        let Some(rest_pass) = passes.pop() else {
-            unreachable!()
-        };
+        let rest_pass = passes.pop().unwrap();
         let caller = CallerPasses {
             get_pass,
             rest_pass,

@@ -8,7 +8,7 @@ pub returns-clause-asked : goal.returns-clause-asked
 returns-clause-asked g c = record {
   workers =
       let many = as_many_workers _ c.in_ok-workers.ensures.passes
-      (last_new_pass c.in_ok-desk.desk _ _ _ c.in-Some.ensures.items c.in_ok-desk.ensures.passes).0.0 in
+      (last_new_pass c.in_ok-desk.desk _ _ _ (rw c.unwrap-rest_pass.ensures at c.pop.ensures.items) c.in_ok-desk.ensures.passes).0.0 in
       omega (arith, c.min-count.ensures, c.total-total.ensures.lines);
   tables = c.in_ok-workers.ensures.tables;
   of_files = c.in_ok-output.ensures.of.0;
@@ -23,7 +23,7 @@ returns-clause-ready g c =
     let queue = c.in_ok-queue.ensures in
     let workers = c.in_ok-workers.ensures in
     -- the passes of the workers are new, and so is that of the calling thread
-    let new = last_new_pass c.in_ok-desk.desk _ _ _ c.in-Some.ensures.items c.in_ok-desk.ensures.passes in
+    let new = last_new_pass c.in_ok-desk.desk _ _ _ (rw c.unwrap-rest_pass.ensures at c.pop.ensures.items) c.in_ok-desk.ensures.passes in
     let many : length c.in_ok-workers.workers.items ≡ c.min-count.result = as_many_workers _ workers.passes new.0.0 in
     record {
       some_worker = omega (arith, many, c.min-count.ensures, c.total-total.ensures.lines, c.requires.some_job, c.args.request.now.few_workers);
@@ -36,7 +36,7 @@ returns-clause-ready g c =
       jobs = c.in_ok-output.ensures.of.1;
       room = record {
         empty = workers.empty;
-        passes = omega (arith, workers.room.0, c.in-Some.ensures.capacity, c.in_ok-desk.passes.ok, c.in_ok-desk.ensures.passes.0);
+        passes = omega (arith, workers.room.0, c.pop.ensures.capacity, c.in_ok-desk.passes.ok, c.in_ok-desk.ensures.passes.0);
         puts = omega (arith, workers.room.1, c.in_ok-queue.puts.ok, queue.puts.0);
       };
     }

@@ -8,15 +8,19 @@ loop-preserved c =
     let so_far = c.loop.invariant in
     let is = c.push_reserved.ensures.items in
     let of = c.new.ensures in
+    let draws = rw c.unwrap-draw_pass.ensures at c.pop.ensures.items in
+    let puts = rw c.unwrap-put_pass.ensures at c.pop-in-loop.ensures.items in
+    let draws_len = rw c.unwrap-draw_pass.ensures at c.pop.ensures.len in
+    let puts_len = rw c.unwrap-put_pass.ensures at c.pop-in-loop.ensures.len in
     record {
-      left = omega (arith, c.in-Some.ensures.len);
-      as_many = omega (arith, c.in-Some.ensures.len, c.in-Some-pop.ensures.len);
-      passes = one_given (λ (w : Worker). w.draw_pass) _ _ is of.passes.0 c.in-Some.ensures.items so_far.passes;
-      puts = one_given (λ (w : Worker). w.put_pass) _ _ is of.passes.1 c.in-Some-pop.ensures.items so_far.puts;
+      left = omega (arith, draws_len);
+      as_many = omega (arith, draws_len, puts_len);
+      passes = one_given (λ (w : Worker). w.draw_pass) _ _ is of.passes.0 draws so_far.passes;
+      puts = one_given (λ (w : Worker). w.put_pass) _ _ is of.passes.1 puts so_far.puts;
       tables = tables_more _ _ _ is (rw of.solver c.in_ok-solver.ensures) so_far.tables;
-      passes_room = c.in-Some.ensures.capacity ∙ so_far.passes_room;
-      puts_room = c.in-Some-pop.ensures.capacity ∙ so_far.puts_room;
-      room = omega (arith, c.in-Some.ensures.len);
+      passes_room = c.pop.ensures.capacity ∙ so_far.passes_room;
+      puts_room = c.pop-in-loop.ensures.capacity ∙ so_far.puts_room;
+      room = omega (arith, draws_len);
     }
 
 pub returns-clause-empty : goal.returns-clause-empty
