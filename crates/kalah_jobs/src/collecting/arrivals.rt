@@ -90,12 +90,8 @@ impl Arrivals {
             return None;
         }
         let line = self.taken;
-        match self.arrived[line as usize] {
-            None => unreachable!(),
-            Some(answer) => {
-                self.taken += 1;
-                Some(Taken { line, answer })
-            }
-        }
+        let answer = self.arrived[line as usize].unwrap();
+        self.taken += 1;
+        Some(Taken { line, answer })
     }
 }
