@@ -1,5 +1,5 @@
 -- What is known of a batch: once it is open, while it is run, and when it has ended.
-use Rattle.std.specs.{Prelude.{◌≡◌, ℕ, ◌+◌, ◌<◌, ◌≤◌, Bool, min, List, [], length, vec_capacity, ◌⊎◌, Option, IfNone, MatchOption, All}, declared.alloc.Global.{Global}}
+use Rattle.std.specs.{Prelude.{◌≡◌, ℕ, ◌+◌, ◌<◌, ◌≤◌, Bool, max, min, List, [], length, vec_capacity, ◌⊎◌, Option, IfNone, MatchOption, All}, declared.alloc.Global.{Global}}
 use Rattle.crossbeam_utils.specs.Padded.{padded_value}
 use Rattle.kalah_solve.specs.{declared.solver.Solver.{Solver}, Solver.EmptyTable.{HasEmptyTable}}
 use Rattle.kalah_run.specs.{Types.{JobsState, OutcomeState}, Desk.States.{IsPassAt, new_pass}, Queue.States.{ArePassesFrom, MayGet, outcomes_in}}
@@ -25,10 +25,10 @@ pub record HasRoom (workers : ℕ) (lists : PassLists) : Type 0 where
   pub puts : workers ≤ vec_capacity lists.put_passes
 
 module _ {G : Type 0} where
-  -- for this request, with these jobs and this gate: there are the workers asked for, but at most one for each job; each has its
-  -- table, and the queue has its places
+  -- for this request, with these jobs and this gate: there are the workers asked for, but at most one for each job, and one for no job;
+  -- each has its table, and the queue has its places
   pub record IsAsAsked (request : BatchRequest) (jobs : JobsState) (gate : G) (b : OpenBatch G) : Type 0 where
-    pub workers : length b.workers.items ≡ min request.workers (job_count jobs)
+    pub workers : length b.workers.items ≡ max 1 (min request.workers (job_count jobs))
     pub tables : HaveOwnTables request.table b.workers.items
     pub of_files : b.output.files.now ≡ request.files.now
     pub of_jobs : b.shared.jobs.now ≡ jobs

@@ -37,8 +37,29 @@ fn flush_to_wait<W: Sink>(out: &mut W)
     }
 }
 
-// Gets the next outcome. If it doesn't come soon, the output flushes what it buffers before the wait. If the output has failed and the
-// rest is to be left, it first draws all jobs that are left, so that no worker begins one. Returns `None` if none is to come.
+// Gets an outcome that did not come soon. The output flushes what it buffers before the wait. Returns `None` if none is to come any more,
+// as the flush has failed and the rest is left.
+#[cold]
+#[inline(never)]
+fn flush_and_get<R: Wait, V: Watch, W: Sink>(
+    rt: &R,
+    receiver: &mut Receiver<'_>,
+    watch: &mut V,
+    out: &mut W,
+) -> Option<Outcome>
+    ensures { GetsNext W.state receiver.old out.old result receiver.new out.new }
+{
+    flush_to_wait(out);
+    receiver.abandon_if_failed(out);
+    if !receiver.awaits_more() {
+        return None;
+    }
+    watch.on_waiting();
+    Some(receiver.get(rt, watch, out))
+}
+
+// Gets the next outcome. If the output has failed and the rest is to be left, it first draws all jobs that are left, so that no worker
+// begins one. Returns `None` if none is to come.
 #[inline(always)]
 fn next_outcome<R: Wait, V: Watch, W: Sink>(
     rt: &R,
@@ -49,19 +70,13 @@ fn next_outcome<R: Wait, V: Watch, W: Sink>(
     ensures { GetsNext W.state receiver.old out.old result receiver.new out.new }
 {
     receiver.abandon_if_failed(out);
-    if receiver.awaits_more() {
-        let soon = receiver.get_soon();
-        if soon.is_some() {
-            return soon;
-        }
-        flush_to_wait(out);
-        receiver.abandon_if_failed(out);
-    }
     if !receiver.awaits_more() {
         return None;
     }
-    watch.on_waiting();
-    Some(receiver.get(rt, watch, out))
+    match receiver.get_soon() {
+        Some(outcome) => Some(outcome),
+        None => flush_and_get(rt, receiver, watch, out),
+    }
 }
 
 // Offers each outcome that comes, and after each writes the lines that became ready. Before each wait it lets the output flush. Also if
@@ -123,7 +138,7 @@ pub(crate) fn collect_from_crew<R: Threads + Wait + Sync, G: Gate, V: Watch, W: 
                     requires { AreAtWork G.knows crew.shared.now crew.workers.items }
                 { crew.run(rt) },
             );
-            let Some(child) = started.ok() else {
+            let Ok(child) = started else {
                 return (None, watch, out);
             };
             let passes = collect(rt, receiver, output, watch, out);

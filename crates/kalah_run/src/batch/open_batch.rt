@@ -80,22 +80,21 @@ pub(crate) struct OpenBatch<'a, G> {
 }
 
 impl<'a, G: Gate> OpenBatch<'a, G> {
-    /// Opens a batch of these jobs, with the workers asked for, but at most one for each job. All memory that it can't do without is
-    /// allocated here. Fails with `AllocError` only if memory was refused.
+    /// Opens a batch of these jobs, with the workers asked for, but at most one for each job, and one for no job. All memory that it
+    /// can't do without is allocated here. Fails with `AllocError` only if memory was refused.
     pub(crate) fn open(
         alloc: Global,
         request: &BatchRequest<'a>,
         jobs: &'a Jobs,
         gate: &'a G,
     ) -> Result<OpenBatch<'a, G>, AllocError>
-        requires as_many { length jobs.now ≡ length request.now.files.now }
-        requires some_job { 0 < job_count jobs.now }
+        requires { length jobs.now ≡ length request.now.files.now }
         ensures asked { IfOk result (IsAsAsked request.now jobs.now gate.now) }
         ensures ready { IfOk result (IsReadyToRun G.knows) }
     {
         let output = OrderedOutput::new(alloc, request.files, jobs)?;
         let total = jobs.total();
-        let count = request.workers.min(total);
+        let count = request.workers.min(total).max(1);
         let (desk, mut passes) = Desk::open(alloc, total, count + 1)?;
         let (queue, puts, get_pass) = ResultsQueue::open(alloc, QUEUE_CAPACITY, count)?;
         let shared = SharedWork {

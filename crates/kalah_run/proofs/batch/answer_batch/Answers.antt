@@ -56,8 +56,8 @@ returns-clause-gate_hears_all g c = λ unless ok job low.
       | else-total-gt0 w ↦ absurd (omega (arith, w.if-total-gt0.false, c.total.ensures.lines))
     ]
 
-pub open-requires-clause-as_many : goal.open-requires-clause-as_many
-open-requires-clause-as_many g c = grind (arith, common_steps)
+pub open-requires-after_bounds : goal.open-requires-after_bounds
+open-requires-after_bounds g c κs within = grind (arith, common_steps)
 
 pub run-requires-after_bounds : goal.run-requires-after_bounds
 run-requires-after_bounds g c κs within = c.in_ok-open.ensures.ready

@@ -9,7 +9,7 @@ returns-clause-asked g c = record {
   workers =
       let many = as_many_workers _ c.in_ok-workers.ensures.passes
       (last_new_pass c.in_ok-desk.desk _ _ _ (rw c.unwrap-rest_pass.ensures at c.pop.ensures.items) c.in_ok-desk.ensures.passes).0.0 in
-      omega (arith, c.min-count.ensures, c.total-total.ensures.lines);
+      omega (arith, c.max-count.ensures, c.min.ensures, c.total-total.ensures.lines);
   tables = c.in_ok-workers.ensures.tables;
   of_files = c.in_ok-output.ensures.of.0;
   of_jobs = refl;
@@ -24,9 +24,9 @@ returns-clause-ready g c =
     let workers = c.in_ok-workers.ensures in
     -- the passes of the workers are new, and so is that of the calling thread
     let new = last_new_pass c.in_ok-desk.desk _ _ _ (rw c.unwrap-rest_pass.ensures at c.pop.ensures.items) c.in_ok-desk.ensures.passes in
-    let many : length c.in_ok-workers.workers.items ≡ c.min-count.result = as_many_workers _ workers.passes new.0.0 in
+    let many : length c.in_ok-workers.workers.items ≡ c.max-count.result = as_many_workers _ workers.passes new.0.0 in
     record {
-      some_worker = omega (arith, many, c.min-count.ensures, c.total-total.ensures.lines, c.requires.some_job, c.args.request.now.few_workers);
+      some_worker = omega (arith, c.max-count.ensures);
       passes = c.in_ok-desk.ensures.desk.1 ∙ ap (◌+ 1) (sym many);
       rest_pass = new.1 ∙ ap (new_pass c.in_ok-desk.desk) (sym many);
       at_work = new_at_work _ _ _ workers.passes workers.puts new.0 queue.puts.1 queue.puts.2;
