@@ -1,5 +1,6 @@
 //! Reads whole files.
-ghost use Rattle.std.specs.{Prelude.{◌≡◌, ◌≢◌, ◌<◌, ◌≤◌, All, IfErr, IfOk, IfSome, IsErrOf, length, map, vec_len}, Io.KnownBytes.{Consumes, IsAtEnd}};
+ghost use Rattle.std.specs.Prelude.{◌≡◌, ◌≢◌, ◌<◌, ◌≤◌, ◌∷◌, [], All, IfErr, IfOk, IfSome, IsErrOf, length, map, vec_len};
+ghost use Rattle.std.specs.Io.KnownBytes.{Consumes, IsAtEnd};
 ghost use Rattle.kalah_jobs.specs.Limits.{most_file_bytes};
 ghost use Rattle.kalah_cli.specs.{Exit.Failure.{FailsToRead}, System.Sources.{AreFilesOf, file_named}};
 
@@ -48,45 +49,67 @@ fn new_chunk(alloc: Global) -> Result<Vec<u8>, AllocError>
     vec![in alloc; 0; CHUNK]
 }
 
-/// Returns all that the reader has left, if that is at most `limit` bytes, or why not. It is read until it reports the end, an error, or
-/// more bytes than the limit. Any error counts as the file's, also one of an interrupted call. Fails only if memory was refused: the outer
-/// result is the program's own lack of memory, for which no file is to blame, and the inner one is the file's.
-pub(crate) fn read_limited<F: Read>(
+/// Returns all that the reader of the file of this name has left, if that is at most `limit` bytes. It is read until it reports the end,
+/// an error, or more bytes than the limit. Fails with the file's fault, or with `OutOfMemory` if the program's memory was refused. Any
+/// error counts as the file's, also one of an interrupted call.
+pub(crate) fn read_limited<'a, F: Read>(
     alloc: Global,
     reader: &mut F,
+    name: &'a str,
     limit: usize,
-) -> Result<Result<Vec<u8>, ReadFault>, AllocError>
-    ensures whole { IfOk result (λ read. IfOk read (λ v. Consumes (F.remaining reader.old) (F.remaining reader.new) v.items
-        × IsAtEnd (F.remaining reader.new) × (length v.items ≤ limit))) }
-    ensures long { IfOk result (λ read. IsErrOf read ReadFault.TooLong
-        → IfSome (F.remaining reader.old) (λ bytes. limit < length bytes)) }
+) -> Result<Vec<u8>, Failure<'a>>
+    ensures whole { IfOk result (λ v. Consumes (F.remaining reader.old) (F.remaining reader.new) v.items
+        × IsAtEnd (F.remaining reader.new) × (length v.items ≤ limit)) }
+    ensures long { IsErrOf result (Failure.Unreadable name.entry ReadFault.TooLong)
+        → IfSome (F.remaining reader.old) (λ bytes. limit < length bytes) }
+    ensures failure { IfErr result (FailsToRead (name.entry ∷ [])) }
 {
-    let mut memory = new_chunk(alloc)?;
+    let Ok(mut memory) = new_chunk(alloc) else {
+        return Err(Failure::OUT_OF_MEMORY);
+    };
     let chunk = memory.as_mut_slice();
     let mut bytes = Vec::new(alloc);
     while bytes.len() <= limit {
         match reader.read(chunk) {
-            Ok(0) => return Ok(Ok(bytes)),
-            Ok(n) => bytes.extend_from_slice(&chunk[..n])?,
-            Err(error) => return Ok(Err(fault_of(&error))),
+            Ok(0) => return Ok(bytes),
+            Ok(n) => {
+                let Ok(()) = bytes.extend_from_slice(&chunk[..n]) else {
+                    return Err(Failure::OUT_OF_MEMORY);
+                };
+            }
+            Err(error) => return Err(Failure::Unreadable {
+                name,
+                fault: fault_of(&error),
+            }),
         }
     }
-    Ok(Err(ReadFault::TooLong))
+    Err(Failure::Unreadable {
+        name,
+        fault: ReadFault::TooLong,
+    })
 }
 
-// Returns all bytes of the file of this name, or why it was not read. A file of more than 67,108,864 bytes can't be read.
+// Returns the file of this name, read whole. One of more than 67,108,864 bytes can't be read.
 #[tactic(auto, using(crate::proofs::EndsLemmas::read_whole))]
-fn read_file<R: Sources>(
-    rt: &R,
-    alloc: Global,
-    name: &str,
-) -> Result<Result<Vec<u8>, ReadFault>, AllocError>
-    ensures within { IfOk result (λ read. IfOk read (λ bytes. length bytes.items ≤ most_file_bytes)) }
-    ensures given { IfOk result (λ read. IfOk read (λ bytes. R.may_give rt.now (file_named name.now) bytes.items)) }
+fn read_file<'a, R: Sources>(rt: &R, alloc: Global, name: &'a str) -> Result<FileText, Failure<'a>>
+    ensures named { IfOk result (λ file. file.name ≡ name.now) }
+    ensures given { IfOk result (λ file. R.may_give rt.now (file_named name.now) file.bytes) }
+    ensures within { IfOk result (λ file. length file.bytes ≤ most_file_bytes) }
+    ensures failure { IfErr result (FailsToRead (name.entry ∷ [])) }
 {
-    match rt.open(name) {
-        Ok(mut file) => read_limited(alloc, &mut file, MOST_FILE_BYTES),
-        Err(error) => Ok(Err(fault_of(&error))),
+    let read = match rt.open(name) {
+        Ok(mut file) => read_limited(alloc, &mut file, name, MOST_FILE_BYTES),
+        Err(error) => Err(Failure::Unreadable {
+            name,
+            fault: fault_of(&error),
+        }),
+    };
+    match read {
+        Ok(bytes) => match String::from_str(alloc, name) {
+            Ok(name) => Ok(FileText { name, bytes }),
+            Err(_) => Err(Failure::OUT_OF_MEMORY),
+        },
+        Err(failure) => Err(failure),
     }
 }
 
@@ -103,18 +126,13 @@ pub(crate) fn read_files<'a, R: Sources>(
 {
     let mut files = Vec::new(alloc);
     for name in names {
-        match read_file(rt, alloc, *name) {
-            Ok(Ok(bytes)) => {
-                let Ok(name) = String::from_str(alloc, *name) else {
-                    return Err(Failure::OUT_OF_MEMORY);
-                };
-                if files.push(FileText { name, bytes }).is_err() {
-                    return Err(Failure::OUT_OF_MEMORY);
-                }
-            }
-            Ok(Err(fault)) => return Err(Failure::Unreadable { name: *name, fault }),
-            Err(_) => return Err(Failure::OUT_OF_MEMORY),
-        }
+        let file = match read_file(rt, alloc, *name) {
+            Ok(file) => file,
+            Err(failure) => return Err(failure),
+        };
+        let Ok(()) = files.push(file) else {
+            return Err(Failure::OUT_OF_MEMORY);
+        };
     }
     Ok(files)
 }

@@ -1,5 +1,6 @@
 //! Files that are read within the limit of their bytes, and that are not.
 use super::{ReadFault, read_limited};
+use crate::exit::failure::Failure;
 use std::io;
 use std::io::{ErrorKind, Read};
 
@@ -23,6 +24,13 @@ impl Read for Interrupted {
 #[test]
 fn an_interrupted_read_is_the_files_fault(rt: HostRuntime) {
     let mut reader = Interrupted { calls: 0 };
-    let read = read_limited(rt.alloc(), &mut reader, 10);
-    assert!(rt; matches!(read, Ok(Err(ReadFault::Unreadable))) && reader.calls == 2);
+    let read = read_limited(rt.alloc(), &mut reader, "a", 10);
+    let is_fault = matches!(
+        read,
+        Err(Failure::Unreadable {
+            name: "a",
+            fault: ReadFault::Unreadable
+        })
+    );
+    assert!(rt; is_fault && reader.calls == 2);
 }
