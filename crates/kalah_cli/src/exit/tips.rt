@@ -64,23 +64,19 @@ fn tip_for_file(name: &str, fault: ReadFault) -> &'static str {
 
 /// Writes the tip for a failure, if it has one. If the name of a file that can't be read is a position, it says what draws that.
 pub(crate) fn advise_on_failure<E: Write>(failure: Failure<'_>, messages: &mut Messages<E>) {
-    let (tip, name) = match failure {
-        Failure::Unreadable { name, fault } => (tip_for_file(name, fault), name),
-        Failure::Run(RunFault::TooManyFiles) => (
+    let tip = match failure {
+        Failure::Unreadable { name, fault } => {
+            messages.write_tip(tip_for_file(name, fault), name);
+            return;
+        }
+        Failure::Run(RunFault::TooManyFiles) =>
             "at most 256 files a run; give them to several runs (docs/LARGE.md)",
-            "",
-        ),
-        Failure::Run(RunFault::TooManyLines) => (
+        Failure::Run(RunFault::TooManyLines) =>
             "at most 1000000 lines a run; `kalah ask` has no limit, or split the files (docs/LARGE.md)",
-            "",
-        ),
-        Failure::Run(RunFault::Write) => (
-            "the disk is full, or the reader of the output has left",
-            "",
-        ),
+        Failure::Run(RunFault::Write) => "the disk is full, or the reader of the output has left",
         _ => return,
     };
-    messages.write_tip(tip, name);
+    messages.write_tip(tip, "");
 }
 
 /// Writes a tip for the first of these files that begins with a byte order mark, so that its first line, or all of them, can't be read.

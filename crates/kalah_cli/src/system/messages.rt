@@ -37,19 +37,18 @@ impl<E: Write> Messages<E> {
 
     /// Writes a tip, if it is a terminal. In the tip `{}` stands for an argument.
     pub(crate) fn write_tip(&mut self, tip: &str, argument: &str) {
-        if !self.on_terminal {
-            return;
-        }
-        self.write("  tip: ");
-        match tip.split_once("{}") {
-            Some((before, after)) => {
-                self.write(before);
-                self.write_escaped(argument);
-                self.write(after);
+        if self.on_terminal {
+            self.write("  tip: ");
+            match tip.split_once("{}") {
+                Some((before, after)) => {
+                    self.write(before);
+                    self.write_escaped(argument);
+                    self.write(after);
+                }
+                None => self.write(tip),
             }
-            None => self.write(tip),
+            self.write("\n");
         }
-        self.write("\n");
     }
 }
 

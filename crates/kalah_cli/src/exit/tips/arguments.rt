@@ -66,10 +66,13 @@ fn tip_for_name(name: &str) -> Option<Tip<'_>> {
 // Returns the tip for an argument of this subcommand that is one too many.
 fn tip_for_excess<'a>(subcommand: &str, argument: &'a str) -> Option<Tip<'a>> {
     let tip = match subcommand {
-        "ask" if is_side(argument) || is_position(argument) =>
-            "`kalah ask` reads standard input; for one position, use `kalah show '1,1/0 1,1/0'`",
-        "ask" if !argument.starts_with('-') =>
-            "`kalah ask` reads standard input: use `kalah ask < {}`",
+        "ask" => if is_side(argument) || is_position(argument) {
+            "`kalah ask` reads standard input; for one position, use `kalah show '1,1/0 1,1/0'`"
+        } else if !argument.starts_with('-') {
+            "`kalah ask` reads standard input: use `kalah ask < {}`"
+        } else {
+            return None;
+        },
         "play" if matches!(argument.as_bytes(), [b'1'..=b'6']) =>
             "for the first move, use `--first {}`",
         _ => return None,
@@ -128,11 +131,10 @@ pub(crate) fn report_refused<E: Write>(
     messages: &mut Messages<E>,
 ) {
     messages.write_escaped(text);
-    if !messages.on_terminal {
-        return;
-    }
-    if let Some((tip, argument)) = tip_for(arguments, text) {
-        messages.write("\n");
-        messages.write_tip(tip, argument);
+    if messages.on_terminal {
+        if let Some((tip, argument)) = tip_for(arguments, text) {
+            messages.write("\n");
+            messages.write_tip(tip, argument);
+        }
     }
 }

@@ -8,16 +8,15 @@ const FORM: &str = "the form is `1,1/0 1,1/0`; numbers are 0 to 99, without a ze
 /// Writes why a line can't be read, and on a terminal a tip.
 pub(crate) fn report_fault<E: Write>(fault: LineFault, line: &str, messages: &mut Messages<E>) {
     let _ = writeln!(messages.err, "fault {}", fault.word());
-    if !messages.on_terminal {
-        return;
-    }
     let tip = match fault {
         LineFault::Seeds => {
-            let seeds = seeds_in_houses(line);
-            let _ = writeln!(
-                messages.err,
-                "  tip: {seeds} seeds in houses; at most 31 are accepted"
-            );
+            if messages.on_terminal {
+                let seeds = seeds_in_houses(line);
+                let _ = writeln!(
+                    messages.err,
+                    "  tip: {seeds} seeds in houses; at most 31 are accepted"
+                );
+            }
             return;
         }
         LineFault::Long => "a line has at most 80 bytes",
