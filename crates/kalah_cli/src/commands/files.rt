@@ -79,15 +79,18 @@ pub(crate) fn run_files<
         table: request.table_entries,
         on_failed_write: OnFailedWrite::Leave,
     };
-    let mut progress = Progress::begin(rt, &mut messages.err, files, request.progress);
+    let mut progress = Progress::begin(rt, messages, files, request.progress);
     let answered = answer_batch(rt, alloc, &batch, &OpenGate, &mut progress, out);
     progress.end();
-    match answered {
-        Ok(tally) if tally.faults == 0 => Ok(ExitStatus::Clean),
-        Ok(_) => {
-            advise_on_files(files, messages);
-            Ok(ExitStatus::LineFaults)
-        }
-        Err(fault) => Err(Failure::Run(fault)),
-    }
+    let tally = match answered {
+        Ok(tally) => tally,
+        Err(fault) => return Err(Failure::Run(fault)),
+    };
+    let status = if tally.faults == 0 {
+        ExitStatus::Clean
+    } else {
+        advise_on_files(files, messages);
+        ExitStatus::LineFaults
+    };
+    Ok(status)
 }

@@ -1,4 +1,5 @@
 //! `--progress`: the progress of a batch, on standard error.
+use crate::system::messages::Messages;
 use crate::system::terminal::Terminal;
 use kalah_jobs::FileText;
 use kalah_run::Watch;
@@ -12,7 +13,7 @@ use std::time::Duration;
 #[derive(Drop)]
 pub(crate) struct Progress<'a, R, E> {
     rt: &'a R,
-    err: &'a mut E,
+    messages: &'a mut Messages<E>,
     // The number of lines of the batch, or 0 if nothing is shown: the answered share of no lines never grows.
     lines: u64,
     // Whether one line is rewritten.
@@ -56,15 +57,15 @@ impl<'a, R: Clock + Terminal, E: Write> Progress<'a, R, E> {
     /// Shows that no line of these files is answered yet. If nothing is to be shown, this is a watch that does nothing.
     pub(crate) fn begin(
         rt: &'a R,
-        err: &'a mut E,
+        messages: &'a mut Messages<E>,
         files: &[FileText],
         is_shown: bool,
     ) -> Progress<'a, R, E> {
         let mut progress = Progress {
             rt,
-            err,
             lines: if is_shown { lines_of_files(files) } else { 0 },
-            in_place: is_shown && rt.stderr_is_terminal() && !rt.stdout_is_terminal(),
+            in_place: is_shown && messages.on_terminal && !rt.stdout_is_terminal(),
+            messages,
             begun: rt.monotonic().unwrap_or(Duration::MAX),
             answered: 0,
             shown: 0,
@@ -78,7 +79,7 @@ impl<'a, R: Clock + Terminal, E: Write> Progress<'a, R, E> {
     /// Ends the line that is rewritten.
     pub(crate) fn end(&mut self) {
         if self.in_place {
-            let _ = self.err.write_all(b"\n");
+            self.messages.write("\n");
         }
     }
 
@@ -87,21 +88,21 @@ impl<'a, R: Clock + Terminal, E: Write> Progress<'a, R, E> {
         let (answered, lines) = (self.answered, self.lines);
         self.shown = answered;
         // A line that is rewritten begins where it stood, and erases what is left of an earlier and longer text.
-        let (start, end) = if self.in_place {
-            ("\r", "\x1b[K")
-        } else {
-            ("", "\n")
-        };
+        let mut end = "\n";
+        if self.in_place {
+            self.messages.write("\r");
+            end = "\x1b[K";
+        }
         let per_cent = share(answered, lines, 100);
         let _ = write!(
-            self.err,
-            "{start}kalah: {answered} of {lines} lines, {per_cent} %"
+            self.messages.err,
+            "kalah: {answered} of {lines} lines, {per_cent} %"
         );
         if let Some(seconds) = self.seconds_left() {
             let (count, unit) = in_units(seconds);
-            let _ = write!(self.err, ", {count} {unit} left");
+            let _ = write!(self.messages.err, ", {count} {unit} left");
         }
-        let _ = self.err.write_all(end.as_bytes());
+        self.messages.write(end);
     }
 
     // Returns how long the other lines take at the rate so far, if that is known.

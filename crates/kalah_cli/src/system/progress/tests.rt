@@ -1,5 +1,6 @@
 //! What is shown of a batch, by a clock that a test sets.
 use super::Progress;
+use crate::system::messages::Messages;
 use crate::system::terminal::Terminal;
 use kalah_jobs::FileText;
 use kalah_run::Watch;
@@ -63,9 +64,12 @@ fn shown(
         name: String::new(rt.alloc()),
         bytes: vec![in rt.alloc(); b'\n'; lines].expect(rt, "no memory"),
     };
-    let mut err = Vec::<u8>::new(rt.alloc());
+    let mut messages = Messages {
+        err: Vec::<u8>::new(rt.alloc()),
+        on_terminal: machine.stderr_is_terminal,
+    };
     {
-        let mut progress = Progress::begin(machine, &mut err, &[file], true);
+        let mut progress = Progress::begin(machine, &mut messages, &[file], true);
         machine.seconds.fetch_add(seconds, SeqCst);
         for _ in 0..answered {
             progress.on_accepted();
@@ -74,7 +78,7 @@ fn shown(
         progress.on_waiting();
         progress.end();
     }
-    err
+    messages.err
 }
 
 // One of two lines is answered after this number of seconds, and this time is left for the other one.
