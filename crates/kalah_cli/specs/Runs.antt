@@ -1,9 +1,13 @@
 -- What the program does for each request.
-use Rattle.std.specs.{Prelude.{◌≡◌, ◌≢◌, ◌++◌, ◌∷◌, ◌⊎◌, ℕ, List, [], Option, codes, false, true, ⊤}, Io.KnownBytes.{Appends}}
+use Rattle.std.specs.{Prelude.{◌≡◌, ◌≢◌, ◌++◌, ◌∷◌, ◌⊎◌, ℕ, List, [], codes, false, true, ⊤}, Io.KnownBytes.{Appends}}
 use Rattle.clap.specs.{Words.{Text}, declared.error.kind.ErrorKind.{ErrorKind, TheVariants.{DisplayHelp, DisplayVersion}}}
 use Rattle.kalah_rules.specs.Position.{Position}
 use Rattle.kalah_jobs.specs.{Files.Lines.{line_feed}, Line.Line.{Reads}, Writing.Sink.{SinkState}}
-use Rattle.kalah_cli.specs.{Commands.{LineCommand.{MayPrint, command_output}, Moves.{moves_output}, Ask.{AnswersInput, StopsBetweenLines}, Files.{AnswersFiles}, Printing.{PrintsForLine, WritesNoPosition}}, Arguments.Request.{Task, DoesNotAskFor, MakesNoRequest, IsAcceptedAs, Question, about_line, about_files, about_input, conflict}, System.Sources.{MayBeLeft, Source, standard_input}, Exit.{Ends.{FailsWithoutOutput}, Status.{ExitStatus, Clean, LineFaults, Failed}}}
+use Rattle.kalah_cli.specs.Arguments.Request.{Task, DoesNotAskFor, MakesNoRequest, IsAcceptedAs, Question}
+use Rattle.kalah_cli.specs.Arguments.Request.{about_line, about_files, about_input, conflict}
+use Rattle.kalah_cli.specs.Commands.{LineCommand.{MayPrint, command_output}, Moves.{moves_output}, Ask.{AnswersStandardInput, StopsBetweenLines}}
+use Rattle.kalah_cli.specs.Commands.{Files.{AnswersFiles}, Printing.{PrintsForLine, WritesNoPosition}}
+use Rattle.kalah_cli.specs.{Exit.{Ends.{FailsWithoutOutput}, Status.{ExitStatus, Clean, LineFaults, Failed}}, System.Sources.{Source}}
 
 -- nothing is asked of the standard input
 abbrev pub NeedsNoInput : Task → Type 0
@@ -21,19 +25,13 @@ IsNoFlag (x ∷ xs) = x ≢ 45
 
 module _ {O : Type 0} (state : O → SinkState) (old new : O) (status : ExitStatus) where
   module _ (may_give : Source → List ℕ → Type 0) where
-    -- the lines of the standard input are answered, which may give these bytes
-    pub record AnswersStandardInput (question : Question) : Type 0 where
-      pub unread : Option (List ℕ)
-      pub given : MayBeLeft (may_give standard_input) unread
-      pub answered : AnswersInput state old new status question unread
-
     -- what the program does for each request. A game that is asked to begin with a house that may not be moved fails without output, and
     -- so do options that exclude each other
     abbrev pub Does : Task → Type 0
     Does (about_line command line) = PrintsForLine state old new status line (command_output command)
         × ((p : Position) → Reads line p → (MayPrint command p → ⊥) → FailsWithoutOutput old new status)
     Does (about_files question workers table_entries progress names) = AnswersFiles state old new status may_give question names
-    Does (about_input question table_entries) = AnswersStandardInput question
+    Does (about_input question table_entries) = AnswersStandardInput state old new status may_give question
     Does conflict = FailsWithoutOutput old new status
 
     -- accepted arguments: the program does what they ask for (if it fails, a prefix of that), or it fails without output

@@ -74,18 +74,7 @@ fn run_request<'a, R: Sources + Clock + Terminal + Threads + Wait + Sync, O: Sin
     match request {
         Request::Line { line, command } => run_line(alloc, line, command, out, messages),
         Request::Files(files) => run_files(rt, alloc, files, out, messages),
-        Request::Ask {
-            question,
-            table_entries,
-        } => run_ask(
-            alloc,
-            rt.standard_input(),
-            rt.stdin_is_terminal(),
-            *question,
-            *table_entries,
-            out,
-            messages,
-        ),
+        Request::Ask(request) => run_ask(rt, alloc, *request, out, messages),
         Request::Conflict => Err(Failure::Conflict),
     }
 }

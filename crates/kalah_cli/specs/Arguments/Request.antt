@@ -129,7 +129,7 @@ DoesNotAskFor arguments kind = IsAmong kind (fault_of kalah_app arguments) → �
 abbrev pub task_of : Request → Task
 task_of (Line line command) = about_line command line.now
 task_of (Files b) = about_files b.question b.workers b.table_entries b.progress (map (λ f. f.now) b.files.items)
-task_of (Ask question table_entries) = about_input question table_entries
+task_of (Ask b) = about_input b.question b.table_entries
 task_of Conflict = conflict
 
 -- ---- what is in its range
@@ -148,7 +148,7 @@ IsCommandInRange (Count depth) = depth ≤ most_depth
 abbrev pub IsInRange : Request → Type 0
 IsInRange (Line line command) = IsCommandInRange command
 IsInRange (Files b) = AreFilesInRange b
-IsInRange (Ask question table_entries) = IsTableSize table_entries
+IsInRange (Ask b) = IsTableSize b.table_entries
 IsInRange Conflict = ⊤
 
 -- ---- the matches of arguments that the command line accepts

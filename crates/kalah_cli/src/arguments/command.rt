@@ -45,7 +45,11 @@ fn clap_subcommand<'a>(alloc: Global, subcommand: &Subcommand) -> Result<Command
         .after_help(help::SHORT_OF_SUBCOMMAND)
         .after_long_help(subcommand.long_help);
     for argument in subcommand.arguments {
-        command = command.arg(clap_arg(alloc, argument))?;
+        // Without `?`, which is expensive to check on a large struct.
+        let Ok(more) = command.arg(clap_arg(alloc, argument)) else {
+            return Err(AllocError);
+        };
+        command = more;
     }
     Ok(command)
 }
@@ -64,7 +68,13 @@ fn program_with<'a>(alloc: Global, subcommands: &[Subcommand]) -> Result<Command
         .subcommand_required(true)
         .disable_help_subcommand(true);
     for subcommand in subcommands {
-        command = command.subcommand(clap_subcommand(alloc, subcommand)?)?;
+        let Ok(made) = clap_subcommand(alloc, subcommand) else {
+            return Err(AllocError);
+        };
+        let Ok(more) = command.subcommand(made) else {
+            return Err(AllocError);
+        };
+        command = more;
     }
     Ok(command)
 }

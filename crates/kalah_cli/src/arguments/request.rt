@@ -3,30 +3,26 @@ ghost use Rattle.std.specs.Prelude.{◌≡◌, IfErr, IfOk, IfSome, Some, codes,
 ghost use Rattle.clap.specs.{Words.{FailsBy, fault_of, first_of, kind_of}, declared.error.kind.ErrorKind.TheVariants.{OutOfMemory}};
 ghost use Rattle.kalah_solve.specs.Table.Entries.{most_entries};
 ghost use Rattle.kalah_run.specs.Limits.{IsWorkerCount, IsTableSize, most_workers};
-ghost use Rattle.kalah_cli.specs.Arguments.{Command.{kalah_app}, Request.{AreMatches, IsAcceptedAs, IsCommandInRange, IsInRange, MayHaveNumber, name_of_question, is_set, number_given, rows_in, table_entries, task_of, task_of_ask, task_of_files, task_of_matches, worker_count}};
+ghost use Rattle.kalah_cli.specs.Arguments.Command.{kalah_app};
+ghost use Rattle.kalah_cli.specs.Arguments.Request.{AreMatches, IsAcceptedAs, IsInRange, MayHaveNumber, name_of_question, is_set, number_given};
+ghost use Rattle.kalah_cli.specs.Arguments.Request.{rows_in, table_entries, task_of, task_of_ask, task_of_files, task_of_matches, worker_count};
 
 use crate::arguments::command::command;
 use crate::arguments::subcommands::{DEFAULT_ENTRIES, DEFAULT_WORKERS};
 use clap::{ArgMatches, Error};
 use kalah_jobs::Question;
-use std::alloc::Global;
+use std::alloc::{AllocError, Global};
 use std::convert::AsStr;
 
 /// What the arguments ask the program to do. A search has a table of `table_entries` entries, 1 to 1,048,576.
 #[derive(Drop)]
 pub enum Request<'a> {
     /// Print something of the position that this line writes.
-    Line {
-        line: &'a str,
-        command: LineCommand,
-    },
+    Line { line: &'a str, command: LineCommand },
     /// Answer each line of files.
     Files(FilesRequest<'a>),
     /// Answer each line of the standard input.
-    Ask {
-        question: Question,
-        table_entries: u32,
-    },
+    Ask(AskRequest),
     /// Refuse options that exclude each other.
     // By clap's `conflicts_with` it would be no request, but the contract of the ported clap says nothing of commands that use that.
     Conflict,
@@ -63,6 +59,13 @@ pub struct ShowCommand {
     pub plain: bool,
     /// Whether the best play after each move stands below it, unless it is plain.
     pub lines: bool,
+}
+
+/// What is asked of the positions of the standard input.
+#[derive(Clone, Copy)]
+pub struct AskRequest {
+    pub question: Question,
+    pub table_entries: u32,
 }
 
 /// What is asked of the positions of files, and how they are answered.
@@ -142,6 +145,10 @@ fn files_request<'a>(
     ensures asked { IfOk result (λ r. task_of_files question (rows_in matches.now) ≡ Some (task_of r)) }
     ensures range { IfOk result IsInRange }
 {
+    let files = match matches.get_strs("file").unwrap().to_vec(alloc) {
+        Ok(files) => files,
+        Err(error) => return Err(Error::from(error)),
+    };
     Ok(Request::Files(FilesRequest {
         question,
         workers: worker_count(matches),
@@ -150,7 +157,7 @@ fn files_request<'a>(
             Question::Steps => 1,
         },
         progress: is_set(matches, "progress"),
-        files: matches.get_strs("file").unwrap().to_vec(alloc)?,
+        files,
     }))
 }
 
@@ -167,10 +174,10 @@ fn ask_request<'a>(matches: &ArgMatches<'a>) -> Request<'a>
         (false, true, None) => (Question::Steps, 1),
         _ => return Request::Conflict,
     };
-    Request::Ask {
+    Request::Ask(AskRequest {
         question,
         table_entries,
-    }
+    })
 }
 
 // Returns the request of the matches of the subcommand of this name.
@@ -218,7 +225,13 @@ pub(crate) fn parse<'a, S: AsStr>(alloc: Global, arguments: &'a [S]) -> Result<R
     ensures range { IfOk result IsInRange }
     ensures kinds { FailsBy (fault_of kalah_app (map S.text arguments.entry.now)) result }
 {
-    let parsed = command(alloc)?.try_get_matches_from(arguments)?;
+    let Ok(command) = command(alloc) else {
+        return Err(Error::from(AllocError));
+    };
+    let parsed = match command.try_get_matches_from(arguments) {
+        Ok(parsed) => parsed,
+        Err(error) => return Err(error),
+    };
     let (name, matches) = parsed.subcommand().unwrap();
     requested(alloc, name, matches)
 }

@@ -2,16 +2,19 @@
 ghost use Rattle.std.specs.Prelude.{◌≡◌, ◌↔◌, IfOk, IsErr, false, true};
 ghost use Rattle.kalah_run.specs.Limits.{IsTableSize};
 ghost use Rattle.kalah_solve.specs.Solver.EmptyTable.{HasEmptyTable};
-ghost use Rattle.kalah_cli.specs.{Commands.{Ask.{AnswersInput}}, Exit.Ends.{exit_status_of}};
+ghost use Rattle.kalah_cli.specs.{Commands.Ask.{AnswersStandardInput}, Exit.Ends.{exit_status_of}};
 
+use crate::arguments::request::AskRequest;
 use crate::exit::failure::Failure;
 use crate::exit::status::ExitStatus;
 use crate::system::messages::Messages;
-use kalah_jobs::{AskFault, Question, Sink, answer_lines};
+use crate::system::sources::Sources;
+use crate::system::terminal::Terminal;
+use kalah_jobs::{AskFault, Sink, answer_lines};
 use kalah_run::RunFault;
 use kalah_solve::{Solver, Table};
 use std::alloc::{AllocError, Global};
-use std::io::{BufReader, Read, Write};
+use std::io::{BufReader, Write};
 
 // What is written to a terminal before lines are typed.
 const HINT: &str = "kalah: waits for positions, one a line, as 1,1/0 1,1/0; Ctrl-D ends\n";
@@ -21,7 +24,10 @@ fn new_solver(alloc: Global, table_entries: u32) -> Result<Solver, AllocError>
     requires { IsTableSize table_entries }
     ensures { IfOk result (HasEmptyTable table_entries) }
 {
-    Ok(Solver::new(Table::new(alloc, table_entries)?))
+    match Table::new(alloc, table_entries) {
+        Ok(table) => Ok(Solver::new(table)),
+        Err(error) => Err(error),
+    }
 }
 
 // Returns how the program ends after such an answer to all lines.
@@ -37,33 +43,31 @@ fn status_of_answers(answered: Result<bool, AskFault>) -> Result<ExitStatus, Fai
     }
 }
 
-/// Answers what is asked of each line of a reader, all with one solver. It reads more only after the answers to all that was read are
-/// written. Memory is requested before the first read, except for what the table takes as it grows. If the reader is a terminal,
-/// it first says what it waits for.
+/// Answers what is asked of each line of the standard input, with one solver. It reads more only after the answers to all that was read are
+/// written. Memory is requested before the first read, except for what the table takes as it grows. To a terminal it first says what
+/// it waits for.
 ///
 /// Returns `Clean` if each line was read, and `LineFaults` if one was not. Fails if memory was refused, or a read or a write failed.
 #[inline(never)] // Only this command's stack holds its solver.
-pub(crate) fn run_ask<I: Read + Drop, O: Sink, E: Write>(
+pub(crate) fn run_ask<R: Sources + Terminal, O: Sink, E: Write>(
+    rt: &R,
     alloc: Global,
-    input: I,
-    stdin_is_terminal: bool,
-    question: Question,
-    table_entries: u32,
+    request: AskRequest,
     out: &mut O,
     messages: &mut Messages<E>,
 ) -> Result<ExitStatus, Failure<'static>>
-    requires table { IsTableSize table_entries }
+    requires table { IsTableSize request.table_entries }
     requires not_failed { (O.state out.old).has_failed ≡ false }
-    ensures { AnswersInput O.state out.old out.new (exit_status_of result) question (I.remaining input) }
+    ensures { AnswersStandardInput O.state out.old out.new (exit_status_of result) (R.may_give rt.now) request.question }
 {
-    let Ok(mut reader) = BufReader::new(alloc, input) else {
+    let Ok(mut reader) = BufReader::new(alloc, rt.standard_input()) else {
         return Err(Failure::OUT_OF_MEMORY);
     };
-    let Ok(mut solver) = new_solver(alloc, table_entries) else {
+    let Ok(mut solver) = new_solver(alloc, request.table_entries) else {
         return Err(Failure::OUT_OF_MEMORY);
     };
-    if stdin_is_terminal {
+    if rt.stdin_is_terminal() {
         messages.write(HINT);
     }
-    status_of_answers(answer_lines(&mut reader, question, &mut solver, out))
+    status_of_answers(answer_lines(&mut reader, request.question, &mut solver, out))
 }

@@ -7,4 +7,4 @@ pub returns-in-Files : goal.returns-in-Files
 returns-in-Files g c = rw c.in-Files.is c.run_files.ensures
 
 pub returns-in-Ask : goal.returns-in-Ask
-returns-in-Ask g c = rw c.in-Ask.is (record { unread = _; given = c.standard_input.ensures; answered = c.run_ask.ensures })
+returns-in-Ask g c = rw c.in-Ask.is c.run_ask.ensures

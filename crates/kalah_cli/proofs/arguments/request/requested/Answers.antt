@@ -1,8 +1,10 @@
 -- The rules of the subcommand of this name say what its rows have: LINE and DEPTH, once each, and numbers that are in range.
-use Rattle.std.proofs.Common.{◌∙◌, ap, arith, codes, is_some, option_map, refl, sym}
+use Rattle.std.proofs.Common.{◌≡◌, ◌∙◌, List, ap, arith, codes, is_some, option_map, refl, sym, true}
+use Rattle.clap.specs.Words.{Row, Rule, Text, first_of}
 use Rattle.kalah_rules.specs.Limits.{most_depth}
-use Rattle.kalah_cli.proofs.{RequestLemmas.{byte_ranged, in_range, may_have_number, value_given}, arguments.request.requested.Goals.{in-count, in-moves, in-play, in-show}}
-use Rattle.kalah_cli.specs.{number_written}
+use Rattle.kalah_cli.specs.{AreMatches, number_written}
+use Rattle.kalah_cli.proofs.RequestLemmas.{Takes, byte_ranged, in_range, may_have_number, value_given}
+use Rattle.kalah_cli.proofs.arguments.request.requested.Goals.{in-count, in-moves, in-play, in-show}
 use Rattle.kalah_cli.proofs.arguments.request.requested.Goals as goal
 
 pub table_entries-requires : goal.table_entries-requires
@@ -24,12 +26,17 @@ pub unwrap-requires : goal.unwrap-requires
 unwrap-requires c = ap is_some c.byte_given-in-count.ensures
     ∙ ap (λ o. is_some (option_map number_written o)) ((value_given (codes "depth") (rw c.in-count.is at c.requires) refl refl).text refl)
 
+-- a LINE that is required is there
+line_is_there : {name : Text} {rows : List Row} {a : Rule} → AreMatches name rows → Takes name (codes "line") a → a.required ≡ true
+    → is_some (first_of (codes "line") rows) ≡ true
+line_is_there matches takes required = ap is_some (value_given (codes "line") matches takes required).first
+
 pub line_given-requires : goal.line_given-requires
 line_given-requires c = elim c.match-name.branch [
-  | in-moves w ↦ ap is_some (value_given (codes "line") (rw w.in-moves.is at c.requires) refl refl).first
-  | in-play w ↦ ap is_some (value_given (codes "line") (rw w.in-play.is at c.requires) refl refl).first
-  | in-show w ↦ ap is_some (value_given (codes "line") (rw w.in-show.is at c.requires) refl refl).first
-  | in-count w ↦ ap is_some (value_given (codes "line") (rw w.in-count.is at c.requires) refl refl).first
+  | in-moves w ↦ line_is_there (rw w.in-moves.is at c.requires) refl refl
+  | in-play w ↦ line_is_there (rw w.in-play.is at c.requires) refl refl
+  | in-show w ↦ line_is_there (rw w.in-show.is at c.requires) refl refl
+  | in-count w ↦ line_is_there (rw w.in-count.is at c.requires) refl refl
 ]
 
 pub returns-in-values-clause-asked : goal.returns-in-values-clause-asked

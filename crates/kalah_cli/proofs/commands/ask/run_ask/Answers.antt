@@ -1,4 +1,4 @@
--- All lines are answered, from what the reader had, or nothing is read.
+-- All lines are answered, from what the standard input had, or nothing is read.
 use Rattle.std.proofs.Common.{◌≡◌, ◌==◌, ◌∙◌, ℕ, List, [], Option, None, Some, ap, if◌then◌else◌, refl, sym}
 use Rattle.std.specs.{Io.Buffered.{reader_buffer, reader_capacity, reader_inner, reader_remaining}, declared.io.buffered.BufReader.{BufReader}}
 use Rattle.std.specs.Io.KnownBytes.{prepend_known}
@@ -19,15 +19,21 @@ all_unread {T} {A} remaining r inner same_reader empty capacity =
     none_before (Some xs) = refl
 
 pub returns-in_default : goal.returns-in_default
-returns-in_default g c = input_refused refl c.requires.not_failed
+returns-in_default g c =
+    record { unread = _; given = c.standard_input.ensures; answered = input_refused refl c.requires.not_failed }
 
 pub returns-in_default-new_solver : goal.returns-in_default-new_solver
-returns-in_default-new_solver g c = input_refused refl c.requires.not_failed
+returns-in_default-new_solver g c =
+    record { unread = _; given = c.standard_input.ensures; answered = input_refused refl c.requires.not_failed }
 
 pub returns : goal.returns
 returns g c =
     let made = c.in-Ok.ensures in
     let lines = c.answer_lines.ensures in
-    rw (all_unread g.I.Read.remaining c.in-Ok.reader c.args.input made.inner made.empty made.capacity)
-    (input_answered c.answer_lines.result lines.answered lines.cut_off lines.begins lines.failed lines.all_flushed
-    c.status_of_answers.ensures.clean c.status_of_answers.ensures.failed)
+    record {
+      unread = _;
+      given = c.standard_input.ensures;
+      answered = rw (all_unread g.R.Standard.Read.remaining c.in-Ok.reader c.standard_input.result made.inner made.empty made.capacity)
+          (input_answered c.answer_lines.result lines.answered lines.cut_off lines.begins lines.failed lines.all_flushed
+          c.status_of_answers.ensures.clean c.status_of_answers.ensures.failed);
+    }
