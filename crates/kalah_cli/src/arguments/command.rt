@@ -45,11 +45,7 @@ fn clap_subcommand<'a>(alloc: Global, subcommand: &Subcommand) -> Result<Command
         .after_help(help::SHORT_OF_SUBCOMMAND)
         .after_long_help(subcommand.long_help);
     for argument in subcommand.arguments {
-        // Without `?`, which is expensive to check on a large struct.
-        let Ok(more) = command.arg(clap_arg(alloc, argument)) else {
-            return Err(AllocError);
-        };
-        command = more;
+        command = command.arg(clap_arg(alloc, argument))?;
     }
     Ok(command)
 }
@@ -68,13 +64,7 @@ fn program_with<'a>(alloc: Global, subcommands: &[Subcommand]) -> Result<Command
         .subcommand_required(true)
         .disable_help_subcommand(true);
     for subcommand in subcommands {
-        let Ok(made) = clap_subcommand(alloc, subcommand) else {
-            return Err(AllocError);
-        };
-        let Ok(more) = command.subcommand(made) else {
-            return Err(AllocError);
-        };
-        command = more;
+        command = command.subcommand(clap_subcommand(alloc, subcommand)?)?;
     }
     Ok(command)
 }

@@ -11,7 +11,7 @@ use crate::arguments::command::command;
 use crate::arguments::subcommands::{DEFAULT_ENTRIES, DEFAULT_WORKERS};
 use clap::{ArgMatches, Error};
 use kalah_jobs::Question;
-use std::alloc::{AllocError, Global};
+use std::alloc::Global;
 use std::convert::AsStr;
 
 /// What the arguments ask the program to do. A search has a table of `table_entries` entries, 1 to 1,048,576.
@@ -145,10 +145,6 @@ fn files_request<'a>(
     ensures asked { IfOk result (λ r. task_of_files question (rows_in matches.now) ≡ Some (task_of r)) }
     ensures range { IfOk result IsInRange }
 {
-    let files = match matches.get_strs("file").unwrap().to_vec(alloc) {
-        Ok(files) => files,
-        Err(error) => return Err(Error::from(error)),
-    };
     Ok(Request::Files(FilesRequest {
         question,
         workers: worker_count(matches),
@@ -157,7 +153,7 @@ fn files_request<'a>(
             Question::Steps => 1,
         },
         progress: is_set(matches, "progress"),
-        files,
+        files: matches.get_strs("file").unwrap().to_vec(alloc)?,
     }))
 }
 
@@ -225,13 +221,7 @@ pub(crate) fn parse<'a, S: AsStr>(alloc: Global, arguments: &'a [S]) -> Result<R
     ensures range { IfOk result IsInRange }
     ensures kinds { FailsBy (fault_of kalah_app (map S.text arguments.entry.now)) result }
 {
-    let Ok(command) = command(alloc) else {
-        return Err(Error::from(AllocError));
-    };
-    let parsed = match command.try_get_matches_from(arguments) {
-        Ok(parsed) => parsed,
-        Err(error) => return Err(error),
-    };
+    let parsed = command(alloc)?.try_get_matches_from(arguments)?;
     let (name, matches) = parsed.subcommand().unwrap();
     requested(alloc, name, matches)
 }

@@ -24,10 +24,7 @@ fn new_solver(alloc: Global, table_entries: u32) -> Result<Solver, AllocError>
     requires { IsTableSize table_entries }
     ensures { IfOk result (HasEmptyTable table_entries) }
 {
-    match Table::new(alloc, table_entries) {
-        Ok(table) => Ok(Solver::new(table)),
-        Err(error) => Err(error),
-    }
+    Ok(Solver::new(Table::new(alloc, table_entries)?))
 }
 
 // Returns how the program ends after such an answer to all lines.

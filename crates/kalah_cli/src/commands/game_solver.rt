@@ -38,15 +38,12 @@ impl<O: Sink> GameSolver<O> {
         ensures table { IfOk result (λ s. HasEmptyTable table_entries s.solver) }
         ensures begun { IfOk result (λ s. begun s ≡ record { form = form; first = board.now; sink = out.now }) }
     {
-        match Table::new(alloc, table_entries) {
-            Ok(table) => Ok(GameSolver {
-                solver: Solver::new(table),
-                form,
-                first: Snapshot::of(board),
-                sink: Snapshot::of(out),
-            }),
-            Err(error) => Err(error),
-        }
+        Ok(GameSolver {
+            solver: Solver::new(Table::new(alloc, table_entries)?),
+            form,
+            first: Snapshot::of(board),
+            sink: Snapshot::of(out),
+        })
     }
 
     /// Finds the best move of a board, as `Solver::solve` does. All that leads to the board is written and flushed: how its game begins,

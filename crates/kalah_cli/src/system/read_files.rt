@@ -97,19 +97,16 @@ fn read_file<'a, R: Sources>(rt: &R, alloc: Global, name: &'a str) -> Result<Fil
     ensures within { IfOk result (λ file. length file.bytes ≤ most_file_bytes) }
     ensures failure { IfErr result (FailsToRead (name.entry ∷ [])) }
 {
-    let read = match rt.open(name) {
-        Ok(mut file) => read_limited(alloc, &mut file, name, MOST_FILE_BYTES),
-        Err(error) => Err(Failure::Unreadable {
+    let bytes = match rt.open(name) {
+        Ok(mut file) => read_limited(alloc, &mut file, name, MOST_FILE_BYTES)?,
+        Err(error) => return Err(Failure::Unreadable {
             name,
             fault: fault_of(&error),
         }),
     };
-    match read {
-        Ok(bytes) => match String::from_str(alloc, name) {
-            Ok(name) => Ok(FileText { name, bytes }),
-            Err(_) => Err(Failure::OUT_OF_MEMORY),
-        },
-        Err(failure) => Err(failure),
+    match String::from_str(alloc, name) {
+        Ok(name) => Ok(FileText { name, bytes }),
+        Err(_) => Err(Failure::OUT_OF_MEMORY),
     }
 }
 

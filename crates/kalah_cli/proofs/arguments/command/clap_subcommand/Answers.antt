@@ -4,7 +4,7 @@ use Rattle.kalah_cli.proofs.arguments.command.clap_subcommand.Goals as goal
 
 pub loop-argument-preserved : goal.loop-argument-preserved
 loop-argument-preserved c =
-    argument_added _ _ _ c.loop-argument-test.true c.clap_arg.ensures c.loop-argument.invariant c.in-Ok.ensures
+    argument_added _ _ _ c.loop-argument-test.true c.clap_arg.ensures c.loop-argument.invariant c.in_ok-command.ensures
 
 pub returns : goal.returns
 returns c = grind (arith, common_steps)

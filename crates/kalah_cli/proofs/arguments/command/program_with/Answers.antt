@@ -4,7 +4,7 @@ use Rattle.kalah_cli.proofs.arguments.command.program_with.Goals as goal
 
 pub loop-subcommand-preserved : goal.loop-subcommand-preserved
 loop-subcommand-preserved c =
-    subcommand_added _ _ _ c.loop-subcommand-test.true c.in-Ok.ensures c.loop-subcommand.invariant c.in-Ok-subcommand.ensures
+    subcommand_added _ _ _ c.loop-subcommand-test.true c.in_ok-clap_subcommand.ensures c.loop-subcommand.invariant c.in_ok-command.ensures
 
 pub returns : goal.returns
 returns c = c.loop-subcommand.invariant

@@ -20,7 +20,7 @@ unwrap-requires c =
 pub returns-clause-asked : goal.returns-clause-asked
 returns-clause-asked c =
     let files = values_are (found_of c.args.matches.now) (codes "file") c.get_strs.ensures c.unwrap.ensures
-    (c.in-Ok.ensures.items_if_clones_equal (λ x y h. h)) in
+    (c.in_ok-to_vec.ensures.items_if_clones_equal (λ x y h. h)) in
     let table : c.match-question.result ≡ table_entries_asked c.args.question (rows_in c.args.matches.now) =
     elim c.match-question.branch [
       | in-BestMove w ↦ elim w.in-BestMove.is [
@@ -34,10 +34,10 @@ returns-clause-asked c =
 pub returns-clause-range : goal.returns-clause-range
 returns-clause-range c =
     let names = values_are (found_of c.args.matches.now) (codes "file") c.get_strs.ensures c.unwrap.ensures
-    (c.in-Ok.ensures.items_if_clones_equal (λ x y h. h)) in
+    (c.in_ok-to_vec.ensures.items_if_clones_equal (λ x y h. h)) in
     let file = value_given (codes "file") c.requires (takes_files c.args.question).1 refl in
-    let same : map (λ f. f.now) c.in-Ok.files.items ≡ file.value ∷ file.more = ap (λ o. unwrap_or o []) (sym names ∙ file.all) in
-    let count : length (map (λ f. f.now) c.in-Ok.files.items) ≡ length c.in-Ok.files.items = simp length-map in
+    let same : map (λ f. f.now) c.in_ok-to_vec.field-0.items ≡ file.value ∷ file.more = ap (λ o. unwrap_or o []) (sym names ∙ file.all) in
+    let count : length (map (λ f. f.now) c.in_ok-to_vec.field-0.items) ≡ length c.in_ok-to_vec.field-0.items = simp length-map in
     let table : IsTableSize c.match-question.result = elim c.match-question.branch [
       | in-BestMove w ↦ rw w.result-is w.table_entries.ensures.range
       | in-Steps w ↦ rw w.result-is (omega arith, omega arith)
