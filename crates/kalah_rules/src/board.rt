@@ -4,7 +4,7 @@ ghost use Rattle.kalah_rules.specs.{Position.{side_length, seeds, is_over, final
 
 mod play;
 #[cfg(test)]
-mod tests;
+pub(crate) mod tests;
 
 use crate::houses::Houses;
 use crate::houses::house_row::HouseRow;

@@ -1,116 +1,147 @@
-//! Boards: moves, ends, margins and limits.
+//! Boards: moves, ends, margins and limits. The functions that are no tests are run by that of `tests::out_of_memory`.
 use crate::Rule::{self, Classic, EmptyCapture};
 use crate::{Board, Houses, Step};
+use End::{Again, Over, Turn};
 use std::process::Abort;
 
-// Returns a board of one or two houses a side. The last number of each side is its store.
-fn board(rt: &impl Abort, m: u8, own: [u8; 3], other: [u8; 3], rule: Rule) -> Board {
+// The seeds in two houses and in the store of each side, the mover's first.
+type Sides = [[u8; 3]; 2];
+
+// Returns a board of one or two houses a side.
+fn board(rt: &impl Abort, m: u8, rule: Rule, [own, other]: &Sides) -> Board {
     let own_row = [own[0], own[1], 0, 0, 0, 0];
     let other_row = [other[0], other[1], 0, 0, 0, 0];
     let board = Board::new(m, own_row, own[2], other_row, other[2], rule);
     board.expect(rt, "beyond the limits")
 }
 
-// The number of houses a side, the rule, both sides, a house, both sides after its move, and how that ends.
-type Move = (
-    u8,
-    Rule,
-    [u8; 3],
-    [u8; 3],
-    u8,
-    [u8; 3],
-    [u8; 3],
-    fn(Board) -> Step,
-);
+// How a move ends.
+#[derive(Clone, Copy)]
+enum End {
+    Again,
+    Turn,
+    Over,
+}
 
-// Positions of each kind of move.
+fn step_of(end: End, next: Board) -> Step {
+    match end {
+        Again => Step::Again(next),
+        Turn => Step::Turn(next),
+        Over => Step::Over(next),
+    }
+}
+
+// Positions of each kind of move: houses a side, rule and sides, a house, how its move ends, and the sides then.
 #[rattlefmt::skip]
-const MOVES: [Move; 7] = [
-    (2, Classic, [1, 1, 0], [1, 1, 0], 1, [1, 1, 0], [0, 2, 0], Step::Turn),
-    (2, Classic, [1, 1, 0], [1, 1, 0], 2, [1, 0, 1], [1, 1, 0], Step::Again),
+static MOVES: [(u8, Rule, Sides, u8, End, Sides); 9] = [
+    (2, Classic, [[1, 1, 0], [1, 1, 0]], 1, Turn, [[1, 1, 0], [0, 2, 0]]),
+    (2, Classic, [[1, 1, 0], [1, 1, 0]], 2, Again, [[1, 0, 1], [1, 1, 0]]),
+    (2, EmptyCapture, [[1, 1, 0], [1, 1, 0]], 1, Turn, [[1, 1, 0], [0, 2, 0]]),
+    (2, EmptyCapture, [[1, 1, 0], [1, 1, 0]], 2, Again, [[1, 0, 1], [1, 1, 0]]),
     // A lap ends in the lifted house and captures, by either rule.
-    (1, Classic, [3, 0, 0], [3, 0, 0], 1, [0, 0, 6], [0, 0, 0], Step::Over),
-    (1, EmptyCapture, [3, 0, 0], [3, 0, 0], 1, [0, 0, 6], [0, 0, 0], Step::Over),
+    (1, Classic, [[3, 0, 0], [3, 0, 0]], 1, Over, [[0, 0, 6], [0, 0, 0]]),
+    (1, EmptyCapture, [[3, 0, 0], [3, 0, 0]], 1, Over, [[0, 0, 6], [0, 0, 0]]),
     // Many laps.
-    (1, Classic, [8, 0, 0], [8, 0, 0], 1, [11, 0, 0], [2, 0, 3], Step::Turn),
+    (1, Classic, [[8, 0, 0], [8, 0, 0]], 1, Turn, [[11, 0, 0], [2, 0, 3]]),
     // An empty house across is captured by one rule alone.
-    (2, Classic, [1, 0, 0], [0, 2, 0], 1, [0, 2, 0], [0, 1, 0], Step::Turn),
-    (2, EmptyCapture, [1, 0, 0], [0, 2, 0], 1, [0, 0, 1], [0, 0, 2], Step::Over),
+    (2, Classic, [[1, 0, 0], [0, 2, 0]], 1, Turn, [[0, 2, 0], [0, 1, 0]]),
+    (2, EmptyCapture, [[1, 0, 0], [0, 2, 0]], 1, Over, [[0, 0, 1], [0, 0, 2]]),
 ];
 
-#[test]
-fn moves_lead_to_positions(rt: HostRuntime) {
-    for (m, rule, own, other, h, next_own, next_other, step) in MOVES {
-        let start = board(&rt, m, own, other, rule);
-        let next = board(&rt, m, next_own, next_other, rule);
-        assert!(rt; start.is_legal(h), "{start:?} {h}");
-        assert!(rt; start.apply(h) == step(next), "{start:?} {h}");
+/// Asserts what each of the moves leads to.
+pub(crate) fn moves_lead_to_positions(rt: &impl Abort) {
+    for (m, rule, sides, h, end, next) in &MOVES {
+        let start = board(rt, *m, *rule, sides);
+        let next = step_of(*end, board(rt, *m, *rule, next));
+        assert!(rt; start.is_legal(*h) && start.apply(*h) == next, "{start:?}");
+    }
+}
+
+// Returns whether these houses, in this order, and no others may be moved, and the game is over if there are none.
+fn has_moves(board: &Board, want: &[u8]) -> bool {
+    let moves = board.legal();
+    for h in 0..8 {
+        if board.is_legal(h) != want.contains(&h) {
+            return false;
+        }
+    }
+    for i in 0..moves.len() {
+        if want.get(usize::from(i)) != Some(&moves.get(i)) {
+            return false;
+        }
+    }
+    usize::from(moves.len()) == want.len() && board.is_over() == want.is_empty()
+}
+
+const ONES: [u8; 6] = [1, 1, 0, 0, 0, 0];
+
+// Houses a side, rule, and houses and store of each side; the houses that may be moved, and the final margin of a game that is over.
+#[rattlefmt::skip]
+static POSITIONS: [(u8, Rule, [u8; 6], u8, [u8; 6], u8, &[u8], Option<i32>); 7] = [
+    (2, Classic, ONES, 0, ONES, 0, &[1, 2], None),
+    (2, EmptyCapture, ONES, 0, ONES, 0, &[1, 2], None),
+    (2, EmptyCapture, [1, 2, 0, 0, 0, 0], 9, [3, 4, 0, 0, 0, 0], 5, &[1, 2], None),
+    (6, Classic, [1, 0, 2, 0, 0, 3], 0, [0, 0, 0, 0, 0, 1], 0, &[1, 3, 6], None),
+    (2, Classic, [0; 6], 3, [1, 2, 0, 0, 0, 0], 4, &[], Some(-4)),
+    (2, EmptyCapture, [0; 6], 3, [1, 2, 0, 0, 0, 0], 4, &[], Some(-4)),
+    (1, Classic, [31, 0, 0, 0, 0, 0], 99, [0; 6], 0, &[], Some(130)),
+];
+
+fn margin(board: &Board) -> Option<i32> {
+    if board.is_over() {
+        Some(board.returns())
+    } else {
+        None
+    }
+}
+
+/// Asserts houses, stores, moves and margin of each of the positions.
+pub(crate) fn positions_are_read(rt: &impl Abort) {
+    for (m, rule, own, own_store, other, other_store, moves, end) in &POSITIONS {
+        let board = Board::new(*m, *own, *own_store, *other, *other_store, *rule);
+        let board = board.expect(rt, "beyond the limits");
+        assert!(rt;
+            has_moves(&board, moves) && margin(&board) == *end,
+            "{board:?}"
+        );
+        assert!(rt;
+            (board.own_store(), board.other_store()) == (*own_store, *other_store),
+            "{board:?}"
+        );
+        let houses = Houses::new(*m, *own, *other, *rule);
+        assert!(rt; Some(board.houses()) == houses, "{board:?}");
     }
 }
 
 #[test]
 fn another_move_with_no_seeds_left_ends_the_game(rt: HostRuntime) {
-    let end = board(&rt, 1, [1, 0, 99], [1, 0, 99], Classic);
-    assert!(rt; end.is_legal(1));
-    match end.apply(1) {
-        Step::Over(swept) => {
-            assert!(rt; (swept.own_store(), swept.other_store()) == (100, 100));
-            assert!(rt; swept.is_over());
-            assert!(rt; swept.returns() == 0);
-        }
-        step => assert!(rt; false, "{step:?}"),
+    let start = board(&rt, 1, Classic, &[[1, 0, 99], [1, 0, 99]]);
+    assert!(rt; start.is_legal(1));
+    let step = start.apply(1);
+    let swept = step.board();
+    assert!(rt; step == Step::Over(*swept) && margin(swept) == Some(0));
+    assert!(rt; (swept.own_store(), swept.other_store()) == (100, 100));
+}
+
+const SECOND: [u8; 6] = [0, 1, 0, 0, 0, 0];
+
+// Houses a side, and houses and store of each side, beyond the limits.
+static BEYOND: [(u8, [u8; 6], u8, [u8; 6], u8); 8] = [
+    (0, [0; 6], 0, [0; 6], 0),
+    (7, [0; 6], 0, [0; 6], 0),
+    (1, SECOND, 0, [0; 6], 0),
+    (1, [0; 6], 0, SECOND, 0),
+    (6, [31, 1, 0, 0, 0, 0], 0, [0; 6], 0),
+    (1, [0; 6], 100, [0; 6], 0),
+    (1, [0; 6], 0, [0; 6], 100),
+    (2, [16; 6], 0, [16; 6], 0),
+];
+
+/// Asserts that there is no board beyond the limits.
+pub(crate) fn limits_are_kept(rt: &impl Abort, rule: Rule) {
+    assert!(rt; Board::new(1, [0; 6], 99, [0; 6], 99, rule).is_some());
+    for (m, own, own_store, other, other_store) in &BEYOND {
+        let board = Board::new(*m, *own, *own_store, *other, *other_store, rule);
+        assert!(rt; board.is_none(), "{board:?}");
     }
-}
-
-#[test]
-fn legal_houses_are_ascending(rt: HostRuntime) {
-    let own = [1, 0, 2, 0, 0, 3];
-    let other = [0, 0, 0, 0, 0, 1];
-    let board = Board::new(6, own, 0, other, 0, Classic).expect(&rt, "beyond the limits");
-    let moves = board.legal();
-    assert!(rt; moves.len() == 3);
-    assert!(rt; (moves.get(0), moves.get(1), moves.get(2)) == (1, 3, 6));
-    assert!(rt; !board.is_legal(2) && !board.is_legal(0) && !board.is_legal(7));
-}
-
-#[test]
-fn margins_count_houses_and_stores(rt: HostRuntime) {
-    for (m, own, other, margin) in [
-        (2, [0, 0, 3], [1, 2, 4], -4),
-        (1, [31, 0, 99], [0, 0, 0], 130),
-    ] {
-        let end = board(&rt, m, own, other, Classic);
-        assert!(rt; end.is_over(), "{end:?}");
-        assert!(rt; end.returns() == margin, "{end:?}");
-    }
-}
-
-#[test]
-fn limits_are_kept(rt: HostRuntime) {
-    let none = [0; 6];
-    let second = [0, 1, 0, 0, 0, 0];
-    for (m, own, own_store, other, other_store, is_kept) in [
-        (0, none, 0, none, 0, false),
-        (7, none, 0, none, 0, false),
-        (1, second, 0, none, 0, false),
-        (1, none, 0, second, 0, false),
-        (6, [31, 1, 0, 0, 0, 0], 0, none, 0, false),
-        (1, none, 100, none, 0, false),
-        (1, none, 0, none, 100, false),
-        (1, none, 99, none, 99, true),
-    ] {
-        let board = Board::new(m, own, own_store, other, other_store, Classic);
-        assert!(rt;
-            board.is_some() == is_kept,
-            "{m} {own:?} {own_store} {other:?} {other_store}"
-        );
-    }
-}
-
-#[test]
-fn houses_are_those_of_the_board(rt: HostRuntime) {
-    let rule = EmptyCapture;
-    let board = board(&rt, 2, [1, 2, 9], [3, 4, 5], rule);
-    let houses = Houses::new(2, [1, 2, 0, 0, 0, 0], [3, 4, 0, 0, 0, 0], rule);
-    assert!(rt; Some(board.houses()) == houses);
 }
