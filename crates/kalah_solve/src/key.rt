@@ -22,4 +22,4 @@ pub fn unpack(key: u64) -> Option<Houses>
 }
 
 #[cfg(test)]
-mod tests;
+pub(crate) mod tests;

@@ -1,19 +1,21 @@
-//! Keys, beside their layout.
+//! Keys, beside their layout. `tests::out_of_memory` runs `packs_as_the_layout_says`.
 use super::*;
 use kalah_rules::Rule;
+use std::process::Abort;
 
-#[test]
-fn packs_as_the_layout_says(rt: HostRuntime) {
+/// Asserts that some houses have these keys, and these keys those houses.
+pub(crate) fn packs_as_the_layout_says(rt: &impl Abort) {
     let ones = [1, 1, 0, 0, 0, 0];
-    let eights = [8, 0, 0, 0, 0, 0];
     for (m, row, rule, key) in [
         (2, ones, Rule::Classic, 0x2000_0008_4000_0021),
         (2, ones, Rule::EmptyCapture, 0xa000_0008_4000_0021),
-        (1, eights, Rule::Classic, 0x1000_0002_0000_0008),
+        (1, [8, 0, 0, 0, 0, 0], Rule::Classic, 0x1000_0002_0000_0008),
     ] {
-        let houses = Houses::new(m, row, row, rule).expect(&rt, "beyond the limits");
-        assert!(rt; pack(&houses) == key, "{houses:?}");
-        assert!(rt; unpack(key) == Some(houses), "{key}");
+        let houses = Houses::new(m, row, row, rule).expect(rt, "beyond the limits");
+        assert!(rt;
+            pack(&houses) == key && unpack(key) == Some(houses),
+            "{houses:?}"
+        );
     }
 }
 

@@ -1,6 +1,6 @@
 //! The number of nodes of the search: `rt test -- nodes` prints it.
 use super::*;
-use kalah_rules::Rule;
+use crate::tests::{houses_of, table_of};
 use std::alloc::Global;
 use std::io::Print;
 use std::process::Abort;
@@ -36,56 +36,37 @@ static SMALL: [Position; 8] = [
     (5, [1, 2, 0, 0, 2, 0], [2, 2, 2, 1, 0, 0], -2),
 ];
 
-// Searches the positions in order: each has its worth, and all take this number of nodes, within 5 %. Prints the nodes, and returns the
-// number of slots that are laid out then.
+// Searches the positions in order: each has its worth, all take this number of nodes, within 5 %, and then this number of slots is laid
+// out. Prints the nodes.
 fn search_all(
     rt: &(impl Abort + AllocGlobal + Print),
     positions: &[Position],
     expected: u64,
-) -> usize {
-    let table = Table::new(rt.alloc(), 65_536).expect(rt, "no memory for a table");
-    let mut search = Search::new(table);
+    slots: usize,
+) {
+    let mut search = Search::new(table_of(rt, 65_536));
     for (m, own, other, worth) in positions {
-        let houses = Houses::new(*m, *own, *other, Rule::Classic).expect(rt, "beyond the limits");
-        assert!(rt; !houses.is_over());
-        assert!(rt;
-            search.clamped_worth(&houses, Window::whole()) == *worth,
-            "{houses:?}"
-        );
+        let houses = houses_of(rt, *m, *own, *other);
+        let found = search.clamped_worth(&houses, Window::whole());
+        assert!(rt; found == *worth, "{houses:?}");
     }
     let nodes = search.nodes();
     println!(rt; "{nodes} nodes").expect(rt, "no output");
-    assert!(rt;
-        nodes.abs_diff(expected) < expected / 20,
-        "{nodes} nodes, not {expected}"
-    );
-    search.table.slots.len()
+    assert!(rt; nodes.abs_diff(expected) < expected / 20 && search.table.slots.len() == slots);
 }
 
 #[test]
-fn games_as_they_begin_take_few_nodes(rt: HostRuntime) {
-    search_all(&rt, &STARTS, 58_977);
-}
-
-#[test]
-fn hard_positions_take_few_nodes(rt: HostRuntime) {
-    assert!(rt; search_all(&rt, &HARD, 214_767) == 65_536);
-}
-
-#[test]
-fn small_positions_take_few_nodes(rt: HostRuntime) {
-    assert!(rt; search_all(&rt, &SMALL, 428) == 8_192);
+fn positions_take_few_nodes(rt: HostRuntime) {
+    search_all(&rt, &STARTS, 58_977, 65_536);
+    search_all(&rt, &HARD, 214_767, 65_536);
+    search_all(&rt, &SMALL, 428, 8_192);
 }
 
 // Houses with that many seeds get no slot, and neither search gives them an entry.
 #[test]
 fn answers_after_few_nodes_get_no_entry(rt: HostRuntime) {
-    let table = Table::new(rt.alloc(), 1).expect(&rt, "no memory for a table");
-    let mut search = Search::new(table);
-    let own = [16, 0, 0, 0, 0, 0];
-    let other = [15, 0, 0, 0, 0, 0];
-    let houses = Houses::new(1, own, other, Rule::Classic).expect(&rt, "beyond the limits");
-    assert!(rt; !houses.is_over());
+    let mut search = Search::new(table_of(&rt, 1));
+    let houses = houses_of(&rt, 1, [16, 0, 0, 0, 0, 0], [15, 0, 0, 0, 0, 0]);
     for _ in 0..2u8 {
         assert!(rt; search.clamped_worth(&houses, Window::whole()) == 7);
         assert!(rt; search.table.look_up(&houses).is_none());
@@ -94,11 +75,8 @@ fn answers_after_few_nodes_get_no_entry(rt: HostRuntime) {
 
 #[test]
 fn slots_are_laid_out_once(rt: HostRuntime) {
-    let table = Table::new(rt.alloc(), 65_536).expect(&rt, "no memory for a table");
-    let mut search = Search::new(table);
-    let (m, own, other, _) = SMALL[1];
-    let houses = Houses::new(m, own, other, Rule::Classic).expect(&rt, "beyond the limits");
-    assert!(rt; !houses.is_over());
+    let mut search = Search::new(table_of(&rt, 65_536));
+    let houses = houses_of(&rt, 6, SMALL[1].1, SMALL[1].2);
     search.table.grow();
     // The mover wins 10 of the 12 seeds.
     let _ = search.bound_by_search::<6>(&houses, 10);

@@ -1,8 +1,8 @@
 //! Verdicts and values of worked positions, and verdicts beside those of a plain recursion.
 use super::*;
 use crate::search::Search;
-use crate::table::MOST_ENTRIES;
-use crate::tests::plain;
+use crate::solver::move_values::{MoveValue, MoveValues};
+use crate::tests::{houses_of, plain, table_of};
 use kalah_rules::Rule::{self, Classic, EmptyCapture};
 use std::process::Abort;
 
@@ -17,18 +17,13 @@ pub(crate) fn solver_with(table: Table, keeps_all: bool) -> Solver {
     }
 }
 
-// A solver with a table of this capacity.
-fn solver_of(rt: &impl Abort, alloc: Global, capacity: u32, keeps_all: bool) -> Solver {
-    assert!(rt; 1 <= capacity && capacity <= MOST_ENTRIES);
-    let table = Table::new(alloc, capacity).expect(rt, "no memory for a table");
-    solver_with(table, keeps_all)
-}
+/// Up to three houses a side; the last number of each side is its store.
+pub(crate) type Position = (u8, [u8; 4], [u8; 4], Rule);
 
-// A board with up to three houses a side; the last number of each side is its store.
-fn board(rt: &impl Abort, m: u8, own: [u8; 4], other: [u8; 4], rule: Rule) -> Board {
+fn board_of(rt: &impl Abort, (m, own, other, rule): &Position) -> Board {
     let own_houses = [own[0], own[1], own[2], 0, 0, 0];
     let other_houses = [other[0], other[1], other[2], 0, 0, 0];
-    let board = Board::new(m, own_houses, own[3], other_houses, other[3], rule);
+    let board = Board::new(*m, own_houses, own[3], other_houses, other[3], *rule);
     board.expect(rt, "beyond the limits")
 }
 
@@ -41,73 +36,67 @@ fn verdict(margin: i32, house: u8) -> Verdict {
     }
 }
 
-// Houses a side, both sides, the rule, and the verdict.
-type Worked = (u8, [u8; 4], [u8; 4], Rule, i32, u8);
+/// A position, the margin of best play and its house, or 0 for a game that is over.
+pub(crate) type Worked = (Position, i32, u8);
 
-// The two that stand twice are solved again after positions with the same houses and another store or rule. The last ones take so much
-// work that an answer is kept, and differ in their rule or stores alone.
-const WORKED: [Worked; 28] = [
-    (1, [1, 0, 0, 0], [1, 0, 0, 0], Classic, 0, 1),
-    (1, [2, 0, 0, 0], [2, 0, 0, 0], Classic, -2, 1),
-    (1, [3, 0, 0, 0], [3, 0, 0, 0], Classic, 6, 1),
-    (1, [4, 0, 0, 0], [4, 0, 0, 0], Classic, -2, 1),
-    (1, [5, 0, 0, 0], [5, 0, 0, 0], Classic, 2, 1),
-    (1, [6, 0, 0, 0], [6, 0, 0, 0], Classic, 0, 1),
-    (2, [1, 1, 0, 0], [1, 1, 0, 0], Classic, 2, 2),
-    (2, [5, 0, 0, 0], [1, 0, 0, 0], Classic, 2, 1),
-    (2, [1, 1, 0, 0], [0, 1, 0, 0], Classic, 1, 1),
-    (2, [1, 0, 0, 0], [0, 2, 0, 0], Classic, 1, 1),
-    (2, [0, 0, 0, 3], [1, 2, 0, 4], Classic, -4, 0),
-    (1, [0, 0, 0, 0], [0, 0, 0, 0], Classic, 0, 0),
-    (1, [15, 0, 0, 99], [0, 0, 0, 0], Classic, 114, 0),
-    (1, [31, 0, 0, 99], [0, 0, 0, 0], Classic, 130, 0),
-    (1, [8, 0, 0, 0], [7, 0, 0, 0], Classic, -9, 1),
-    (1, [8, 0, 0, 0], [8, 0, 0, 0], Classic, 0, 1),
-    (1, [16, 0, 0, 0], [15, 0, 0, 0], Classic, 7, 1),
-    (2, [1, 1, 0, 9], [1, 1, 0, 4], Classic, 7, 2),
-    (2, [1, 1, 0, 0], [1, 1, 0, 0], Classic, 2, 2),
-    (2, [1, 0, 0, 0], [0, 2, 0, 0], EmptyCapture, -1, 1),
-    (2, [1, 0, 0, 0], [0, 2, 0, 0], Classic, 1, 1),
-    (2, [1, 1, 0, 0], [0, 1, 0, 0], EmptyCapture, 1, 1),
-    (1, [3, 0, 0, 0], [3, 0, 0, 0], EmptyCapture, 6, 1),
-    (1, [0, 0, 0, 0], [0, 0, 0, 0], EmptyCapture, 0, 0),
-    (3, [4, 1, 4, 0], [3, 3, 2, 0], Classic, 3, 1),
-    (3, [4, 1, 4, 0], [3, 3, 2, 0], EmptyCapture, 9, 1),
-    (3, [4, 1, 4, 9], [3, 3, 2, 4], Classic, 8, 1),
-    (3, [4, 1, 4, 9], [3, 3, 2, 4], EmptyCapture, 14, 1),
+/// Worked positions. The two that stand twice are solved again after positions with the same houses and another store or rule. The last
+/// ones take so much work that an answer is kept, and differ in their rule or stores alone.
+pub(crate) static WORKED: [Worked; 28] = [
+    ((1, [1, 0, 0, 0], [1, 0, 0, 0], Classic), 0, 1),
+    ((1, [2, 0, 0, 0], [2, 0, 0, 0], Classic), -2, 1),
+    ((1, [3, 0, 0, 0], [3, 0, 0, 0], Classic), 6, 1),
+    ((1, [4, 0, 0, 0], [4, 0, 0, 0], Classic), -2, 1),
+    ((1, [5, 0, 0, 0], [5, 0, 0, 0], Classic), 2, 1),
+    ((1, [6, 0, 0, 0], [6, 0, 0, 0], Classic), 0, 1),
+    ((2, [1, 1, 0, 0], [1, 1, 0, 0], Classic), 2, 2),
+    ((2, [5, 0, 0, 0], [1, 0, 0, 0], Classic), 2, 1),
+    ((2, [1, 1, 0, 0], [0, 1, 0, 0], Classic), 1, 1),
+    ((2, [1, 0, 0, 0], [0, 2, 0, 0], Classic), 1, 1),
+    ((2, [0, 0, 0, 3], [1, 2, 0, 4], Classic), -4, 0),
+    ((1, [0, 0, 0, 0], [0, 0, 0, 0], Classic), 0, 0),
+    ((1, [15, 0, 0, 99], [0, 0, 0, 0], Classic), 114, 0),
+    ((1, [31, 0, 0, 99], [0, 0, 0, 0], Classic), 130, 0),
+    ((1, [8, 0, 0, 0], [7, 0, 0, 0], Classic), -9, 1),
+    ((1, [8, 0, 0, 0], [8, 0, 0, 0], Classic), 0, 1),
+    ((1, [16, 0, 0, 0], [15, 0, 0, 0], Classic), 7, 1),
+    ((2, [1, 1, 0, 9], [1, 1, 0, 4], Classic), 7, 2),
+    ((2, [1, 1, 0, 0], [1, 1, 0, 0], Classic), 2, 2),
+    ((2, [1, 0, 0, 0], [0, 2, 0, 0], EmptyCapture), -1, 1),
+    ((2, [1, 0, 0, 0], [0, 2, 0, 0], Classic), 1, 1),
+    ((2, [1, 1, 0, 0], [0, 1, 0, 0], EmptyCapture), 1, 1),
+    ((1, [3, 0, 0, 0], [3, 0, 0, 0], EmptyCapture), 6, 1),
+    ((1, [0, 0, 0, 0], [0, 0, 0, 0], EmptyCapture), 0, 0),
+    ((3, [4, 1, 4, 0], [3, 3, 2, 0], Classic), 3, 1),
+    ((3, [4, 1, 4, 0], [3, 3, 2, 0], EmptyCapture), 9, 1),
+    ((3, [4, 1, 4, 9], [3, 3, 2, 4], Classic), 8, 1),
+    ((3, [4, 1, 4, 9], [3, 3, 2, 4], EmptyCapture), 14, 1),
 ];
 
-/// The verdicts, in order.
-pub(crate) fn solves_worked_positions(rt: &impl Abort, solver: &mut Solver) {
-    for (m, own, other, rule, margin, house) in WORKED {
-        let board = board(rt, m, own, other, rule);
-        assert!(rt; solver.solve(&board) == verdict(margin, house), "{board:?}");
-    }
+// Fails at this position unless the answer is right.
+fn assert_at(rt: &impl Abort, board: &Board, is_right: bool) {
+    assert!(rt; is_right, "{board:?}");
 }
 
-#[test]
-fn solves_worked_positions_with_each_table(rt: HostRuntime) {
-    for (capacity, keeps_all) in [
-        (1, false),
-        (4, false),
-        (65_536, false),
-        (1, true),
-        (65_536, true),
-    ] {
-        let mut solver = solver_of(&rt, rt.alloc(), capacity, keeps_all);
-        solves_worked_positions(&rt, &mut solver);
+/// The verdicts, in order.
+pub(crate) fn solves(rt: &impl Abort, solver: &mut Solver, positions: &[Worked]) {
+    for (position, margin, house) in positions {
+        let board = board_of(rt, position);
+        assert_at(rt, &board, solver.solve(&board) == verdict(*margin, *house));
     }
 }
 
 // Of long positions that differ in their stores alone only the first is solved.
 #[test]
 fn the_plain_recursion_solves_worked_positions(rt: HostRuntime) {
-    for (m, own, other, rule, margin, house) in WORKED {
-        if m == 3 && own[3] > 0 {
-            continue;
+    for (position, margin, house) in &WORKED {
+        let board = board_of(&rt, position);
+        if board.m() < 3 || board.own_store() == 0 {
+            assert_at(
+                &rt,
+                &board,
+                plain::solve(&board) == verdict(*margin, *house),
+            );
         }
-        let board = board(&rt, m, own, other, rule);
-        assert!(rt; plain::solve(&board) == verdict(margin, house), "{board:?}");
     }
 }
 
@@ -117,8 +106,8 @@ fn agrees_with_plain(rt: &impl Abort, solver: &mut Solver, rule: Rule) {
         for b in 0..5 - a {
             for c in 0..5 - a - b {
                 for d in 0..5 - a - b - c {
-                    let board = board(rt, 2, [a, b, 0, 0], [c, d, 0, 0], rule);
-                    assert!(rt; solver.solve(&board) == plain::solve(&board), "{board:?}");
+                    let board = board_of(rt, &(2, [a, b, 0, 0], [c, d, 0, 0], rule));
+                    assert_at(rt, &board, solver.solve(&board) == plain::solve(&board));
                 }
             }
         }
@@ -126,59 +115,70 @@ fn agrees_with_plain(rt: &impl Abort, solver: &mut Solver, rule: Rule) {
 }
 
 #[test]
-fn agrees_with_plain_with_each_table(rt: HostRuntime) {
-    for (capacity, keeps_all) in [(1, false), (65_536, false), (65_536, true)] {
-        let mut solver = solver_of(&rt, rt.alloc(), capacity, keeps_all);
-        agrees_with_plain(&rt, &mut solver, Classic);
-        agrees_with_plain(&rt, &mut solver, EmptyCapture);
+fn solves_with_each_table(rt: HostRuntime) {
+    for capacity in [1, 4, 65_536] {
+        for keeps_all in [false, true] {
+            solves(
+                &rt,
+                &mut solver_with(table_of(&rt, capacity), keeps_all),
+                &WORKED,
+            );
+            let mut solver = solver_with(table_of(&rt, capacity), keeps_all);
+            agrees_with_plain(&rt, &mut solver, Classic);
+            agrees_with_plain(&rt, &mut solver, EmptyCapture);
+        }
     }
+}
+
+// Whether the search in this window finds this answer, and the houses are then known to be worth `lo` to `hi`.
+fn leaves(
+    rt: &impl Abort,
+    search: &mut Search,
+    window: Window,
+    answer: i32,
+    lo: i8,
+    hi: i8,
+) -> bool {
+    let houses = houses_of(rt, 1, [3, 0, 0, 0, 0, 0], [3, 0, 0, 0, 0, 0]);
+    let found = search.clamped_worth(&houses, window);
+    let known = search.table.look_up(&houses).expect(rt, "no entry");
+    found == answer && known.lo == lo && known.hi == hi
 }
 
 #[test]
 fn windows_leave_intervals(rt: HostRuntime) {
-    let houses = board(&rt, 1, [3, 0, 0, 0], [3, 0, 0, 0], Classic).houses();
-    assert!(rt; !houses.is_over());
-    let search = &mut solver_of(&rt, rt.alloc(), 100, true).search;
-    for (window, answer, lo, hi) in [
-        (Window { lo: -2, hi: 2 }, 2, 2, 31),
-        (Window { lo: 7, hi: 9 }, 7, 2, 7),
-        (Window::whole(), 6, 6, 6),
-    ] {
-        assert!(rt;
-            search.clamped_worth(&houses, window) == answer,
-            "{lo} {hi}"
-        );
-        let known = search.table.look_up(&houses).expect(&rt, "no entry");
-        assert!(rt; known.lo == lo && known.hi == hi, "{lo} {hi}");
-    }
+    let search = &mut Search::with_all_entries(table_of(&rt, 100));
+    assert!(rt; leaves(&rt, search, Window { lo: -2, hi: 2 }, 2, 2, 31));
+    assert!(rt; leaves(&rt, search, Window { lo: 7, hi: 9 }, 7, 2, 7));
+    assert!(rt; leaves(&rt, search, Window::whole(), 6, 6, 6));
 }
 
 // Positions, and the values of their houses from the first on.
-const VALUES: [(u8, [u8; 4], [u8; 4], Rule, &[i16]); 6] = [
-    (2, [1, 1, 0, 0], [1, 1, 0, 0], Classic, &[-2, 2]),
-    (2, [1, 1, 0, 9], [1, 1, 0, 4], Classic, &[3, 7]),
-    (1, [2, 0, 0, 0], [2, 0, 0, 0], Classic, &[-2]),
-    (2, [0, 0, 0, 3], [1, 2, 0, 4], Classic, &[]),
-    (2, [1, 0, 0, 0], [0, 2, 0, 0], Classic, &[1]),
-    (2, [1, 0, 0, 0], [0, 2, 0, 0], EmptyCapture, &[-1]),
+static VALUES: [(Position, &[i16]); 6] = [
+    ((2, [1, 1, 0, 0], [1, 1, 0, 0], Classic), &[-2, 2]),
+    ((2, [1, 1, 0, 9], [1, 1, 0, 4], Classic), &[3, 7]),
+    ((1, [2, 0, 0, 0], [2, 0, 0, 0], Classic), &[-2]),
+    ((2, [0, 0, 0, 3], [1, 2, 0, 4], Classic), &[]),
+    ((2, [1, 0, 0, 0], [0, 2, 0, 0], Classic), &[1]),
+    ((2, [1, 0, 0, 0], [0, 2, 0, 0], EmptyCapture), &[-1]),
 ];
+
+// Whether these are the values of the houses from the first on.
+fn are_values(values: &MoveValues, want: &[i16]) -> bool {
+    for i in 0..values.len() {
+        let MoveValue { house, value } = values.get(i);
+        if house != i + 1 || want.get(usize::from(i)) != Some(&value) {
+            return false;
+        }
+    }
+    usize::from(values.len()) == want.len()
+}
 
 #[test]
 fn values_of_worked_positions_are_known(rt: HostRuntime) {
-    let mut solver = solver_of(&rt, rt.alloc(), 1, false);
-    for (m, own, other, rule, want) in VALUES {
-        let values = solver.values(&board(&rt, m, own, other, rule));
-        assert!(rt;
-            usize::from(values.len()) == want.len(),
-            "{own:?} {other:?} {rule:?}"
-        );
-        for i in 0..values.len() {
-            let move_value = values.get(i);
-            assert!(rt; move_value.house == i + 1, "{own:?} {other:?} {rule:?}");
-            assert!(rt;
-                Some(&move_value.value) == want.get(usize::from(i)),
-                "{own:?} {other:?} {rule:?}"
-            );
-        }
+    let mut solver = Solver::new(table_of(&rt, 1));
+    for (position, want) in &VALUES {
+        let board = board_of(&rt, position);
+        assert_at(&rt, &board, are_values(&solver.values(&board), want));
     }
 }

@@ -1,5 +1,6 @@
 //! Tables made beside each other share endings.
 use super::*;
+use crate::tests::table_of;
 use std::process::Abort;
 
 // A table beside this one.
@@ -10,7 +11,7 @@ fn beside(rt: &(impl Abort + AllocGlobal), table: &Table) -> Table {
 
 #[test]
 fn tables_beside_each_other_share_endings(rt: HostRuntime) {
-    let first = Table::new(rt.alloc(), 1).expect(&rt, "no memory");
+    let first = table_of(&rt, 1);
     let second = beside(&rt, &first);
     let third = beside(&rt, &second);
     for table in [&first, &second, &third] {

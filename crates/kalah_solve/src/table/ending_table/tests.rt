@@ -1,12 +1,10 @@
 //! An ending is known once it was asked for.
 use super::*;
-use kalah_rules::Rule;
+use crate::tests::houses_of;
 
 #[test]
 fn an_ending_is_known_once_it_was_asked_for(rt: HostRuntime) {
-    let threes = [3, 0, 0, 0, 0, 0];
-    let houses = Houses::new(1, threes, threes, Rule::Classic).expect(&rt, "beyond the limits");
-    assert!(rt; !houses.is_over());
+    let houses = houses_of(&rt, 1, [3, 0, 0, 0, 0, 0], [3, 0, 0, 0, 0, 0]);
     assert!(rt; houses.seeds() <= MOST_ENDING_SEEDS);
     let endings = EndingTable::new(rt.alloc()).expect(&rt, "no memory");
     let rank = endings.rank(&houses);
