@@ -5,7 +5,8 @@ use crate::{
     Answer, LineFault, Sink, Stream, Taken, answer_text, line_text, read_line, step_text,
     write_answer,
 };
-use std::alloc::Global;
+use std::alloc::{AllocError, Global};
+use std::process::Abort;
 use std::test::Fail;
 
 /// Makes a request that is refused only if none before it was.
@@ -16,73 +17,72 @@ pub(crate) fn mark(alloc: Global, place: &'static str) -> Result<(), Fail> {
     }
 }
 
+// The texts of the position and of its move of house 2 are these.
+fn assert_texts(rt: &(impl Abort + AllocGlobal), line: &str, want: &str) -> Result<(), AllocError> {
+    let board = read_line(line.as_bytes()).expect(rt, line);
+    let text = match line_text(rt.alloc(), &board) {
+        Ok(text) => text,
+        Err(_) => line_text(rt.alloc(), &board)?,
+    };
+    assert!(rt; text.as_str() == line && board.is_legal(2));
+    let step = board.apply(2);
+    let text = match step_text(rt.alloc(), 2, &step) {
+        Ok(text) => text,
+        Err(_) => step_text(rt.alloc(), 2, &step)?,
+    };
+    assert!(rt; text.as_str() == want);
+    Ok(())
+}
+
 #[test]
 fn texts_of_positions_and_moves(rt: HostRuntime) -> Result<(), Fail> {
-    let alloc = rt.alloc();
-    for (line, want) in [
-        ("1,1/0 1,1/0", "2 1,0/1 1,1/0 again"),
-        (
-            "1,2,3,4,5,0/10 0,0,0,0,0,9/88 e",
-            "2 0,0,0,0,0,9/88 1,0,4,5,5,0/10 e turn",
-        ),
-    ] {
-        let board = read_line(line.as_bytes()).expect(&rt, line);
-        let text = match line_text(alloc, &board) {
-            Ok(text) => text,
-            Err(_) => line_text(alloc, &board)?,
-        };
-        assert!(rt; text.as_str() == line);
-        assert!(rt; board.is_legal(2));
-        let step = board.apply(2);
-        let text = step_text(alloc, 2, &step).or_else(|_| step_text(alloc, 2, &step))?;
-        assert!(rt; text.as_str() == want);
-    }
-    mark(alloc, "after all")
+    assert_texts(&rt, "1,1/0 1,1/0", "2 1,0/1 1,1/0 again")?;
+    assert_texts(
+        &rt,
+        "1,2,3,4,5,0/10 0,0,0,0,0,9/88 e",
+        "2 0,0,0,0,0,9/88 1,0,4,5,5,0/10 e turn",
+    )?;
+    mark(rt.alloc(), "after all")
 }
 
 // Answers, and the ends of their lines.
-fn answers() -> [(Answer, &'static str); 3] {
-    let best = Answer::Best {
-        margin: -2,
-        house: 1,
-    };
-    let over = Answer::Over { margin: -130 };
-    let fault = Answer::Fault(LineFault::Houses);
-    [
-        (best, "-2 house 1"),
-        (over, "-130 over"),
-        (fault, "fault houses"),
-    ]
+#[rattlefmt::skip]
+const ANSWERS: [(Answer, &str); 3] = [
+    (Answer::Best { margin: -2, house: 1 }, "-2 house 1"),
+    (Answer::Over { margin: -130 }, "-130 over"),
+    (Answer::Fault(LineFault::Houses), "fault houses"),
+];
+
+// Returns the text of an answer, made at the second try if memory was refused.
+fn text_of(alloc: Global, answer: Answer) -> Result<String, AllocError> {
+    let taken = Taken { line: 1, answer };
+    match answer_text(alloc, "name of a file", &taken) {
+        Ok(text) => Ok(text),
+        Err(_) => answer_text(alloc, "name of a file", &taken),
+    }
 }
 
 #[test]
 fn texts_of_answers(rt: HostRuntime) -> Result<(), Fail> {
-    let alloc = rt.alloc();
-    for (answer, want) in answers() {
-        let taken = Taken { line: 1, answer };
-        let text = answer_text(alloc, "name of a file", &taken).or_else(|_| answer_text(
-            alloc,
-            "name of a file",
-            &taken,
-        ))?;
+    for (answer, want) in ANSWERS {
+        let text = text_of(rt.alloc(), answer)?;
         assert!(rt; text.as_str().strip_prefix("name of a file:2 ") == Some(want));
     }
-    mark(alloc, "after all")
+    mark(rt.alloc(), "after all")
 }
 
 // The writer has all its room.
 #[test]
 fn answers_are_written_without_memory(rt: HostRuntime) -> Result<(), Fail> {
-    let room = Vec::<u8>::with_capacity(rt.alloc(), 100).or_else(|_| Vec::with_capacity(
-        rt.alloc(),
-        100,
-    ))?;
+    let room = match Vec::<u8>::with_capacity(rt.alloc(), 100) {
+        Ok(room) => room,
+        Err(_) => Vec::with_capacity(rt.alloc(), 100)?,
+    };
     mark(rt.alloc(), "before the calls without memory")?;
     let mut out = Stream::new(room);
-    for (answer, _) in answers() {
-        let taken = Taken { line: 1, answer };
+    for (answer, _) in ANSWERS {
         assert!(rt; !out.failed());
-        write_answer(&mut out, "a", &taken).expect(&rt, "not written");
+        write_answer(&mut out, "a", &Taken { line: 1, answer }).expect(&rt, "not written");
     }
     let want = b"a:2 -2 house 1\na:2 -130 over\na:2 fault houses\n".as_slice();
     assert!(rt; out.into_inner().as_slice() == want);

@@ -38,7 +38,7 @@ impl Trial {
     ) {
         let outcome = Outcome::of(file, line, entry, &mut self.solver);
         let result = self.collector.offer(&self.jobs, outcome);
-        assert!(rt; result == answered, "{file}, {line} with {entry:?}");
+        assert!(rt; result == answered, "{file}, {line}");
     }
 
     // Offers a line with `seeds` seeds, and compares the answer.
@@ -46,29 +46,33 @@ impl Trial {
         self.assert_answers(rt, place, one_house(rt, seeds, Rule::Classic), answered);
     }
 
-    // Takes this line of the first file, with the margin of best play.
-    fn assert_takes(&mut self, rt: &impl Abort, line: u32, margin: i32) {
+    // Returns whether this line of the first file is taken next, with this margin of best play.
+    fn takes(&mut self, line: u32, margin: i32) -> bool {
         let answer = Answer::Best { margin, house: 1 };
-        assert!(rt;
-            self.collector.take(0) == Some(Taken { line, answer }),
-            "{line}"
-        );
+        self.collector.take(0) == Some(Taken { line, answer })
+    }
+
+    // Returns whether no line of the file can be taken.
+    fn takes_nothing(&mut self, file: u32) -> bool {
+        self.collector.take(file).is_none()
     }
 
     // Takes the three lines of the first file, each once, with the margins of best play, and nothing else.
     fn assert_takes_all(&mut self, rt: &impl Abort) {
         assert!(rt; !self.collector.all_taken());
-        self.assert_takes(rt, 0, 0);
-        self.assert_takes(rt, 1, -2);
-        self.assert_takes(rt, 2, 6);
-        for f in [0, 1, 9] {
-            assert!(rt; self.collector.take(f).is_none(), "of file {f}");
-        }
+        assert!(rt; self.takes(0, 0) && self.takes(1, -2) && self.takes(2, 6));
+        assert!(rt; self.takes_nothing(0) && self.takes_nothing(1) && self.takes_nothing(9));
         assert!(rt; self.collector.all_taken());
     }
 
-    // Makes each of the offers, after which all lines can be taken.
+    // The second file has ended. Makes each of the offers, after which all lines can be taken.
     fn assert_offers(&mut self, rt: &impl Abort) {
+        let ended = (
+            self.collector.ended(0),
+            self.collector.ended(1),
+            self.collector.ended(2),
+        );
+        assert!(rt; ended == (false, true, false));
         for (place, seeds, answered) in OFFERS {
             self.assert_offer(rt, *place, *seeds, *answered);
         }
@@ -135,9 +139,9 @@ fn lines_become_ready_in_order(rt: HostRuntime) {
 fn refuses_a_line_that_was_taken(rt: HostRuntime) {
     let mut trial = Trial::new(&rt);
     trial.assert_offer(&rt, (0, 0), 1, Ok(1));
-    trial.assert_takes(&rt, 0, 0);
+    assert!(rt; trial.takes(0, 0));
     trial.assert_offer(&rt, (0, 0), 1, Err(Double));
-    assert!(rt; trial.collector.take(0).is_none());
+    assert!(rt; trial.takes_nothing(0));
 }
 
 #[test]

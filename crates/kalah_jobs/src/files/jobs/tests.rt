@@ -38,7 +38,7 @@ fn a_million_empty_lines_are_jobs(rt: HostRuntime) {
         for n in 0..jobs.total() {
             assert!(rt;
                 jobs.get(n).entry == Entry::Bad(LineFault::Empty),
-                "{count} files, line {n}"
+                "line {n}"
             );
         }
     }

@@ -3,9 +3,9 @@ use crate::{LineFault, read_line};
 use kalah_rules::{Board, Rule};
 use std::process::Abort;
 
-// The line can't be read, for this fault.
-fn assert_fault(rt: &impl Abort, line: &[u8], fault: LineFault) {
-    assert!(rt; read_line(line).err() == Some(fault), "{line:?}");
+// What is read of the line is this.
+fn assert_read(rt: &impl Abort, line: &[u8], read: Result<Board, LineFault>) {
+    assert!(rt; read_line(line) == read, "{line:?}");
 }
 
 // Lines that can't be read, and why.
@@ -35,18 +35,18 @@ const FAULTS: &[(&[u8], LineFault)] = &[
 #[test]
 fn lines_that_are_not_read(rt: HostRuntime) {
     for (line, fault) in FAULTS {
-        assert_fault(&rt, line, *fault);
+        assert_read(&rt, line, Err(*fault));
     }
 }
 
 #[test]
 fn at_most_eighty_bytes(rt: HostRuntime) {
     let mut line = [b'x'; 82];
-    assert_fault(&rt, &line[..80], LineFault::Shape);
-    assert_fault(&rt, &line[..81], LineFault::Long);
+    assert_read(&rt, &line[..80], Err(LineFault::Shape));
+    assert_read(&rt, &line[..81], Err(LineFault::Long));
     line[80] = b'\r';
-    assert_fault(&rt, &line[..81], LineFault::Shape);
-    assert_fault(&rt, &line, LineFault::Long);
+    assert_read(&rt, &line[..81], Err(LineFault::Shape));
+    assert_read(&rt, &line, Err(LineFault::Long));
 }
 
 // Lines that are read as boards of one house a side: the seeds and the store of each side, and the rule.
@@ -66,7 +66,6 @@ fn lines_that_are_read(rt: HostRuntime) {
         let own_row = [own.0, 0, 0, 0, 0, 0];
         let other_row = [other.0, 0, 0, 0, 0, 0];
         let board = Board::new(1, own_row, own.1, other_row, other.1, *rule);
-        let board = board.expect(&rt, "within the limits");
-        assert!(rt; read_line(line) == Ok(board), "{line:?}");
+        assert_read(&rt, line, board.ok_or(LineFault::Shape));
     }
 }

@@ -15,7 +15,7 @@ struct Narrow {
 }
 
 impl Narrow {
-    fn new(rt: &HostRuntime, (fails_from, fails_to): (u32, u32), kind: ErrorKind) -> Narrow {
+    fn new(rt: &HostRuntime, fails_from: u32, fails_to: u32, kind: ErrorKind) -> Narrow {
         Narrow {
             bytes: Vec::new(rt.alloc()),
             calls: 0,
@@ -49,9 +49,8 @@ const LINE: &[u8] = b"1,1/0 1,1/0\n";
 #[test]
 fn an_interrupted_call_is_tried_again(rt: HostRuntime) {
     for (first, last) in [(1, 2), (3, 100_000), (12, 13)] {
-        let mut out = Stream::new(Narrow::new(&rt, (first, last), ErrorKind::Interrupted));
-        out.write_all(LINE).expect(&rt, "not taken");
-        assert!(rt; !out.failed());
+        let mut out = Stream::new(Narrow::new(&rt, first, last, ErrorKind::Interrupted));
+        assert!(rt; out.write_all(LINE).is_ok() && !out.failed());
         assert!(rt; out.into_inner().bytes.as_slice() == LINE);
     }
 }
@@ -60,22 +59,19 @@ fn an_interrupted_call_is_tried_again(rt: HostRuntime) {
 #[test]
 fn a_call_that_fails_is_the_last(rt: HostRuntime) {
     for kind in [ErrorKind::WriteZero, ErrorKind::BrokenPipe] {
-        for calls in 0..12u32 {
-            let mut out = Stream::new(Narrow::new(&rt, (calls + 1, u32::MAX), kind));
-            assert!(rt; out.write_all(LINE).is_err());
-            assert!(rt; out.failed());
+        for taken in 0..12u32 {
+            let mut out = Stream::new(Narrow::new(&rt, taken + 1, u32::MAX, kind));
+            assert!(rt; out.write_all(LINE).is_err() && out.failed());
             let writer = out.into_inner();
-            assert!(rt; writer.calls == calls + 1);
-            assert!(rt; writer.bytes.as_slice() == &LINE[..calls as usize]);
+            assert!(rt; writer.calls == taken + 1);
+            assert!(rt; writer.bytes.as_slice() == &LINE[..taken as usize]);
         }
     }
 }
 
 #[test]
 fn a_flush_that_fails_is_an_error(rt: HostRuntime) {
-    let mut out = Stream::new(Narrow::new(&rt, (2, 3), ErrorKind::StorageFull));
-    out.write_all(b"a").expect(&rt, "not taken");
-    assert!(rt; !out.failed());
-    assert!(rt; out.flush().is_err());
-    assert!(rt; out.failed());
+    let mut out = Stream::new(Narrow::new(&rt, 2, 3, ErrorKind::StorageFull));
+    assert!(rt; out.write_all(b"a").is_ok() && !out.failed());
+    assert!(rt; out.flush().is_err() && out.failed());
 }
