@@ -53,7 +53,7 @@ const ANSWERS: [(Answer, &str); 3] = [
     (Answer::Fault(LineFault::Houses), "fault houses"),
 ];
 
-// Returns the text of an answer, made at the second try if memory was refused.
+// The text is made at the second try if memory was refused.
 fn text_of(alloc: Global, answer: Answer) -> Result<String, AllocError> {
     let taken = Taken { line: 1, answer };
     match answer_text(alloc, "name of a file", &taken) {
@@ -71,6 +71,13 @@ fn texts_of_answers(rt: HostRuntime) -> Result<(), Fail> {
     mark(rt.alloc(), "after all")
 }
 
+fn write_answers(rt: &impl Abort, out: &mut Stream<Vec<u8>>) {
+    for (answer, _) in ANSWERS {
+        assert!(rt; !out.failed());
+        write_answer(out, "a", &Taken { line: 1, answer }).expect(rt, "not written");
+    }
+}
+
 // The writer has all its room.
 #[test]
 fn answers_are_written_without_memory(rt: HostRuntime) -> Result<(), Fail> {
@@ -80,10 +87,7 @@ fn answers_are_written_without_memory(rt: HostRuntime) -> Result<(), Fail> {
     };
     mark(rt.alloc(), "before the calls without memory")?;
     let mut out = Stream::new(room);
-    for (answer, _) in ANSWERS {
-        assert!(rt; !out.failed());
-        write_answer(&mut out, "a", &Taken { line: 1, answer }).expect(&rt, "not written");
-    }
+    write_answers(&rt, &mut out);
     let want = b"a:2 -2 house 1\na:2 -130 over\na:2 fault houses\n".as_slice();
     assert!(rt; out.into_inner().as_slice() == want);
     mark(rt.alloc(), "after all")

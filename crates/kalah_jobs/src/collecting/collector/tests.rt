@@ -5,7 +5,8 @@ mod out_of_memory;
 
 use crate::{Answer, Collector, Entry, FileText, Jobs, Outcome, Refusal, Taken};
 use Refusal::{Double, FileEnded, NoSuchFile, NoSuchLine, WrongPosition};
-use kalah_rules::{Board, Rule};
+use kalah_rules::Board;
+use kalah_rules::Rule::{self, Classic, EmptyCapture};
 use kalah_solve::Solver;
 use std::alloc::{AllocError, Global};
 use std::process::Abort;
@@ -28,22 +29,17 @@ impl Trial {
         out_of_memory::trial_of(rt).expect(rt, "no memory")
     }
 
-    // Offers a line with the entry `entry`, and compares the answer.
-    fn assert_answers(
+    // Offers a line with `seeds` seeds under a rule, and compares the answer.
+    fn assert_offer(
         &mut self,
         rt: &impl Abort,
         (file, line): (u32, u32),
-        entry: Entry,
+        (seeds, rule): (u8, Rule),
         answered: Answered,
     ) {
-        let outcome = Outcome::of(file, line, entry, &mut self.solver);
+        let outcome = Outcome::of(file, line, one_house(rt, seeds, rule), &mut self.solver);
         let result = self.collector.offer(&self.jobs, outcome);
         assert!(rt; result == answered, "{file}, {line}");
-    }
-
-    // Offers a line with `seeds` seeds, and compares the answer.
-    fn assert_offer(&mut self, rt: &impl Abort, place: (u32, u32), seeds: u8, answered: Answered) {
-        self.assert_answers(rt, place, one_house(rt, seeds, Rule::Classic), answered);
     }
 
     // Returns whether this line of the first file is taken next, with this margin of best play.
@@ -67,14 +63,11 @@ impl Trial {
 
     // The second file has ended. Makes each of the offers, after which all lines can be taken.
     fn assert_offers(&mut self, rt: &impl Abort) {
-        let ended = (
-            self.collector.ended(0),
-            self.collector.ended(1),
-            self.collector.ended(2),
+        assert!(rt;
+            !self.collector.ended(0) && self.collector.ended(1) && !self.collector.ended(2)
         );
-        assert!(rt; ended == (false, true, false));
-        for (place, seeds, answered) in OFFERS {
-            self.assert_offer(rt, *place, *seeds, *answered);
+        for (place, position, answered) in OFFERS {
+            self.assert_offer(rt, *place, *position, *answered);
         }
         self.assert_takes_all(rt);
     }
@@ -101,18 +94,19 @@ fn two_texts(alloc: Global) -> Result<Vec<FileText>, AllocError> {
     Ok(files)
 }
 
-// Offers of each kind: the file and the line, the seeds of the entry, and the answer.
-const OFFERS: &[((u32, u32), u8, Answered)] = &[
-    ((0, 2), 3, Ok(0)),
-    ((0, 0), 1, Ok(1)),
-    ((0, 0), 1, Err(Double)),
-    ((0, 0), 2, Err(WrongPosition)),
-    ((0, 3), 1, Err(NoSuchLine)),
-    ((2, 0), 1, Err(NoSuchFile)),
-    ((0, 1), 2, Ok(2)),
-    ((0, 1), 2, Err(FileEnded)),
-    ((0, 7), 1, Err(FileEnded)),
-    ((1, 0), 1, Err(FileEnded)),
+// Offers of each kind: the file and the line, the seeds of the entry and its rule, and the answer.
+const OFFERS: &[((u32, u32), (u8, Rule), Answered)] = &[
+    ((0, 0), (1, EmptyCapture), Err(WrongPosition)),
+    ((0, 2), (3, Classic), Ok(0)),
+    ((0, 0), (1, Classic), Ok(1)),
+    ((0, 0), (1, Classic), Err(Double)),
+    ((0, 0), (2, Classic), Err(WrongPosition)),
+    ((0, 3), (1, Classic), Err(NoSuchLine)),
+    ((2, 0), (1, Classic), Err(NoSuchFile)),
+    ((0, 1), (2, Classic), Ok(2)),
+    ((0, 1), (2, Classic), Err(FileEnded)),
+    ((0, 7), (1, Classic), Err(FileEnded)),
+    ((1, 0), (1, Classic), Err(FileEnded)),
 ];
 
 // The lines of the first file in each order, and how many become ready by each offer.
@@ -130,7 +124,7 @@ fn lines_become_ready_in_order(rt: HostRuntime) {
     for offers in ORDERS {
         let mut trial = Trial::new(&rt);
         for (line, ready) in offers {
-            trial.assert_offer(&rt, (0, u32::from(*line)), *line + 1, Ok(*ready));
+            trial.assert_offer(&rt, (0, u32::from(*line)), (*line + 1, Classic), Ok(*ready));
         }
     }
 }
@@ -138,16 +132,8 @@ fn lines_become_ready_in_order(rt: HostRuntime) {
 #[test]
 fn refuses_a_line_that_was_taken(rt: HostRuntime) {
     let mut trial = Trial::new(&rt);
-    trial.assert_offer(&rt, (0, 0), 1, Ok(1));
+    trial.assert_offer(&rt, (0, 0), (1, Classic), Ok(1));
     assert!(rt; trial.takes(0, 0));
-    trial.assert_offer(&rt, (0, 0), 1, Err(Double));
+    trial.assert_offer(&rt, (0, 0), (1, Classic), Err(Double));
     assert!(rt; trial.takes_nothing(0));
-}
-
-#[test]
-fn refuses_a_position_under_the_other_rule(rt: HostRuntime) {
-    let mut trial = Trial::new(&rt);
-    let other = one_house(&rt, 1, Rule::EmptyCapture);
-    trial.assert_answers(&rt, (0, 0), other, Err(WrongPosition));
-    trial.assert_offer(&rt, (0, 0), 1, Ok(1));
 }

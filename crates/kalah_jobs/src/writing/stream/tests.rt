@@ -46,12 +46,19 @@ impl Write for Narrow {
 
 const LINE: &[u8] = b"1,1/0 1,1/0\n";
 
+// Writes the line. Returns whether that failed, whether the stream says so, and the writer.
+fn written(narrow: Narrow) -> (bool, bool, Narrow) {
+    let mut out = Stream::new(narrow);
+    let is_err = out.write_all(LINE).is_err();
+    (is_err, out.failed(), out.into_inner())
+}
+
 #[test]
 fn an_interrupted_call_is_tried_again(rt: HostRuntime) {
     for (first, last) in [(1, 2), (3, 100_000), (12, 13)] {
-        let mut out = Stream::new(Narrow::new(&rt, first, last, ErrorKind::Interrupted));
-        assert!(rt; out.write_all(LINE).is_ok() && !out.failed());
-        assert!(rt; out.into_inner().bytes.as_slice() == LINE);
+        let narrow = Narrow::new(&rt, first, last, ErrorKind::Interrupted);
+        let (is_err, failed, writer) = written(narrow);
+        assert!(rt; !is_err && !failed && writer.bytes.as_slice() == LINE);
     }
 }
 
@@ -60,10 +67,8 @@ fn an_interrupted_call_is_tried_again(rt: HostRuntime) {
 fn a_call_that_fails_is_the_last(rt: HostRuntime) {
     for kind in [ErrorKind::WriteZero, ErrorKind::BrokenPipe] {
         for taken in 0..12u32 {
-            let mut out = Stream::new(Narrow::new(&rt, taken + 1, u32::MAX, kind));
-            assert!(rt; out.write_all(LINE).is_err() && out.failed());
-            let writer = out.into_inner();
-            assert!(rt; writer.calls == taken + 1);
+            let (is_err, failed, writer) = written(Narrow::new(&rt, taken + 1, u32::MAX, kind));
+            assert!(rt; is_err && failed && writer.calls == taken + 1);
             assert!(rt; writer.bytes.as_slice() == &LINE[..taken as usize]);
         }
     }

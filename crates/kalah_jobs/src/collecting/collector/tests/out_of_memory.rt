@@ -2,7 +2,7 @@
 use super::{Trial, one_house, two_texts};
 use crate::tests::out_of_memory::mark;
 use crate::{Collector, Job, Jobs, JobsFault};
-use kalah_rules::Rule;
+use kalah_rules::Rule::Classic;
 use kalah_solve::{Solver, Table};
 use std::process::Abort;
 use std::test::Fail;
@@ -44,7 +44,7 @@ fn assert_jobs(rt: &impl Abort, jobs: &Jobs) {
     assert!(rt; jobs.files() == 2 && jobs.total() == 3);
     for seeds in [1, 2, 3u8] {
         let (file, line) = (0, u32::from(seeds) - 1);
-        let entry = one_house(rt, seeds, Rule::Classic);
+        let entry = one_house(rt, seeds, Classic);
         assert!(rt; jobs.get(line) == Job { file, line, entry }, "{line}");
     }
 }
