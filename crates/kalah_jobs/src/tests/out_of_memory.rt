@@ -53,7 +53,6 @@ const ANSWERS: [(Answer, &str); 3] = [
     (Answer::Fault(LineFault::Houses), "fault houses"),
 ];
 
-// The text is made at the second try if memory was refused.
 fn text_of(alloc: Global, answer: Answer) -> Result<String, AllocError> {
     let taken = Taken { line: 1, answer };
     match answer_text(alloc, "name of a file", &taken) {

@@ -1,4 +1,4 @@
-//! Boards: moves, ends, margins and limits. The functions that are no tests are run by that of `tests::out_of_memory`.
+//! Boards: moves, ends, margins and limits. `tests::out_of_memory` runs what is no test here.
 use crate::Rule::{self, Classic, EmptyCapture};
 use crate::{Board, Houses, Step};
 use End::{Again, Over, Turn};

@@ -42,13 +42,13 @@ impl Trial {
         assert!(rt; result == answered, "{file}, {line}");
     }
 
-    // Returns whether this line of the first file is taken next, with this margin of best play.
+    // Whether this line of the first file is taken next, with this margin of best play.
     fn takes(&mut self, line: u32, margin: i32) -> bool {
         let answer = Answer::Best { margin, house: 1 };
         self.collector.take(0) == Some(Taken { line, answer })
     }
 
-    // Returns whether no line of the file can be taken.
+    // Whether no line of the file can be taken.
     fn takes_nothing(&mut self, file: u32) -> bool {
         self.collector.take(file).is_none()
     }

@@ -46,7 +46,7 @@ impl Write for Narrow {
 
 const LINE: &[u8] = b"1,1/0 1,1/0\n";
 
-// Writes the line. Returns whether that failed, whether the stream says so, and the writer.
+// Writes the line. Returns whether that failed, what the stream says, and the writer.
 fn written(narrow: Narrow) -> (bool, bool, Narrow) {
     let mut out = Stream::new(narrow);
     let is_err = out.write_all(LINE).is_err();

@@ -7,7 +7,6 @@ use kalah_solve::{Solver, Table};
 use std::process::Abort;
 use std::test::Fail;
 
-// The jobs of two files, made at the second try if memory was refused.
 fn jobs_of(rt: &(impl Abort + AllocGlobal)) -> Result<Jobs, JobsFault> {
     let files = match two_texts(rt.alloc()) {
         Ok(files) => files,
