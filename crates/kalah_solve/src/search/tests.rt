@@ -52,7 +52,11 @@ fn search_all(
     }
     let nodes = search.nodes();
     println!(rt; "{nodes} nodes").expect(rt, "no output");
-    assert!(rt; nodes.abs_diff(expected) < expected / 20 && search.table.slots.len() == slots);
+    assert!(rt;
+        nodes.abs_diff(expected) < expected / 20,
+        "{nodes} nodes, not {expected}"
+    );
+    assert!(rt; search.table.slots.len() == slots);
 }
 
 #[test]
