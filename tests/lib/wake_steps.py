@@ -30,7 +30,7 @@ STEPS = {
 }
 # The words by which a step could be left out or come too often.
 CONTROL = re.compile(
-    r"\b(?:if|else|match|for|while|loop|break|continue|return|true|false|queue|get_\w+|to_come|abandon_if_failed|awaits_more|next_outcome|draw_rest|draw|join)\b"
+    r"\b(?:if|else|match|for|while|loop|break|continue|return|true|false|queue|get_\w+|to_come|prepare_next|draw_rest|draw|join)\b"
     r"|\?;|&&|(?<!move) \|\|"
 )
 GAP, MARK = rf"(?:(?= )(?:(?!{CONTROL.pattern}).)*?)?", re.compile(r"\[(\w+)(?:@(\w+))?\]")

@@ -12,7 +12,7 @@ use Rattle.clap.specs.declared.builder.value_parser.Reading.TheVariants.{AsWritt
 use Rattle.kalah_cli.proofs.ClapWalkLemmas.{Fits, FitsIn, IsUsable, both_none, found_all, found_passes, kept_defaults, kept_settled}
 use Rattle.kalah_cli.proofs.ClapWalkLemmas.{kept_walk, none_pass}
 
--- ---- rows that satisfy arguments
+-- ==== rows that satisfy arguments
 
 -- the row fits the argument, or there is none and the argument isn't required
 abbrev pub Satisfies : Rule → Option Row → Type 0
@@ -50,7 +50,7 @@ level_satisfies s words usable no_fault id a found =
     go None fit named lacks = grind arith
     go (Some r) fit named lacks = rw (ap (arg_by_id s.rules) ((bytes_eq-Decides r.id id).0 named) ∙ found) at fit
 
--- ---- values
+-- ==== values
 
 -- the first value of an argument, and all of them
 pub record Given (a : Rule) (o : Option Row) : Type 0 where
@@ -77,7 +77,7 @@ pub text_is_accepted : (a : Rule) (o : Option Row) → Satisfies a o → reading
 text_is_accepted a None optional as_written = tt
 text_is_accepted a (Some r) fit as_written = rw (fit.values, fit.reading, as_written) fit.accepted
 
--- ---- the subcommand
+-- ==== the subcommand
 
 -- the subcommand is found by its name, and its arguments are usable
 abbrev pub IsUsableIn : List Shape → Shape → Type 0

@@ -19,7 +19,7 @@ use Rattle.clap.specs.declared.builder.action.ArgAction.{ArgAction, TheVariants.
 use Rattle.clap.specs.declared.parser.matches.ValueSource.{ValueSource, TheVariants.{CommandLine, DefaultValue}}
 use Rattle.clap.proofs.ValueTestLemmas.{accepts-Accepts}
 
--- ---- items of lists, and kinds of faults
+-- ==== items of lists, and kinds of faults
 
 -- what holds of each item holds of one that is found
 pub found_all : {X : Type 0} (Q : X → Type 0) (t : X → Bool) (xs : List X) → AllOf Q xs → IfSome (find t xs) Q
@@ -42,7 +42,7 @@ pub both_none : {a b : Kinds} → or_else a b ≡ [] → (a ≡ []) × (b ≡ []
 both_none {a = []} none = (refl, none)
 both_none {a = k ∷ ks} none = cc
 
--- ---- the row of an argument
+-- ==== the row of an argument
 
 -- it has a value, the argument's parser accepts the first one, and it is read as the parser says
 pub record Fits (a : Rule) (r : Row) : Type 0 where
@@ -86,7 +86,7 @@ use_has_value : (a : Rule) (values : List Text) → has_value a ≡ true
 use_has_value a [] valued in_range = grind arith
 use_has_value a (v ∷ vs) valued in_range = omega arith
 
--- ---- the walk over the arguments of a command without subcommands
+-- ==== the walk over the arguments of a command without subcommands
 
 module _ (s : Shape) (all_usable : AllOf (IsUsable s.rules) s.rules) where
   -- its arguments, and whether one may be given again

@@ -15,7 +15,7 @@ use Rattle.std.specs.{List.{list_any}, Io.KnownBytes.{Consumes, IsAtEnd}}
 use Rattle.kalah_run.specs.{Batch.Answering.{AnswersAll, AnswersBatch}, declared.batch.run_fault.RunFault.{RunFault}}
 use Rattle.kalah_run.specs.declared.batch.run_fault.RunFault.TheVariants as fault
 
--- ---- how any run ends
+-- ==== how any run ends
 
 -- no two statuses are the same
 pub statuses_differ : (Clean ≢ Failed) × (LineFaults ≢ Failed) × (LineFaults ≢ Clean)
@@ -40,7 +40,7 @@ module _ {O : Type 0} {state : O → SinkState} {status : ExitStatus} where
   prints_nothing {out} {text} failed =
       record { start = prefix_none (state out).written text; whole = λ not_failed. absurd (not_failed failed) }
 
-  -- ---- a run that answers a line
+  -- ==== a run that answers a line
 
   module _ (command : LineCommand) {line : List ℕ} where
     module _ (p : Position) (reads : Reads line p) where
@@ -94,7 +94,7 @@ module _ {O : Type 0} {state : O → SinkState} {status : ExitStatus} where
       λ p reads. absurd (unread p reads),
     )
 
--- ---- what is read and answered of files
+-- ==== what is read and answered of files
 
 -- bytes that are all that a reader had left
 pub read_whole : (may_give : List ℕ → Type 0) (old new : Option (List ℕ)) (bytes : List ℕ) → MayBeLeft may_give old
@@ -171,7 +171,7 @@ module _ {O : Type 0} {state : O → SinkState} {status : ExitStatus} {may_give 
         let unchanged : new ≡ old = cc in
         rw unchanged (files_refused failed sound)
 
--- ---- what `ask` has answered
+-- ==== what `ask` has answered
 
 -- nothing was read
 pub stops_at_once : (question : Question) (old : Option (List ℕ)) → StopsBetweenLines question old old

@@ -31,7 +31,7 @@ equal_after p h = go (is_over (after p h)) (moves_again p h)
     go false true = after_equal_sides p h
     go false false = swapped_equal_sides (after_equal_sides p h)
 
--- ---- a move more in front
+-- ==== a move more in front
 
 -- a move that ends the game leaves none
 none_after : (p : Position) (h : ℕ) (e : Position) → step.Over e ≡ step_of p h → moves_left e ≡ 0
@@ -48,7 +48,7 @@ fewer_left {p} {h} (step.Again q) equal legal step_is = again_fewer p h q equal 
 fewer_left {p} {h} (step.Turn q) equal legal step_is = turn_fewer p h q equal legal step_is
 fewer_left {p} {h} (step.Over q) equal legal step_is = omega (arith, none_after p h q step_is, some_left p (legal_going p h legal))
 
--- ---- the moves of the game
+-- ==== the moves of the game
 
 -- a game that is over has none
 no_best_moves : (n : ℕ) (p : Position) → is_over p ≡ true → best_moves n p ≡ []
@@ -131,7 +131,7 @@ next_of_verdict form first p {margin} {house} may_begin small states verdict =
     legal None may_begin = states.best.legal
     legal (Some h) may_begin = may_begin
 
--- ---- the law on it
+-- ==== the law on it
 
 -- the game after a move is that from the position which the move leaves: if the game is over, neither has a move
 rest_of : (p : Position) (h : ℕ) {again : Bool} → moves_again p h ≡ again
@@ -175,7 +175,7 @@ plays_best_games p equal =
       omega (ints, arith, bounded.low best_plays, bounded.high best_plays),
     )
 
--- ---- the law on variations
+-- ==== the law on variations
 
 -- a game of the best houses is one by the rules
 by_rules : {p : Position} {houses : List ℕ} {final : Position} → HasEqualSides p → best_game p ≡ houses → IsPlayedBest p (best_game p) final

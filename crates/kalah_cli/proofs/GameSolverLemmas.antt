@@ -62,7 +62,7 @@ module _ {O : Type 0} {state : O → SinkState} where
     after = begun.after;
   }
 
-  -- ---- a position that was reached
+  -- ==== a position that was reached
 
   module _ {game : GameStart O} {p : Position} {between new : O} (reached : IsReached state game between p) where
     -- it is still reached after a flush

@@ -17,7 +17,7 @@ use Rattle.kalah_rules.specs.Position.{Position}
 use Rattle.kalah_jobs.specs.Line.{Line.{Reads, without_cr}, Reading.{side_at, position_of_text}}
 use Rattle.kalah_jobs.proofs.LineLemmas.{empty_is_no_line, line_is_read}
 
--- ---- what the matches of each subcommand have of its arguments
+-- ==== what the matches of each subcommand have of its arguments
 
 -- the subcommands, as they are built
 abbrev subs : List Shape
@@ -75,7 +75,7 @@ takes_table BestMove searches = refl
 takes_table Values searches = refl
 takes_table Steps searches = elim searches [ inl best ↦ cc | inr values ↦ cc ]
 
--- ---- what the getters of matches return, by the rows of the matches
+-- ==== what the getters of matches return, by the rows of the matches
 
 -- an option has no value, or this one
 cases_Option : {X : Type 0} (o : Option X) → (o ≡ None) ⊎ ((x : X) × (o ≡ Some x))
@@ -141,7 +141,7 @@ flag_read E f id {r} absent value = elim (cases_Option (one_of id (rows_of f))) 
     go (Some false) t read = rw read refl
     go None t read = sym (false_from_ne_true _ (λ equal. read.1.0 ((bytes_eq-Decides t (codes "true")).0 equal)))
 
--- ---- how the command line reads arguments, as laws over the definitions
+-- ==== how the command line reads arguments, as laws over the definitions
 
 -- equal arguments ask for the same
 pub accepted_at : {arguments given : List Text} {a : Task} → arguments ≡ given → IsAcceptedAs given a → IsAcceptedAs arguments a
@@ -160,7 +160,7 @@ moves_accepted name (x ∷ xs) plain =
     let no_flag = ne_eqb _ _ plain in
     (simp no_flag (refl {a = []}), simp no_flag (refl {a = Some (about_line (Moves false) (x ∷ xs))}))
 
--- ---- what a parse of the program's arguments makes of them
+-- ==== what a parse of the program's arguments makes of them
 
 -- the parse of the program is exact
 app_is_simple : is_simple_and_free kalah_app ≡ true
@@ -193,7 +193,7 @@ pub faulty : (a : App) (arguments : List Text) (e : Error) → a ≡ kalah_app
 faulty a arguments e same has_kind =
     subst (λ b. HasKind (fault_of b arguments) e) same (has_kind (ap is_simple_and_free same ∙ app_is_simple))
 
--- ---- lines
+-- ==== lines
 
 -- a line that is read is no flag, as no number begins with a dash
 pub read_is_no_flag : (line : List ℕ) (p : Position) → Reads line p → IsNoFlag line

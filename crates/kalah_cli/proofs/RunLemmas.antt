@@ -5,7 +5,7 @@ use Rattle.kalah_cli.specs.{FailsOrFlushes, FailsWithoutOutput, ExitStatus, Fail
 use Rattle.clap.specs.{Words.{HasKind, IsAmong, Text, fault_of, kind_of}, declared.error.{Error.{Error}, kind.ErrorKind.{ErrorKind, TheVariants.{DisplayHelp, DisplayVersion, OutOfMemory}}}}
 use Rattle.kalah_cli.proofs.{RequestLemmas.{moves_accepted, accepted_at, accepted_once, read_is_no_flag}, EndsLemmas.{ends_unchanged, stops_at_once}}
 
--- ---- what arguments are accepted as, and what is done for them
+-- ==== what arguments are accepted as, and what is done for them
 
 module _ {O : Type 0} (state : O → SinkState) {old new : O} {status : ExitStatus} (may_give : Source → List ℕ → Type 0)
     (sound : (state old).has_failed ≡ false) where
@@ -37,7 +37,7 @@ kind_not_asked_for k arguments e other has_kind unasked = λ asked.
       | inr among ↦ unasked (rw asked at among)
     ]
 
--- ---- what a run promises of its arguments
+-- ==== what a run promises of its arguments
 
 module _ {O : Type 0} {state : O → SinkState} {arguments : List Text} {may_give : Source → List ℕ → Type 0} {old new : O}
     {status : ExitStatus} where

@@ -35,20 +35,18 @@ fn arguments_of(rt: &HostRuntime) -> Result<Vec<String>, Failure<'static>> {
 fn main(rt: HostRuntime) -> ExitCode {
     let mut err = rt.stderr();
     let ended = match arguments_of(&rt) {
-        Ok(arguments) => if arguments.is_empty() {
-            // There is not even the program's name: it ends without a message.
-            Ok(ExitStatus::Failed)
-        } else {
-            match BufWriter::new(rt.alloc(), Fused::new(io::writer(&rt))) {
-                Ok(out) => {
-                    let mut out = PromptStream::new(out);
-                    Ok(run_words(&rt, rt.alloc(), arguments, &mut out, &mut err))
-                }
-                Err(_) => Err(Failure::OUT_OF_MEMORY),
+        // There is not even the program's name: it ends without a message.
+        Ok(arguments) if arguments.is_empty() => Ok(ExitStatus::Failed),
+        Ok(arguments) => match BufWriter::new(rt.alloc(), Fused::new(io::writer(&rt))) {
+            Ok(out) => {
+                let mut out = PromptStream::new(out);
+                Ok(run_words(&rt, rt.alloc(), arguments, &mut out, &mut err))
             }
+            Err(_) => Err(Failure::OUT_OF_MEMORY),
         },
         Err(failure) => Err(failure),
     };
+    // These failures have no tip.
     let on_terminal = false;
     ExitCode::from(report_end(ended, &mut Messages { err, on_terminal }).code())
 }

@@ -13,7 +13,7 @@ use Rattle.kalah_jobs.specs.{IsPermutationOfJobs, AcceptsEachJob, MakesEveryLine
 use Rattle.kalah_jobs.specs.{IsAfterEvents, KeepsItsLaw, front_of, ArrivalsState, no_file, state_of, line_count, arrived_for, HasLinesOf, with_answer, with_one_taken, after_offer}
 use Rattle.kalah_jobs.specs.{after_take, new_files, front, IsNext, HasEnded, IsOffered, HoldsOffered, AgreeWithOffers, IsWanted, IsRefusedFor, AnswersInOneWay, JobsState, entries_of}
 use Rattle.kalah_jobs.specs.{entry_at, line_job, no_job, Answer, OutcomeState, Entry, Refusal, Taken, answer_of, Offered, Took}
-use Rattle.kalah_jobs.proofs.{CountingLemmas.{same_job, same_entry_itself, times_offered, contains_from_times, times_from_contains, hits, hit, times_in_jobs}, ListLemmas.{count_by-cons, some_value}}
+use Rattle.kalah_jobs.proofs.{CountingLemmas.{same_job, same_entry_itself, times_offered, contains_from_times, times_from_contains, hits, hits_once, times_in_jobs}, ListLemmas.{count_by-cons, some_value}}
 
 -- ==== How many of the first lines of a file have come without a gap
 
@@ -377,7 +377,7 @@ module _ {jobs : JobsState} {past : List OutcomeState} {files : List ArrivalsSta
         each_once.same_counts (same_job o),
         times_in_jobs o jobs,
       ) in
-      let is_hit = hit o.entry (entry_at jobs o.file o.line) (omega arith) in
+      let is_hit = hits_once o.entry (entry_at jobs o.file o.line) (omega arith) in
       let arrived = refused_had_arrived holds o.file o.line o.entry r is_hit.0 refused in
       let answer = some_value (arrived_for (state_of files o.file) o.line) arrived in
       let offer = holds.only o.file o.line answer.0 answer.1 in

@@ -49,15 +49,15 @@ by_class {T} class_of p (t ∷ ts) counts below each_class =
     )
 
 -- of the pairs of a worker, what it sent
-class_of_worker : {X : Type 0} (p : X → Bool) (w : ℕ) (got : List (ℕ × X))
+counted_by_worker : {X : Type 0} (p : X → Bool) (w : ℕ) (got : List (ℕ × X))
     → in_class (λ t. t.0) (λ t. p t.1) w got ≡ count_by p (sent_by_worker w got)
-class_of_worker p w [] = refl
-class_of_worker p w (t ∷ ts) = grind (arith, class_of_worker p w ts, count_by-cons p t.1 (sent_by_worker w ts))
+counted_by_worker p w [] = refl
+counted_by_worker p w (t ∷ ts) = grind (arith, counted_by_worker p w ts, count_by-cons p t.1 (sent_by_worker w ts))
 
 -- of numbers, each as often as it stands there
-class_of_number : (q : ℕ → Bool) (x : ℕ) (xs : List ℕ) → in_class (λ y. y) q x xs ≡ (if q x then count_by (λ y. y == x) xs else 0)
-class_of_number q x [] = grind arith
-class_of_number q x (y ∷ ys) = grind (arith, class_of_number q x ys, count_by-cons (λ z. z == x) y ys, nat_tests)
+counted_by_number : (q : ℕ → Bool) (x : ℕ) (xs : List ℕ) → in_class (λ y. y) q x xs ≡ (if q x then count_by (λ y. y == x) xs else 0)
+counted_by_number q x [] = grind arith
+counted_by_number q x (y ∷ ys) = grind (arith, counted_by_number q x ys, count_by-cons (λ z. z == x) y ys, nat_tests)
 
 -- in rows that have each number below n once, as many numbers pass a test as among all numbers below n
 rows_count : (n : ℕ) (rows : List (List ℕ)) (q : ℕ → Bool) → ((x : ℕ) → times_in x rows ≡ (if nat_lt x n then 1 else 0))
@@ -75,7 +75,7 @@ rows_count n rows q once =
     let low : z < n = grind (arith, times_in_flat z, nat_tests) in
     omega arith in
     let own : (x : ℕ) → x < length counts → in_class (λ y. y) q x flat ≡ get_or counts x 0 = λ x low.
-    class_of_number q x flat ∙ ap (λ c. if q x then c else 0) (times_in_flat x ∙ rw (lt-ltb x n (omega arith)) refl)
+    counted_by_number q x flat ∙ ap (λ c. if q x then c else 0) (times_in_flat x ∙ rw (lt-ltb x n (omega arith)) refl)
     ∙ sym (get_or-map-range_with_len passes 0 n x x 0 (omega arith) (omega arith)) in
     sym (count_flat q rows) ∙ by_class (λ y. y) q flat counts below own ∙ sum-map passes (range_with_len 0 n)
 
@@ -90,7 +90,7 @@ got_all_once {X} p {n} {f} {rows} {got} shared =
     ∙ by_class (λ t. t.0) (λ t. p t.1) got counts (rw many shared.workers)
     (λ w low.
     let within : w < length rows = omega arith in
-    class_of_worker p w got ∙ ap (count_by p) (shared.whole w within) ∙ count_map p f (slice_index_or rows w [])
+    counted_by_worker p w got ∙ ap (count_by p) (shared.whole w within) ∙ count_map p f (slice_index_or rows w [])
     ∙ sym (get_or-map (count_by q) rows w [] 0 within))
     ∙ sum-map (count_by q) rows ∙ rows_count n rows q shared.each_once
 
@@ -186,9 +186,9 @@ hits e None = 0
 hits e (Some other) = cond (same_entry e other) 1 0
 
 -- if it stands there, the entries are the same, and it stands there once
-pub hit : (e : Entry) (r : Option Entry) → 0 < hits e r → (r ≡ Some e) × (hits e r ≤ 1)
-hit e None some = absurd (omega arith)
-hit e (Some other) some = grind (arith, same_entry_means e other)
+pub hits_once : (e : Entry) (r : Option Entry) → 0 < hits e r → (r ≡ Some e) × (hits e r ≤ 1)
+hits_once e None some = absurd (omega arith)
+hits_once e (Some other) some = grind (arith, same_entry_means e other)
 
 -- not among the lines of another file, or among later lines
 times_elsewhere : (o : Job) (f k : ℕ) (entries : List Entry) → (o.file ≡ f → k ≤ o.line → ⊥)

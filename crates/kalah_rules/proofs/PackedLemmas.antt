@@ -53,16 +53,17 @@ house_bits rows k =
     let all : bit_and rows (31 * p) ≡ rows / p % 32 * p = rw (div-add-mod' rows p, mask, and_mask _ 5) at both ∙ omega arith in
     rw (pow_five k) at all
 
-one_of : (x p : ℕ) → 0 < p → (x * p == p) ≡ (x == 1)
-one_of zero p some = grind arith
-one_of (suc zero) p some = grind arith
-one_of (suc (suc x)) p some = grind arith
+-- a multiple of a number is this number exactly if it is taken once
+times_is_same_at_one : (x p : ℕ) → 0 < p → (x * p == p) ≡ (x == 1)
+times_is_same_at_one zero p some = grind arith
+times_is_same_at_one (suc zero) p some = grind arith
+times_is_same_at_one (suc (suc x)) p some = grind arith
 
 -- the five bits of a house are one exactly if it has one seed
 one_seed_at : (rows k : ℕ) → (bit_and rows (31 * 32 ^ k) == 32 ^ k) ≡ (rows / 32 ^ k % 32 == 1)
 one_seed_at rows k =
     let bits = house_bits rows k in
-    rw bits (one_of _ _ (rw (← pow_five k) (pow_pos (5 * k))))
+    rw bits (times_is_same_at_one _ _ (rw (← pow_five k) (pow_pos (5 * k))))
 
 -- what a sowing of c seeds of house h adds if it ends in the store without a lap
 record GainsIntoStore (m h c : ℕ) : Type 0 where

@@ -21,7 +21,7 @@ ways_over n p over = rw (add-one n) (ways-suc n p ∙ rw over refl)
 sum_same : (f g : ℕ → ℕ) (xs : List ℕ) → ((x : ℕ) → f x ≡ g x) → sum_by f xs ≡ sum_by g xs
 sum_same f g xs same = grind arith
 
--- ---- stores
+-- ==== stores
 -- a sweep keeps what was added
 swept-store_seeds : (a b : ℕ) (q : Position) → swept (with_store_seeds a b q) ≡ with_store_seeds a b (swept q)
 swept-store_seeds a b q = same_position refl (omega arith) refl (omega arith) refl
@@ -45,7 +45,7 @@ ways-store_seeds (suc n) a b p = ways-suc n _ ∙ sum_same _ _ (legal_houses p)
 pub ways_of_houses : (n : ℕ) (p : Position) → ways n p ≡ ways n (storeless (houses_in p))
 ways_of_houses n p = ap (ways n) (storeless-store_seeds p) ∙ ways-store_seeds n _ _ _
 
--- ---- steps on houses
+-- ==== steps on houses
 -- the ways after a step
 abbrev pub ways_from : ℕ → HousesStep → ℕ
 ways_from n (Over own other) = if n == 0 then 1 else 0
@@ -79,7 +79,7 @@ ways_by_of_houses n p h =
 pub legal_few : (p : Position) → length (legal_houses p) ≤ side_length p
 legal_few p = grind (arith, length-filter_range)
 
--- ---- house by house
+-- ==== house by house
 -- the houses before house h that hold seeds
 abbrev pub seeded_before : List ℕ → ℕ → List ℕ
 seeded_before row h = filter (λ i. nat_lt 0 (seeds row i)) (range_with_len 1 (h - 1))
@@ -97,7 +97,7 @@ seeded_more row h low some = seeded_next row h low ∙ filter_range-suc _ 1 (h -
 seeded_same : (row : List ℕ) (h : ℕ) → 1 ≤ h → seeds row h ≤ 0 → seeded_before row (h + 1) ≡ seeded_before row h
 seeded_same row h low none = seeded_next row h low ∙ filter_range-suc _ 1 (h - 1) h (omega arith) ∙ rw (le-ltb _ _ none) (append-nil _)
 
--- ---- one house more
+-- ==== one house more
 -- the ways after the moves of the houses before house h, for n moves more, at most 6 for each of these moves
 pub record AreWaysBefore (n : ℕ) (p : Position) (h : ℕ) (total : ℕ) : Type 0 where
   pub sum : total ≡ sum_by (ways_by n p) (seeded_before p.own h)

@@ -1,6 +1,6 @@
 -- What a batch answers: the output of its files, each result, and a batch whose files have no line.
 use Rattle.std.proofs.{Common.{[], IfErr, ◌≡◌, ℕ, List, ◌++◌, arith, sym, ap, ◌∙◌, true, false, refl, length, take, inl, inr, Some, Option, None, Result, Ok, Err, OnOk, count_by, IfOk, flat_map}, lemmas.List.{nil_from_length, append-nil}, Math.Seq.{take-nil}, KnownBytes.{Keeps-refl}}
-use Rattle.kalah_run.specs.{Job, Tally, Question, text_of_job, whole_output, AnswersBatch, counts_of, AnswersNothing, declared.batch.{ordered_output.OrderedOutput.{OrderedOutput}, run_fault.RunFault.{RunFault, TheVariants.{TooManyFiles, TooManyLines, OutOfMemory, NoWorker, Write}}}}
+use Rattle.kalah_run.specs.{Job, Tally, Question, text_of_job, whole_output, AnswersBatch, tally_of_jobs, AnswersNothing, declared.batch.{ordered_output.OrderedOutput.{OrderedOutput}, run_fault.RunFault.{RunFault, TheVariants.{TooManyFiles, TooManyLines, OutOfMemory, NoWorker, Write}}}}
 use Rattle.kalah_jobs.specs.{Files.{JobList.{JobsState, job_list, is_faulty_job}, NamedBytes.{NamedBytes}, Jobs.{MakesJobs, job_count, jobs_for, lines_in_all}}, Writing.{Sink.{SinkState, WasGiven}, Output.{taken_output, output_for, output_of_jobs, names_of, tally_of}}}
 use Rattle.std.specs.Io.KnownBytes.{Appends, Keeps}
 use Rattle.kalah_jobs.proofs.{WritingLemmas.{files_are_their_jobs}, FilesLemmas.{length-job_list, job_count-jobs_for}}
@@ -17,7 +17,7 @@ pub as_many_jobs : (question : Question) (files : List NamedBytes) {jobs : JobsS
     → job_count jobs ≡ lines_in_all files
 as_many_jobs question files value = ap job_count value ∙ job_count-jobs_for question files
 
-counted_tally : (question : Question) (files : List NamedBytes) → counts_of (jobs_for question files) ≡ tally_of files
+counted_tally : (question : Question) (files : List NamedBytes) → tally_of_jobs (jobs_for question files) ≡ tally_of files
 counted_tally question files = λ i. record {
   lines = sym (files_are_their_jobs.lines question files) i;
   faults = sym (files_are_their_jobs.faults question files) i;
@@ -28,7 +28,7 @@ counted_tally question files = λ i. record {
 module _ {W : Type 0} (state : W → SinkState) (question : Question) (files : List NamedBytes) (old : W) where
   -- a batch keeps its promise if the sink was given the answers to all lines, and either all is flushed or a write failed
   pub answered : {jobs : JobsState} → MakesJobs question files (Ok jobs) → (new : W) (result : Result Tally RunFault)
-      → WasGiven state old new (output_for question files) → IfOk result (λ tally. tally ≡ counts_of jobs)
+      → WasGiven state old new (output_for question files) → IfOk result (λ tally. tally ≡ tally_of_jobs jobs)
       → OnOk result (((state new).has_failed ≡ false) × ((state new).is_flushed ≡ true))
       → IfErr result (λ e. (e ≡ Write) × ((state new).has_failed ≡ true))
       → AnswersBatch state (output_for question files) files old new result
@@ -37,7 +37,7 @@ module _ {W : Type 0} (state : W → SinkState) (question : Question) (files : L
     written = (given.whole sound.0).1;
     not_failed = sound.0;
     flushed = sound.1;
-    counted = counted ∙ ap counts_of made.1 ∙ counted_tally question files;
+    counted = counted ∙ ap tally_of_jobs made.1 ∙ counted_tally question files;
   }
   answered made new (Err e) given counted sound fault = rw fault.0 (made.0, given.start, fault.1)
 

@@ -1,12 +1,15 @@
 -- A batch under way: the pass of the calling thread, what it collects, and what stands written when it has ended.
-use Rattle.std.proofs.{Common.{[], ◌≡◌, ◌+◌, ℕ, List, ◌∷◌, ◌++◌, arith, sym, ap, ◌∙◌, Bool, true, false, refl, ⊎_elim, length, ◌⊎◌, inl, inr, All, Some, None}, lemmas.{List.{map-append, length-append, length-map, Elements.{All-push}}, Bool.{both_ways}}}
+use Rattle.std.proofs.Common.{[], ◌≡◌, ◌<◌, ◌≤◌, ◌+◌, ℕ, List, ◌∷◌, ◌++◌, arith, sym, ap, ◌∙◌, Bool, true, false, refl, ⊎_elim}
+use Rattle.std.proofs.Common.{length, ◌⊎◌, inl, inr, All, Some, Option, None, IfNone, MatchOption}
+use Rattle.std.proofs.lemmas.{List.{map-append, length-append, length-map, Elements.{All-push}}, Bool.{both_ways}}
 use Rattle.kalah_run.specs.{OutcomeState, WorkerOutcome, passes_of, puts_of, HaveRun, HasBeenOffered, HasWritten, whole_output, AwaitsLine, WritesOn}
 use Rattle.kalah_run.specs.{IsAbandoned, IsLeft, DrawsOnlyTheRest, GetPassState, PutPassState, ArePassesFrom, outcomes_in, PassState, IsPassAt}
-use Rattle.kalah_run.specs.{HasCollected, IsAtStart, GetsNext}
+use Rattle.kalah_run.specs.{HasCollected, IsAtStart, Receives, GetsNext}
 use Rattle.kalah_run.specs.declared.batch.{ordered_output.OrderedOutput.{OrderedOutput}, worker.Worker.{Worker}}
 use Rattle.kalah_run.specs.declared.batch.{receiver.{CallerPasses.{CallerPasses}, Receiver.{Receiver}}, shared_work.SharedWork.{SharedWork}}
 use Rattle.kalah_run.specs.declared.batch.request.OnFailedWrite.{OnFailedWrite, TheVariants.{Solve, Leave}}
 use Rattle.kalah_jobs.specs.{Collecting.AnyOrder.{IsPermutationOfJobs}, Writing.{Sink.{SinkState, WasGiven}, Output.{output_of_jobs, names_of}}}
+use Rattle.kalah_jobs.proofs.SinkLemmas.{given_none}
 use Rattle.kalah_run.proofs.{OutputLemmas.{new_has_written_nothing, sink_was_given_all, failed_sink_was_given_all, written_after_offer, under_way_after_no_text}, WorkerLemmas.{puts_after, run_passes}}
 
 -- ==== The calling thread's pass, by which it draws what is left after a failed write
@@ -44,6 +47,37 @@ draws_trans {first = first} {second} one two = record {
     | inr left ↦ inr (rw (← one.on_failed_write) left)
   ];
 }
+
+-- fewer are to come than before, if they were no more at first
+fewer_still : (first second third : ℕ) (result : Option OutcomeState) → second ≤ first
+    → MatchOption result (third ≤ second) (λ _. third < second) → MatchOption result (third ≤ first) (λ _. third < first)
+fewer_still first second third None few fewer = omega arith
+fewer_still first second third (Some outcome) few fewer = omega arith
+
+-- with the state of a sink
+module _ {W : Type 0} {state : W → SinkState} {failed : Bool} {first second : Receiver} {old : W} where
+  -- what was got while the sink was left alone
+  pub gets_now : {result : Option OutcomeState} → Receives failed first result second → (failed ≡ true → (state old).has_failed ≡ true)
+      → IfNone result (second.to_come ≡ 0) → GetsNext state first old result second old
+  gets_now receives still ended = record {
+    receives = record { got = receives.got; draws = draws_weaken receives.draws still; fewer = receives.fewer };
+    ended = ended;
+    unwritten = given_none state old;
+  }
+
+  -- what was got next, if at first none was
+  pub gets_after : {third : Receiver} {new : W} {result : Option OutcomeState} → Receives failed first None second
+      → (failed ≡ true → (state old).has_failed ≡ true) → GetsNext state second old result third new
+      → GetsNext state first old result third new
+  gets_after {result = result} none still next = record {
+    receives = record {
+      got = rw (← none.got) next.receives.got;
+      draws = draws_trans (draws_weaken none.draws (λ e. failed_still next.unwritten (still e))) next.receives.draws;
+      fewer = fewer_still _ _ _ result none.fewer next.receives.fewer;
+    };
+    ended = next.ended;
+    unwritten = next.unwritten;
+  }
 
 -- the pass to get counts the workers, as it did when the batch was opened
 pub workers_counted : {count : ℕ} {now before : CallerPasses} {new : GetPassState} → count ≡ now.get_pass.workers → now ≡ before

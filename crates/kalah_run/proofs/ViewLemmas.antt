@@ -22,13 +22,13 @@ module _ {V : Type 0} where
   view_at (x ∷ xs) (suc place) d has_view = view_at xs place d has_view
 
   -- a view of a list with one more stood there before, or is the one more
-  at_end : (views : List V) (a b : V) (place : ℕ) → get_elem? (views ++ a ∷ []) place ≡ some b
+  before_or_last : (views : List V) (a b : V) (place : ℕ) → get_elem? (views ++ a ∷ []) place ≡ some b
       → (get_elem? views place ≡ some b) ⊎ ((place ≡ length views) × (a ≡ b))
-  at_end [] a b zero has_b = inr (refl, some-injective a b has_b)
-  at_end [] a b (suc place) has_b = absurd (some-ne-none b (sym has_b))
-  at_end (x ∷ xs) a b zero has_b = inl has_b
-  at_end (x ∷ xs) a b (suc place) has_b =
-      elim (at_end xs a b place has_b) [ inl before ↦ inl before | inr last ↦ inr (ap suc last.0, last.1) ]
+  before_or_last [] a b zero has_b = inr (refl, some-injective a b has_b)
+  before_or_last [] a b (suc place) has_b = absurd (some-ne-none b (sym has_b))
+  before_or_last (x ∷ xs) a b zero has_b = inl has_b
+  before_or_last (x ∷ xs) a b (suc place) has_b =
+      elim (before_or_last xs a b place has_b) [ inl before ↦ inl before | inr last ↦ inr (ap suc last.0, last.1) ]
 
   -- if one view changes, its fact is shown anew and the others' may change with it
   pub each_set : (F : ℕ → V → Type 0) (views : List V) (place : ℕ) (w : V) → F place w
@@ -42,7 +42,7 @@ module _ {V : Type 0} where
   -- one view more, at the end
   pub each_more : (F : ℕ → V → Type 0) (views : List V) (w : V) → Each F views → F (length views) w → Each F (views ++ w ∷ [])
   each_more F views w each has_fact j u has_u =
-      elim (at_end views w u j has_u) [ inl before ↦ each j u before | inr last ↦ rw (last.0, ← last.1) has_fact ]
+      elim (before_or_last views w u j has_u) [ inl before ↦ each j u before | inr last ↦ rw (last.0, ← last.1) has_fact ]
 
   -- what another place has after a change of one, it had before
   pub was_there : (views : List V) (place other : ℕ) (w : V) {u : V} → other ≢ place → get_elem? (set views place w) other ≡ some u

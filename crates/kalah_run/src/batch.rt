@@ -1,6 +1,6 @@
 //! A batch: the lines of position files, solved by many workers and answered in order.
 ghost use Rattle.std.specs.Prelude.{◌≡◌, ◌<◌, ◌⊎◌, [], false, true, IfErr, IfOk, OnOk};
-ghost use Rattle.kalah_run.specs.{Limits.{IsWorkerCount, IsTableSize}, Batch.Answering.{AnswersBatch, HearsAll, counts_of}, declared.batch.request.OnFailedWrite.TheVariants.{Solve}};
+ghost use Rattle.kalah_run.specs.{Limits.{IsWorkerCount, IsTableSize}, Batch.Answering.{AnswersBatch, HearsAll, tally_of_jobs}, declared.batch.request.OnFailedWrite.TheVariants.{Solve}};
 ghost use Rattle.kalah_jobs.specs.Writing.{Sink.{WasGiven}, Output.{output_of, output_for}};
 
 mod collecting;
@@ -70,7 +70,7 @@ pub fn answer_batch<R: Threads + Wait + Sync, G: Gate, V: Watch, W: Sink>(
 // Flushes the output, and counts the lines of the jobs. Fails with `Write` if the output has failed.
 fn flush_and_count<W: Sink>(jobs: &Jobs, out: &mut W) -> Result<Tally, RunFault>
     ensures given { WasGiven W.state out.old out.new [] }
-    ensures counted { IfOk result (λ tally. tally ≡ counts_of jobs.now) }
+    ensures counted { IfOk result (λ tally. tally ≡ tally_of_jobs jobs.now) }
     ensures all_flushed { OnOk result (((W.state out.new).has_failed ≡ false) × ((W.state out.new).is_flushed ≡ true)) }
     ensures fault { IfErr result (λ e. (e ≡ RunFault.Write) × ((W.state out.new).has_failed ≡ true)) }
 {

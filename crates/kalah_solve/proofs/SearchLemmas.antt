@@ -5,7 +5,7 @@
 -- waiting: its turn must be searched (`AreTurns`; `AreWaiting` once all were played);
 -- tried: it wins at most `most`, a bound for all that were tried. In `bound_by_moves` all that don't wait were tried (`AreUntried`).
 use Rattle.std.proofs.{Common.{◌≡◌, ℕ, ◌+◌, ◌*◌, ◌-◌, ◌<◌, ◌≤◌, inl, inr, List, get_or, arith, refl, sym, ap, ◌∙◌, length, subst, ◌↔◌, Bool, false, IsTrue, Contains, ◌%◌, max, slice_set}, lemmas.{Bool.{cases_lt, cases_eq}, List.{get_or-set_same, get_or-set_other, get_or_default, get_or_past, set_past}}}
-use Rattle.kalah_solve.specs.{cell, IsLastIn, without_house, IsSoftBound, WinsAtMost, IsTurnOf, AreTurns, AreWaiting, ArePlaced, IsEmpty, IsTaken, GoesOn, won, won_by_step}
+use Rattle.kalah_solve.specs.{cell, IsLastIn, without_house, IsSoftBound, WinsAtMost, IsTurnOf, AreTurns, AreWaiting, ArePlaced, IsEmpty, IsTaken, IsStepInVariant, won, won_by_step}
 use Rattle.kalah_solve.proofs.{HouseSetLemmas.{AreMovable, EachOutside, cell_of_zero, into_store_legal, seeded_is_legal, movable_before_last, each_before_last, each_outside_without_last}, WorthLemmas.{LeadsOnAt, played_leads_on, moves_after, goes_on, step_falls}, BoundsLemmas.{won_at_most, won_of_houses, won_reached}}
 use Rattle.kalah_rules.specs.{Position.{HousesState, AreWithinLimits, total_seeds, is_over, storeless}, Sowing.{EndsDirectlyInStore}, Measure.{moves_left}, Key.{variant_of}, HousesStep.{houses_step}, declared.step.HousesStep.{HousesStep, TheVariants.{Turn}}}
 use Rattle.kalah_rules.proofs.PlayLemmas.{IsLegal, legal_holds}
@@ -40,7 +40,7 @@ lower_measure called caller is fewer last = omega arith
 -- the call for the step of a move that is played: its measure is lower, and the step goes on in the variant
 pub step_called : {a : HousesState} {variant h t : ℕ} {s : HousesStep} → AreWithinLimits a → IsLegal a h → variant_of a ≡ variant
     → s ≡ houses_step a h → measure (moves_left (storeless a)) rank_of_play ≡ t
-    → (measure (moves_after s) rank_of_step < t) × GoesOn variant s
+    → (measure (moves_after s) rank_of_step < t) × IsStepInVariant variant s
 step_called limits legal variant_is step is =
     (lower_measure rank_of_step rank_of_play is (step_falls limits legal step) (omega arith), goes_on variant_is limits legal step)
 

@@ -46,12 +46,12 @@ pub ten_bits : (bits n : ℕ) → 1024 ≤ n → n < 2 * 2 ^ bits → 10 ≤ bit
 ten_bits bits n some next = grind (arith, cases_lt, pow_mono {i = bits} {j = 9})
 
 -- slots stay true once one more is stored
-pub bounds_more : (s : ℕ) (slots : List Slot) {a : HousesState} {number at : ℕ} {p : Slot} → s ≤ 54 → AreTrueSlots s slots
+pub slots_stay_true : (s : ℕ) (slots : List Slot) {a : HousesState} {number at : ℕ} {p : Slot} → s ≤ 54 → AreTrueSlots s slots
     → AreWithinLimits a → number ≡ mixed (key_of a) → at ≡ slot_index s number → at < length slots
     → stored_tag p ≡ tag_of number → IsWithinSlot p (won a) → AreTrueSlots s (slice_set slots at p)
-bounds_more s slots enough before limits number_is place inside rest known b number_b d limits_b number_b_is inside_b rest_b =
+slots_stay_true s slots enough before limits number_is place inside rest known b number_b d limits_b number_b_is inside_b rest_b =
     grind (arith, length-set, cases_eq, get_or-set_same, houses_by_slot_and_tag, get_or-set_other)
 
 -- slots that all hold what is known of all houses
-pub bounds_unknown : (s count : ℕ) (p : Slot) → stored_least p ≡ 0 → stored_most p ≡ most_seeds → AreTrueSlots s (replicate count p)
-bounds_unknown s count p none all a number d limits number_is inside rest = grind (arith, won_of_houses, get_or-replicate, length-replicate)
+pub unknown_slots_are_true : (s count : ℕ) (p : Slot) → stored_least p ≡ 0 → stored_most p ≡ most_seeds → AreTrueSlots s (replicate count p)
+unknown_slots_are_true s count p none all a number d limits number_is inside rest = grind (arith, won_of_houses, get_or-replicate, length-replicate)

@@ -2,7 +2,7 @@
 use Rattle.kalah_rules.specs.declared.step.Step.TheVariants as board
 use Rattle.std.proofs.Common.{zero, suc, ◌≡◌, ℕ, ◌+◌, ◌<◌, ◌≤◌, inl, inr, length, arith, sym, ◌∙◌, refl, ap, IsTrue, ◌-◌, Bool, true, false, Contains, map, unwrap_or, ℤ, if◌then◌else◌, pos, ◌≤ℤ◌, ◌<ℤ◌, sum, neg_ℤ, ◌+ℤ◌, ◌-ℤ◌, int_eq}
 use Rattle.std.proofs.lemmas.{Bool.{cases_Bool, cases_lt, cond_both, Decides.{Decides-int_eq}}, Int.{ints}, List.{get_or_default, Elements.{All-from_get_or}, Sums.{sum_by-le}}}
-use Rattle.kalah_solve.specs.{greatest, worth, best_house, value_by, worth_within, value_of_move, houses_worth, CountPlaysNoPart, WorthIsMostOfMoves, GoesOn}
+use Rattle.kalah_solve.specs.{greatest, worth, best_house, value_by, worth_within, value_of_move, houses_worth, CountPlaysNoPart, WorthIsMostOfMoves, IsStepInVariant}
 use Rattle.kalah_solve.proofs.ListLemmas.{find_passes, find_same, greatest_reached, greatest_is_most, greatest_shift, map_same}
 use Rattle.kalah_rules.specs.{Position.{Position, IsWithinLimits, is_over, final_margin, HasEqualSides, total_seeds, swapped, swept, houses_in, storeless, HousesState, AreWithinLimits}, Sowing.{after, moves_again}, Play.{legal_houses, step_of}, Measure.{moves_left}, HousesStep.{houses_step_to, houses_step}, declared.step.{HousesStep.{HousesStep, TheVariants.{Over, Again, Turn}}}, Key.{variant_of, rule_bit}}
 use Rattle.kalah_rules.proofs.{PlayLemmas.{IsLegal, legal_holds, holds_legal, sum-zeros, after_equal_sides, after_fewer, moves_left-swapped, with_store_seeds, after-store_seeds, storeless-store_seeds}, PackedLemmas.{after_keeps}, StepLemmas.{is_over-swapped, after_within, swapped_within}}
@@ -329,12 +329,12 @@ played_leads_on {a} {h} limits legal step_is = grind (arith, leads_on)
 -- ---- what the search needs of a step
 -- a step that leads on from houses within the limits goes on in their variant
 goes_on_if_leads_on : {a : HousesState} {variant : ℕ} (s : HousesStep) → AreWithinLimits a → variant_of a ≡ variant → LeadsOn a s
-    → GoesOn variant s
+    → IsStepInVariant variant s
 goes_on_if_leads_on s limits variant_is leads = grind arith
 
 -- the step of a legal move goes on in the variant
 pub goes_on : {a : HousesState} {variant h : ℕ} {s : HousesStep} → variant_of a ≡ variant → AreWithinLimits a → IsLegal a h
-    → s ≡ houses_step a h → GoesOn variant s
+    → s ≡ houses_step a h → IsStepInVariant variant s
 goes_on {s = s} variant_is limits legal step_is = goes_on_if_leads_on s limits variant_is (played_leads_on limits legal step_is)
 
 -- the step of a legal move leaves fewer moves

@@ -44,7 +44,7 @@ pub record GoesOnAt (variant gained : ℕ) (b : HousesState) : Type 0 where
   pub limits : AreWithinLimits b
 
 -- the houses to which a step leads are of this variant, and the game goes on there; at its end no player has too many seeds
-abbrev pub GoesOn : ℕ → HousesStep → Type 0
-GoesOn variant (Over own other) = own + other ≤ most_seeds
-GoesOn variant (Again gained b) = GoesOnAt variant gained b
-GoesOn variant (Turn gained b) = GoesOnAt variant gained b
+abbrev pub IsStepInVariant : ℕ → HousesStep → Type 0
+IsStepInVariant variant (Over own other) = own + other ≤ most_seeds
+IsStepInVariant variant (Again gained b) = GoesOnAt variant gained b
+IsStepInVariant variant (Turn gained b) = GoesOnAt variant gained b

@@ -2,7 +2,7 @@
 //! in on the number by such tests, as an MTD driver does. Margins are used at the root and among the entries.
 ghost use Rattle.std.specs.Prelude.{◌≡◌, ◌↔◌, ℕ, ◌+◌, ◌-◌, ◌≤◌, ◌<◌, false, IsTrue, max, min, Contains};
 ghost use Rattle.kalah_rules.specs.{Position.{is_over, storeless, total_seeds}, Sowing.{EndsDirectlyInStore}, Play.{legal_houses}, HousesStep.{houses_step}, Key.{variant_of}};
-ghost use Rattle.kalah_solve.specs.{Solver.Worth.{houses_worth}, Bounds.{Intervals.{clamped}, Won.{won, won_by_step}}, WaitingTurns.{IsEmpty}, Search.{IsSoftBound, WinsAtMost, AreWaiting, IsOngoing, GoesOn, GoesOnAt}};
+ghost use Rattle.kalah_solve.specs.{Solver.Worth.{houses_worth}, Bounds.{Intervals.{clamped}, Won.{won, won_by_step}}, WaitingTurns.{IsEmpty}, Search.{IsSoftBound, WinsAtMost, AreWaiting, IsOngoing, IsStepInVariant, GoesOnAt}};
 
 mod growth;
 mod known;
@@ -327,7 +327,7 @@ impl<A: Allocator + Clone> Search<A> {
     #[inline(always)]
     #[cycle(bound)]
     fn bound_step<const VARIANT: u8>(&mut self, step: HousesStep, beta: u8) -> u8
-        requires on { GoesOn VARIANT step }
+        requires on { IsStepInVariant VARIANT step }
         ensures { IsSoftBound beta (won_by_step step) result }
     {
         match step {

@@ -128,15 +128,15 @@ DoesNotAskFor arguments kind = IsAmong kind (fault_of kalah_app arguments) → �
 -- the task of a request: it is parsed from arguments that ask for the same
 abbrev pub task_of : Request → Task
 task_of (Line line command) = about_line command line.now
-task_of (Files b) = about_files b.question b.workers b.table_entries b.progress (map (λ f. f.now) b.files.items)
-task_of (Ask b) = about_input b.question b.table_entries
+task_of (Files r) = about_files r.question r.workers r.table_entries r.progress (map (λ f. f.now) r.files.items)
+task_of (Ask r) = about_input r.question r.table_entries
 task_of Conflict = conflict
 
 -- ---- what is in its range
 
 -- workers and table are in their ranges, and there is a file
 abbrev pub AreFilesInRange : FilesRequest → Type 0
-AreFilesInRange b = IsWorkerCount b.workers × IsTableSize b.table_entries × (0 < length b.files.items)
+AreFilesInRange r = IsWorkerCount r.workers × IsTableSize r.table_entries × (0 < length r.files.items)
 
 -- numbers are in their ranges
 abbrev pub IsCommandInRange : LineCommand → Type 0
@@ -147,8 +147,8 @@ IsCommandInRange (Count depth) = depth ≤ most_depth
 
 abbrev pub IsInRange : Request → Type 0
 IsInRange (Line line command) = IsCommandInRange command
-IsInRange (Files b) = AreFilesInRange b
-IsInRange (Ask b) = IsTableSize b.table_entries
+IsInRange (Files r) = AreFilesInRange r
+IsInRange (Ask r) = IsTableSize r.table_entries
 IsInRange Conflict = ⊤
 
 -- ---- the matches of arguments that the command line accepts

@@ -108,9 +108,12 @@ fn assert_runs(
 ) {
     for (arguments, status, out, err) in cases {
         let run = run_on(rt, *arguments);
-        assert!(rt; run.status == *status, "{arguments:?}");
-        assert!(rt; run.out.as_slice() == out.as_bytes(), "{arguments:?}");
-        assert!(rt; run.err.as_slice() == err.as_bytes(), "{arguments:?}");
+        let written = str::from_utf8(run.out.as_slice()).unwrap_or("no text");
+        let said = str::from_utf8(run.err.as_slice()).unwrap_or("no text");
+        assert!(rt;
+            (run.status, written, said) == (*status, *out, *err),
+            "{arguments:?}: {written:?} {said:?}"
+        );
     }
 }
 

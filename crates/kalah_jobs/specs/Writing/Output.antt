@@ -4,7 +4,8 @@ use Rattle.kalah_jobs.specs.{Files.{Entry.{entry_for, is_faulty}, JobList.{JobsS
 
 -- what is written for a line of a file, given with its number, which counts from 0, if this is asked of its position
 abbrev pub line_output : Question → List ℕ → ℕ × List ℕ → List ℕ
-line_output question name p = answer_output name (record { line = p.0; answer = answer_of (entry_for question p.1) })
+line_output question name numbered =
+    answer_output name (record { line = numbered.0; answer = answer_of (entry_for question numbered.1) })
 
 -- what is written for a file: for each of its lines in order
 abbrev pub file_output : Question → NamedBytes → List ℕ

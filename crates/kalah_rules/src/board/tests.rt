@@ -1,4 +1,4 @@
-//! Boards: moves, ends, margins and limits. `tests::out_of_memory` runs what is no test here.
+//! Boards: moves, ends, margins and limits.
 use crate::Rule::{self, Classic, EmptyCapture};
 use crate::{Board, Houses, Step};
 use End::{Again, Over, Turn};
@@ -49,11 +49,14 @@ static MOVES: [(u8, Rule, Sides, u8, End, Sides); 9] = [
 ];
 
 /// Asserts what each of the moves leads to.
-pub(crate) fn moves_lead_to_positions(rt: &impl Abort) {
+pub(crate) fn assert_moves(rt: &impl Abort) {
     for (m, rule, sides, h, end, next) in &MOVES {
         let start = board(rt, *m, *rule, sides);
         let next = step_of(*end, board(rt, *m, *rule, next));
-        assert!(rt; start.is_legal(*h) && start.apply(*h) == next, "{start:?}");
+        assert!(rt;
+            start.is_legal(*h) && start.apply(*h) == next,
+            "{start:?} {h}"
+        );
     }
 }
 
@@ -96,7 +99,7 @@ fn margin(board: &Board) -> Option<i32> {
 }
 
 /// Asserts houses, stores, moves and margin of each of the positions.
-pub(crate) fn positions_are_read(rt: &impl Abort) {
+pub(crate) fn assert_positions(rt: &impl Abort) {
     for (m, rule, own, own_store, other, other_store, moves, end) in &POSITIONS {
         let board = Board::new(*m, *own, *own_store, *other, *other_store, *rule);
         let board = board.expect(rt, "beyond the limits");
@@ -138,10 +141,25 @@ static BEYOND: [(u8, [u8; 6], u8, [u8; 6], u8); 8] = [
 ];
 
 /// Asserts that there is no board beyond the limits.
-pub(crate) fn limits_are_kept(rt: &impl Abort, rule: Rule) {
+pub(crate) fn assert_limits(rt: &impl Abort, rule: Rule) {
     assert!(rt; Board::new(1, [0; 6], 99, [0; 6], 99, rule).is_some());
     for (m, own, own_store, other, other_store) in &BEYOND {
         let board = Board::new(*m, *own, *own_store, *other, *other_store, rule);
         assert!(rt; board.is_none(), "{board:?}");
     }
+}
+
+#[test]
+fn moves_lead_to_positions(rt: HostRuntime) {
+    assert_moves(&rt);
+}
+
+#[test]
+fn positions_have_their_houses_moves_and_margin(rt: HostRuntime) {
+    assert_positions(&rt);
+}
+
+#[test]
+fn limits_are_kept(rt: HostRuntime) {
+    assert_limits(&rt, Classic);
 }

@@ -1,7 +1,7 @@
 //! Shows that boards, their moves and their end request no memory: `tests/refuse` runs this test with its first request refused, and then
 //! with its second, and these must be its two marks.
 use crate::Rule;
-use crate::board::tests::{limits_are_kept, moves_lead_to_positions, positions_are_read};
+use crate::board::tests::{assert_limits, assert_moves, assert_positions};
 use std::alloc::Global;
 use std::test::Fail;
 
@@ -16,9 +16,9 @@ fn mark(alloc: Global, place: &'static str) -> Result<(), Fail> {
 #[test]
 fn the_rules_take_no_memory(rt: HostRuntime) -> Result<(), Fail> {
     mark(rt.alloc(), "before the calls without memory")?;
-    moves_lead_to_positions(&rt);
-    positions_are_read(&rt);
-    limits_are_kept(&rt, Rule::Classic);
-    limits_are_kept(&rt, Rule::EmptyCapture);
+    assert_moves(&rt);
+    assert_positions(&rt);
+    assert_limits(&rt, Rule::Classic);
+    assert_limits(&rt, Rule::EmptyCapture);
     mark(rt.alloc(), "after all")
 }

@@ -11,8 +11,8 @@ run_fault_of jobs.TooManyLines = TooManyLines
 run_fault_of jobs.OutOfMemory = OutOfMemory
 
 -- the lines of these jobs, and those of them that are answered by a fault
-abbrev pub counts_of : JobsState → Tally
-counts_of jobs = record { lines = length (job_list jobs); faults = count_by is_faulty_job (job_list jobs) }
+abbrev pub tally_of_jobs : JobsState → Tally
+tally_of_jobs jobs = record { lines = length (job_list jobs); faults = count_by is_faulty_job (job_list jobs) }
 
 -- The gate hears of the job of each line, unless the batch failed otherwise than by a write.
 abbrev pub HearsAll : (ℕ → Bool) → List NamedBytes → Result Tally RunFault → Type 0

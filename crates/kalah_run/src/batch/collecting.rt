@@ -7,6 +7,7 @@ use crate::batch::crew::Crew;
 use crate::batch::gate::Gate;
 use crate::batch::ordered_output::OrderedOutput;
 use crate::batch::receiver::{CallerPasses, Receiver};
+use crate::batch::shared_work::SharedWork;
 use crate::batch::watch::Watch;
 use crate::batch::worker::Worker;
 use kalah_jobs::{Outcome, Sink};
@@ -15,16 +16,17 @@ use std::sync::Wait;
 use std::thread;
 use std::thread::{Promise, Threads};
 
-// The thread returns the list of workers of the crew, and each has run.
+// The thread returns the list of workers that it was given, and each has run.
 #[derive(Drop)]
 struct AllHaveRun<'a, 'b, G> {
-    crew: Snapshot<Crew<'a, 'b, G>>,
+    shared: &'a SharedWork<'b, G>,
+    workers: Snapshot<Vec<Worker>>,
 }
 
 impl<'a, 'b, G: Gate> Promise<Vec<Worker>> for AllHaveRun<'a, 'b, G> {
     ghost use Rattle.kalah_run.specs.Batch.AtWork.{HaveRun};
 
-    ghost kept_by = { λ p r. HaveRun G.knows p.crew.value.shared.now p.crew.value.workers.items r.items };
+    ghost kept_by = { λ p r. HaveRun G.knows p.shared.now p.workers.value.items r.items };
 }
 
 // Lets the output flush what it buffers, as its caller may wait then.
@@ -37,8 +39,8 @@ fn flush_to_wait<W: Sink>(out: &mut W)
     }
 }
 
-// Gets an outcome that did not come soon. The output flushes what it buffers before the wait. Returns `None` if none is to come any more,
-// as the flush has failed and the rest is left.
+// Gets an outcome that did not come soon. The output flushes what it buffers before the wait. Returns `None` if none is to come, as the
+// flush has failed and the rest is left.
 #[cold]
 #[inline(never)]
 fn flush_and_get<R: Wait, V: Watch, W: Sink>(
@@ -50,38 +52,16 @@ fn flush_and_get<R: Wait, V: Watch, W: Sink>(
     ensures { GetsNext W.state receiver.old out.old result receiver.new out.new }
 {
     flush_to_wait(out);
-    receiver.abandon_if_failed(out);
-    if !receiver.awaits_more() {
+    if !receiver.prepare_next(out.failed()) {
         return None;
     }
     watch.on_waiting();
     Some(receiver.get(rt, watch, out))
 }
 
-// Gets the next outcome. If the output has failed and the rest is to be left, it first draws all jobs that are left, so that no worker
-// begins one. Returns `None` if none is to come.
-#[inline(always)]
-fn next_outcome<R: Wait, V: Watch, W: Sink>(
-    rt: &R,
-    receiver: &mut Receiver<'_>,
-    watch: &mut V,
-    out: &mut W,
-) -> Option<Outcome>
-    ensures { GetsNext W.state receiver.old out.old result receiver.new out.new }
-{
-    receiver.abandon_if_failed(out);
-    if !receiver.awaits_more() {
-        return None;
-    }
-    match receiver.get_soon() {
-        Some(outcome) => Some(outcome),
-        None => flush_and_get(rt, receiver, watch, out),
-    }
-}
-
-// Offers each outcome that comes, and after each writes the lines that became ready. Before each wait it lets the output flush. Also if
-// the rest is left, it accepts the outcomes of jobs that workers have drawn: one of them may sleep at the full queue. Returns both
-// passes, to close the queue and the desk.
+// Offers each outcome that comes, and after each writes the lines that became ready. Before each wait it lets the output flush. If the
+// output has failed and the rest is to be left, it draws all jobs that are left, so that no worker begins one, and accepts the outcomes
+// of those that workers have drawn: one of them may sleep at the full queue. Returns both passes, to close the queue and the desk.
 fn collect<R: Wait, V: Watch, W: Sink>(
     rt: &R,
     mut receiver: Receiver<'_>,
@@ -95,7 +75,14 @@ fn collect<R: Wait, V: Watch, W: Sink>(
     ensures ready { IsReady (W.state out.new) }
 {
     output.write_ready(out);
-    while let Some(outcome) = next_outcome(rt, &mut receiver, watch, out) {
+    while receiver.prepare_next(out.failed()) {
+        let outcome = match receiver.get_soon() {
+            Some(outcome) => outcome,
+            None => match flush_and_get(rt, &mut receiver, watch, out) {
+                Some(outcome) => outcome,
+                None => break,
+            },
+        };
         output.offer(outcome);
         output.write_ready(out);
         watch.on_accepted();
@@ -130,7 +117,8 @@ pub(crate) fn collect_from_crew<R: Threads + Wait + Sync, G: Gate, V: Watch, W: 
                 × HasCollected W.state output.entry out.entry.now result.2.now receiver.entry r.1) }
         {
             let all_have_run = AllHaveRun {
-                crew: Snapshot::of(&crew),
+                shared: crew.shared,
+                workers: Snapshot::of(&crew.workers),
             };
             let started = scope.spawn_with(
                 all_have_run,

@@ -1,6 +1,6 @@
 //! The outcomes that the calling thread gets. Once a receiver has its passes no other module can use them, so what these calls require
 //! holds at each wait for an outcome.
-ghost use Rattle.std.specs.Prelude.{◌≡◌, ◌<◌, ◌≤◌, ◌+◌, ◌-◌, ◌↔◌, [], length, true, false, IsTrue, Some, None, IfNone};
+ghost use Rattle.std.specs.Prelude.{◌≡◌, ◌<◌, ◌≤◌, ◌+◌, ◌-◌, ◌↔◌, [], length, true, false, Some, None, IfNone};
 ghost use Rattle.kalah_jobs.specs.Writing.Sink.{IsReady};
 ghost use Rattle.kalah_run.specs.{Desk.States.{IsPassAt}, declared.limits.TheConstants.{MOST_TRIES}};
 
@@ -66,24 +66,18 @@ impl<'a> Receiver<'a> {
         }
     }
 
-    /// Draws all jobs that are left, if the output has failed and the rest is to be left, so that no worker can. From then on a worker
-    /// sends at most one outcome more, that of the job under way.
+    /// Prepares to get the next outcome, and returns whether one is to come. If the output has failed and the rest is to be left, it first
+    /// draws all jobs that are left, so that no worker can. From then on a worker sends at most one outcome more, that of the job under way.
     #[inline(always)]
-    pub(crate) fn abandon_if_failed<W: Sink>(&mut self, out: &W)
-        ensures receives { Receives (W.state out.now).has_failed self.old None self.new }
-        ensures left { IsAbandoned self.old.on_failed_write (W.state out.now).has_failed → NothingRemains self.new.passes.rest_pass }
+    pub(crate) fn prepare_next(&mut self, has_failed: bool) -> bool
+        ensures awaits { (result ≡ true) ↔ (0 < self.new.to_come) }
+        ensures receives { Receives has_failed self.old None self.new }
+        ensures left { IsAbandoned self.old.on_failed_write has_failed → NothingRemains self.new.passes.rest_pass }
     {
-        if out.failed() && self.on_failed_write == OnFailedWrite::Leave {
+        if has_failed && self.on_failed_write == OnFailedWrite::Leave {
             let left = self.desk.draw_rest(&mut self.passes.rest_pass);
             self.to_come = self.to_come.saturating_sub(left);
         }
-    }
-
-    /// Returns whether a further outcome is to come.
-    #[inline(always)]
-    pub(crate) fn awaits_more(&self) -> bool
-        ensures { IsTrue result ↔ (0 < self.now.to_come) }
-    {
         self.to_come > 0
     }
 

@@ -13,8 +13,8 @@ use std::process::Abort;
 use std::sync::Wait;
 use std::sync::atomic::AtomicU32;
 use std::sync::atomic::Ordering::SeqCst;
-use std::thread;
 use std::thread::Threads;
+use std::{str, thread};
 
 const ONE_AND_TWO: &str = "1/0 1/0\n2/0 2/0";
 
@@ -147,21 +147,23 @@ fn answers<R: Threads + Wait + Sync, G: Gate>(
 }
 
 // The batch wrote this text, and this is its tally.
-fn wrote(answers: Option<(Tally, Vec<u8>)>, text: &str, tally: Tally) -> bool {
-    match answers {
-        Some((of_batch, written)) => of_batch == tally && written.as_slice() == text.as_bytes(),
-        None => false,
-    }
+fn assert_wrote(rt: &impl Abort, answers: Option<(Tally, Vec<u8>)>, text: &str, tally: Tally) {
+    let (of_batch, bytes) = answers.expect(rt, "the batch has failed");
+    let written = str::from_utf8(bytes.as_slice()).unwrap_or("no text");
+    assert!(rt;
+        of_batch == tally && written == text,
+        "{of_batch:?} {written}"
+    );
 }
 
 // The batch of `lines` lines `1/0 1/0` writes their answers.
-fn lines_are_answered<R: Abort + Threads + Wait + Sync, G: Gate>(
+fn assert_lines_answered<R: Abort + Threads + Wait + Sync, G: Gate>(
     rt: &R,
     alloc: Global,
     lines: u32,
     workers: u32,
     gate: &G,
-) -> bool
+)
     requires { IsWorkerCount workers }
 {
     let files = same_lines(rt, alloc, lines);
@@ -172,7 +174,7 @@ fn lines_are_answered<R: Abort + Threads + Wait + Sync, G: Gate>(
         text.push_str(answer.as_str()).expect(rt, "no memory");
     }
     let got = answers(rt, alloc, &files, workers, 16, gate);
-    wrote(got, text.as_str(), tally_of(lines))
+    assert_wrote(rt, got, text.as_str(), tally_of(lines));
 }
 
 #[test]
@@ -182,18 +184,17 @@ fn lines_are_answered_in_order_by_any_number_of_workers(rt: HostRuntime) {
     for workers in [1, 2, 64] {
         for table in [1, 65_536] {
             let got = answers(&rt, alloc, files.as_slice(), workers, table, &OpenGate);
-            assert!(rt; wrote(got, ANSWERS, SEVEN_LINES), "{workers} {table}");
+            assert_wrote(&rt, got, ANSWERS, SEVEN_LINES);
         }
     }
     let got = answers(&rt, alloc, &[], 3, 1, &OpenGate);
-    assert!(rt; wrote(got, "", tally_of(0)), "no file");
+    assert_wrote(&rt, got, "", tally_of(0));
 }
 
 // More lines than there are workers, and more than the queue has places.
 #[test]
 fn many_lines_are_answered(rt: HostRuntime) {
     for lines in [200, 1000] {
-        let answered = lines_are_answered(&rt, rt.alloc(), lines, 64, &OpenGate);
-        assert!(rt; answered, "{lines}");
+        assert_lines_answered(&rt, rt.alloc(), lines, 64, &OpenGate);
     }
 }

@@ -17,7 +17,7 @@ pub trait Watch {
 }
 
 /// The watch that does nothing.
-#[derive(Clone, Copy, Debug, PartialEq, Eq)]
+#[derive(Clone, Copy, Debug)]
 pub struct NoWatch;
 
 impl Watch for NoWatch {

@@ -1,10 +1,10 @@
-//! Keys, beside their layout. `tests::out_of_memory` runs `packs_as_the_layout_says`.
+//! Keys, beside their layout.
 use super::*;
 use kalah_rules::Rule;
 use std::process::Abort;
 
 /// Asserts that some houses have these keys, and these keys those houses.
-pub(crate) fn packs_as_the_layout_says(rt: &impl Abort) {
+pub(crate) fn assert_keys(rt: &impl Abort) {
     let ones = [1, 1, 0, 0, 0, 0];
     for (m, row, rule, key) in [
         (2, ones, Rule::Classic, 0x2000_0008_4000_0021),
@@ -17,6 +17,11 @@ pub(crate) fn packs_as_the_layout_says(rt: &impl Abort) {
             "{houses:?}"
         );
     }
+}
+
+#[test]
+fn packs_as_the_layout_says(rt: HostRuntime) {
+    assert_keys(&rt);
 }
 
 #[test]

@@ -72,6 +72,12 @@ pub(crate) static WORKED: [Worked; 28] = [
     ((3, [4, 1, 4, 9], [3, 3, 2, 4], EmptyCapture), 14, 1),
 ];
 
+/// Positions that differ in their stores alone.
+pub(crate) static SAME_HOUSES: [Worked; 2] = [
+    ((2, [1, 1, 0, 0], [1, 1, 0, 0], Classic), 2, 2),
+    ((2, [1, 1, 0, 9], [1, 1, 0, 4], Classic), 7, 2),
+];
+
 // Fails at this position unless the answer is right.
 fn assert_at(rt: &impl Abort, board: &Board, is_right: bool) {
     assert!(rt; is_right, "{board:?}");

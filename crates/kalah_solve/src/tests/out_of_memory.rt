@@ -4,8 +4,8 @@
 ghost use Rattle.std.specs.Prelude.{◌≤◌};
 ghost use Rattle.kalah_solve.specs.Table.Entries.{most_entries};
 
-use crate::key::tests::packs_as_the_layout_says;
-use crate::solver::tests::{WORKED, Worked, solver_with, solves};
+use crate::key::tests::assert_keys;
+use crate::solver::tests::{SAME_HOUSES, WORKED, Worked, solver_with, solves};
 use crate::{Solver, Table};
 use std::alloc::{AllocError, Global};
 use std::process::Abort;
@@ -34,13 +34,12 @@ fn new_table(alloc: Global, capacity: u32) -> Result<Table, AllocError>
 fn a_key_and_a_solver_take_no_memory(rt: HostRuntime) -> Result<(), Fail> {
     let table = new_table(rt.alloc(), 1)?;
     mark(rt.alloc(), "before the calls without memory")?;
-    packs_as_the_layout_says(&rt);
+    assert_keys(&rt);
     let _solver = Solver::new(table);
     mark(rt.alloc(), "after all")
 }
 
-// Solves positions with a table of this capacity, into which each answer is put if it `keeps_all`. `WORKED[17..19]` are two positions that
-// differ only in their stores.
+// Solves positions with a table of this capacity, into which each answer is put if it `keeps_all`.
 fn solves_with(
     rt: &(impl Abort + AllocGlobal),
     capacity: u32,
@@ -57,12 +56,12 @@ fn solves_with(
 
 #[test]
 fn one_table_for_two_positions(rt: HostRuntime) -> Result<(), Fail> {
-    solves_with(&rt, 1, false, &WORKED[17..19])
+    solves_with(&rt, 1, false, &SAME_HOUSES)
 }
 
 #[test]
 fn one_entry_for_two_positions(rt: HostRuntime) -> Result<(), Fail> {
-    solves_with(&rt, 1, true, &WORKED[17..19])
+    solves_with(&rt, 1, true, &SAME_HOUSES)
 }
 
 // Each answer has an entry of its own, for which it takes memory.
@@ -78,6 +77,6 @@ fn a_solver_beside_another(rt: HostRuntime) -> Result<(), Fail> {
         Ok(second) => second,
         Err(_) => first.sharing_endings(rt.alloc(), 1)?,
     };
-    solves(&rt, &mut second, &WORKED[17..19]);
+    solves(&rt, &mut second, &SAME_HOUSES);
     mark(rt.alloc(), "after all")
 }

@@ -15,7 +15,8 @@ macro_rules! tips {
     ($($one:literal, $other:literal => $tip:expr;)*) => { &[$(($one, $other, $tip)),*] };
 }
 
-// Two parts of what the command line says to refuse arguments, and the tip about the first argument if it has both.
+// Two parts of what the command line says to refuse arguments, and the tip about the first argument if it has both. The first row that
+// fits gives the tip.
 const TIPS: &[(&str, &str, &str)] = tips! {
     "not provided", "<FILE>" => "for standard input, use /dev/stdin, as in `kalah solve /dev/stdin`";
     "not provided", " count <DEPTH>" => COUNT;

@@ -1,9 +1,9 @@
 //! Lines answered as they come, and readers and outputs that fail.
 use crate::{AskFault, Question, Stream, answer_lines};
 use kalah_solve::{Solver, Table};
-use std::io;
 use std::io::{BufReader, ErrorKind, Read};
 use std::process::Abort;
+use std::{io, str};
 
 // What is written for the bytes of a reader, and the result.
 fn answered(
@@ -45,9 +45,10 @@ const LINES: &[(Question, &[u8], &str, bool)] = &[
 fn each_line_is_answered(rt: HostRuntime) {
     for (question, bytes, text, all_read) in LINES {
         let (out, end) = answered(&rt, *question, *bytes);
+        let written = str::from_utf8(out.as_slice()).unwrap_or("no text");
         assert!(rt;
-            out.as_slice() == text.as_bytes() && end == Ok(*all_read),
-            "{text}"
+            written == *text && end == Ok(*all_read),
+            "{written} {end:?}, not {text}"
         );
     }
 }

@@ -39,7 +39,10 @@ impl Trial {
     ) {
         let outcome = Outcome::of(file, line, one_house(rt, seeds, rule), &mut self.solver);
         let result = self.collector.offer(&self.jobs, outcome);
-        assert!(rt; result == answered, "{file}, {line}");
+        assert!(rt;
+            result == answered,
+            "{file}, {line}, {seeds}, {rule:?}: {result:?}"
+        );
     }
 
     // Whether this line of the first file is taken next, with this margin of best play.

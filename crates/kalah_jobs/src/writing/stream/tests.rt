@@ -58,7 +58,10 @@ fn an_interrupted_call_is_tried_again(rt: HostRuntime) {
     for (first, last) in [(1, 2), (3, 100_000), (12, 13)] {
         let narrow = Narrow::new(&rt, first, last, ErrorKind::Interrupted);
         let (is_err, failed, writer) = written(narrow);
-        assert!(rt; !is_err && !failed && writer.bytes.as_slice() == LINE);
+        assert!(rt;
+            !is_err && !failed && writer.bytes.as_slice() == LINE,
+            "{first}"
+        );
     }
 }
 
@@ -68,8 +71,11 @@ fn a_call_that_fails_is_the_last(rt: HostRuntime) {
     for kind in [ErrorKind::WriteZero, ErrorKind::BrokenPipe] {
         for taken in 0..12u32 {
             let (is_err, failed, writer) = written(Narrow::new(&rt, taken + 1, u32::MAX, kind));
-            assert!(rt; is_err && failed && writer.calls == taken + 1);
-            assert!(rt; writer.bytes.as_slice() == &LINE[..taken as usize]);
+            assert!(rt; is_err && failed && writer.calls == taken + 1, "{taken}");
+            assert!(rt;
+                writer.bytes.as_slice() == &LINE[..taken as usize],
+                "{taken}"
+            );
         }
     }
 }

@@ -1,5 +1,5 @@
 //! What the gate observes: each job once, before and after it, and that an outcome is sent only once there is room for it.
-use super::{Counting, comes_to, lines_are_answered, same_lines};
+use super::{Counting, assert_lines_answered, comes_to, same_lines};
 use crate::limits::QUEUE_CAPACITY;
 use crate::{Gate, solve_batch};
 use kalah_jobs::Stream;
@@ -49,10 +49,10 @@ fn the_gate_observes_each_job_once(rt: HostRuntime) {
     }
     let out_of_turn = AtomicBool::new(false);
     let gate = EachJob { calls, out_of_turn };
-    assert!(rt; lines_are_answered(&rt, rt.alloc(), MANY, 2, &gate));
+    assert_lines_answered(&rt, rt.alloc(), MANY, 2, &gate);
     assert!(rt; !gate.out_of_turn.load(SeqCst));
-    for calls in gate.calls.as_slice() {
-        assert!(rt; calls.load(SeqCst) == 2);
+    for (job, calls) in gate.calls.iter().enumerate() {
+        assert!(rt; calls.load(SeqCst) == 2, "job {job}");
     }
 }
 

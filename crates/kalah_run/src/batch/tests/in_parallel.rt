@@ -1,7 +1,8 @@
 //! Batches in which workers wait for one another: jobs are solved in parallel, drawn by any free worker, and written
 //! while later ones are under way. The watch learns of an answer once it is written.
 use super::{
-    ONE_AND_TWO, answers, comes_to, file_of, lines_are_answered, request_of, tally_of, wrote,
+    ONE_AND_TWO, answers, assert_lines_answered, assert_wrote, comes_to, file_of, request_of,
+    tally_of,
 };
 use crate::{Gate, OnFailedWrite, Watch, answer_batch};
 use kalah_jobs::{FileText, Question, Stream};
@@ -81,7 +82,7 @@ fn a_later_job_is_done_while_an_earlier_one_waits(rt: HostRuntime) {
     };
     let files = two_lines(&rt, rt.alloc());
     let got = answers(&rt, rt.alloc(), &files, 2, 16, &gate);
-    assert!(rt; wrote(got, TWO, tally_of(2)));
+    assert_wrote(&rt, got, TWO, tally_of(2));
     assert!(rt; gate.done.nobody_gave_up());
 }
 
@@ -93,7 +94,7 @@ fn a_free_worker_takes_whatever_is_left(rt: HostRuntime) {
             others: 3,
             done: Events::none(),
         };
-        assert!(rt; lines_are_answered(&rt, rt.alloc(), 4, 2, &gate), "{last}");
+        assert_lines_answered(&rt, rt.alloc(), 4, 2, &gate);
         assert!(rt; gate.done.nobody_gave_up(), "{last}");
     }
 }
@@ -119,8 +120,7 @@ fn as_many_jobs_are_under_way_at_once_as_there_are_workers(rt: HostRuntime) {
     for jobs in [2, 64] {
         let drawn = Events::none();
         let gate = AllDrawn { jobs, drawn };
-        let answered = lines_are_answered(&rt, rt.alloc(), jobs, jobs, &gate);
-        assert!(rt; answered, "{jobs}");
+        assert_lines_answered(&rt, rt.alloc(), jobs, jobs, &gate);
         assert!(rt; gate.drawn.nobody_gave_up(), "{jobs}");
     }
 }

@@ -108,7 +108,7 @@ fn every_failing_call_ends_the_writing_and_nothing_else(rt: HostRuntime) {
     for question in [Question::BestMove, Question::Values, Question::Steps] {
         for most in 0..9u32 {
             let run = run_with(&rt, question, files.as_slice(), OnFailedWrite::Solve, most);
-            assert!(rt; ends_the_writing_alone(&run, most), "{most}");
+            assert!(rt; ends_the_writing_alone(&run, most), "{question:?} {most}");
         }
     }
     for most in 0..9u32 {

@@ -2,7 +2,7 @@
 -- best play.
 use Rattle.std.proofs.Common.{◌≡◌, ℕ, ◌∙◌, arith, rules, sym, subst, lit≤}
 use Rattle.kalah_rules.{specs.{Sowing.{EndsDirectlyInStore}, HousesStep.{houses_step}}, proofs.PlayLemmas.{sum-set_zero}}
-use Rattle.kalah_solve.{specs.{GoesOn}, proofs.search.Search.+bound.Given.{Over}}
+use Rattle.kalah_solve.{specs.{IsStepInVariant}, proofs.search.Search.+bound.Given.{Over}}
 use Rattle.kalah_solve.proofs.{HouseSetLemmas.{without_last_less, last_is_legal, each_at_last}, WorthLemmas.{goes_on, played_leads_on, step_falls}, BoundsLemmas.{won_of_houses}}
 use Rattle.kalah_solve.proofs.SearchLemmas.{rank_of_moves, rank_of_search, lower_measure, step_called, enough_is_won, turn_enough, reply_left, reply_fits, step_is_turn, taken_is_turn, bound_le_max, bound_of_rest, played_at_start, played_and_waits, played_and_bounded, played_enough, all_played, tried_at_start, tried_without_last, all_tried, untried_at_start, untried_fewer, none_untried}
 use Rattle.kalah_solve.proofs.search.Search.+bound.Goals as goal
@@ -11,17 +11,17 @@ use Rattle.kalah_solve.proofs.search.Search.+bound.Goals.{try_remaining-Joined-s
 -- ==== bound_step: the bound of one move
 pub bound_step-overflow_add-result : goal.bound_step-overflow_add-result
 bound_step-overflow_add-result g t c =
-    let on = subst (GoesOn _) c.in-Again.is c.requires.on in
+    let on = subst (IsStepInVariant _) c.in-Again.is c.requires.on in
     omega (arith, (won_of_houses on.limits).few, bound_le_max c.bound.ensures)
 
 pub bound_step-overflow_sub-result : goal.bound_step-overflow_sub-result
 bound_step-overflow_sub-result g t c =
-    let on = subst (GoesOn _) c.in-Turn.is c.requires.on in
+    let on = subst (IsStepInVariant _) c.in-Turn.is c.requires.on in
     omega (arith, (won_of_houses on.limits).few, bound_le_max c.bound-else-all-beta.ensures)
 
 pub bound_step-returns-else-all-beta : goal.bound_step-returns-else-all-beta
 bound_step-returns-else-all-beta g t c =
-    let on = subst (GoesOn _) c.in-Turn.is c.requires.on in
+    let on = subst (IsStepInVariant _) c.in-Turn.is c.requires.on in
     rw c.in-Turn.is (bound_of_rest c.in-Turn.gained (omega arith) (won_of_houses on.limits).few c.bound-else-all-beta.ensures)
 
 -- ==== bound_by_moves: moves into the store, the remaining moves, and the turns that wait, by their priority

@@ -1,6 +1,6 @@
 -- The slot of the key has bounds that are true of the houses; all other slots stay.
 use Rattle.std.proofs.Common.{arith, ◌∙◌, length-set}
-use Rattle.kalah_solve.{specs.{IsWithinSlot, won}, proofs.SlotLemmas.{bounds_more}}
+use Rattle.kalah_solve.{specs.{IsWithinSlot, won}, proofs.SlotLemmas.{slots_stay_true}}
 use Rattle.kalah_solve.proofs.table.slot_table.SlotTable.keep.Goals as goal
 
 pub invariant_of-self : goal.invariant_of-self
@@ -14,7 +14,7 @@ invariant_of-self g c =
       most = rw c.of-stored.ensures.most c.requires.most;
     } in (
       rw count c.self.invariant.0,
-      bounds_more _ _ c.self.invariant.0.least c.self.invariant.1
+      slots_stay_true _ _ c.self.invariant.0.least c.self.invariant.1
           mixed.ensures.limits mixed.ensures.mixed at.ensures.slot (omega (arith, at.ensures.inside, c.self.invariant.0.all))
           (c.of-stored.ensures.tag ∙ c.tag_of.ensures.tag) known,
     )

@@ -1,5 +1,5 @@
 use Rattle.std.proofs.{Common.{arith, refl, ◌≡◌, ◌-◌, ◌*◌, ◌%◌, ◌^◌}, lemmas.List.{length-replicate}}
-use Rattle.kalah_solve.proofs.SlotLemmas.{bounds_unknown, ten_bits}
+use Rattle.kalah_solve.proofs.SlotLemmas.{unknown_slots_are_true, ten_bits}
 use Rattle.kalah_solve.proofs.table.slot_table.SlotTable.new.Goals as goal
 
 pub invariant_of-result : goal.invariant_of-result
@@ -14,5 +14,5 @@ invariant_of-result g c =
         all = rw (length-replicate _ unknown, count, back) refl;
         least = omega (arith, ten_bits _ _ (omega arith) bits.ensures.next_power_gt);
       },
-      bounds_unknown _ _ _ c.of.ensures.least c.of.ensures.most,
+      unknown_slots_are_true _ _ _ c.of.ensures.least c.of.ensures.most,
     )
