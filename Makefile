@@ -33,9 +33,9 @@ check:
 	$(NEEDS_RT)
 	JOBS=$(JOBS) tests/check $(CRATES)
 
-# Runs the test suite. That is every proof from nothing, the tests and the program's stored run; and, over what that has built, seeded
-# mistakes that the prover must refuse, refused memory, the steps by which threads wait, and random trials. At the end it prints the time
-# of each stage.
+# Runs the test suite. That is every proof, from nothing unless an earlier run here did it, the tests and the program's stored run; and, over
+# what that has built, seeded mistakes that the prover must refuse, refused memory, the steps by which threads wait, and random trials. At
+# the end it prints the time of each stage.
 test:
 	$(NEEDS_RT)
 	tests/suite

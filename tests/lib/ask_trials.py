@@ -2,19 +2,18 @@
 
 import os
 import pty
-import resource
 import socket
 import subprocess
 import tempfile
 import termios
 from contextlib import suppress
 from itertools import product
-from pathlib import Path
 
 from lib import reference
-from lib.failing import Failed, read_soon
+from lib.failing import PATIENCE, Failed, read_soon
 from lib.output_trials import before_more
-from lib.random_data import LONG_GAME, SEARCHING, FILE_SUBCOMMANDS, TABLES
+from lib.processes import in_memory
+from lib.random_data import FILE_SUBCOMMANDS, HARD_LINE, LONG_GAME, SEARCHING, TABLES
 from lib.reference import Run
 
 # The number of lines that are sent one by one to a run.
@@ -29,9 +28,6 @@ ROOM = 16_384
 
 # What is said once to somebody who types.
 HINT = b"kalah: waits for positions, one a line, as 1,1/0 1,1/0; Ctrl-D ends\n"
-
-# The line that one run answers repeatedly, which takes long if what was learned is lost after each answer.
-AGAIN = b"2,3,2,3,2,3/0 3,2,3,2,3,3/0\n"
 
 
 def terminal():
@@ -146,11 +142,17 @@ def hear_one_answer(runs):
         got = read_soon(reader, 10)
         os.close(reader)
         # It doesn't wait for the end of its input.
-        process.stdin.write(b"3/0 3/0\n")
+        with suppress(BrokenPipeError):
+            process.stdin.write(b"3/0 3/0\n")
         said = read_soon(process.stderr.fileno(), 20)
         if not said:
             process.kill()
-        runs.compare(Run(b"0 house 1\n", b"kalah: write failed\n", 2), Run(got, said, process.wait()))
+        try:
+            status = process.wait(PATIENCE)
+        except subprocess.TimeoutExpired:
+            process.kill()
+            raise Failed(f"the run goes on {PATIENCE} seconds after a failed write") from None
+        runs.compare(Run(b"0 house 1\n", b"kalah: write failed\n", 2), Run(got, said, status))
 
 
 def asked_at_length(runs):
@@ -158,12 +160,11 @@ def asked_at_length(runs):
     runs.put({})
     process = runs.start(["ask", "--table", "1"], stdin=subprocess.PIPE)
     piece = b"1" * (1 << 20)
-    for _ in range(LONG // len(piece)):
-        process.stdin.write(piece)
-    status = Path(f"/proc/{process.pid}/status").read_text()
-    most = int(status.partition("VmHWM:")[2].split()[0])
-    out, err = process.communicate(b"\n1/0 1/0")
-    runs.compare(Run(b"fault long\n0 house 1\n", b"", 1), Run(out, err, process.returncode))
+    with suppress(BrokenPipeError):
+        for _ in range(LONG // len(piece)):
+            process.stdin.write(piece)
+    most = in_memory(process, "VmHWM")
+    runs.compare(Run(b"fault long\n0 house 1\n", b"", 1), runs.end_of(process, more=b"\n1/0 1/0"))
     if most > ROOM:
         raise Failed(f"{most} kB were taken for a long line, more than {ROOM}")
 
@@ -173,12 +174,11 @@ def asked_again(runs):
     runs.put({})
     spent = []
     for times in (1, 100):
-        before = resource.getrusage(resource.RUSAGE_CHILDREN).ru_utime
         process = runs.start(["ask"], stdin=subprocess.PIPE)
-        out, _ = process.communicate(AGAIN * times)
-        spent.append(resource.getrusage(resource.RUSAGE_CHILDREN).ru_utime - before)
-        if len(set(out.splitlines())) != 1 or out.count(b"\n") != times:
-            raise Failed(f"{times} times the same is not answered by {times} equal lines, but by {out[:200]}")
+        run, seconds = runs.timed(lambda: runs.end_of(process, more=HARD_LINE * times))
+        spent.append(seconds)
+        if len(set(run.out.splitlines())) != 1 or run.out.count(b"\n") != times:
+            raise Failed(f"{times} times the same is not answered by {times} equal lines, but by {run.out[:200]}")
     if spent[1] > 10 * spent[0] + 0.5:
         raise Failed(f"one question took {spent[0]:.2f} s, and a hundred times the same {spent[1]:.2f} s")
 

@@ -66,9 +66,10 @@ class Runs:
         after = resource.getrusage(resource.RUSAGE_CHILDREN)
         return result, after.ru_utime + after.ru_stime - before.ru_utime - before.ru_stime
 
-    def end_of(self, process, patience=PATIENCE):
+    def end_of(self, process, patience=PATIENCE, more=None):
+        """Writes more to the run's standard input, if it is a pipe, and returns the result of the run."""
         try:
-            out, err = process.communicate(timeout=patience)
+            out, err = process.communicate(more, timeout=patience)
         except subprocess.TimeoutExpired:
             process.kill()
             raise Failed(f"the run has not ended after {patience} seconds") from None

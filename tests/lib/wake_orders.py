@@ -1,4 +1,4 @@
-"""Every order of the steps that a few threads take: workers put and one thread, the collector, gets, through a queue of a place or two.
+"""Every order of the steps that a few threads take: workers put and one thread, the caller, gets, through a queue of a place or two.
 
 Each atomic step is one step here. Those of the threads that wait are read from the code; those of the queue below are written here. So a
 try fails where the queue is full or empty, and also where another thread is in the way: where it has claimed a place and not yet stamped
@@ -14,7 +14,7 @@ LISTS = ["getters", "putters"]
 # A try below the code, in its steps.
 TRY = ["read_end", "read_stamp", "claim", "stamp"]
 LOST = "a thread sleeps beside what it waits for"
-# How many outcomes each worker puts, how many the collector gets, how many places there are, whether a try is made in its steps or at
+# How many outcomes each worker puts, how many the caller gets, how many places there are, whether a try is made in its steps or at
 # once, and how many sleeps end for no reason. Where a try is made in steps, all are got, as a worker to which another was in the way may
 # wait for the next get.
 Few = namedtuple("Few", "puts gets places in_steps for_no_reason", defaults=[0])
@@ -97,22 +97,22 @@ def compared(thread, word, comparison, number):
 
 
 class Orders:
-    """The orders of the steps of a few threads, with those of the code or with a mistake in those of the collector or of the workers."""
+    """The orders of the steps of a few threads, with those of the code or with a mistake in those of the caller or of the workers."""
 
-    def __init__(self, few, code, of_collector=None, of_workers=None):
+    def __init__(self, few, code, of_caller=None, of_workers=None):
         self.few, self.places = few, few.places
-        self.sides = Side("get", code, few.in_steps, of_collector), Side("put_later", code, few.in_steps, of_workers)
+        self.sides = Side("get", code, few.in_steps, of_caller), Side("put_later", code, few.in_steps, of_workers)
         self.word = value(code["Waiters::new"][0].operands[0])
 
     def start(self):
         gets, puts = self.sides
-        collector = self.alone(Thread(gets.tries, 0, False, False, self.few.gets), gets, 0)
+        caller = self.alone(Thread(gets.tries, 0, False, False, self.few.gets), gets, 0)
         workers = (Thread(puts.tries, 0, False, False, left) for left in sorted(self.few.puts))
         return State(0, 0, tuple(2 * at for at in range(self.places)), (self.word, self.word), self.few.for_no_reason,
-                     (collector, *workers))
+                     (caller, *workers))
 
     def alone(self, thread, side, head):
-        """The thread after all next steps that no other can see: the collector reads its end of the queue, a wait is dropped."""
+        """The thread after all next steps that no other can see: the caller reads its end of the queue, a wait is dropped."""
         while thread.steps:
             name, _, *operands = thread.steps[0]
             rest = thread.steps[1:]
@@ -142,8 +142,8 @@ class Orders:
         if not new.steps and new.left:
             new = went_on(new, side)
         new = self.alone(new, side, changes.get("head", state.head))
-        collector, *workers = *threads[:i], new, *threads[i + 1:]
-        return state._replace(threads=(collector, *sorted(workers)), **changes)
+        caller, *workers = *threads[:i], new, *threads[i + 1:]
+        return state._replace(threads=(caller, *sorted(workers)), **changes)
 
     def in_queue(self, state, who, thread, step, *_):
         """Yields the thread after a step of a try, with what that changes. The one that gets is 0, those who put are 1."""
@@ -160,7 +160,7 @@ class Orders:
             case "read_stamp" if who:
                 yield thread, {}
             case "read_stamp":
-                # Nobody else claims at the collector's end.
+                # Nobody else claims at the caller's end.
                 yield thread._replace(steps=thread.steps[1:]), {"head": end + 1}
             case "try_at_once":
                 yield thread._replace(steps=side.has), {"stamps": tuple(stamps), "tail" if who else "head": end + 1}

@@ -3,6 +3,7 @@
 import os
 import subprocess
 import time
+from contextlib import suppress
 
 from lib import reference
 from lib.failing import SOON, Failed
@@ -114,15 +115,21 @@ def tables_as_asked(runs):
 
 
 def memory_of_search(runs, subcommand, entries):
-    """Returns the most that a long search has in memory, in kB, after some time at work."""
+    """Returns the most that a long search has in memory, in kB, after some time at work or shortly before its end."""
     rest = {"ask": [], "play": [LONG_GAME], "show": [LONG_GAME]}.get(subcommand, ["--workers=1", "a"])
     with runs.start([subcommand, f"--table={entries}", *rest], stdin=subprocess.PIPE, bufsize=0) as process:
         process.stdin.write(LONG_GAME + b"\n")
-        at_work = f"{SEARCHED} ticks of the clock at work"
-        soon(at_work, lambda: process.poll() is not None or sum(ticks_of(process).values()) >= SEARCHED)
-        kilobytes = in_memory(process, "VmHWM")
+        process.stdin.close()
+        found = [0]
+
+        def was_at_work():
+            with suppress(FileNotFoundError, TypeError):  # It has ended.
+                found.append(in_memory(process, "VmHWM"))
+            return process.poll() is not None or sum(ticks_of(process).values()) >= SEARCHED
+
+        soon(f"{SEARCHED} ticks of the clock at work", was_at_work)
         process.kill()
-    return kilobytes
+    return found[-1]
 
 
 def few_lines_in_little_space(runs):

@@ -123,6 +123,7 @@ pub(crate) fn read_files<'a, R: Sources>(
 {
     let mut files = Vec::new(alloc);
     for name in names {
+        // `?`, written out, as in `run_files`.
         let file = match read_file(rt, alloc, *name) {
             Ok(file) => file,
             Err(failure) => return Err(failure),

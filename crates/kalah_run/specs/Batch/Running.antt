@@ -25,8 +25,8 @@ pub record HasRoom (workers : ℕ) (lists : PassLists) : Type 0 where
   pub puts : workers ≤ vec_capacity lists.put_passes
 
 module _ {G : Type 0} where
-  -- for this request, with these jobs and this gate: there are the workers asked for, but at most one for each job, and one for no job;
-  -- each has its table, and the queue has its places
+  -- for this request, with these jobs and this gate: there are the workers asked for, but at most one for each job, and one if there is no
+  -- job; each has its table, and the queue has its places
   pub record IsAsAsked (request : BatchRequest) (jobs : JobsState) (gate : G) (b : OpenBatch G) : Type 0 where
     pub workers : length b.workers.items ≡ max 1 (min request.workers (job_count jobs))
     pub tables : HaveOwnTables request.table b.workers.items

@@ -80,8 +80,8 @@ pub(crate) struct OpenBatch<'a, G> {
 }
 
 impl<'a, G: Gate> OpenBatch<'a, G> {
-    /// Opens a batch of these jobs, with the workers asked for, but at most one for each job, and one for no job. All memory that it
-    /// can't do without is allocated here. Fails with `AllocError` only if memory was refused.
+    /// Opens a batch of these jobs, with the workers asked for, but at most one for each job, and one if there is no job. All memory that
+    /// it can't do without is allocated here. Fails with `AllocError` only if memory was refused.
     pub(crate) fn open(
         alloc: Global,
         request: &BatchRequest<'a>,

@@ -1,4 +1,4 @@
-//! The number of nodes of the search: `rt test -- nodes` prints it.
+//! The number of nodes of the search (`rt test -- nodes` prints it), and what it keeps of them.
 use super::*;
 use crate::tests::{houses_of, table_of};
 use std::alloc::Global;

@@ -123,6 +123,11 @@ const ORDERS: &[[(u8, u32); 3]] = &[
 ];
 
 #[test]
+fn each_offer_has_its_answer(rt: HostRuntime) {
+    Trial::new(&rt).assert_offers(&rt);
+}
+
+#[test]
 fn lines_become_ready_in_order(rt: HostRuntime) {
     for offers in ORDERS {
         let mut trial = Trial::new(&rt);
