@@ -74,13 +74,13 @@ won_of_houses {a} limits =
 
 -- houses are worth what the mover wins less the others
 pub worth_of_won : {a : HousesState} → AreWithinLimits a → houses_worth a ≡ margin_of (won a) (total_seeds a)
-worth_of_won {a} limits = omega (arith, ints, (won_of_houses limits).margin)
+worth_of_won {a} limits = omega (arith, ints, won_of_houses limits)
 
 pub worth_low : {a : HousesState} → AreWithinLimits a → least_margin ≤ℤ houses_worth a
-worth_low {a} limits = omega (arith, ints, (won_of_houses limits).few, (won_of_houses limits).margin)
+worth_low {a} limits = omega (arith, ints, won_of_houses limits)
 
 pub worth_high : {a : HousesState} → AreWithinLimits a → houses_worth a ≤ℤ most_margin
-worth_high {a} limits = omega (arith, ints, (won_of_houses limits).few, (won_of_houses limits).margin)
+worth_high {a} limits = omega (arith, ints, won_of_houses limits)
 
 -- the mover wins half of what the houses are worth and hold together
 pub half_is_won : {a : HousesState} {worth : ℤ} {half : ℕ} → AreWithinLimits a → worth ≡ houses_worth a
@@ -90,12 +90,8 @@ half_is_won {a} {worth} {half} limits worth_is half_is = grind (arith, won_of_ho
 won_of_step : (a : HousesState) (s : HousesStep) → LeadsOn a s
     → IsWonOf (total_seeds a) (worth_of_step s) (won_by_step s)
 won_of_step a (Over own other) leads = omega (arith, ints)
-won_of_step a (Again gained b) leads =
-    let on = won_of_houses leads.limits in
-    omega (arith, ints)
-won_of_step a (Turn gained b) leads =
-    let on = won_of_houses leads.limits in
-    omega (arith, ints)
+won_of_step a (Again gained b) leads = omega (arith, ints, won_of_houses leads.limits)
+won_of_step a (Turn gained b) leads = omega (arith, ints, won_of_houses leads.limits)
 
 module _ {a : HousesState} (limits : AreWithinLimits a) where
   -- what is won by the move of house h
@@ -106,13 +102,13 @@ module _ {a : HousesState} (limits : AreWithinLimits a) where
   pub won_at_most : (h : ℕ) → IsLegal a h → won_by_step (houses_step a h) ≤ won a
   won_at_most h legal =
       let most = (worth_is_most_of_moves (storeless a) (omega arith) (legal_going (storeless a) h legal)).most h legal in
-      omega (arith, ints, (won_of_move h legal).margin, (won_of_houses limits).margin)
+      omega (arith, ints, won_of_move h legal, won_of_houses limits)
 
   -- some move wins what best play wins
   pub won_reached : is_over (storeless a) ≡ false → (h : ℕ) × IsLegal a h × (won_by_step (houses_step a h) ≡ won a)
   won_reached going =
       let at = (worth_is_most_of_moves (storeless a) (omega arith) going).reached in
-      (at.0, at.1, omega (arith, ints, at.2, (won_of_move at.0 at.1).margin, (won_of_houses limits).margin))
+      (at.0, at.1, omega (arith, ints, at.2, won_of_move at.0 at.1, won_of_houses limits))
 
 -- ==== The answer of the search in a window
 
@@ -127,8 +123,7 @@ in_both i j lo_is hi_is z = (λ within. omega (arith, ints, clamps), λ both. om
 
 -- an interval that leaves some of it open leaves the answers
 pub narrowed_answers : (lo hi z : ℤ) (k : Interval) {new_lo new_hi : ℤ} → Encloses k z → new_lo ≡ int_max lo k.lo
-    → new_hi ≡ int_min hi k.hi
-    → new_lo <ℤ new_hi → clamped new_lo new_hi z ≡ clamped lo hi z
+    → new_hi ≡ int_min hi k.hi → new_lo <ℤ new_hi → clamped new_lo new_hi z ≡ clamped lo hi z
 narrowed_answers lo hi z k holds lo_is hi_is ordered = omega (arith, ints, clamps)
 
 -- an interval that leaves nothing of it open answers

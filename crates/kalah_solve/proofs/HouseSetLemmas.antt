@@ -72,9 +72,7 @@ highest_cell_falls (suc q) n low high =
 -- if the highest cell holds one, it bounds the number
 below_twice_highest : (q n : ℕ) → n < 32 ^ suc q → cell n q ≤ 1 → n < 2 * 32 ^ q
 below_twice_highest zero n high single = omega arith
-below_twice_highest (suc q) n high single =
-    let rest = below_twice_highest q _ (omega arith) single in
-    omega arith
+below_twice_highest (suc q) n high single = omega (arith, below_twice_highest q _ (omega arith) single)
 
 -- without the last house all others stay, and none is new
 module _ (mask h : ℕ) (last : IsLastIn mask h) where
@@ -90,7 +88,7 @@ module _ (mask h : ℕ) (last : IsLastIn mask h) where
 
 -- without the last house the mask is lower
 pub without_last_less : {mask h rest : ℕ} → IsLastIn mask h × (rest ≡ without_house mask h) → rest < mask
-without_last_less popped = omega (arith, popped.0, popped.1)
+without_last_less popped = omega (arith, popped.0)
 
 -- the last house is found by the leading zeros
 last_by_zeros : {mask leading : ℕ} → 0 < mask → mask < 2 ^ 30 → leading ≡ count_leading_zeros 64 mask
@@ -274,11 +272,8 @@ module _ {a : HousesState} {row : ℕ} (limits : AreWithinLimits a) (row_is : ro
   -- what is in the set has seeds
   pub in_filled : {filled : ℕ} → IsMaskOfFilled row filled → (i : ℕ) → (0 < cell filled i) ↔ (0 < slice_index a.own i)
   in_filled {filled} mask i = elim (cases_lt i 6) [
-    | inl inside ↦ (λ some. omega (arith, own_cell i, mask.cells i inside), λ some. omega (arith, own_cell i, mask.cells i inside))
-    | inr past ↦
-        let none = cell_past 6 i filled mask.are.small past in
-        let nothing = own_past i (omega arith) in
-        (omega arith)
+    | inl inside ↦ omega (arith, own_cell i, mask.cells i inside)
+    | inr past ↦ omega (arith, cell_past 6 i filled mask.are.small past, own_past i (omega arith))
   ]
 
   module _ {m ending : ℕ} (side : m ≡ length a.own) (mask : IsMaskIntoStore row m ending) where
@@ -286,16 +281,14 @@ module _ {a : HousesState} {row : ℕ} (limits : AreWithinLimits a) (row_is : ro
     pub in_mask_into_store : (i : ℕ) → (0 < cell ending i) ↔ ((i < length a.own) × EndsDirectlyInStore a (i + 1))
     in_mask_into_store i = elim (cases_lt i m) [
       | inl is_inside ↦
-          let marked = mask.inside i is_inside in (
-            λ some. (omega arith, (ends_at i).1 (omega (arith, marked.0 some, own_cell i))),
-            λ both. marked.1 (omega (arith, (ends_at i).0 both.1, own_cell i)),
-          )
+          let marked = mask.inside i is_inside in
+          grind (arith, own_cell)
       | inr is_past ↦
           let none : cell ending i ≡ 0 = elim (cases_lt i 6) [
             | inl low ↦ mask.past i low is_past (own_cell i ∙ own_past i (omega arith))
             | inr high ↦ cell_past 6 i ending mask.are.small high
           ] in
-          (λ some. absurd (omega arith), λ both. absurd (let low = both.0 in omega arith))
+          omega arith
     ]
 
     module _ {filled : ℕ} (with_seeds : IsMaskOfFilled row filled) where

@@ -155,8 +155,8 @@ two_sums : (x y : ℕ) (ys : List ℕ) → sum (x ∷ y ∷ ys) ≤ most_ending_
 two_sums x y ys few = omega (arith, sum_by-cons)
 
 -- two cells more of a row
-module _ (row : List ℕ) (few : sum row ≤ most_ending_seeds) (m passed sums added : ℕ) (long : length row ≡ 2 * m) (most : m ≤ 6)
-    (more : passed < m) (ranked : IsRanked row passed sums added) where
+module _ {row : List ℕ} {passed sums added : ℕ} (ranked : IsRanked row passed sums added) (few : sum row ≤ most_ending_seeds) (m : ℕ)
+    (long : length row ≡ 2 * m) (most : m ≤ 6) (more : passed < m) where
   -- the next two cells, and those past them
   abbrev two_first : ℕ
   two_first = get_or row (2 * passed) 0
@@ -171,9 +171,7 @@ module _ (row : List ℕ) (few : sum row ≤ most_ending_seeds) (m passed sums a
   two_more = grind (arith, drop_more)
 
   two_less : sum (two_first ∷ two_second ∷ two_past) ≤ most_ending_seeds
-  two_less =
-      let less : sum (drop (2 * passed) row) ≤ most_ending_seeds = omega (arith, sum_by-take-drop (λ (y : ℕ). y) row (2 * passed)) in
-      rw two_more at less
+  two_less = rw (← two_more) (omega (arith, sum_by-take-drop (λ (y : ℕ). y) row (2 * passed)))
 
   -- their sums are read off the sums that are left
   two_are : AreTwo sums two_first two_second two_past
@@ -190,12 +188,8 @@ module _ (row : List ℕ) (few : sum row ≤ most_ending_seeds) (m passed sums a
       let first_cells : suc (length rest) ≡ 2 * past + 2 = omega arith in
       let second : two_second + sum two_past + length two_past ≡ sums % 1024 / 32 + 2 * past = omega (arith, two_are.second) in
       let second_cells : suc (length two_past) ≡ 2 * past + 1 = omega arith in
-      let ways : choose (two_first + sum rest + length rest) (suc (length rest)) ≡ choose (sums % 1024 % 32 + 2 * past + 1)
-      (2 * past + 2) =
-      rw (first, first_cells) refl in
-      let ways' : choose (two_second + sum two_past + length two_past) (suc (length two_past))
-      ≡ choose (sums % 1024 / 32 + 2 * past) (2 * past + 1) = rw (second, second_cells) refl in
-      let two_add : row_rank (drop (2 * passed) row) ≡ c + row_rank two_past = rw two_more (omega arith) in
+      let two_add : row_rank (drop (2 * passed) row) ≡ c + row_rank two_past =
+      rw (two_more, first, first_cells, second, second_cells) (omega arith) in
       record { left = two_are.past; rank = omega arith }
 
   pub two_few : (sums % 1024 % 32 < COUNTS) × (sums % 1024 / 32 < COUNTS)

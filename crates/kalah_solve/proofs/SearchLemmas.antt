@@ -65,10 +65,7 @@ short_stays low short new_is enough = omega arith
 -- what is left of all is bounded by what the bound of the opponent leaves
 pub bound_of_rest : {beta number bound all seeds : ℕ} (gained : ℕ) → all ≡ gained + seeds → number ≤ seeds
     → IsSoftBound (all - beta + 1) number bound → IsSoftBound beta (gained + (seeds - number)) (all - bound)
-bound_of_rest {beta} {bound = bound} {all} gained all_is few b = elim (cases_lt bound (all - beta + 1)) [
-  | inl short ↦ omega (arith, b.upper short)
-  | inr enough ↦ omega (arith, b.lower enough)
-]
+bound_of_rest {beta} {bound = bound} {all} gained all_is few b = grind (arith, cases_lt)
 
 -- a bound of a move that is enough is no more than best play wins
 pub enough_is_won : {a : HousesState} {beta h bound : ℕ} → AreWithinLimits a → IsLegal a h
@@ -133,7 +130,7 @@ module _ {a b : HousesState} {priorities rest : List ℕ} {turns : List HousesSt
   reply_left = rw (turn_taken.step, seeds_are) (bound_of_rest _ (omega (arith, leads.kept)) reply_few (rw (left_is, seeds_are) at bounded))
 
   pub reply_fits : bound ≤ seeds
-  reply_fits = let kept = leads.kept in grind (arith, cases_lt, reply_few)
+  reply_fits = grind (arith, cases_lt, reply_few, leads)
 
   -- what is left of them is a bound of what best play wins, if it is enough
   pub turn_enough : beta ≤ seeds - bound → IsSoftBound beta (won a) (seeds - bound)
@@ -285,7 +282,4 @@ untried_fewer {a} {priorities = priorities} {turns = turns} bound untried taken 
 -- once none waits, `most` is a bound of what best play wins
 pub none_untried : {a : HousesState} {beta most : ℕ} {priorities : List ℕ} {turns : List HousesState} → AreWithinLimits a
     → is_over (storeless a) ≡ false → AreUntried a beta most priorities turns → IsEmpty priorities → IsSoftBound beta (won a) most
-none_untried {a} {most = most} limits going untried none =
-    let each : (h : ℕ) → IsLegal a h → WinsAtMost a most h = λ h legal. untried.tried h legal (none (h - 1)) in
-    let high : won a ≤ most = grind (arith, won_reached) in
-    record { lower = λ enough. absurd (omega (arith, untried.short)); upper = λ short. high }
+none_untried {a} {most = most} limits going untried none = grind (arith, won_reached)

@@ -13,7 +13,7 @@ use Rattle.kalah_solve.specs.{AreValuesByBestPlay, ValueIsWorthOfMove, WorthOfMo
 use Rattle.kalah_solve.specs.{IsMoveValue, least_margin, most_margin, clamped, won, won_by_step}
 use Rattle.kalah_solve.specs.Solver.BestPlay.Game.{is_at_end, moves_on, passes_turn}
 use Rattle.kalah_solve.specs.declared.solver.{Verdict.{Verdict, TheVariants.{Best, Over}}, move_values.MoveValue.{MoveValue}}
-use Rattle.kalah_solve.proofs.{ListLemmas.{find_lowest, greatest_reached}, WorthLemmas.{swapped_equal_sides, over_at_end, worth_of_over, final_swapped, value_moving_again, value_passing, best_found, best_attains, value_most, int_eq-same, worth_of_going, int_eq-lower, worth_of_houses, value_of_houses}, BoundsLemmas.{worth_low, worth_high, won_of_houses, won_of_move, won_at_most}}
+use Rattle.kalah_solve.proofs.{ListLemmas.{find_lowest, greatest_reached}, WorthLemmas.{swapped_equal_sides, over_at_end, worth_of_over, final_swapped, value_moving_again, value_passing, best_found, best_attains, value_most, int_eq-same, worth_of_going, int_eq-lower, worth_of_houses, value_of_houses}, BoundsLemmas.{won_of_houses, won_of_move, won_at_most}}
 use Rattle.lru.proofs.Splits.{Contains-head}
 
 -- ==== The games that players play
@@ -312,7 +312,7 @@ values_tell_verdict p equal going = grind (arith, map-map, worth_of_going, first
 -- in the whole window the answer is the worth
 pub whole_window : {a : HousesState} {found lo hi : ℤ} → AreWithinLimits a → lo ≡ least_margin → hi ≡ most_margin
     → found ≡ clamped lo hi (houses_worth a) → found ≡ houses_worth a
-whole_window {a} limits lo_is hi_is found_is = omega (arith, ints, clamps, worth_low limits, worth_high limits)
+whole_window {a} limits lo_is hi_is found_is = omega (arith, ints, clamps, won_of_houses limits)
 
 -- the legal house with index i
 abbrev legal_at : HousesState → ℕ → ℕ
@@ -323,32 +323,24 @@ abbrev pub FallShort : HousesState → ℕ → Type 0
 FallShort a i = (k : ℕ) → k < i → int_eq (value_of_move (storeless a) (legal_at a k)) (houses_worth a) ≡ false
 
 module _ (a : HousesState) (limits : AreWithinLimits a) where
-  -- a house that wins as many seeds as best play is worth as much
-  worth_if_enough : (h : ℕ) → IsLegal a h → won a ≤ won_by_step (houses_step a h)
-      → value_of_move (storeless a) h ≡ houses_worth a
-  worth_if_enough h legal enough = grind (arith, won_at_most, won_of_move, won_of_houses)
-
   -- a house that wins fewer seeds than best play is worth less
   worth_less_if_short : (h : ℕ) → IsLegal a h → won_by_step (houses_step a h) < won a
       → value_of_move (storeless a) h <ℤ houses_worth a
   worth_less_if_short h legal less = grind (arith, won_of_move, won_of_houses)
 
-  -- the first house worth the margin is the best house
-  first_is_best : (i : ℕ) → i < length (legal_houses (storeless a)) → FallShort a i
-      → value_of_move (storeless a) (legal_at a i) ≡ houses_worth a
-      → legal_at a i ≡ best_house (storeless a)
-  first_is_best i inside short attains = grind (arith, find_first)
+  -- house i, if those before it fall short
+  module _ (i : ℕ) (inside : i < length (legal_houses (storeless a))) (short : FallShort a i) where
+    -- is the best house if it is worth the margin
+    first_is_best : value_of_move (storeless a) (legal_at a i) ≡ houses_worth a → legal_at a i ≡ best_house (storeless a)
+    first_is_best attains = grind (arith, find_first)
 
-  -- a house that wins enough, if those before it fall short
-  pub first_enough_is_best : (i : ℕ) → i < length (legal_houses (storeless a)) → FallShort a i
-      → won a ≤ won_by_step (houses_step a (legal_at a i))
-      → legal_at a i ≡ best_house (storeless a)
-  first_enough_is_best i inside short enough = first_is_best i inside short (worth_if_enough _ (Contains-get_or _ i 0 inside) enough)
+    -- or wins as many seeds as best play
+    pub first_enough_is_best : won a ≤ won_by_step (houses_step a (legal_at a i)) → legal_at a i ≡ best_house (storeless a)
+    first_enough_is_best enough = grind (arith, first_is_best, won_at_most, won_of_move, won_of_houses, Contains-get_or)
 
-  -- if a house wins fewer, the first i + 1 fall short
-  pub one_more_falls_short : (i : ℕ) → i < length (legal_houses (storeless a)) → FallShort a i
-      → won_by_step (houses_step a (legal_at a i)) < won a → FallShort a (i + 1)
-  one_more_falls_short i inside short less k low = grind (arith, cases_eq, int_eq-lower, worth_less_if_short, Contains-get_or)
+    -- and falls short, too, if it wins fewer
+    pub one_more_falls_short : won_by_step (houses_step a (legal_at a i)) < won a → FallShort a (i + 1)
+    one_more_falls_short less k low = grind (arith, cases_eq, int_eq-lower, worth_less_if_short, Contains-get_or)
 
   -- if all but the last fall short, it is the last
   pub last_is_best : (n : ℕ) → is_over (storeless a) ≡ false → length (legal_houses (storeless a)) ≡ n + 1 → FallShort a n
@@ -372,31 +364,23 @@ module _ (p : Position) {best : ℤ} {own other : ℕ} (limits : IsWithinLimits 
     (own_is : own ≡ p.own_store) (other_is : other ≡ p.other_store) where
   -- the sum is not too large
   pub margin_fits : FitsSigned w32 (to_z w32 (of_z w32 best) +ℤ to_z w32 (of_z w32 (to_z w32 own -ℤ to_z w32 other)))
-  margin_fits =
-      let within = houses_within limits in
-      omega (arith, ints, worth_low within, worth_high within)
+  margin_fits = omega (arith, ints, won_of_houses (houses_within limits))
 
   -- nothing is lost
   margin_is : margin_in_bits best own other ≡ best +ℤ (pos p.own_store -ℤ pos p.other_store)
-  margin_is =
-      let within = houses_within limits in
-      omega (arith, ints, worth_low within, worth_high within)
+  margin_is = omega (arith, ints, won_of_houses (houses_within limits))
 
   pub margin_is_worth : margin_in_bits best own other ≡ worth p
   margin_is_worth = margin_is ∙ rw best_is (sym (worth_of_houses p))
 
   pub margin_is_small : IsMarginInRange (margin_in_bits best own other)
-  margin_is_small =
-      let of_houses = won_of_houses (houses_within limits) in
-      omega (arith, ints, margin_is)
+  margin_is_small = omega (arith, ints, margin_is, won_of_houses (houses_within limits))
 
 -- ==== The value of a move, and its house, are numbers that a game can have
 
 -- the value of a move
 value_small : {p : Position} {h : ℕ} → IsWithinLimits p → Contains (legal_houses p) h → IsMarginInRange (value_of_move p h)
-value_small {p} {h} limits legal =
-    let bounds = won_of_move (houses_within limits) h legal in
-    omega (arith, ints, value_of_houses p h, bounds.few, bounds.margin)
+value_small {p} {h} limits legal = omega (arith, ints, value_of_houses p h, won_of_move (houses_within limits) h legal)
 
 -- a legal house
 pub house_small : {p : Position} {h : ℕ} → IsWithinLimits p → Contains (legal_houses p) h → h ≤ most_houses

@@ -87,34 +87,29 @@ worth_of_going {p} equal going =
 final_margin-swept : (q : Position) → final_margin (swept q) ≡ final_margin q
 final_margin-swept q = omega (arith, ints)
 
--- a move that ends the game leaves it over
-pub over_ends : (p : Position) (h : ℕ) (e : Position) → board.Over e ≡ step_of p h → IsTrue (is_over e)
-over_ends p h e step_is = grind (arith, sum-zeros)
+-- the step of the move of house h leads to e
+module _ (p : Position) (h : ℕ) (e : Position) where
+  -- a move that ends the game leaves it over
+  pub over_ends : board.Over e ≡ step_of p h → IsTrue (is_over e)
+  over_ends step_is = grind (arith, sum-zeros)
 
--- the value of a move, by its step
-pub value_of_over : (p : Position) (h : ℕ) (e : Position) → board.Over e ≡ step_of p h → final_margin e ≡ value_of_move p h
-value_of_over p h e step_is = grind (arith, final_margin-swept)
+  -- the value of a move, by its step
+  pub value_of_over : board.Over e ≡ step_of p h → final_margin e ≡ value_of_move p h
+  value_of_over step_is = grind (arith, final_margin-swept)
 
--- if the mover moves again
-pub value_of_again : (p : Position) (h : ℕ) (e : Position) → board.Again e ≡ step_of p h → worth e ≡ value_of_move p h
-value_of_again p h e step_is = grind arith
+  pub value_of_again : board.Again e ≡ step_of p h → worth e ≡ value_of_move p h
+  value_of_again step_is = grind arith
 
--- if the turn passes
-pub value_of_turn : (p : Position) (h : ℕ) (e : Position) → board.Turn e ≡ step_of p h → neg_ℤ (worth e) ≡ value_of_move p h
-value_of_turn p h e step_is = grind arith
+  pub value_of_turn : board.Turn e ≡ step_of p h → neg_ℤ (worth e) ≡ value_of_move p h
+  value_of_turn step_is = grind arith
 
--- how many moves a move leaves, if the mover moves again
-pub again_fewer : (p : Position) (h : ℕ) (e : Position) → HasEqualSides p → Contains (legal_houses p) h
-    → board.Again e ≡ step_of p h → moves_left e < moves_left p
-again_fewer p h e equal legal step_is = let fewer = after_fewer (legal_holds _ legal) equal in grind arith
+  -- a move leaves fewer moves
+  module _ (equal : HasEqualSides p) (legal : Contains (legal_houses p) h) where
+    pub again_fewer : board.Again e ≡ step_of p h → moves_left e < moves_left p
+    again_fewer step_is = grind (arith, after_fewer, legal_holds)
 
--- if the turn passes
-pub turn_fewer : (p : Position) (h : ℕ) (e : Position) → HasEqualSides p → Contains (legal_houses p) h
-    → board.Turn e ≡ step_of p h → moves_left e < moves_left p
-turn_fewer p h e equal legal step_is =
-    let fewer = after_fewer (legal_holds _ legal) equal in
-    let swapped_fewer = moves_left-swapped (after_equal_sides p h) in
-    grind arith
+    pub turn_fewer : board.Turn e ≡ step_of p h → moves_left e < moves_left p
+    turn_fewer step_is = grind (arith, after_fewer, legal_holds, moves_left-swapped, after_equal_sides)
 
 -- ==== A game that goes on has a legal move
 
@@ -278,12 +273,12 @@ moves_after (Turn gained b) = moves_left (storeless b)
 -- ---- what a move is worth
 -- if the other store is empty, a position is worth the own store and its houses
 worth_again : (q : Position) → q.other_store ≡ 0 → worth q ≡ pos q.own_store +ℤ houses_worth (houses_in q)
-worth_again q none = worth_of_houses q ∙ omega (arith, ints)
+worth_again q none = omega (arith, ints, worth_of_houses q)
 
 -- the same if the turn passes
 worth_turn : (q : Position) → q.other_store ≡ 0
     → neg_ℤ (worth (swapped q)) ≡ pos q.own_store -ℤ houses_worth (houses_in (swapped q))
-worth_turn q none = ap neg_ℤ (worth_of_houses _) ∙ omega (arith, ints)
+worth_turn q none = omega (arith, ints, worth_of_houses (swapped q))
 
 -- what a position after a move is worth, by its step
 worth_by_step : (q : Position) (again : Bool) → q.other_store ≡ 0
@@ -327,20 +322,14 @@ pub played_leads_on : {a : HousesState} {h : ℕ} {s : HousesStep} → AreWithin
 played_leads_on {a} {h} limits legal step_is = grind (arith, leads_on)
 
 -- ---- what the search needs of a step
--- a step that leads on from houses within the limits goes on in their variant
-goes_on_if_leads_on : {a : HousesState} {variant : ℕ} (s : HousesStep) → AreWithinLimits a → variant_of a ≡ variant → LeadsOn a s
-    → IsStepInVariant variant s
-goes_on_if_leads_on s limits variant_is leads = grind arith
-
 -- the step of a legal move goes on in the variant
 pub goes_on : {a : HousesState} {variant h : ℕ} {s : HousesStep} → variant_of a ≡ variant → AreWithinLimits a → IsLegal a h
     → s ≡ houses_step a h → IsStepInVariant variant s
-goes_on {s = s} variant_is limits legal step_is = goes_on_if_leads_on s limits variant_is (played_leads_on limits legal step_is)
+goes_on {s = s} variant_is limits legal step_is = let leads = played_leads_on limits legal step_is in grind arith
 
 -- the step of a legal move leaves fewer moves
 pub step_falls : {a : HousesState} {h : ℕ} {s : HousesStep} → AreWithinLimits a → IsLegal a h → s ≡ houses_step a h
     → moves_after s < moves_left (storeless a)
 step_falls {a} {h} {s} limits legal step_is =
-    let fewer = after_fewer (legal_holds (storeless a) legal) (record { same = limits.same_side }) in
     let leads = played_leads_on limits legal step_is in
-    grind arith
+    grind (arith, after_fewer, legal_holds)

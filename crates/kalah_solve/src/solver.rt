@@ -37,7 +37,8 @@ fn worth_of_board(of_houses: i32, board: &Board) -> i32
     of_houses + (board.own_store() as i32 - board.other_store() as i32)
 }
 
-/// Computes what positions are worth, by a search that keeps what it learns in a table.
+/// Computes what positions are worth, by a search that keeps what it learns in a table for later positions. If there is no memory for an
+/// entry, it is left out.
 #[derive(Drop)]
 pub struct Solver<A: Allocator + Clone = Global> {
     search: Search<A>,
@@ -67,8 +68,7 @@ impl<A: Allocator + Clone> Solver<A> {
     }
 
     /// Returns what the position is worth to the player to move. That is the final margin of a game that is over, otherwise the margin
-    /// of best play with the lowest-numbered best house. What the table learns on the way is kept for later positions. If there is no
-    /// memory for an entry, it is left out.
+    /// of best play with the lowest-numbered best house.
     // Inlined, since each line needs one call.
     #[inline(always)]
     pub fn solve(&mut self, board: &Board) -> Verdict

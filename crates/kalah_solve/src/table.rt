@@ -1,4 +1,5 @@
-//! The transposition table: what is known of houses.
+//! The transposition table: what is known of houses. What it forgets costs time only, so of slots and endings no clause says that they are
+//! kept.
 ghost use Rattle.std.specs.{Prelude.{◌≡◌, ◌⊎◌, nat_eq, IfOk, IfSome, IsSome, Some}, Map.{lookup}};
 ghost use Rattle.kalah_rules.specs.Key.{key_of};
 ghost use Rattle.kalah_solve.specs.{Table.{Entries.{most_entries, IsTableSize, empty_table}, EndingTable.{IsEnding}}, Search.{IsOngoing}, Solver.Worth.{houses_worth}};
@@ -64,7 +65,7 @@ impl<A: Allocator + Clone> Table<A> {
         Table::with_endings(alloc, capacity, endings)
     }
 
-    /// Makes an empty table with these endings, which tables may share. Fails only if memory was refused.
+    /// Makes an empty table with these endings, which tables may share.
     pub(crate) fn with_endings(
         alloc: A,
         capacity: u32,
@@ -123,8 +124,7 @@ impl<A: Allocator + Clone> Table<A> {
         self.entries.get(&key).copied()
     }
 
-    /// Stores that the worth of the houses is in the interval, unless there is no memory for it. Replacing an entry needs none. What a
-    /// table forgets costs time only.
+    /// Stores that the worth of the houses is in the interval, unless there is no memory for it. Replacing an entry needs none.
     pub(crate) fn keep(&mut self, houses: &Houses, interval: Interval)
         requires { Encloses interval (houses_worth houses.now) }
         ensures kept { (lookup (nat_eq (key_of houses.now)) self.new.entries ≡ Some interval) ⊎ (self.new ≡ self.old) }

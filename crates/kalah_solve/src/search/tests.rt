@@ -48,7 +48,7 @@ fn search_all(
     for (m, own, other, worth) in positions {
         let houses = houses_of(rt, *m, *own, *other);
         let found = search.clamped_worth(&houses, Window::whole());
-        assert!(rt; found == *worth, "{houses:?}");
+        assert!(rt; found == *worth, "{houses:?}: {found}");
     }
     let nodes = search.nodes();
     println!(rt; "{nodes} nodes").expect(rt, "no output");

@@ -78,16 +78,16 @@ pub(crate) static SAME_HOUSES: [Worked; 2] = [
     ((2, [1, 1, 0, 9], [1, 1, 0, 4], Classic), 7, 2),
 ];
 
-// Fails at this position unless the answer is right.
-fn assert_at(rt: &impl Abort, board: &Board, is_right: bool) {
-    assert!(rt; is_right, "{board:?}");
+// Fails unless this is what was found at the position.
+fn assert_found(rt: &impl Abort, board: &Board, found: Verdict, wanted: Verdict) {
+    assert!(rt; found == wanted, "{board:?}: {found:?}");
 }
 
 /// The verdicts, in order.
 pub(crate) fn solves(rt: &impl Abort, solver: &mut Solver, positions: &[Worked]) {
     for (position, margin, house) in positions {
         let board = board_of(rt, position);
-        assert_at(rt, &board, solver.solve(&board) == verdict(*margin, *house));
+        assert_found(rt, &board, solver.solve(&board), verdict(*margin, *house));
     }
 }
 
@@ -97,11 +97,7 @@ fn the_plain_recursion_solves_worked_positions(rt: HostRuntime) {
     for (position, margin, house) in &WORKED {
         let board = board_of(&rt, position);
         if board.m() < 3 || board.own_store() == 0 {
-            assert_at(
-                &rt,
-                &board,
-                plain::solve(&board) == verdict(*margin, *house),
-            );
+            assert_found(&rt, &board, plain::solve(&board), verdict(*margin, *house));
         }
     }
 }
@@ -113,7 +109,7 @@ fn agrees_with_plain(rt: &impl Abort, solver: &mut Solver, rule: Rule) {
             for c in 0..5 - a - b {
                 for d in 0..5 - a - b - c {
                     let board = board_of(rt, &(2, [a, b, 0, 0], [c, d, 0, 0], rule));
-                    assert_at(rt, &board, solver.solve(&board) == plain::solve(&board));
+                    assert_found(rt, &board, solver.solve(&board), plain::solve(&board));
                 }
             }
         }
@@ -185,6 +181,7 @@ fn values_of_worked_positions_are_known(rt: HostRuntime) {
     let mut solver = Solver::new(table_of(&rt, 1));
     for (position, want) in &VALUES {
         let board = board_of(&rt, position);
-        assert_at(&rt, &board, are_values(&solver.values(&board), want));
+        let values = solver.values(&board);
+        assert!(rt; are_values(&values, want), "{board:?}: {values:?}");
     }
 }

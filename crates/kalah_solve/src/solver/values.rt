@@ -10,8 +10,7 @@ use std::alloc::Allocator;
 
 impl<A: Allocator + Clone> Solver<A> {
     /// Returns the value of each legal move to the player to move, with the houses in ascending order. It is the margin that the move gets
-    /// in best play. The list is empty if the game is over. The moves share what the table learns, which is kept for later positions. If
-    /// there is no memory for an entry, it is left out.
+    /// in best play. The list is empty if the game is over. The moves share what the table learns.
     pub fn values(&mut self, board: &Board) -> MoveValues
         ensures values { result ≡ values_of board.now }
         ensures best_play { AreValuesByBestPlay board.now result }

@@ -123,8 +123,6 @@ fn sums_of(houses: &Houses) -> u64
 
 impl<A: Allocator + Clone> EndingTable<A> {
     /// Makes a table with nothing known and room for all words.
-    ///
-    /// Fails with `AllocError` only if memory was refused.
     pub(crate) fn new(alloc: A) -> Result<EndingTable<A>, AllocError> {
         Ok(EndingTable {
             words: empty_words(alloc, WORDS)?,
@@ -168,7 +166,7 @@ impl<A: Allocator + Clone> EndingTable<A> {
         Some(stored as u8 - 1)
     }
 
-    // Stores how many seeds the mover wins. No clause says that it is kept: what a table forgets costs time only.
+    // Stores how many seeds the mover wins.
     fn keep(&self, houses: &Houses, rank: u32, known: u8)
         requires rank { rank ≡ rank_of_houses houses.now }
         requires known { known ≡ won houses.now }

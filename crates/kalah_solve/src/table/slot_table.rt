@@ -89,7 +89,7 @@ fn mixed_key(houses: &Houses) -> u64
     houses.key().wrapping_mul(MIX)
 }
 
-// Returns the slot of a mixed key: its bits from `shift` on.
+// Returns the slot of a mixed key.
 #[tactic(auto, using(crate::proofs::SlotLemmas::slot_inside))]
 fn slot_index(mixed: u64, shift: u32) -> usize
     requires { shift < 64 }
@@ -99,7 +99,7 @@ fn slot_index(mixed: u64, shift: u32) -> usize
     (mixed >> shift) as usize
 }
 
-// Returns the tag of a mixed key: its lowest 54 bits, which are all that any slot leaves open.
+// Returns the tag of a mixed key.
 fn tag_of(mixed: u64) -> u64
     ensures tag { result ≡ tag_of mixed }
     ensures small { result < 2 ^ 54 }
@@ -110,8 +110,6 @@ fn tag_of(mixed: u64) -> u64
 impl<A: Allocator> SlotTable<A> {
     /// Makes the slots of a table with this capacity, with nothing known. Their number is the capacity, rounded down to a power of two, but
     /// at least 1,024.
-    ///
-    /// Fails with `AllocError` only if memory was refused.
     pub(crate) fn new(alloc: A, capacity: u32) -> Result<SlotTable<A>, AllocError>
         ensures { IfOk result (λ p. AreSlotsFor capacity (length p)) }
     {
@@ -148,8 +146,6 @@ impl<A: Allocator> SlotTable<A> {
     }
 
     /// Stores in the slot of the houses that what the mover wins is within these bounds.
-    ///
-    /// No clause says that it is kept: what a table forgets costs time only.
     pub(crate) fn keep(&mut self, houses: &Houses, bounds: SeedBounds)
         requires { IsWithinBounds bounds (won houses.now) }
         ensures { length self.new ≡ length self.old }

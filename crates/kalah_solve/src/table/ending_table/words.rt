@@ -83,7 +83,7 @@ pub(super) fn with_stored(word: u64, at: u32, stored: u64) -> u64
     word + (stored << (4 * at))
 }
 
-/// Makes this many words, with no ending known. Fails only if memory was refused.
+/// Makes this many words, with no ending known.
 #[tactic(auto, using(crate::proofs::EndingLemmas::zeros_are_true))]
 pub(super) fn empty_words<A: Allocator + Clone>(
     alloc: A,

@@ -12,12 +12,12 @@ use Rattle.kalah_solve.proofs.search.Search.+bound.Goals.{try_remaining-Joined-s
 pub bound_step-overflow_add-result : goal.bound_step-overflow_add-result
 bound_step-overflow_add-result g t c =
     let on = subst (IsStepInVariant _) c.in-Again.is c.requires.on in
-    omega (arith, (won_of_houses on.limits).few, bound_le_max c.bound.ensures)
+    omega (arith, won_of_houses on.limits, bound_le_max c.bound.ensures)
 
 pub bound_step-overflow_sub-result : goal.bound_step-overflow_sub-result
 bound_step-overflow_sub-result g t c =
     let on = subst (IsStepInVariant _) c.in-Turn.is c.requires.on in
-    omega (arith, (won_of_houses on.limits).few, bound_le_max c.bound-else-all-beta.ensures)
+    omega (arith, won_of_houses on.limits, bound_le_max c.bound-else-all-beta.ensures)
 
 pub bound_step-returns-else-all-beta : goal.bound_step-returns-else-all-beta
 bound_step-returns-else-all-beta g t c =

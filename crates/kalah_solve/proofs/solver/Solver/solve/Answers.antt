@@ -18,7 +18,6 @@ houses_worth-worth-requires-clause-limits g c = rw c.houses-houses.ensures (hous
 
 pub won_of-beta-requires : goal.won_of-beta-requires
 won_of-beta-requires g c =
-    let a = c.houses-houses.result in
     let limits = c.seeds.ensures.limits in
     omega (arith, ints, worth_low limits, worth_high limits)
 

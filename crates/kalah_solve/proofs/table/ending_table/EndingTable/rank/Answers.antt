@@ -18,9 +18,7 @@ module _ {a : HousesState} {step sums rank : ℕ} (limits : AreWithinLimits a) (
     (passes : 6 ≤ step + length a.own) (ranked : IsRanked (a.own ++ a.other) (step + length a.own - 6) sums rank) where
   -- both sums are numbers of seeds of an ending
   few_here : (sums % 1024 % 32 < COUNTS) × (sums % 1024 / 32 < COUNTS)
-  few_here =
-      two_few (a.own ++ a.other) (few a ending) (length a.own) (step + length a.own - 6) sums rank (long a limits) limits.at_most_six
-      (omega arith) ranked
+  few_here = two_few ranked (few a ending) (length a.own) (long a limits) limits.at_most_six (omega arith)
 
   -- what the two cells add, by their cell of the pairs
   ranked_here : (pairs : List ℕ) → ArePairs PAIRS pairs
@@ -33,8 +31,7 @@ module _ {a : HousesState} {step sums rank : ℕ} (limits : AreWithinLimits a) (
       let past : k / CELLS_OF_PAIR ≡ 5 - step = omega (arith, two.0, two.1) in
       let first : k % 32 ≡ sums % 1024 % 32 = omega arith in
       let second : k / 32 % COUNTS ≡ sums % 1024 / 32 = omega (arith, two.0, two.1) in
-      rw next (rank_next (a.own ++ a.other) (few a ending) (length a.own) (step + length a.own - 6) sums rank (long a limits)
-      limits.at_most_six (omega arith) ranked (5 - step) _ (omega arith)
+      rw next (rank_next ranked (few a ending) (length a.own) (long a limits) limits.at_most_six (omega arith) (5 - step) _ (omega arith)
       (rw (past, first, second) at (are k (omega (arith, two.0, two.1)) (omega (arith, two.0)))))
 
 pub bounds-self-inside-step : goal.bounds-self-inside-step
