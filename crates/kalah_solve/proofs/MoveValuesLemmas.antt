@@ -1,7 +1,6 @@
 -- Values of moves in one number, a digit each.
-use Rattle.std.proofs.{Common.{List, zero, suc, ◌≡◌, ℕ, ◌<◌, ◌≤◌, inl, inr, ◌∷◌, length, arith, ap, refl, ◌+◌, ℤ, ◌≤ℤ◌, pos, ◌+ℤ◌, ◌-ℤ◌, ◌*◌, ◌/◌, ◌%◌, ◌^◌, ◌-◌}, lemmas.{Bool.{cases_eq}, Int.{ints}}, Math.Nat.{pow-succ'}}
-use Rattle.kalah_rules.specs.Limits.{most_in_play}
-use Rattle.kalah_solve.specs.{nat_or_zero, IsMoveValue, digit_of, value_at, packed_values, values_in, ArePackedValues, declared.solver.move_values.{MoveValue.{MoveValue}, TheConstants.{VALUE_COUNT, DIGIT_BASE}}}
+use Rattle.std.proofs.{Common.{List, zero, suc, ◌≡◌, ℕ, ◌<◌, ◌≤◌, inl, inr, ◌∷◌, length, arith, ap, refl, ◌+◌, ℤ, ◌≤ℤ◌, pos, ◌*◌, ◌/◌, ◌%◌, ◌^◌}, lemmas.{Bool.{cases_eq}, Int.{ints}}, Math.Nat.{pow-succ'}}
+use Rattle.kalah_solve.specs.{nat_or_zero, IsMoveValue, digit_of, value_at, values_in, ArePackedValues, declared.solver.move_values.{MoveValue.{MoveValue}, TheConstants.{DIGIT_BASE}}}
 
 -- ==== A value and its digit
 
@@ -15,21 +14,10 @@ record Finds (v : MoveValue) (digit : ℕ) : Type 0 where
   value : value_at digit ≡ v
 
 value_of_its_digit : (v : MoveValue) → IsMoveValue v → Finds v (digit_of v)
-value_of_its_digit v small =
-    let again : pos (nat_or_zero (v.value +ℤ pos (most_in_play + 1))) ≡ v.value +ℤ pos (most_in_play + 1) =
-    nat_or_zero_again _ (omega (arith, ints, small.small.low)) in
-    let few : nat_or_zero (v.value +ℤ pos (most_in_play + 1)) ≤ VALUE_COUNT = omega (arith, ints, small.small.high) in
-    let some : 1 ≤ nat_or_zero (v.value +ℤ pos (most_in_play + 1)) = omega (arith, ints, small.small.low) in
-    let house : (digit_of v - 1) / VALUE_COUNT + 1 ≡ v.house = omega (arith, small.first) in
-    let place : (digit_of v - 1) % VALUE_COUNT + 1 ≡ nat_or_zero (v.value +ℤ pos (most_in_play + 1)) = omega (arith, small.first) in
-    let value : pos ((digit_of v - 1) % VALUE_COUNT) -ℤ pos most_in_play ≡ v.value = omega (arith, ints) in
-    record { some = omega arith; small = omega (arith, small.last); value = rw (house, value) refl }
+value_of_its_digit v small = grind (arith, ints, nat_or_zero_again)
 
 digit_of_its_value : (d : ℕ) → 1 ≤ d → d < DIGIT_BASE → digit_of (value_at d) ≡ d
-digit_of_its_value d some few =
-    let up : (pos ((d - 1) % VALUE_COUNT) -ℤ pos most_in_play) +ℤ pos (most_in_play + 1) ≡ pos ((d - 1) % VALUE_COUNT + 1) =
-    omega (arith, ints) in
-    rw up (omega arith)
+digit_of_its_value d some few = grind (arith, ints)
 
 -- ==== The values in a number, digit by digit
 
@@ -39,17 +27,7 @@ values_in-positive n k some = grind arith
 
 -- the lowest digit of a packed number is that of a value, and the other digits are packed
 pub rest_packed : (n k : ℕ) → 0 < k → ArePackedValues (suc n) k → (1 ≤ k % DIGIT_BASE) × ArePackedValues n (k / DIGIT_BASE)
-rest_packed n k some packed =
-    let number_is : digit_of (value_at (k % DIGIT_BASE)) + DIGIT_BASE * packed_values (values_in n (k / DIGIT_BASE)) ≡ k =
-    rw (values_in-positive n k some) at packed in
-    elim (cases_eq (k % DIGIT_BASE) 0) [
-      | inl none ↦
-          let one : digit_of (value_at (k % DIGIT_BASE)) ≡ 1 = rw none refl in
-          omega arith
-      | inr other ↦
-          let same : digit_of (value_at (k % DIGIT_BASE)) ≡ k % DIGIT_BASE = digit_of_its_value _ (omega arith) (omega arith) in
-          omega arith
-    ]
+rest_packed n k some packed = grind (arith, values_in-positive, cases_eq, digit_of_its_value)
 
 -- the digits past the last value are 0
 pub values_in-one_digit_more : (n k : ℕ) → ArePackedValues n k → values_in (suc n) k ≡ values_in n k

@@ -181,16 +181,7 @@ module _ {row : List ℕ} {passed sums added : ℕ} (ranked : IsRanked row passe
   pub rank_next : (past c : ℕ) → past + passed + 1 ≡ m
       → c ≡ choose (sums % 1024 % 32 + 2 * past + 1) (2 * past + 2) + choose (sums % 1024 / 32 + 2 * past) (2 * past + 1)
       → IsRanked row (passed + 1) (sums / 1024) (added + c)
-  rank_next past c past_is is_c =
-      let rest = two_second ∷ two_past in
-      let cells : length two_past ≡ 2 * past = omega (arith, length-drop (2 * (passed + 1)) row) in
-      let first : two_first + sum rest + length rest ≡ sums % 1024 % 32 + 2 * past + 1 = omega (arith, two_are.first, sum_by-cons) in
-      let first_cells : suc (length rest) ≡ 2 * past + 2 = omega arith in
-      let second : two_second + sum two_past + length two_past ≡ sums % 1024 / 32 + 2 * past = omega (arith, two_are.second) in
-      let second_cells : suc (length two_past) ≡ 2 * past + 1 = omega arith in
-      let two_add : row_rank (drop (2 * passed) row) ≡ c + row_rank two_past =
-      rw (two_more, first, first_cells, second, second_cells) (omega arith) in
-      record { left = two_are.past; rank = omega arith }
+  rank_next past c past_is is_c = grind (arith, length-drop, two_are, sum_by-cons, two_more)
 
   pub two_few : (sums % 1024 % 32 < COUNTS) × (sums % 1024 / 32 < COUNTS)
   two_few = omega (arith, sum_by-cons, two_are.first, two_are.second, two_less)

@@ -41,8 +41,7 @@ lower_measure called caller is fewer last = omega arith
 pub step_called : {a : HousesState} {variant h t : ℕ} {s : HousesStep} → AreWithinLimits a → IsLegal a h → variant_of a ≡ variant
     → s ≡ houses_step a h → measure (moves_left (storeless a)) rank_of_play ≡ t
     → (measure (moves_after s) rank_of_step < t) × IsStepInVariant variant s
-step_called limits legal variant_is step is =
-    (lower_measure rank_of_step rank_of_play is (step_falls limits legal step) (omega arith), goes_on variant_is limits legal step)
+step_called limits legal variant_is step is = grind (arith, lower_measure, step_falls, goes_on)
 
 -- ==== Bounds that are enough, and bounds that fall short
 
@@ -198,15 +197,11 @@ module _ {a : HousesState} {beta most mask : ℕ} {priorities : List ℕ} {turns
 
   -- a move that wins enough makes the others needless
   pub played_enough : {bound : ℕ} → beta ≤ bound → bound ≤ won a → AreWaiting a beta bound priorities turns
-  played_enough enough low = record { lower = λ e. low; waiting = played.waiting; others = λ short. absurd (omega arith) }
+  played_enough enough low = grind arith
 
   -- once the set is empty, all were played
   pub all_played : mask ≡ 0 → AreWaiting a beta most priorities turns
-  all_played none = record {
-    lower = λ enough. omega (arith, played.short_or_zero enough);
-    waiting = played.waiting;
-    others = λ short h legal. played.others h legal (rw none (cell_of_zero (h - 1)));
-  }
+  all_played none = grind (arith, cell_of_zero)
 
 -- ==== The moves that end in the store, tried one by one
 
