@@ -8,7 +8,7 @@ use Rattle.std.proofs.lemmas.List.{Sums.{sum_by-cons, sum_by-append}, Folds.{sum
 use Rattle.std.proofs.lemmas.{Bool.{cases_eq}, Grind.{same_number_lists}}
 use Rattle.std.proofs.Math.{Pow.{field, mod-mod-pow}, Nat.{pow-succ', pow-le-pow_right, mul_assoc, div-div-eq-div-mul}, Seq.{take-append_seam, drop-append_seam}}
 use Rattle.kalah_rules.specs.{seeds, HousesState, AreWithinLimits, total_seeds, without_seeds, row_of, lap_length, gain, own_distance, other_distance, padded, houses_from, CanBeHouses}
-use Rattle.kalah_rules.specs.{packed_row, cells, rule_bit, packed_rows, key_of, variant_of, side_in_key, houses_in_key, IsKey, ones, up_to, houses_of_fields, AreFieldsOf, AreFields, AreRowFields, own_gains, other_gains, store_gains, declared.{rule.Rule.{Rule, TheVariants.{Classic, EmptyCapture}}, houses.numbers.TheConstants.{MOST_LAPS, ONE_EACH}}}
+use Rattle.kalah_rules.specs.{packed_row, cells, rule_bit, packed_rows, key_of, variant_of, side_in_key, houses_in_key, IsKey, ones, up_to, houses_of_fields, AreFieldsOf, AreFields, AreRowFields, own_gains, other_gains, store_gains, declared.{rule.Rule.{Rule}, houses.numbers.TheConstants.{MOST_LAPS, ONE_EACH}}}
 use Rattle.kalah_rules.proofs.PlayLemmas.{range-suc, length-row_of, same_as_row, row_of_same, seeds-set_same, seeds-set_other, sum-zeros}
 
 -- ==== Rows as numbers: houses read and written, and rows of seeds added
@@ -187,9 +187,7 @@ product_small x y x_few y_few = mul-le x y _ _ x_few y_few
 
 -- few seeds make few laps, of at least three cells each
 pub laps_few : (m c : ℕ) → 1 ≤ m → c < 32 → c / (2 * m + 1) ≤ MOST_LAPS
-laps_few m c some few =
-    let q = c / (2 * m + 1) in
-    omega (arith, mul-le 3 q (2 * m + 1) q (omega arith) (omega arith))
+laps_few m c some few = grind (arith, mul-le)
 
 pub up_to_past : (m h x : ℕ) → h ≤ m → h ≤ x → ones h ≤ packed_row (row_of m (up_to x))
 up_to_past m h x within past = grind (arith, packed_row-up_to, ones_le, packed_row-all)
@@ -330,15 +328,11 @@ key_of_houses : {k : ℕ} (rule : Rule) → IsKey k → rule_bit rule ≡ k / 2 
     → key_of (houses_from (side_in_key k) (cells 6 k) (cells 6 (k / 2 ^ 30)) rule) ≡ k
 key_of_houses {k} rule is_key bit = search (rules, key_from_parts, packed_row-cells, padded_from_zeros)
 
--- the rule that a key names has the key's bit
-rule_in_key-bit : (bit : ℕ) → bit ≤ 1 → rule_bit (if bit == 0 then Classic else EmptyCapture) ≡ bit
-rule_in_key-bit bit small = grind arith
-
 houses_in_key_of : {a : HousesState} → AreWithinLimits a → houses_in_key (key_of a) ≡ a
 houses_in_key_of {a} limits =
     let held = key_holds limits refl in
     let bit : key_of a / 2 ^ 63 ≤ 1 = omega (arith, rule_bit-small) in
-    houses_of_key limits refl (rule_in_key-bit _ bit)
+    houses_of_key limits refl (grind arith)
 
 pub key_fits : {b : HousesState} → AreWithinLimits b → key_of b < 2 ^ 64
 key_fits {b} limits = grind (arith, packed_row-small)
@@ -365,10 +359,7 @@ pub record AreRows (a : HousesState) (rows : ℕ) : Type 0 where
 
 -- both rows are read off the field
 pub rows_of_fields : {a : HousesState} {rows seeds variant : ℕ} → AreFieldsOf a rows seeds variant → AreRows a rows
-rows_of_fields {a} fields =
-    let own_small = packed_row-small 6 a.own fields.limits.at_most_six (omega (arith, fields.limits.few_seeds)) in
-    let other_small = packed_row-small 6 a.other (omega (arith, fields.limits.same_side)) (omega (arith, fields.limits.few_seeds)) in
-    omega (arith, fields.rows_are)
+rows_of_fields {a} fields = grind (arith, packed_row-small)
 
 pub sum-zero : (xs : List ℕ) → packed_row xs ≡ 0 → sum xs ≡ 0
 sum-zero [] none = refl
@@ -463,11 +454,4 @@ sum-shown m cells long few none = let same = padded_from_zeros m cells long few 
 pub can_be_houses : {m : ℕ} {own other : List ℕ} (rule : Rule) → m ≤ 6 → length own ≡ 6 → length other ≡ 6
     → All (λ x. x ≡ 0) (drop m own) → All (λ x. x ≡ 0) (drop m other)
     → AreWithinLimits (houses_from m own other rule) ↔ CanBeHouses m own other
-can_be_houses {m} {own} {other} rule few own_long other_long own_past other_past =
-    let own_shown = length-take-le m own (omega arith) in
-    let other_shown = length-take-le m other (omega arith) in
-    let own_sum = sum-shown m _ own_long few own_past in
-    let other_sum = sum-shown m _ other_long few other_past in (
-      λ h. record { some_house = omega arith; at_most_six = few; own_past = own_past; other_past = other_past; few_seeds = omega arith },
-      λ h. omega arith,
-    )
+can_be_houses {m} {own} {other} rule few own_long other_long own_past other_past = grind (arith, length-take-le, sum-shown)

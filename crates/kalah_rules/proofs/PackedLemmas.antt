@@ -121,10 +121,10 @@ module _ {a : HousesState} {h : ℕ} (can : CanSow a h) where
   few = omega (arith, sown_keeps.play)
 
   own_small : packed_row after_sowing.own < 2 ^ 30
-  own_small = packed_row-small 6 after_sowing.own (omega (arith, sown_keeps.side)) (omega (arith, few))
+  own_small = grind (arith, packed_row-small, sown_keeps)
 
   other_small : packed_row after_sowing.other < 2 ^ 30
-  other_small = packed_row-small 6 after_sowing.other (omega (arith, sown_keeps.other_side, can.limits.same_side)) (omega (arith, few))
+  other_small = grind (arith, packed_row-small, sown_keeps)
 
   -- both rows without the house's seeds, and with what they gain
   sown_rows : (rows house gains : ℕ) → rows ≡ packed_rows a → house ≡ 32 ^ (h - 1) * seeds a.own h
@@ -154,10 +154,7 @@ module _ {a : HousesState} {h : ℕ} (can : CanSow a h) where
   -- a house read off the numbers
   read_own : (r : RowNumbers) (i bit : ℕ) → ShowsPosition r after_sowing → 1 ≤ i → i ≤ length a.own → bit ≡ 5 * (i - 1)
       → r.rows / 2 ^ bit % 32 ≡ seeds after_sowing.own i
-  read_own r i bit shows low high bit_is =
-      let near : i - 1 ≤ 5 = omega arith in
-      rw (bit_is, pow_five) (own_house_of_rows _ _ near ∙ ap (λ n. n / 32 ^ (i - 1) % 32) shows.own
-      ∙ read_seeds _ _ (omega (arith, sown_keeps.side)) (omega (arith, few)))
+  read_own r i bit shows low high bit_is = grind (arith, pow_five, own_house_of_rows, read_seeds, sown_keeps)
 
   -- the house across
   read_across : (r : RowNumbers) (i bit : ℕ) → ShowsPosition r after_sowing → 1 ≤ i → i ≤ length a.own
@@ -193,9 +190,7 @@ module _ {a : HousesState} {h : ℕ} (can : CanSow a h) where
 
     -- without a capture the rows stay
     rows_if_kept : can_capture after_sowing i ≡ false → LeavesRows r taken count (after_capture after_sowing (Some i))
-    rows_if_kept kept =
-        let none = rw kept at taken_by_rule in
-        record { within = omega (arith, none.0); shows = rw (kept, none.0, none.1) (omega arith) }
+    rows_if_kept kept = grind (arith, taken_by_rule)
 
     -- by a capture both houses are emptied
     rows_if_captured : can_capture after_sowing i ≡ true → LeavesRows r taken count (after_capture after_sowing (Some i))
@@ -297,9 +292,7 @@ module _ (p : Position) (h : ℕ) (holds : HoldsSeeds p h) where
 none_captured : (rule : Rule) (r : RowNumbers) (s : Sowing) {taken count : ℕ} {p : Position}
     → IsNoHouse s.last_mask s.last_seed s.across_bit →
     HasCaptured rule r s taken count → ShowsPosition r p → LeavesRows r taken count p
-none_captured rule r s elsewhere has_captured shows =
-    let nothing = rw (elsewhere.house, elsewhere.seed) at has_captured in
-    grind (arith, and_le_r)
+none_captured rule r s elsewhere has_captured shows = grind (arith, and_le_r)
 
 -- the bit across lies within a key
 pub across_within : {m : ℕ} (h c : ℕ) (s : Sowing) → IsSowing m h c s → m ≤ 6 → s.across_bit < 64

@@ -1,5 +1,5 @@
 -- Moves, house by house: how seeds are sown and captured, which moves there are, and how each nears the end.
-use Rattle.std.proofs.Common.{get_or, slice_get, zero, suc, ◌≡◌, ◌≢◌, ℕ, ◌+◌, ◌-◌, ◌*◌, ◌<◌, ◌≤◌, inl, inr, List, [], ◌∷◌, zero-le, length}
+use Rattle.std.proofs.Common.{get_or, zero, suc, ◌≡◌, ◌≢◌, ℕ, ◌+◌, ◌-◌, ◌*◌, ◌<◌, ◌≤◌, inl, inr, List, [], ◌∷◌, zero-le, length}
 use Rattle.std.proofs.Common.{replicate, arith, ap, ◌∙◌, refl, ◌/◌, ◌%◌, ◌⊎◌, sym, add-one, ◌++◌, eq-eqb, lt-ltb, slice_set, slice_index}
 use Rattle.std.proofs.Common.{sum, sum_by, Bool, true, false, cond, Option, Some, None, find, filter, Contains, All, nat_lt, length-set}
 use Rattle.std.proofs.Common.{mod-eq_of_lt}
@@ -288,8 +288,7 @@ range-suc a (suc n) = rw (add-one _)
 -- the first number that passes is found
 pub find_first : (f : ℕ → Bool) (xs : List ℕ) (i : ℕ) → i < length xs → ((k : ℕ) → k < i → f (get_or xs k 0) ≡ false)
     → f (get_or xs i 0) ≡ true → find f xs ≡ Some (get_or xs i 0)
-find_first f xs i within fails here =
-    find_at f xs ∙ ap (slice_get xs) (position_or_len_is f xs i 0 (omega arith) fails (λ _. here)) ∙ slice_get-get_or xs i 0 within
+find_first f xs i within fails here = grind (arith, find_at, position_or_len_is, slice_get-get_or)
 
 -- the first number of a range that passes
 find_in_range : (f : ℕ → Bool) (a n i : ℕ) → a ≤ i → i < a + n → f i ≡ true

@@ -1,7 +1,7 @@
 -- The step of houses: what a move on the numbers of their rows leads to, and the step of a board by it.
 use Rattle.kalah_rules.specs.declared.step.Step.TheVariants as step
 use Rattle.kalah_rules.specs.Position as position
-use Rattle.std.proofs.{Common.{◌≡◌, ◌≢◌, ℕ, ◌+◌, ◌-◌, ◌*◌, ◌/◌, ◌%◌, ◌^◌, ◌<◌, ◌≤◌, length, arith, ap, sym, ◌∙◌, refl, subst, eq-eqb, Bool, true, false, sum, ◌==◌, Contains}, lemmas.{Bool.{cases_Bool, cond_both, eqb-true, Decides.{nat_tests}}, List.{length-replicate}}, Math.{Bool.{or_comm}}}
+use Rattle.std.proofs.{Common.{◌≡◌, ◌≢◌, ℕ, ◌+◌, ◌-◌, ◌*◌, ◌/◌, ◌%◌, ◌^◌, ◌<◌, ◌≤◌, length, arith, ap, sym, ◌∙◌, refl, subst, eq-eqb, Bool, true, false, sum, ◌==◌, Contains}, lemmas.{Bool.{cond_both, eqb-true, Decides.{nat_tests}}, List.{length-replicate}}, Math.{Bool.{or_comm}}}
 use Rattle.kalah_rules.specs.{HousesState, AreWithinLimits, side_length, seeds, storeless, IsWithinLimits, is_over, swapped, houses_in, with_stores, without_seeds, HoldsSeeds, sown, last_distance, moves_again, after, legal_houses, step_to, step_of, position_after, IsNearerEnd, Position.{Position}}
 use Rattle.kalah_rules.specs.{rule_bit, ShowsPosition, ones, houses_of_fields, AreFieldsOf, AreFields, last_place, houses_step_to, houses_step, Over, Again, Turn, HousesStep.{HousesStep}, declared.{houses.{play.RowNumbers.{RowNumbers}}, step.Step.{Step}}}
 use Rattle.kalah_rules.proofs.{PlayLemmas.{IsLegal, legal_holds, after_nearer, sum-zeros, with_store_seeds, after_of_houses, legal_going}, KeyLemmas.{ones_le, fields_of, rows_of_fields, are_fields, sum-zero, packed_row-zero}}
@@ -57,22 +57,13 @@ module _ {a : HousesState} {h rows seeds variant : ℕ} {r : RowNumbers} (fields
 
   -- without own seeds the game is over
   pub over_own : r.rows % 2 ^ 30 ≡ 0 → Over r.store (seeds - r.store) ≡ houses_step a h
-  over_own none =
-      let empty = sum-zero moved.own (sym shows.own ∙ none) in
-      let mine : r.store ≡ moved.own_store + sum moved.own = omega (arith, shows.store) in
-      let theirs : seeds - r.store ≡ moved.other_store + sum moved.other =
-      omega (arith, shows.store, move_keeps.play, move_keeps.other_store, fields_are.seeds_are) in
-      let over : is_over moved ≡ true = rw empty refl in
-      cc
+  over_own none = grind (arith, sum-zero, move_keeps, fields_are)
 
   -- without seeds of the opponent it is over
   pub over_other : r.rows / 2 ^ 30 ≡ 0 → Over seeds 0 ≡ houses_step a h
   over_other none =
       let empty = sum-zero moved.other (sym shows.other ∙ none) in
-      let mine : seeds ≡ moved.own_store + sum moved.own = omega (arith, move_keeps.play, fields_are.seeds_are) in
-      let theirs : 0 ≡ moved.other_store + sum moved.other = omega (arith, move_keeps.other_store) in
-      let over : is_over moved ≡ true = grind (arith, nat_tests) in
-      cc
+      grind (arith, nat_tests, move_keeps, fields_are)
 
   module _ (own_some : r.rows % 2 ^ 30 ≢ 0) (other_some : r.rows / 2 ^ 30 ≢ 0) where
     moved_going : is_over moved ≡ false
@@ -113,7 +104,7 @@ IsStepWithin p s = IsWithinLimits (position_after (with_board_stores p s))
 with_board_stores-step_to : (p q : Position) (again : Bool) → side_length q ≡ side_length p → q.rule ≡ p.rule
     → q.other_store ≡ 0
     → with_board_stores p (houses_step_to q again) ≡ step_to (with_store_seeds p.own_store p.other_store q) again
-with_board_stores-step_to p q again side rule none = grind (arith, cases_Bool)
+with_board_stores-step_to p q again side rule none = grind arith
 
 -- the step of a board is that of its houses
 step_of_houses : (p : Position) (h : ℕ) → AreWithinLimits (houses_in p) → HoldsSeeds (storeless (houses_in p)) h

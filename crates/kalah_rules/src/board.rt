@@ -25,7 +25,6 @@ pub struct Board {
     other_store: u32,
 }
 
-// Callers see the value and not the invariant, so readers promise the limits again (`limits`).
 impl Model for Board {
     ghost use Rattle.kalah_rules.specs.Position.{Position, with_stores, houses_in, IsWithinLimits};
 

@@ -13,7 +13,8 @@ fn ways_of_each_depth_are_counted(rt: HostRuntime) {
     for (rule, counts) in &WAYS {
         let board = Board::new(6, [2; 6], 0, [2; 6], 0, *rule).expect(&rt, "beyond the limits");
         for depth in 0..8u8 {
-            assert!(rt; board.ways(depth) == counts[depth as usize], "{depth}");
+            let ways = board.ways(depth);
+            assert!(rt; ways == counts[depth as usize], "{depth}: {ways}");
         }
     }
 }
