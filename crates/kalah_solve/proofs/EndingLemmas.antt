@@ -158,7 +158,7 @@ pub most_with_last : {a : HousesState} {mask most h v new : ℕ} → AreWithinLi
 most_with_last {a} {most = most} {h} {new = new} limits most_is last legal v_is new_is = record {
   reached = omega (arith, won_at_most limits h legal);
   all = each_outside_without_last a (λ i. won_by_step (houses_step a i) ≤ new) last (omega arith)
-      (λ i legal_i place outside. omega (arith, most_is.all i legal_i outside));
+      (λ i legal_i place outside. omega arith);
 }
 
 -- if all seeds are won, best play wins as many

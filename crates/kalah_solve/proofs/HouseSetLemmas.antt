@@ -88,7 +88,7 @@ module _ (mask h : ℕ) (last : IsLastIn mask h) where
 
 -- without the last house the mask is lower
 pub without_last_less : {mask h rest : ℕ} → IsLastIn mask h × (rest ≡ without_house mask h) → rest < mask
-without_last_less popped = omega (arith, popped.0)
+without_last_less popped = omega arith
 
 -- the last house is found by the leading zeros
 last_by_zeros : {mask leading : ℕ} → 0 < mask → mask < 2 ^ 30 → leading ≡ count_leading_zeros 64 mask
@@ -249,7 +249,7 @@ module _ (row : ℕ) {m others mask : ℕ} (few : m ≤ 6) (others_are : IsMaskO
 -- if a house is in the second of two sets only if it is in the first, it remains if it is in the first and not in the second
 one_remaining : (first second : ℕ) → first ≤ 1 → second ≤ 1 → (0 < second → 0 < first)
     → (0 < bit_xor first second) ↔ ((0 < first) × ¬ (0 < second))
-one_remaining first second single single' within = grind (arith, bit_xor)
+one_remaining first second single single' within = grind arith
 
 -- from "X and not N" to "S and not E", if X is S, and N is "L and E", where S implies L
 unless_both : {A X N S L E : Type 0} → A ↔ (X × ¬ N) → X ↔ S → N ↔ (L × E) → (S → L) → A ↔ (S × ¬ E)

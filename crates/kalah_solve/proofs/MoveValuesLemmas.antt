@@ -1,11 +1,8 @@
 -- Values of moves in one number, a digit each.
-use Rattle.std.proofs.{Common.{List, zero, suc, ◌≡◌, ℕ, ◌<◌, ◌≤◌, inl, inr, ◌∷◌, length, arith, ap, refl, ◌+◌, ℤ, ◌≤ℤ◌, pos, ◌*◌, ◌/◌, ◌%◌, ◌^◌}, lemmas.{Bool.{cases_eq}, Int.{ints}}, Math.Nat.{pow-succ'}}
-use Rattle.kalah_solve.specs.{nat_or_zero, IsMoveValue, digit_of, value_at, values_in, ArePackedValues, declared.solver.move_values.{MoveValue.{MoveValue}, TheConstants.{DIGIT_BASE}}}
+use Rattle.std.proofs.{Common.{List, zero, suc, ◌≡◌, ℕ, ◌<◌, ◌≤◌, inl, inr, ◌∷◌, length, arith, ap, refl, ◌+◌, ◌*◌, ◌/◌, ◌%◌, ◌^◌}, lemmas.{Bool.{cases_eq}, Int.{ints}}, Math.Nat.{pow-succ'}}
+use Rattle.kalah_solve.specs.{IsMoveValue, digit_of, value_at, values_in, ArePackedValues, declared.solver.move_values.{MoveValue.{MoveValue}, TheConstants.{DIGIT_BASE}}}
 
 -- ==== A value and its digit
-
-nat_or_zero_again : (z : ℤ) → pos 1 ≤ℤ z → pos (nat_or_zero z) ≡ z
-nat_or_zero_again z some = grind (arith, ints)
 
 -- a digit of the base other than 0, by which the value is found
 record Finds (v : MoveValue) (digit : ℕ) : Type 0 where
@@ -14,10 +11,10 @@ record Finds (v : MoveValue) (digit : ℕ) : Type 0 where
   value : value_at digit ≡ v
 
 value_of_its_digit : (v : MoveValue) → IsMoveValue v → Finds v (digit_of v)
-value_of_its_digit v small = grind (arith, ints, nat_or_zero_again)
+value_of_its_digit v small = grind (arith, ints)
 
 digit_of_its_value : (d : ℕ) → 1 ≤ d → d < DIGIT_BASE → digit_of (value_at d) ≡ d
-digit_of_its_value d some few = grind (arith, ints)
+digit_of_its_value d some few = grind arith
 
 -- ==== The values in a number, digit by digit
 
@@ -27,7 +24,7 @@ values_in-positive n k some = grind arith
 
 -- the lowest digit of a packed number is that of a value, and the other digits are packed
 pub rest_packed : (n k : ℕ) → 0 < k → ArePackedValues (suc n) k → (1 ≤ k % DIGIT_BASE) × ArePackedValues n (k / DIGIT_BASE)
-rest_packed n k some packed = grind (arith, values_in-positive, cases_eq, digit_of_its_value)
+rest_packed n k some packed = grind (arith, cases_eq, digit_of_its_value)
 
 -- the digits past the last value are 0
 pub values_in-one_digit_more : (n k : ℕ) → ArePackedValues n k → values_in (suc n) k ≡ values_in n k

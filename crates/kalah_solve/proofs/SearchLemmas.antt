@@ -41,7 +41,7 @@ lower_measure called caller is fewer last = omega arith
 pub step_called : {a : HousesState} {variant h t : ℕ} {s : HousesStep} → AreWithinLimits a → IsLegal a h → variant_of a ≡ variant
     → s ≡ houses_step a h → measure (moves_left (storeless a)) rank_of_play ≡ t
     → (measure (moves_after s) rank_of_step < t) × IsStepInVariant variant s
-step_called limits legal variant_is step is = grind (arith, lower_measure, step_falls, goes_on)
+step_called limits legal variant_is step is = grind (arith, step_falls, goes_on)
 
 -- ==== Bounds that are enough, and bounds that fall short
 
@@ -55,7 +55,7 @@ bound_le_max {beta} {number} {bound} bounded = grind arith
 
 -- one that is enough, and is no more than the number, is a bound of it
 soft_if_enough : {beta number bound : ℕ} → beta ≤ bound → bound ≤ number → IsSoftBound beta number bound
-soft_if_enough enough low = record { lower = λ e. low; upper = λ short. absurd (omega arith) }
+soft_if_enough enough low = record { lower = λ e. low; upper = λ short. omega arith }
 
 -- the most of some bounds that fall short falls short too, unless it is 0
 short_stays : {beta most bound new : ℕ} → (beta ≤ most → most ≡ 0) → bound < beta → new ≡ max most bound → beta ≤ new → new ≡ 0
@@ -64,7 +64,7 @@ short_stays low short new_is enough = omega arith
 -- what is left of all is bounded by what the bound of the opponent leaves
 pub bound_of_rest : {beta number bound all seeds : ℕ} (gained : ℕ) → all ≡ gained + seeds → number ≤ seeds
     → IsSoftBound (all - beta + 1) number bound → IsSoftBound beta (gained + (seeds - number)) (all - bound)
-bound_of_rest {beta} {bound = bound} {all} gained all_is few b = grind (arith, cases_lt)
+bound_of_rest {beta} {bound = bound} {all} gained all_is few b = grind arith
 
 -- a bound of a move that is enough is no more than best play wins
 pub enough_is_won : {a : HousesState} {beta h bound : ℕ} → AreWithinLimits a → IsLegal a h
@@ -192,7 +192,7 @@ module _ {a : HousesState} {beta most mask : ℕ} {priorities : List ℕ} {turns
       movable = movable_before_last played.movable popped.0;
       waiting = played.waiting;
       others = each_outside_without_last a (λ i. get_or priorities (i - 1) 0 ≡ 0 → ¬ EndsDirectlyInStore a i → WinsAtMost a new i) popped.0
-          (λ none apart. omega arith) (λ i legal place outside none apart. omega (arith, played.others i legal outside none apart));
+          (λ none apart. omega arith) (λ i legal place outside none apart. omega arith);
     })
 
   -- a move that wins enough makes the others needless
@@ -235,7 +235,7 @@ tried_without_last {a} bound new before popped at_most short new_is = rw popped.
   movable = movable_before_last before.movable popped.0;
   ends = each_before_last (EndsDirectlyInStore a) popped.0 before.ends;
   tried = each_outside_without_last a (λ i. EndsDirectlyInStore a i → WinsAtMost a new i) popped.0 (λ ends. omega arith)
-      (λ i legal place outside ends. omega (arith, before.tried i legal outside ends));
+      (λ i legal place outside ends. omega arith);
 })
 
 -- once the set is empty, all were tried

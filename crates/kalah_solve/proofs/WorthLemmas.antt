@@ -139,7 +139,7 @@ value_moving_again p h again = grind (arith, worth_of_over)
 
 -- with the turn passed, the value of a move is the negative of what follows
 pub value_passing : (p : Position) (h : ℕ) → moves_again p h ≡ false → value_of_move p h ≡ neg_ℤ (worth (swapped (after p h)))
-value_passing p h turn = grind (arith, cases_Bool, worth_of_over, is_over-swapped, final_swapped)
+value_passing p h turn = grind (arith, cases_Bool, worth_of_over, final_swapped)
 
 -- the best house is legal, and attains the worth
 pub best_found : {p : Position} → HasEqualSides p → is_over p ≡ false
