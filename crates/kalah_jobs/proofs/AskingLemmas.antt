@@ -1,6 +1,6 @@
 -- Lines that come as a stream: what is answered of them, and how far.
-use Rattle.std.proofs.Common.{◌≡◌, ◌≢◌, ◌∙◌, ℕ, zero, suc, ◌+◌, ◌≤◌, Bool, true, false, List, [], ◌∷◌, ◌++◌, length, take, inl, inr, refl, sym, ap, ap₂, arith, append-nil, append_assoc, Err}
-use Rattle.std.proofs.Common.{not, ◌||◌, ◌&&◌, subst, length-take-le, take_all, Result, Ok, Option, Some, None, option_to_list}
+use Rattle.std.proofs.Common.{◌≡◌, ◌≢◌, ◌∙◌, ℕ, suc, ◌+◌, ◌≤◌, Bool, true, false, List, [], ◌∷◌, ◌++◌, length, take, inl, inr, refl, sym, ap, ap₂, arith, append-nil, append_assoc, Err}
+use Rattle.std.proofs.Common.{not, ◌||◌, ◌&&◌, length-take-le, take_all, Result, Ok, Option, Some, None, option_to_list}
 use Rattle.std.proofs.{KnownBytes.{Appends-kept, Appends-nil, Appends-trans, Consumes-kept, Consumes-nil, Consumes-trans, Consumes-whole, Keeps-refl}, Math.Bool.{and-true}}
 use Rattle.std.proofs.lemmas.{Bool.{cases_lt, cond_both}, Grind.{flat_map-append}, List.{Elements.{All-nil, All-push}, Folds.{list_any-append}}}
 use Rattle.std.specs.{Io.KnownBytes.{Appends, Consumes, IsAtEnd, Keeps}, List.{flat_map, enumerate_from}}
@@ -8,8 +8,8 @@ use Rattle.kalah_rules.specs.Position.{Position, is_over}
 use Rattle.kalah_jobs.specs.{kept_bytes, reply, last_reply, is_last_read, answers_for, are_all_read, AnswersAreThoseOfAFile, AnswersLines, AreAnswered, IsAnswered, IsBegun, IsCutOff}
 use Rattle.kalah_jobs.specs.{LeavesBy, StreamStart, entry_of_reading, entry_for, is_faulty, is_faulty_entry, line_feed, lines_of, EndsWithItsLine, HasNoLineFeed, without_cr, reading_of}
 use Rattle.kalah_jobs.specs.{AskFault, Question, LineFault, Read, Write, Long, answer_of, joined_text, place_text, HasOneText, line_output, AppendsPrefix, SinkState, Bad}
-use Rattle.kalah_jobs.specs.declared.files.question.Question.TheVariants.{BestMove, Values, Steps}
-use Rattle.kalah_jobs.proofs.{FileLinesLemmas.{IsNoFeed, lines_of-ended, lines_of-open, lines_of-empty}, LineLemmas.{long_is_read}, TextLemmas.{one_line_parts}, WritingLemmas.{files_split_between_lines}}
+use Rattle.kalah_jobs.specs.declared.files.question.Question.TheVariants.{BestMove, Steps}
+use Rattle.kalah_jobs.proofs.{FileLinesLemmas.{IsNoFeed, lines_of-ended, lines_of-open, lines_of-empty}, LineLemmas.{long_is_read}, SinkLemmas.{prefix_none}, TextLemmas.{one_line_parts}, WritingLemmas.{files_split_between_lines}}
 
 -- ==== What is answered, line by line
 
@@ -46,12 +46,6 @@ answers_to_one : (question : Question) (bytes line : List ℕ) → lines_of byte
 unfolding answers_for
 answers_to_one question bytes line one = ap (flat_map (reply question)) one ∙ append-nil (reply question line)
 
--- the answers to whole lines and one more
-answers_to_more : (question : Question) (lines more line : List ℕ) → EndsWithItsLine lines → lines_of more ≡ line ∷ []
-    → answers_for question (lines ++ more) ≡ answers_for question lines ++ reply question line
-answers_to_more question lines more line ends one =
-    answers_split question lines more ends ∙ ap (answers_for question lines ++◌) (answers_to_one question more line one)
-
 both_read : (a b : Bool) → not (a || (b || false)) ≡ (not a && not b)
 both_read a b = grind arith
 
@@ -63,16 +57,14 @@ all_read_more lines more line ends one = simp ((files_split_between_lines.parts 
 -- ---- as many bytes as are kept
 
 cr_is_one : (line : List ℕ) → length line ≤ length (without_cr line) + 1
-cr_is_one [] = omega arith
-cr_is_one (byte ∷ []) = omega arith
 cr_is_one (byte ∷ more ∷ line) = omega (arith, cr_is_one (more ∷ line))
+cr_is_one line = omega arith
 
 -- a line of `kept_bytes` bytes is too long
 too_long : (question : Question) (line : List ℕ) → kept_bytes ≤ length line → entry_for question line ≡ Bad Long
 unfolding entry_for
 too_long question line long = ap (entry_of_reading question) (long_is_read line (omega (arith, cr_is_one line)))
 
--- the bytes that are kept have the entry of the line
 kept_bytes_have_the_entry : (question : Question) (line : List ℕ) → entry_for question (take kept_bytes line) ≡ entry_for question line
 kept_bytes_have_the_entry question line = elim (cases_lt kept_bytes (length line)) [
   | inl long ↦
@@ -89,9 +81,8 @@ kept_faulty : (line : List ℕ) → is_faulty (take kept_bytes line) ≡ is_faul
 kept_faulty line = ap is_faulty_entry (kept_bytes_have_the_entry BestMove line)
 
 take_more_kept : (n : ℕ) (line : List ℕ) (byte : ℕ) → take n (take n line ++ byte ∷ []) ≡ take n (line ++ byte ∷ [])
-take_more_kept zero line byte = refl
-take_more_kept (suc n) [] byte = refl
 take_more_kept (suc n) (first ∷ line) byte = ap (first ∷◌) (take_more_kept n line byte)
+take_more_kept n line byte = refl
 
 -- what stands after the last line feed is answered as its lines are
 last_reply_is : (question : Question) (piece : List ℕ) → HasNoLineFeed piece
@@ -114,11 +105,9 @@ last_read lines (byte ∷ piece) ends none =
 answer_is_of_one_line : (question : Question) → question ≢ Steps → (r : Result Position LineFault)
     → HasOneText (answer_of (entry_of_reading question r))
 unfolding answer_of
-answer_is_of_one_line BestMove other (Ok p) = cond_both (is_over p) _ _ HasOneText (λ _. tt) (λ _. tt)
-answer_is_of_one_line BestMove other (Err fault) = tt
-answer_is_of_one_line Values other (Ok p) = cond_both (is_over p) _ _ HasOneText (λ _. tt) (λ _. tt)
-answer_is_of_one_line Values other (Err fault) = tt
 answer_is_of_one_line Steps other r = absurd (other refl)
+answer_is_of_one_line question other (Ok p) = cond_both (is_over p) _ _ HasOneText (λ _. tt) (λ _. tt)
+answer_is_of_one_line question other (Err fault) = tt
 
 -- then an answer line is the place and the answer
 line_output_parts : (question : Question) → question ≢ Steps → (name : List ℕ) (number : ℕ) (line : List ℕ)
@@ -183,65 +172,11 @@ module _ {question : Question} {before now old new : Option (List ℕ)} {line : 
   more_written kept more bytes keeps appends =
       Appends-trans old kept more (answers_for question lines) bytes (answers_kept kept keeps) appends
 
-  -- more bytes are taken after those of the lines and of the part
-  more_taken : (next : Option (List ℕ)) (bytes : List ℕ) → Consumes now next bytes
-      → Consumes before next (lines ++ (part ++ bytes))
-  more_taken next bytes taken =
-      rw append_assoc at (Consumes-trans before now next (lines ++ part) bytes so_far.taken taken)
-
-  -- at the end the bytes of the lines and of the part are all
-  all_taken : (next : Option (List ℕ)) → Consumes now next [] → Consumes before next (lines ++ part)
-  all_taken next end = rw append-nil at (more_taken next [] end)
-
   reply_whole : reply question line ≡ reply question part
   reply_whole = ap (reply question) so_far.kept ∙ kept_reply question part
 
   reply_part : last_reply question line ≡ answers_for question part
   reply_part = ap (last_reply question) so_far.kept ∙ sym (last_reply_is question part unended)
-
-  -- what a reader took is a byte that is known, or nothing
-  taken_is : (next : Option (List ℕ)) {found known : Option ℕ} → found ≡ known → Consumes now next (option_to_list found)
-      → Consumes now next (option_to_list known)
-  taken_is next found_is taken = rw found_is at taken
-
-  -- a byte more was read, which ends no line
-  pub byte_read : {next kept : Option (List ℕ)} {found : Option ℕ} {longer : List ℕ} (byte : ℕ) → found ≡ Some byte
-      → byte ≢ line_feed → Consumes now next (option_to_list found) → Keeps new kept → longer ≡ take kept_bytes (line ++ byte ∷ [])
-      → IsAnsweredSoFar question before next old kept longer all_read
-  byte_read {next} {kept} byte found_is other taken keeps longer_is = record {
-    lines = lines;
-    part = part ++ byte ∷ [];
-    ended = ended;
-    unended = All-push IsNoFeed part byte unended other;
-    kept = longer_is ∙ ap (λ l. take kept_bytes (l ++ byte ∷ [])) so_far.kept ∙ take_more_kept kept_bytes part byte;
-    taken = more_taken _ _ (taken_is next found_is taken);
-    written = answers_kept kept keeps;
-    status = so_far.status;
-  }
-
-  -- a line feed was read, and the line that it ends was answered
-  pub line_read : {next more : Option (List ℕ)} {found : Option ℕ} {byte : ℕ} {empty : List ℕ} {is_read : Bool}
-      (kept : Option (List ℕ)) → found ≡ Some byte → byte ≡ line_feed → Consumes now next (option_to_list found) → Keeps new kept
-      → Appends kept more (reply question line) → is_read ≡ not (is_faulty line) → empty ≡ []
-      → IsAnsweredSoFar question before next old more empty (all_read && is_read)
-  line_read {next} {more} kept found_is feed taken keeps answered read empty_is =
-      let whole : List ℕ = part ++ line_feed ∷ [] in
-      let one = feed_ends_one_line part unended in
-      record {
-        lines = lines ++ whole;
-        part = [];
-        ended = inr (lines ++ part, sym (append_assoc lines part (line_feed ∷ [])));
-        unended = All-nil IsNoFeed;
-        kept = empty_is;
-        taken = subst (Consumes before next) (sym (append-nil (lines ++ whole)))
-            (more_taken _ _ (taken_is next (found_is ∙ ap Some feed) taken));
-        written = subst (Appends old more)
-            (ap (answers_for question lines ++◌) reply_whole
-            ∙ sym (answers_to_more question lines whole part ended one))
-            (more_written _ _ _ keeps answered);
-        status = ap₂ (λ a b. a && b) so_far.status (read ∙ ap (λ l. not (is_faulty l)) so_far.kept ∙ ap not (kept_faulty part))
-            ∙ sym (all_read_more lines whole part ended one);
-      }
 
   -- a read failed
   pub cut_off : {next kept : Option (List ℕ)} → Keeps now next → Keeps new kept → IsCutOff question before next old kept
@@ -252,18 +187,6 @@ module _ {question : Question} {before now old new : Option (List ℕ)} {line : 
     unended = unended;
     taken = Consumes-kept _ _ _ (lines ++ part) so_far.taken left;
     written = answers_kept kept keeps;
-  }
-
-  -- nothing more was read or written
-  pub begun_so_far : {next kept : Option (List ℕ)} → Keeps now next → Keeps new kept → IsBegun question before next old kept
-  begun_so_far {next} {kept} left keeps = record {
-    lines = lines;
-    last = part;
-    ended = ended;
-    one = one_line part unended;
-    taken = Consumes-kept _ _ _ (lines ++ part) so_far.taken left;
-    count = 0;
-    written = rw append-nil (answers_kept kept keeps);
   }
 
   -- as much was read as makes one line at most, and its answer was begun
@@ -280,37 +203,80 @@ module _ {question : Question} {before now old new : Option (List ℕ)} {line : 
     written = more_written _ _ _ keeps (rw answer_is at start.1);
   }
 
-  -- of a line that ended
-  pub begun_line : {next more : Option (List ℕ)} {found : Option ℕ} {byte : ℕ} (kept : Option (List ℕ)) → found ≡ Some byte
-      → byte ≡ line_feed → Consumes now next (option_to_list found) → Keeps new kept
-      → AppendsPrefix kept more (reply question line) → IsBegun question before next old more
-  begun_line {next} kept found_is feed taken =
-      let one = feed_ends_one_line part unended in
-      begun kept (part ++ line_feed ∷ []) (reply question line) (rw one (omega arith))
-      (more_taken _ _ (taken_is next (found_is ∙ ap Some feed) taken))
-      (reply_whole ∙ sym (answers_to_one question (part ++ line_feed ∷ []) part one))
+  -- nothing more was read or written
+  pub begun_so_far : {next kept : Option (List ℕ)} → Keeps now next → Keeps new kept → IsBegun question before next old kept
+  begun_so_far {kept = kept} left keeps = begun kept part (answers_for question part) (one_line part unended)
+      (Consumes-kept _ _ _ (lines ++ part) so_far.taken left) refl keeps (prefix_none kept (answers_for question part))
 
-  -- of what stands after the last line feed, if nothing is left
-  pub begun_last : {next more : Option (List ℕ)} {found : Option ℕ} (kept : Option (List ℕ)) → found ≡ None
-      → Consumes now next (option_to_list found) → Keeps new kept → AppendsPrefix kept more (last_reply question line)
-      → IsBegun question before next old more
-  begun_last {next} kept none taken = begun kept part (last_reply question line) (one_line part unended)
-      (all_taken next (taken_is next none taken)) reply_part
+  -- after a byte was read, or the end
+  module _ {found : Option ℕ} (next kept : Option (List ℕ)) (taken : Consumes now next (option_to_list found))
+      (keeps : Keeps new kept) where
+    -- the byte, or nothing, is taken after those of the lines and of the part
+    taken_now : (known : Option ℕ) → found ≡ known → Consumes before next (lines ++ (part ++ option_to_list known))
+    taken_now known found_is =
+        rw append_assoc at (Consumes-trans before now next (lines ++ part) (option_to_list known) so_far.taken (rw found_is at taken))
 
-  -- of all that was read, if the whole was written
-  all_answered : {next more : Option (List ℕ)} {found : Option ℕ} {is_read : Bool} (kept : Option (List ℕ)) → found ≡ None
-      → Consumes now next (option_to_list found) → IsAtEnd now → Keeps new kept
-      → Appends kept more (last_reply question line) → is_read ≡ is_last_read line
-      → IsAnswered question before next old more (all_read && is_read)
-  all_answered {next} {more} kept none taken at_end keeps answered read = record {
-    read = lines ++ part;
-    taken = all_taken next (taken_is next none taken);
-    all = Consumes-whole before now (lines ++ part) (λ bytes. lines ++ part ≡ bytes) so_far.taken at_end refl;
-    written = rw (answers_split question lines part ended)
-        (more_written _ _ _ keeps (rw reply_part at answered));
-    status = ap₂ (λ a b. a && b) so_far.status (read ∙ ap is_last_read so_far.kept)
-        ∙ sym (last_read lines part ended unended);
-  }
+    -- the byte ends no line
+    pub byte_read : {longer : List ℕ} (byte : ℕ) → found ≡ Some byte → byte ≢ line_feed → longer ≡ take kept_bytes (line ++ byte ∷ [])
+        → IsAnsweredSoFar question before next old kept longer all_read
+    byte_read byte found_is other longer_is = record {
+      lines = lines;
+      part = part ++ byte ∷ [];
+      ended = ended;
+      unended = All-push IsNoFeed part byte unended other;
+      kept = longer_is ∙ ap (λ l. take kept_bytes (l ++ byte ∷ [])) so_far.kept ∙ take_more_kept kept_bytes part byte;
+      taken = taken_now (Some byte) found_is;
+      written = answers_kept kept keeps;
+      status = so_far.status;
+    }
+
+    -- it is a line feed, and the line that it ends was answered
+    pub line_read : {more : Option (List ℕ)} {byte : ℕ} {empty : List ℕ} {is_read : Bool} → found ≡ Some byte → byte ≡ line_feed
+        → Appends kept more (reply question line) → is_read ≡ not (is_faulty line) → empty ≡ []
+        → IsAnsweredSoFar question before next old more empty (all_read && is_read)
+    line_read found_is feed answered read empty_is =
+        let whole : List ℕ = part ++ line_feed ∷ [] in
+        let one = feed_ends_one_line part unended in
+        record {
+          lines = lines ++ whole;
+          part = [];
+          ended = inr (lines ++ part, sym (append_assoc lines part (line_feed ∷ [])));
+          unended = All-nil IsNoFeed;
+          kept = empty_is;
+          taken = rw append-nil (taken_now (Some line_feed) (found_is ∙ ap Some feed));
+          written = rw (answers_split question lines whole ended, answers_to_one question whole part one, ← reply_whole)
+              (more_written _ _ _ keeps answered);
+          status = ap₂ (λ a b. a && b) so_far.status (read ∙ ap (λ l. not (is_faulty l)) so_far.kept ∙ ap not (kept_faulty part))
+              ∙ sym (all_read_more lines whole part ended one);
+        }
+
+    -- the answer to the line that it ends was begun
+    pub begun_line : {more : Option (List ℕ)} {byte : ℕ} → found ≡ Some byte → byte ≡ line_feed
+        → AppendsPrefix kept more (reply question line) → IsBegun question before next old more
+    begun_line found_is feed =
+        let one = feed_ends_one_line part unended in
+        begun kept (part ++ line_feed ∷ []) (reply question line) (rw one (omega arith))
+        (taken_now (Some line_feed) (found_is ∙ ap Some feed))
+        (reply_whole ∙ sym (answers_to_one question (part ++ line_feed ∷ []) part one)) keeps
+
+    -- nothing was left, and the answer to what stands after the last line feed was begun
+    pub begun_last : {more : Option (List ℕ)} → found ≡ None → AppendsPrefix kept more (last_reply question line)
+        → IsBegun question before next old more
+    begun_last none = begun kept part (last_reply question line) (one_line part unended)
+        (rw append-nil at (taken_now None none)) reply_part keeps
+
+    -- it was written whole
+    all_answered : {more : Option (List ℕ)} {is_read : Bool} → found ≡ None → IsAtEnd now → Appends kept more (last_reply question line)
+        → is_read ≡ is_last_read line → IsAnswered question before next old more (all_read && is_read)
+    all_answered none at_end answered read = record {
+      read = lines ++ part;
+      taken = rw append-nil at (taken_now None none);
+      all = Consumes-whole before now (lines ++ part) (λ bytes. lines ++ part ≡ bytes) so_far.taken at_end refl;
+      written = rw (answers_split question lines part ended)
+          (more_written _ _ _ keeps (rw reply_part at answered));
+      status = ap₂ (λ a b. a && b) so_far.status (read ∙ ap is_last_read so_far.kept)
+          ∙ sym (last_read lines part ended unended);
+    }
 
 -- what holds if all was read, answered and flushed
 pub reading_done : {question : Question} {before now next new : Option (List ℕ)} {old out : SinkState} {line : List ℕ}
@@ -320,9 +286,9 @@ pub reading_done : {question : Question} {before now next new : Option (List ℕ
     → Appends kept out.written (last_reply question line) → is_read ≡ is_last_read line → out.has_failed ≡ false → out.is_flushed ≡ true
     → AnswersLines question before next old out (Ok (all_read && is_read))
 reading_done kept so_far none taken at_end keeps start written read sound flushed = record {
-  answered = all_answered so_far kept none taken at_end keeps written read;
+  answered = all_answered so_far _ kept taken keeps none at_end written read;
   cut_off = λ failed. absurd (cc failed);
-  begins = begun_last so_far kept none taken keeps start;
+  begins = begun_last so_far _ kept taken keeps none start;
   failed = (λ failed. absurd (cc (sound, failed)), λ failed. absurd (cc failed));
   all_flushed = λ _. flushed;
 }

@@ -1,17 +1,17 @@
 -- The collector: how far each file has come, and what any list of offers and takes makes of it.
 use Rattle.std.proofs.Common.{◌≡◌, ℕ, zero, suc, ◌+◌, ◌<◌, ◌≤◌, List, [], ◌∷◌, length, set, get_or, replicate, true, false, refl, arith, ap}
 use Rattle.std.proofs.Common.{eq-eqb, ◌≢◌, inl, inr, cond, ◌++◌, map, ◌∙◌, sym, ne_eqb, length-set, get_or-set_other, get_or-set_same, take}
-use Rattle.std.proofs.Common.{Option, Some, None, is_some, IsSome, Contains, Result, Ok, Err}
+use Rattle.std.proofs.Common.{Option, Some, None, slice_get, ◌↔◌, is_some, IsSome, Contains, Result, Ok, Err}
 use Rattle.std.proofs.lemmas.Bool.{cases_eq, Decides.{nat_tests}}
 use Rattle.std.proofs.lemmas.List.{length-map, get_or_default, length-replicate, get_or-replicate, get_or_past, append-nil, append_assoc}
 use Rattle.std.proofs.lemmas.List.{take_all, take_more, get_or-map}
 use Rattle.std.proofs.lemmas.List.Elements.{Contains-append_left, Contains-push, Contains-push_cases}
-use Rattle.std.proofs.lemmas.List.{FromFn.{length-enumerate_from, get_or-enumerate_from}, Sums.{sum_by-append}}
-use Rattle.std.proofs.lemmas.Option.{slice_get_within, get_or_from_slice_get, slice_get-get_or}
+use Rattle.std.proofs.lemmas.List.{Sums.{sum_by-append}}
+use Rattle.std.proofs.lemmas.Option.{slice_get_within, slice_get-get_or}
 use Rattle.std.specs.List.{enumerate_from}
 use Rattle.kalah_jobs.specs.{IsPermutationOfJobs, AcceptsEachJob, MakesEveryLineReady, Event, Offers, Gives, offered_in, taken_in, with_taken, HasArrived, answered_line, answered_lines}
 use Rattle.kalah_jobs.specs.{IsAfterEvents, KeepsItsLaw, front_of, ArrivalsState, no_file, state_of, line_count, arrived_for, HasLinesOf, with_answer, with_one_taken, after_offer}
-use Rattle.kalah_jobs.specs.{after_take, new_files, front, IsNext, HasEnded, IsOffered, HoldsOffered, AgreeWithOffers, IsWanted, IsRefusedFor, AnswersInOneWay, JobsState, entries_of}
+use Rattle.kalah_jobs.specs.{after_take, new_files, front, HasEnded, IsOffered, HoldsOffered, AgreeWithOffers, IsWanted, IsRefusedFor, AnswersInOneWay, JobsState, entries_of}
 use Rattle.kalah_jobs.specs.{entry_at, line_job, no_job, Answer, OutcomeState, Entry, Refusal, Taken, answer_of, Offered, Took}
 use Rattle.kalah_jobs.proofs.{CountingLemmas.{same_job, same_entry_itself, times_offered, contains_from_times, times_from_contains, hits, hits_once, times_in_jobs}, ListLemmas.{count_by-cons, some_value}}
 
@@ -25,7 +25,7 @@ front_within xs = omega arith
 pub front_arrived : (xs : List (Option Answer)) (k : ℕ) (d : Option Answer) → k < front_of xs → is_some (get_or xs k d) ≡ true
 front_arrived (Some a ∷ xs) zero d low = refl
 front_arrived (Some a ∷ xs) (suc k) d low = front_arrived xs k d (omega arith)
-front_arrived xs k d low = absurd (omega arith)
+front_arrived xs k d low = grind arith
 
 -- the front does not pass a gap
 pub front_stops : (xs : List (Option Answer)) (k : ℕ) → is_some (get_or xs k None) ≡ false → front_of xs ≤ k
@@ -141,17 +141,21 @@ module _ {jobs : JobsState} {past : List OutcomeState} {files : List ArrivalsSta
             (λ f k apart b arrived. still_offered o (holds.only f k b arrived));
       }
 
-  -- if a line is offered with its entry and refused, it had come before
-  refused_had_arrived : (f k : ℕ) (e : Entry) (r : Refusal) → entry_at jobs f k ≡ Some e → IsRefusedFor jobs files (line_job f k e) r
-      → IsSome (arrived_for (state_of files f) k)
-  refused_had_arrived f k e r entry_is refused =
-      grind (
+  -- if a line is offered with its entry and refused, it had come before, with this entry
+  refused_had_come : (f k : ℕ) (e : Entry) (r : Refusal) → entry_at jobs f k ≡ Some e → IsRefusedFor jobs files (line_job f k e) r
+      → (arrived_for (state_of files f) k ≡ Some (answer_of e)) × Contains past (line_job f k e)
+  refused_had_come f k e r entry_is refused =
+      let arrived : IsSome (arrived_for (state_of files f) k) = grind (
         arith,
         lines_are jobs files holds.counts f,
         slice_get_within (entries_of jobs f) k e entry_is,
         file_there files f k,
         front_arrived (state_of files f).arrived k None,
-      )
+      ) in
+      let answer = some_value (arrived_for (state_of files f) k) arrived in
+      let offer = holds.only f k answer.0 answer.1 in
+      let same : offer.entry ≡ e = cc (offer.entry_is, entry_is) in
+      (cc (answer.1, offer.answer_is, same), rw same at offer.offered)
 
   -- a refused offer changes nothing, and what holds stays true with one more offer
   holds_refused : (o : OutcomeState) (r : Refusal) → IsRefusedFor jobs files o r → HoldsOffered jobs (past ++ o ∷ []) files
@@ -159,11 +163,7 @@ module _ {jobs : JobsState} {past : List OutcomeState} {files : List ArrivalsSta
     counts = holds.counts;
     arrived = λ f k e entry_is offered. elim (Contains-push_cases past o (line_job f k e) offered) [
       | inl old ↦ holds.arrived f k e entry_is old
-      | inr new ↦
-          let arrived = refused_had_arrived f k e r entry_is (rw new at refused) in
-          let answer = some_value (arrived_for (state_of files f) k) arrived in
-          let offer = holds.only f k answer.0 answer.1 in
-          cc (answer.1, offer.answer_is, offer.entry_is, entry_is)
+      | inr new ↦ (refused_had_come f k e r entry_is (rw new at refused)).0
     ];
     only = λ f k a arrived. still_offered o (holds.only f k a arrived);
   }
@@ -202,24 +202,15 @@ taken_is t k e line_is answer_is = λ i. record { line = line_is i; answer = ans
 abbrev answered_lines_of : JobsState → ℕ → List Taken
 answered_lines_of jobs f = answered_lines (entries_of jobs f)
 
--- the list of the first lines grows by the line that is taken
-first_lines_more : {jobs : JobsState} {past : List OutcomeState} {files : List ArrivalsState} (f : ℕ) (t : Taken) →
-    HoldsOffered jobs past files → IsNext (state_of files f) t
-    → take (state_of files f).taken (answered_lines_of jobs f) ++ t ∷ [] ≡ take ((state_of files f).taken + 1) (answered_lines_of jobs f)
-first_lines_more {jobs} {files = files} f t holds is_next =
-    let n : ℕ = (state_of files f).taken in
-    let entries : List Entry = entries_of jobs f in
-    let offer = holds.only f t.line t.answer is_next.came in
-    let entry_is : entry_at jobs f n ≡ Some offer.entry = ap (entry_at jobs f) (sym is_next.first) ∙ offer.entry_is in
-    let low : n < length (enumerate_from 0 entries) =
-    omega (arith, slice_get_within entries n offer.entry entry_is, length-enumerate_from 0 entries) in
-    let numbered = get_or-enumerate_from 0 entries n (0, offer.entry) (omega (arith, length-enumerate_from 0 entries)) in
-    let entry = get_or_from_slice_get entries n offer.entry offer.entry entry_is in
-    let next : get_or (answered_lines_of jobs f) n t ≡ t =
-    get_or-map answered_line (enumerate_from 0 entries) n (0, offer.entry) t low ∙ ap answered_line numbered
-    ∙ sym (taken_is t (0 + n) _ (is_next.first ∙ omega arith) (offer.answer_is ∙ ap answer_of (sym entry))) in
-    ap (λ x. take n (answered_lines_of jobs f) ++ x ∷ []) (sym next)
-    ∙ sym (take_more (answered_lines_of jobs f) n t (omega (arith, length-map (enumerate_from 0 entries) answered_line)))
+-- the first lines, numbered from k on, grow by the line that is taken
+first_lines_more : (k n : ℕ) (entries : List Entry) (t : Taken) (e : Entry) → slice_get entries n ≡ Some e → t.line ≡ k + n
+    → t.answer ≡ answer_of e → take n (map answered_line (enumerate_from k entries)) ++ t ∷ []
+    ≡ take (n + 1) (map answered_line (enumerate_from k entries))
+first_lines_more k n [] t e entry_is line_is answer_is = cc
+first_lines_more k zero (x ∷ entries) t e entry_is line_is answer_is =
+    ap (◌∷ []) (taken_is t k x (omega arith) (cc (answer_is, entry_is)))
+first_lines_more k (suc n) (x ∷ entries) t e entry_is line_is answer_is =
+    grind (arith, first_lines_more (k + 1) n entries t e entry_is (omega arith) answer_is)
 
 -- ---- any list of events
 
@@ -264,10 +255,12 @@ module _ {jobs : JobsState} {past : List OutcomeState} {files after : List Arriv
   -- the line that is taken is the next of its file
   taken_next : (g : ℕ) (t : Taken) → Gives files g t after → WereTaken jobs files (λ f. with_taken f g (Some t) []) after
   taken_next g t step =
+      let offer = kept.offered.only g t.line t.answer step.next_line.came in
       rw step.kept (each_file files g (with_one_taken (state_of files g)) step.file_there
       (λ f new.
       take (state_of files f).taken (answered_lines_of jobs f) ++ with_taken f g (Some t) [] ≡ take new.taken (answered_lines_of jobs f))
-      (rw (eq-eqb g g refl) (first_lines_more g t kept.offered step.next_line))
+      (rw (eq-eqb g g refl) (first_lines_more 0 (state_of files g).taken (entries_of jobs g) t offer.entry
+      (ap (entry_at jobs g) (sym step.next_line.first) ∙ offer.entry_is) (omega (arith, step.next_line.first)) offer.answer_is))
       (λ f other. rw (ne_eqb g f (λ same. other (sym same))) (append-nil (take (state_of files f).taken (answered_lines_of jobs f)))))
 
 -- any list of events
@@ -304,9 +297,8 @@ new_lines (entries ∷ jobs) = grind (arith, new_lines jobs, length-replicate)
 
 -- nothing was taken of new files
 pub new_taken : (jobs : JobsState) (f : ℕ) → (state_of (new_files jobs) f).taken ≡ 0
-new_taken [] f = refl
-new_taken (entries ∷ jobs) zero = refl
 new_taken (entries ∷ jobs) (suc f) = new_taken jobs f
+new_taken jobs f = refl
 
 -- to new files nothing was offered, and nothing was taken of them
 pub new_files_agree : (jobs : JobsState) → AgreeWithOffers jobs [] (new_files jobs)
@@ -314,7 +306,7 @@ new_files_agree jobs = record {
   offered = record {
     counts = new_lines jobs;
     arrived = λ f k e entry_is offered. absurd (omega (arith, offered.1));
-    only = λ f k a arrived. absurd (let none_arrived : None ≡ Some a = sym (none_arrived_at_first jobs f k) ∙ arrived in cc none_arrived);
+    only = λ f k a arrived. cc (none_arrived_at_first jobs f k);
   };
   within = λ f. omega (arith, new_taken jobs f);
 }
@@ -330,20 +322,20 @@ pub keeps_its_law : KeepsItsLaw
 keeps_its_law jobs events files run =
     let all = runs_keep jobs [] events (new_files jobs) files run (new_files_agree jobs) in
     let holds = all.0.offered in
-    let arrived : (f k : ℕ) → HasArrived jobs events f k → IsSome (arrived_for (state_of files f) k) =
-    λ f k has_arrived. grind (arith, holds.arrived f k) in
-    let only : (f k : ℕ) → IsSome (arrived_for (state_of files f) k) → HasArrived jobs events f k =
-    λ f k has_arrived.
-    let answer = some_value (arrived_for (state_of files f) k) has_arrived in
-    let offer = holds.only f k answer.0 answer.1 in
-    rw offer.entry_is offer.offered in
+    let arrived : (f k : ℕ) → IsSome (arrived_for (state_of files f) k) ↔ HasArrived jobs events f k = λ f k. (
+      λ has_arrived.
+          let answer = some_value (arrived_for (state_of files f) k) has_arrived in
+          let offer = holds.only f k answer.0 answer.1 in
+          rw offer.entry_is offer.offered,
+      λ has_arrived. grind (arith, holds.arrived f k),
+    ) in
     record {
       counts = holds.counts;
-      arrived = λ f k. (only f k, arrived f k);
+      arrived = arrived;
       furthest = λ f. record {
         within = omega (arith, front_within (state_of files f).arrived, lines_are jobs files holds.counts f);
-        below = λ k low. only f k (front_arrived (state_of files f).arrived k None low);
-        greatest = λ m low all. front_least (state_of files f).arrived m (λ k k_low. arrived f k (all k k_low));
+        below = λ k low. (arrived f k).0 (front_arrived (state_of files f).arrived k None low);
+        greatest = λ m low all. front_least (state_of files f).arrived m (λ k k_low. (arrived f k).1 (all k k_low));
       };
       taken = λ f. ap (λ n. take n (answered_lines_of jobs f) ++ taken_in f events) (sym (new_taken jobs f)) ∙ all.1 f;
       taken_within = all.0.within;
@@ -353,13 +345,6 @@ keeps_its_law jobs events files run =
 pub ruleset new_counts = (new_lines, take_all)
 
 -- ==== Offers of each job once, in any order
-
--- each line was offered with its entry
-each_arrived : {jobs : JobsState} {got : List OutcomeState} → IsPermutationOfJobs jobs got → (f k : ℕ) (e : Entry)
-    → entry_at jobs f k ≡ Some e → Contains got (line_job f k e)
-each_arrived {jobs} {got} each_once f k e entry_is =
-    let o : OutcomeState = line_job f k e in
-    contains_from_times o got (grind (arith, each_once.same_counts (same_job o), times_in_jobs o jobs, same_entry_itself e))
 
 -- an offer among the jobs that was not offered before
 module _ {jobs : JobsState} {past : List OutcomeState} {files : List ArrivalsState} (o : OutcomeState) (rest : List OutcomeState)
@@ -378,22 +363,20 @@ module _ {jobs : JobsState} {past : List OutcomeState} {files : List ArrivalsSta
         times_in_jobs o jobs,
       ) in
       let is_hit = hits_once o.entry (entry_at jobs o.file o.line) (omega arith) in
-      let arrived = refused_had_arrived holds o.file o.line o.entry r is_hit.0 refused in
-      let answer = some_value (arrived_for (state_of files o.file) o.line) arrived in
-      let offer = holds.only o.file o.line answer.0 answer.1 in
-      let same : offer.entry ≡ o.entry = cc (offer.entry_is, is_hit.0) in
-      omega (arith, is_hit.1, times_from_contains o past (rw same at offer.offered))
+      let come = refused_had_come holds o.file o.line o.entry r is_hit.0 refused in
+      omega (arith, is_hit.1, times_from_contains o past come.1)
 
 -- if each job was offered, each file has ended
 pub fronts_full : {jobs : JobsState} {past : List OutcomeState} {files : List ArrivalsState} → IsPermutationOfJobs jobs past
     → HoldsOffered jobs past files → (f : ℕ) → HasEnded (state_of files f)
-fronts_full {jobs} {files = files} each_once holds f =
+fronts_full {jobs} {past} {files} each_once holds f =
     let arrived = (state_of files f).arrived in
     let all = front_least arrived (length arrived) (λ k low.
-    let e : Entry = get_or (entries_of jobs f) k no_job.entry in
-    let entry_is : entry_at jobs f k ≡ Some e =
+    let o : OutcomeState = line_job f k (get_or (entries_of jobs f) k no_job.entry) in
+    let entry_is : entry_at jobs f k ≡ Some o.entry =
     slice_get-get_or (entries_of jobs f) k no_job.entry (omega (arith, lines_are jobs files holds.counts f)) in
-    ap is_some (holds.arrived f k e entry_is (each_arrived each_once f k e entry_is))) in
+    ap is_some (holds.arrived f k o.entry entry_is (contains_from_times o past
+    (grind (arith, each_once.same_counts (same_job o), times_in_jobs o jobs, same_entry_itself o.entry))))) in
     omega (arith, front_within arrived)
 
 pub accepts_each_job : AcceptsEachJob

@@ -39,20 +39,19 @@ lines_of-open (byte ∷ another ∷ line) whole some =
 pub lines_of-cut : (bytes : List ℕ) (i n : ℕ) → i < length bytes → length bytes ≤ n + (i + 1) → get_or bytes i 0 ≡ line_feed
     → HasNoLineFeed (take i bytes) → lines_of bytes ≡ take i bytes ∷ lines_of (take n (drop (i + 1) bytes))
 lines_of-cut bytes i n low high is_feed none =
-    let all : take n (drop (i + 1) bytes) ≡ drop (i + 1) bytes =
-    take_all n (drop (i + 1) bytes) (omega (arith, length-drop (i + 1) bytes)) in
-    ap lines_of (sym (take-append-drop i bytes)
-    ∙ ap (take i bytes ++◌) (drop_more bytes i 0 low ∙ ap (◌∷ drop (i + 1) bytes) is_feed))
-    ∙ lines_of-ended (take i bytes) (drop (i + 1) bytes) none ∙ ap (λ rest. take i bytes ∷ lines_of rest) (sym all)
+    cc (
+      take_all n (drop (i + 1) bytes) (omega (arith, length-drop (i + 1) bytes)),
+      take-append-drop i bytes,
+      drop_more bytes i 0 low,
+      lines_of-ended (take i bytes) (drop (i + 1) bytes) none,
+    )
 
 -- no bytes follow a line that is not ended
 pub lines_of-last : (bytes : List ℕ) (n : ℕ) → 0 < length bytes → HasNoLineFeed bytes
     → lines_of bytes ≡ bytes ∷ lines_of (take n (drop (length bytes) bytes))
 unfolding lines_of
 lines_of-last bytes n some none =
-    let nothing : take n (drop (length bytes) bytes) ≡ [] =
-    ap (take n) (drop_all (length bytes) bytes (omega arith)) ∙ take-nil n in
-    lines_of-open bytes none (λ e. omega (arith, ap length e)) ∙ ap (λ rest. bytes ∷ lines_of rest) (sym nothing)
+    rw (drop_all (length bytes) bytes (omega arith), take-nil n) (lines_of-open bytes none (λ e. omega (arith, ap length e)))
 
 -- what cutting off the first line needs
 pub ruleset first_lines = (lines_of-cut, lines_of-last, take_all)

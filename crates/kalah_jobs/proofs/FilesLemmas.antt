@@ -153,10 +153,11 @@ one_more_read {question} {files} {count} {jobs} {entries = entries} file so_far 
     let next = sum_by-drop_more lines_in files count file low in
     let lines = ap length entries_are ∙ length-entries_for question file.bytes in
     record {
-      read = ap (◌++ (entries ∷ [])) so_far.read
-          ∙ ap (λ new. jobs_for question (take count files) ++ new ∷ []) (entries_are ∙ ap (λ f. entries_for question f.bytes) file_is)
-          ∙ sym (map-append (λ f. entries_for question f.bytes) (take count files) (get_or files count file ∷ []))
-          ∙ ap (jobs_for question) (sym (take_more files count file low));
+      read = cc (
+        so_far.read,
+        take_more files count file low,
+        map-append (λ f. entries_for question f.bytes) (take count files) (get_or files count file ∷ []),
+      );
       starts_are = starts_more entries so_far.starts_are so_far.before_is;
       before_is = omega (arith, so_far.before_is);
       lines = omega (arith, so_far.lines, lines, ap lines_in file_is);
@@ -183,7 +184,7 @@ pub asked_fault : (question : Question) (line : List ℕ) → is_faulty_entry (e
 unfolding entry_for
 asked_fault question line =
     elim (reading_of line) as (λ r. is_faulty_entry (entry_of_reading question r) ≡ is_faulty_entry (entry_of_reading BestMove r)) [
-      | Ok p ↦ asked_is_no_fault question p ∙ sym (asked_is_no_fault BestMove p)
+      | Ok p ↦ asked_is_no_fault question p
       | Err fault ↦ refl
     ]
 

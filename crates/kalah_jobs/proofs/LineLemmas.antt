@@ -1,5 +1,5 @@
 -- The line of a position: how it is read, what its end says, and the first fault of any other line.
-use Rattle.std.proofs.{Common.{◌≡◌, ℕ, ◌+◌, ◌<◌, ◌≤◌, inl, inr, List, [], ◌∷◌, ◌++◌, length, Some, refl, sym, ap, ◌∙◌, arith, ◌==◌, Option, None, append_assoc, eqb-true, Result, Ok, Err, ◌≢◌, append-nil, codes}, lemmas.Bool.{cases_lt, lt-ltb, le-ltb, ne_eqb, Decides.{nat_tests, eqb_tells}}}
+use Rattle.std.proofs.{Common.{◌≡◌, ℕ, ◌+◌, ◌<◌, ◌≤◌, inl, inr, List, [], ◌∷◌, ◌++◌, length, Some, refl, ap, ◌∙◌, arith, ◌==◌, Option, None, append_assoc, eqb-true, Result, Ok, Err, ◌≢◌, append-nil, codes}, lemmas.Bool.{cases_lt, lt-ltb, le-ltb, ne_eqb, Decides.{nat_tests, eqb_tells}}}
 use Rattle.kalah_rules.specs.{Limits.{most_houses, most_seeds}, Position.{Position, side_length, seeds_in_houses}}
 use Rattle.kalah_jobs.specs.{most_line_bytes, IsNumber, zero_digit, slash, IsSide, space, suffix_of, IsLineOf, without_cr, HasSidesInLimits, Reads, Holds, HasFault, carriage_return, letter_e, order_of, NoLineReadsTwice, OnlyTheSuffixNamesTheRule, ◌>>=◌, SideRead, side_at, rule_of_suffix, position_of_sides, position_from, position_of_text, admitted, admitted_if_written, reading_of, LineFault, Rule, Classic, EmptyCapture, Long, Empty, Shape, Houses, Seeds}
 use Rattle.kalah_jobs.proofs.SideLemmas.{both_succeed, passes_and_succeeds, side_is_written, side_is_read}
@@ -26,10 +26,12 @@ line_of_sides {text} {rest} {own} {other} {rule} own_read space_next other_read 
     record {
       own_text = first.text;
       other_text = second.text;
-      parts =
-          first.parts ∙ ap (first.text ++◌) space_next ∙ ap (λ (t : List ℕ). first.text ++ space ∷ t) second.parts
-          ∙ ap (λ (t : List ℕ). first.text ++ space ∷ (second.text ++ t)) (suffix_is_written other.rest rule rule_read)
-          ∙ sym (append_assoc first.text (space ∷ second.text) (suffix_of rule));
+      parts = cc (
+        first.parts,
+        second.parts,
+        suffix_is_written other.rest rule rule_read,
+        append_assoc first.text (space ∷ second.text) (suffix_of rule),
+      );
       own_side = simp first.houses_are first.side;
       other_side = simp second.houses_are second.side;
     }
@@ -44,7 +46,7 @@ sides_are_read text own_read space_next other_read rule_read = rw (own_read, spa
 -- what is read after the first side is a space, the other side and a suffix
 rest_is_written : (text : List ℕ) (own : SideRead) (rest : List ℕ) (p : Position) → side_at text ≡ Some own → own.rest ≡ rest
     → position_from own rest ≡ Some p → IsLineOf text p
-rest_is_written text own [] p own_read rest_is position_read = absurd cc
+rest_is_written text own [] p own_read rest_is position_read = cc
 rest_is_written text own (mark ∷ rest) p own_read rest_is position_read =
     let with_rule = λ (other : SideRead). rule_of_suffix other.rest >>= λ rule. Some (position_of_sides own other rule) in
     let read = passes_and_succeeds (mark == space) (side_at rest >>= with_rule) p position_read in
@@ -76,13 +78,11 @@ line_is_read text p line =
 
 pub empty_is_no_line : (p : Position) → ¬ IsLineOf [] p
 unfolding position_of_text side_at
-empty_is_no_line p line = absurd (cc (line_is_read [] p line))
+empty_is_no_line p line = cc (line_is_read [] p line)
 
 -- a line writes one position only
 one_position : {text : List ℕ} {p q : Position} → IsLineOf text p → IsLineOf text q → p ≡ q
-one_position {text} {p} {q} first second =
-    let same : ◌≡◌ {A = Option Position} (Some p) (Some q) = sym (line_is_read text p first) ∙ line_is_read text q second in
-    cc same
+one_position {text} {p} {q} first second = cc (line_is_read text p first, line_is_read text q second)
 
 -- ==== A line is read as a position, or it has its first fault
 
@@ -111,7 +111,6 @@ nor_this {text} fault before not earlier low holds = elim (cases_lt (order_of ea
   | inr more ↦ not (rw (same_order earlier fault (omega arith)) at holds)
 ]
 
--- a line that writes a position isn't empty
 not_empty : {text : List ℕ} {p : Position} → IsLineOf text p → ¬ Holds Empty text
 not_empty {p = p} form empty = empty_is_no_line p (rw empty at form)
 
@@ -144,28 +143,18 @@ position_is_read line p few none form = elim (eqb_tells (length p.other) (side_l
 nothing_is_read : (line text : List ℕ) → without_cr line ≡ text → NoneBefore (without_cr line) 2 → position_of_text text ≡ None
     → IsReading line (admitted_if_written None text)
 nothing_is_read line [] text_is none unwritten = record { holds = text_is; first = none }
-nothing_is_read line (byte ∷ text) text_is none unwritten =
-    let some : ¬ Holds Empty (without_cr line) = λ empty. absurd (cc (sym text_is ∙ empty)) in
-    record {
-      holds = λ p form.
-          let read : ◌≡◌ {A = Option Position} None (Some p) =
-          sym unwritten ∙ ap position_of_text (sym text_is) ∙ line_is_read (without_cr line) p form in
-          cc read;
-      first = nor_this Empty none some;
-    }
+nothing_is_read line (byte ∷ text) text_is none unwritten = record {
+  holds = λ p form. cc (line_is_read (without_cr line) p form);
+  first = nor_this Empty none (λ empty. cc);
+}
 
 -- a line of few bytes is read, or has its first fault
-few_are_read : (line : List ℕ) → length (without_cr line) ≤ most_line_bytes → (r : Option Position)
+few_are_read : (line : List ℕ) → length (without_cr line) ≤ most_line_bytes → NoneBefore (without_cr line) 2 → (r : Option Position)
     → position_of_text (without_cr line) ≡ r → IsReading line (admitted_if_written r (without_cr line))
-few_are_read line few r read_as =
-    let text : List ℕ = without_cr line in
-    let none = nor_this {text = text} Long (none_at_first text) (λ long. omega arith) in
-    (elim r as (λ (r : Option Position). position_of_text text ≡ r → IsReading line (admitted_if_written r text)) [
-      | None ↦ λ read_as. nothing_is_read line text refl none read_as
-      | Some p ↦ λ read_as.
-          let form = line_is_written text p read_as in
-          position_is_read line p few (nor_this Shape (nor_this Empty none (not_empty form)) (λ shape. shape p form)) form
-    ]) read_as
+few_are_read line few none None read_as = nothing_is_read line (without_cr line) refl none read_as
+few_are_read line few none (Some p) read_as =
+    let form = line_is_written (without_cr line) p read_as in
+    position_is_read line p few (nor_this Shape (nor_this Empty none (not_empty form)) (λ shape. shape p form)) form
 
 -- a line of too many bytes is read as too long
 pub long_is_read : (line : List ℕ) → most_line_bytes < length (without_cr line) → reading_of line ≡ Err Long
@@ -176,7 +165,9 @@ pub is_reading : (line : List ℕ) → IsReading line (reading_of line)
 unfolding reading_of
 is_reading line = elim (cases_lt most_line_bytes (length (without_cr line))) [
   | inl long ↦ rw (lt-ltb _ _ long) (record { holds = long; first = none_at_first (without_cr line) })
-  | inr few ↦ rw (le-ltb _ _ few) (few_are_read line few (position_of_text (without_cr line)) refl)
+  | inr few ↦
+      let none = nor_this Long (none_at_first (without_cr line)) (λ long. omega arith) in
+      rw (le-ltb _ _ few) (few_are_read line few none (position_of_text (without_cr line)) refl)
 ]
 
 -- ---- in one way only
@@ -193,11 +184,9 @@ no_fault line p reads Houses other = not_houses reads.form reads.sides other
 no_fault line p reads Seeds (q, (form, many)) =
     omega (arith, ap seeds_in_houses (one_position form reads.form), reads.few_seeds)
 
--- no line has two first faults
 one_fault : (line : List ℕ) (a b : LineFault) → HasFault line a → HasFault line b → a ≡ b
 one_fault line a b first second = grind (arith, same_order a b, first.first b, second.first a, first.holds, second.holds)
 
--- no line has two readings
 one_reading : (line : List ℕ) (r s : Result Position LineFault) → IsReading line r → IsReading line s → r ≡ s
 one_reading line (Ok p) (Ok q) first second = ap Ok (no_line_reads_twice line p q first second)
 one_reading line (Ok p) (Err fault) first second = absurd (no_fault line p first fault second.holds)
@@ -212,9 +201,8 @@ only_reading line r reading = one_reading line (reading_of line) r (is_reading l
 
 -- the bytes before another byte stay
 pub without_cr-append : (text : List ℕ) (byte : ℕ) (rest : List ℕ) → without_cr (text ++ byte ∷ rest) ≡ text ++ without_cr (byte ∷ rest)
-without_cr-append [] byte rest = refl
-without_cr-append (first ∷ []) byte rest = refl
 without_cr-append (first ∷ second ∷ text) byte rest = ap (first ∷◌) (without_cr-append (second ∷ text) byte rest)
+without_cr-append text byte rest = refl
 
 -- one CR at the end is dropped
 pub without_cr-cr : (text : List ℕ) → without_cr (text ++ carriage_return ∷ []) ≡ text
@@ -249,8 +237,7 @@ number_ends_in_digit byte text n written = grind arith
 side_ends_in_digit : (byte : ℕ) {text houses : List ℕ} {store : ℕ} → IsSide text houses store
     → last_or byte text ≤ zero_digit + 9
 side_ends_in_digit byte {text} {store = store} side =
-    let last : last_or byte text ≡ last_or slash side.store_text =
-    ap (last_or byte) side.parts ∙ last_or-append byte side.houses_text slash side.store_text in
+    let last : last_or byte text ≡ last_or slash side.store_text = cc (last_or-append byte side.houses_text slash side.store_text) in
     omega (arith, number_ends_in_digit slash side.store_text store side.store_written)
 
 -- a line that ends in ` e` is under the empty-capture rule
@@ -258,9 +245,11 @@ rule_of_end : (rule : Rule) (text own other front : List ℕ) → text ≡ own +
     → last_or space other ≤ zero_digit + 9 → text ≡ front ++ codes " e" → rule ≡ EmptyCapture
 rule_of_end EmptyCapture text own other front parts digit ends = refl
 rule_of_end Classic text own other front parts digit ends =
-    let last : letter_e ≡ last_or space other =
-    sym (last_or-append 0 front space (letter_e ∷ [])) ∙ ap (last_or 0) (sym ends ∙ parts ∙ append-nil (own ++ space ∷ other))
-    ∙ last_or-append 0 own space other in
+    let last : letter_e ≡ last_or space other = cc (
+      last_or-append 0 front space (letter_e ∷ []),
+      last_or-append 0 own space other,
+      append-nil (own ++ space ∷ other),
+    ) in
     absurd (omega arith)
 
 pub only_the_suffix_names_the_rule : OnlyTheSuffixNamesTheRule

@@ -1,5 +1,5 @@
 -- The text of a position is the line that writes it, and is read back.
-use Rattle.std.proofs.{Common.{◌≡◌, ℕ, ◌≤◌, List, [], ◌∷◌, ◌++◌, length, refl, sym, ap, ◌∙◌, arith, Result, Ok, Err, append-nil, codes, ap₂, length-append, ◌*◌, lit<, decimal, sum, IfOk, IfErr}, lemmas.{Bool.Decides.{nat_tests}, Fmt.{length-decimal-le}, List.Sums.{sum_by-cons}}}
+use Rattle.std.proofs.{Common.{◌≡◌, ℕ, ◌≤◌, List, [], ◌∷◌, ◌++◌, length, refl, arith, Result, Ok, Err, append-nil, codes, length-append, ◌*◌, lit<, decimal, sum, IfOk, IfErr}, lemmas.{Bool.Decides.{nat_tests}, Fmt.{length-decimal-le}, List.Sums.{sum_by-cons}}}
 use Rattle.kalah_rules.specs.{Limits.{most_houses, most_in_store}, Position.{Position, IsWithinLimits}}
 use Rattle.kalah_jobs.specs.{most_line_bytes, IsNumber, slash, IsSide, space, suffix_of, without_cr, Reads, HasFault, comma, AreHouses, listed, side_text, line_text_of, EveryLineIsItsText, EveryTextIsReadBack, LineFault, Rule, Classic, EmptyCapture}
 use Rattle.kalah_jobs.proofs.{LineLemmas.{IsReading, without_cr-append}, SideLemmas.{number_has_one_text, number_at_most_99, decimal_writes_number, house_before_others}}
@@ -11,22 +11,25 @@ houses_have_one_text : (text houses : List ℕ) → AreHouses text houses → te
 houses_have_one_text text [] written = absurd written
 houses_have_one_text text (n ∷ []) written = number_has_one_text text n written
 houses_have_one_text text (n ∷ m ∷ houses) written =
-    written.parts ∙ ap₂ (λ (a b : List ℕ). a ++ comma ∷ b) (number_has_one_text written.house_text n written.house_written)
-    (houses_have_one_text written.others_text (m ∷ houses) written.others_written)
+    cc (
+      written.parts,
+      number_has_one_text written.house_text n written.house_written,
+      houses_have_one_text written.others_text (m ∷ houses) written.others_written,
+    )
 
 -- a text that writes a side is its text
 side_has_one_text : {text houses : List ℕ} {store : ℕ} → IsSide text houses store → text ≡ side_text houses store
 side_has_one_text {houses = houses} {store} side =
-    side.parts ∙ ap₂ (λ (a b : List ℕ). a ++ slash ∷ b) (houses_have_one_text side.houses_text houses side.houses_written)
-    (number_has_one_text side.store_text store side.store_written)
+    cc (
+      side.parts,
+      houses_have_one_text side.houses_text houses side.houses_written,
+      number_has_one_text side.store_text store side.store_written,
+    )
 
 pub every_line_is_its_text : EveryLineIsItsText
 unfolding line_text_of
 every_line_is_its_text line p reads =
-    let form = reads.form in
-    form.parts
-    ∙ ap₂ (λ (own other : List ℕ). own ++ space ∷ other ++ suffix_of p.rule)
-    (side_has_one_text form.own_side) (side_has_one_text form.other_side)
+    cc (reads.form.parts, side_has_one_text reads.form.own_side, side_has_one_text reads.form.other_side)
 
 -- what holds of the result of a reading
 pub record IsResult (line : List ℕ) (r : Result Position LineFault) : Type 0 where
@@ -122,13 +125,11 @@ number_ends_without_cr byte text n written = grind (arith, nat_tests)
 -- it doesn't end in a CR
 text_without_cr : (front houses : List ℕ) (store : ℕ) (rule : Rule) → store ≤ 99 →
     without_cr (front ++ space ∷ side_text houses store ++ suffix_of rule) ≡ front ++ space ∷ side_text houses store ++ suffix_of rule
-text_without_cr front houses store Classic low =
-    let last = number_ends_without_cr slash (decimal store) store (decimal_writes_number store low) in
-    ap without_cr (append-nil (front ++ space ∷ side_text houses store))
-    ∙ without_cr-append front space (side_text houses store)
-    ∙ ap (front ++◌)
-    (without_cr-append (space ∷ listed houses) slash (decimal store) ∙ ap ((space ∷ listed houses) ++◌) last)
-    ∙ sym (append-nil (front ++ space ∷ side_text houses store))
+text_without_cr front houses store Classic low = rw append-nil (cc (
+  without_cr-append front space (side_text houses store),
+  without_cr-append (space ∷ listed houses) slash (decimal store),
+  number_ends_without_cr slash (decimal store) store (decimal_writes_number store low),
+))
 text_without_cr front houses store EmptyCapture low = without_cr-append (front ++ space ∷ side_text houses store) space (codes "e")
 
 pub every_text_is_read_back : EveryTextIsReadBack

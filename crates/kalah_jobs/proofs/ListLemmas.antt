@@ -27,27 +27,26 @@ slice_get-append_left xs ys i low = grind arith
 
 -- an index past the first list finds an item of the second
 pub slice_get-append_right : {X : Type 0} (xs ys : List X) (n i : ℕ) → n ≡ length xs + i → slice_get (xs ++ ys) n ≡ slice_get ys i
-slice_get-append_right [] ys n i n_is = ap (slice_get ys) (let same : n ≡ i = omega arith in same)
-slice_get-append_right (x ∷ xs) ys zero i n_is = absurd (omega arith)
+slice_get-append_right [] ys n i n_is = grind arith
+slice_get-append_right (x ∷ xs) ys zero i n_is = grind arith
 slice_get-append_right (x ∷ xs) ys (suc n) i n_is = slice_get-append_right xs ys n i (omega arith)
 
 -- the items from place i on begin with the one at place i
 pub items_from : {A : Type 0} (items : List A) (i : ℕ) (item : A) → slice_get items i ≡ Some item
     → drop i items ≡ item ∷ drop (i + 1) items
 items_from items i item item_is =
-    drop_more items i item (slice_get_within items i item item_is)
-    ∙ ap (◌∷ drop (i + 1) items) (get_or_from_slice_get items i item item item_is)
+    cc (drop_more items i item (slice_get_within items i item item_is), get_or_from_slice_get items i item item item_is)
 
 -- a byte that goes to the first of some lines leaves those after them
 pub onto_first-append : (byte : ℕ) (lines more : List (List ℕ)) → 0 < length lines
     → onto_first byte (lines ++ more) ≡ onto_first byte lines ++ more
-onto_first-append byte [] more some = absurd (omega arith)
+onto_first-append byte [] more some = grind arith
 onto_first-append byte (line ∷ lines) more some = refl
 
 -- more lines are numbered on
 pub enumerate_from-append : (number : ℕ) (lines more : List (List ℕ))
     → enumerate_from number (lines ++ more) ≡ enumerate_from number lines ++ enumerate_from (number + length lines) more
-enumerate_from-append number [] more = ap (λ k. enumerate_from k more) (let e : number ≡ number + 0 = omega arith in e)
+enumerate_from-append number [] more = grind arith
 enumerate_from-append number (line ∷ lines) more =
     let e : number + 1 + length lines ≡ number + suc (length lines) = omega arith in
     simp (enumerate_from-append (number + 1) lines more, e)

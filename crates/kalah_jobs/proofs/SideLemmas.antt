@@ -23,7 +23,7 @@ digits_written first (byte ∷ rest) digit = elim (cases_Bool (nat_lt 0 (first -
 
 -- a number that is read is written at the front of the bytes
 number_is_written : (bytes : List ℕ) (found : ℕ × List ℕ) → number_at bytes ≡ Some found → WritesNumber bytes found.0 found.1
-number_is_written [] found read = absurd cc
+number_is_written [] found read = cc
 number_is_written (first ∷ rest) found read =
     let parts = cond_some (is_ascii_digit first) (number_from (first - zero_digit) rest) found read in
     let digit : IsAsciiDigit first = grind (arith, nat_tests, parts.0) in
@@ -54,7 +54,6 @@ rest_is_shorter bytes found read =
 pub number_has_one_text : (text : List ℕ) (n : ℕ) → IsNumber text n → text ≡ decimal n
 number_has_one_text text n written = grind (arith, decimal_digit, decimal_step)
 
--- a number of a line is at most 99
 pub number_at_most_99 : (text : List ℕ) (n : ℕ) → IsNumber text n → n ≤ 99
 number_at_most_99 text n written = grind arith
 
@@ -74,7 +73,7 @@ pub record BothSucceed {A B : Type 0} (step : Option A) (next : A → Option B) 
 -- if two steps succeed together, both do
 pub both_succeed : {A B : Type 0} (step : Option A) (next : A → Option B) (result : B) → (step >>= next) ≡ Some result
     → BothSucceed step next result
-both_succeed None next result both = absurd cc
+both_succeed None next result both = cc
 both_succeed (Some value) next result both = record { value = value; first = refl; second = both }
 
 -- a step that stands under a test succeeds only if the test passes
@@ -116,9 +115,7 @@ module _ {houses bytes : List ℕ} {n : ℕ} where
       rw (← found_is) (record {
         text = house.text ++ slash ∷ store.text;
         more = n ∷ [];
-        parts =
-            house.parts ∙ ap (λ (t : List ℕ). house.text ++ slash ∷ t) store.parts
-            ∙ sym (append_assoc house.text (slash ∷ store.text) read.value.1);
+        parts = cc (house.parts, store.parts, append_assoc house.text (slash ∷ store.text) read.value.1);
         houses_are = refl;
         side = record {
           houses_text = house.text;
@@ -135,16 +132,12 @@ module _ {houses bytes : List ℕ} {n : ℕ} where
   others_written {rest} {found} house others = record {
     text = house.text ++ comma ∷ others.text;
     more = n ∷ others.more;
-    parts =
-        house.parts ∙ ap (λ (t : List ℕ). house.text ++ comma ∷ t) others.parts
-        ∙ sym (append_assoc house.text (comma ∷ others.text) found.rest);
-    houses_are = others.houses_are ∙ append_assoc houses (n ∷ []) others.more;
+    parts = house.parts ∙ simp (others.parts, append_assoc);
+    houses_are = others.houses_are ∙ simp append_assoc;
     side = record {
       houses_text = house.text ++ comma ∷ others.side.houses_text;
       store_text = others.side.store_text;
-      parts =
-          ap (λ (t : List ℕ). house.text ++ comma ∷ t) others.side.parts
-          ∙ sym (append_assoc house.text (comma ∷ others.side.houses_text) (slash ∷ others.side.store_text));
+      parts = simp (others.side.parts, append_assoc);
       houses_written =
           house_before_others house.text others.side.houses_text n others.more house.number others.side.houses_written;
       store_written = others.side.store_written;
@@ -155,7 +148,7 @@ module _ {houses bytes : List ℕ} {n : ℕ} where
   house_written : (i : ℕ) (rest : List ℕ) (found : SideRead) → WritesNumber bytes n rest →
       ((next : List ℕ) → side_from i (houses ++ n ∷ []) next ≡ Some found → WritesSide (houses ++ n ∷ []) next found) →
       after_house (store_at (houses ++ n ∷ [])) (side_from i (houses ++ n ∷ [])) rest ≡ Some found → WritesSide houses bytes found
-  house_written i [] found house further after_house = absurd cc
+  house_written i [] found house further after_house = cc
   house_written i (mark ∷ rest) found house further after_house = elim (cases_Bool (mark == slash)) [
     | inl stored ↦
         let is_slash = eqb-true mark slash stored in
@@ -170,7 +163,7 @@ module _ {houses bytes : List ℕ} {n : ℕ} where
 -- a side that is read from some byte on is written there
 side_from_written : (i : ℕ) (houses bytes : List ℕ) (found : SideRead) → side_from i houses bytes ≡ Some found
     → WritesSide houses bytes found
-side_from_written zero houses bytes found side_read = absurd cc
+side_from_written zero houses bytes found side_read = cc
 side_from_written (suc i) houses bytes found side_read =
     let after = λ (house : ℕ × List ℕ).
     after_house (store_at (houses ++ house.0 ∷ [])) (side_from i (houses ++ house.0 ∷ [])) house.1 in
@@ -208,9 +201,7 @@ module _ (store_text : List ℕ) (store : ℕ) (following : List ℕ) (stored : 
         ) refl
     houses_are_read text (n ∷ m ∷ more) written (suc i) houses few =
         let rest = written.others_text ++ ending in
-        let cut : text ++ ending ≡ written.house_text ++ comma ∷ rest =
-        ap (◌++ ending) written.parts
-        ∙ append_assoc written.house_text (comma ∷ written.others_text) ending in
+        let cut : text ++ ending ≡ written.house_text ++ comma ∷ rest = simp (written.parts, append_assoc) in
         let short : length written.others_text ≤ i =
         omega (arith, ap length written.parts, length-append written.house_text (comma ∷ written.others_text)) in
         rw (cut, number_is_read written.house_text n (comma ∷ rest) written.house_written (λ digit. omega arith))
@@ -222,8 +213,7 @@ pub side_is_read : {text houses : List ℕ} {store : ℕ} (following : List ℕ)
     side_at (text ++ following) ≡ Some (record { houses = houses; store = store; rest = following })
 unfolding side_at
 side_is_read {text} {houses} {store} following side ends =
-    let parts : text ++ following ≡ side.houses_text ++ slash ∷ (side.store_text ++ following) =
-    ap (◌++ following) side.parts ∙ append_assoc side.houses_text (slash ∷ side.store_text) following in
+    let parts : text ++ following ≡ side.houses_text ++ slash ∷ (side.store_text ++ following) = simp (side.parts, append_assoc) in
     rw parts (houses_are_read side.store_text store following side.store_written ends side.houses_text houses side.houses_written
     _ [] (omega (arith, length-append side.houses_text (slash ∷ (side.store_text ++ following)))))
 

@@ -1,5 +1,5 @@
 -- What a sink is given: prefixes of bytes, bytes that are written in part, and texts one after the other.
-use Rattle.std.proofs.{Common.{ℕ, ◌<◌, ◌≤◌, length, arith, ◌≡◌, List, ◌++◌, subst, sym, refl, ◌+◌, [], ap, ◌∙◌, take, drop, append_assoc, ◌∷◌, get_or, flat_map, append-nil, Bool, true, false, ◌-◌, Option, ◌↔◌, IsErr, Ok, Err, OnOk, Result}, KnownBytes.{Appends-kept, Appends-nil, Appends-trans}, Math.Seq.{take-append-add}, lemmas.{Grind.{flat_map-append}, List.{take-append-drop, length-drop, flat_map_more, take_more, take_all}}}
+use Rattle.std.proofs.{Common.{ℕ, ◌<◌, ◌≤◌, length, arith, ◌≡◌, List, ◌++◌, sym, refl, ◌+◌, [], ap, ◌∙◌, take, drop, append_assoc, get_or, flat_map, append-nil, Bool, true, false, ◌-◌, Option, ◌↔◌, IsErr, Ok, Err, OnOk, Result}, KnownBytes.{Appends-kept, Appends-nil, Appends-trans}, Math.Seq.{take-append-add}, lemmas.{Grind.{flat_map-append}, List.{take-append-drop, length-drop, flat_map_more, take_more, take_all}}}
 use Rattle.std.specs.Io.KnownBytes.{Appends, Keeps}
 use Rattle.kalah_jobs.specs.{AppendsPrefix, SinkState, WasGiven}
 
@@ -12,17 +12,16 @@ prefix_none old text = (0, Appends-nil old)
 -- a first part of the bytes, and then a prefix of the rest
 pub prefix_then : (old between new : Option (List ℕ)) (text done rest : List ℕ) → text ≡ done ++ rest → Appends old between done
     → AppendsPrefix between new rest → AppendsPrefix old new text
-prefix_then old between new text done rest parts first start =
-    let split : take (length done + start.0) text ≡ done ++ take start.0 rest = ap (take (length done + start.0)) parts
-    ∙ take-append-add done rest start.0 in
-    (length done + start.0, rw split (Appends-trans _ _ _ done (take start.0 rest) first start.1))
+prefix_then old between new text done rest parts first start = (
+  length done + start.0,
+  rw (parts, take-append-add) (Appends-trans _ _ _ done (take start.0 rest) first start.1),
+)
 
 -- a prefix is also one of what is longer
 pub prefix_longer : (old new : Option (List ℕ)) (text more : List ℕ) → AppendsPrefix old new text → AppendsPrefix old new (text ++ more)
 prefix_longer old new text more start =
-    let all : text ++ more ≡ take start.0 text ++ (drop start.0 text ++ more) =
-    ap (◌++ more) (sym (take-append-drop start.0 text)) ∙ append_assoc (take start.0 text) (drop start.0 text) more in
-    prefix_then _ _ _ (text ++ more) (take start.0 text) (drop start.0 text ++ more) all start.1
+    prefix_then _ _ _ (text ++ more) (take start.0 text) (drop start.0 text ++ more)
+    (cc (take-append-drop start.0 text, append_assoc (take start.0 text) (drop start.0 text) more)) start.1
     (prefix_none new (drop start.0 text ++ more))
 
 -- what keeps the bytes keeps the prefix
@@ -137,15 +136,13 @@ module _ {O : Type 0} (state : O → SinkState) where
     -- the text of one more element was given
     pub given_more : (new : O) (element : ℕ) → i < length elements → element ≡ get_or elements i 0
         → WasGiven state between new (one element) → WasGiven state old new (flat_map one (take (i + 1) elements))
-    given_more new element within element_is more = subst (WasGiven state old new)
-        (flat_map_more one [] (take i elements) element
-        ∙ ap (flat_map one) (ap (λ e. take i elements ++ e ∷ []) element_is ∙ sym (take_more elements i 0 within)))
-        (given_then so_far more)
+    given_more new element within element_is more =
+        rw (take_more elements i 0 within, ← element_is, ← flat_map_more one [] (take i elements) element) (given_then so_far more)
 
     -- a call had failed, so the sink was given all
     pub given_all_after_failure : (state between).has_failed ≡ true → WasGiven state old between (flat_map one all)
-    given_all_after_failure failed = subst (WasGiven state old between)
-        (sym (flat_map-append one (take i elements) (drop i elements)) ∙ ap (flat_map one) (take-append-drop i elements ∙ same))
+    given_all_after_failure failed =
+        rw (← same, ← take-append-drop i elements, flat_map-append one (take i elements) (drop i elements))
         (given_then so_far (given_after_failure between (flat_map one (drop i elements)) failed))
 
     -- there are no more elements

@@ -1,16 +1,16 @@
 -- How positions, moves and answers are put together as text.
-use Rattle.std.proofs.Common.{SFits, of_z, to_z, w16, w32, ℕ, ◌<◌, ◌≤◌, ◌^◌, length, arith, ◌≡◌, zero, suc, List, ◌++◌, IsAscii, IsUtf8}
+use Rattle.std.proofs.Common.{SFits, of_z, to_z, w16, w32, ℕ, ◌<◌, ◌≤◌, ◌^◌, length, arith, ◌≡◌, zero, suc, List, ◌++◌, IsUtf8}
 use Rattle.std.proofs.Common.{sym, refl, ◌+◌, [], ap, ◌∙◌, take, drop, append_assoc, ◌∷◌, map, get_or, flat_map, cond, ◌==◌}
 use Rattle.std.proofs.Common.{append-nil, add-one, Bool, false, codes, ◌-◌, filter, length-append, replicate, Contains, ℤ, pos, negsuc}
 use Rattle.std.proofs.Common.{slice_get, Some, drop_of_length-le}
-use Rattle.std.proofs.lemmas.{Bool.{ne_eqb, cond_both}, Fmt.{length-decimal-le, IsAscii-decimal, length_signed_le}, Int.{ints, to_z-of_z}}
-use Rattle.std.proofs.lemmas.List.{length-take-le, length-drop, drop_at, drop-drop, drop_more}
-use Rattle.std.proofs.lemmas.List.Elements.{All-head, All-tail, All-map, All-from_get_or, Contains-get_or}
-use Rattle.std.proofs.lemmas.Str.{IsUtf8-append, IsUtf8-from_ascii, Ascii.{IsAscii-nil, IsAscii-cons}}
-use Rattle.std.specs.{Fmt.{decimal, signed_decimal}, Int.Signed.{mag}, List.{join_with_byte, range_with_len}}
+use Rattle.std.proofs.lemmas.{Bool.{cond_both}, Fmt.{length-decimal-le, IsAscii-decimal, length_signed_le}, Int.{ints, to_z-of_z}}
+use Rattle.std.proofs.lemmas.List.{length-take-le, length-drop, length-replicate, get_or-replicate, get_or_past, drop_at, drop-drop, drop_more}
+use Rattle.std.proofs.lemmas.List.Elements.{All-head, All-tail, All-map, Contains-get_or}
+use Rattle.std.proofs.lemmas.Str.{IsUtf8-append, IsUtf8-from_ascii}
+use Rattle.std.specs.{Fmt.{decimal, signed_decimal}, List.{join_with_byte, range_with_len}}
 use Rattle.kalah_rules.specs.{Play.{legal_houses}, Position.{Position, side_length, IsWithinLimits, IsMarginInRange, is_over}}
 use Rattle.kalah_solve.{proofs.SolverLemmas.{move_value_small}, specs.Solver.MoveValues.{IsMoveValue, move_value, values_of}}
-use Rattle.kalah_jobs.specs.{line_feed, comma, space, side_text, Player, Answer, Taken, Mover, Other, MoveValue, in_one_line, answer_line, joined_text, place_text, value_text, values_text, HasOneText, column_text, column_width, empty_columns, houses_of, AreMoveValues, AscendFrom, value_column, value_columns, declared.writing.answer.Answer.TheVariants.{Best, Over, Values, Steps, Fault}}
+use Rattle.kalah_jobs.specs.{line_feed, comma, space, side_text, Player, Answer, Taken, Mover, Other, MoveValue, in_one_line, answer_line, joined_text, place_text, value_text, values_text, HasOneText, column_text, column_width, empty_columns, houses_of, AreMoveValues, AscendFrom, value_column, value_columns, declared.writing.answer.Answer.TheVariants.{Steps}}
 use Rattle.kalah_jobs.proofs.ListLemmas.{items_from}
 
 -- ==== How long the parts of lines are at most
@@ -30,18 +30,11 @@ u8_length n low = length-decimal-le 3 n (omega arith) (omega arith) (omega arith
 pub piece_before : (text piece old : List ℕ) → text ≡ piece ++ old → IsUtf8 piece → IsUtf8 old → IsUtf8 text
 piece_before text piece old text_is piece_utf8 old_utf8 = rw text_is (IsUtf8-append piece old piece_utf8 old_utf8)
 
--- digits are text
 pub number_is_text : (n : ℕ) → n < 2 ^ 64 → IsUtf8 (decimal n)
 number_is_text n low = IsUtf8-from_ascii (decimal n) (IsAscii-decimal n low)
 
--- blanks are ASCII
-blanks_are_ascii : (n : ℕ) → IsAscii (replicate n space)
-blanks_are_ascii zero = IsAscii-nil
-blanks_are_ascii (suc n) = IsAscii-cons space (replicate n space) (omega arith) (blanks_are_ascii n)
-
--- blanks are text
 pub blanks_are_text : (n : ℕ) → IsUtf8 (replicate n space)
-blanks_are_text n = IsUtf8-from_ascii (replicate n space) (blanks_are_ascii n)
+blanks_are_text n = IsUtf8-from_ascii (replicate n space) (λ i. grind (arith, get_or-replicate, get_or_past, length-replicate))
 
 -- blanks were put in front of a text that the bytes end with
 pub blanks_before : {most : ℕ} (bytes : List ℕ) {part old : List ℕ} (start n : ℕ) → length bytes ≡ most → start ≤ most
@@ -63,7 +56,7 @@ move_is_legal {legal} {moves} i moves_are within h_is =
     rw (h_is, ← moves_are) (Contains-get_or moves i 0 within)
 
 suc_is_not_zero : (i : ℕ) → (suc i == 0) ≡ false
-suc_is_not_zero i = ne_eqb (suc i) 0 (λ e. omega arith)
+suc_is_not_zero i = grind arith
 
 -- the text of each number, joined with the separator between any two
 module _ (joined : List ℕ → List ℕ) (text : ℕ → List ℕ) (separator : List ℕ) (none : joined [] ≡ [])
@@ -110,10 +103,6 @@ module _ (text : ℕ → List ℕ) where
   one_text_more = one_more_joined texts_in_line text (codes "; ") refl (λ h. refl) (λ h k moves. refl)
 
 -- ==== Texts with a byte between any two, put together from the last on
-
--- a number of 16 bits is read back from its bits, and from those that it is widened to
-read_back : (v z : ℤ) → SFits w16 v → z ≡ to_z w16 (of_z w16 v) → to_z w32 (of_z w32 z) ≡ v
-read_back v z fits z_is = ap (λ x. to_z w32 (of_z w32 x)) (z_is ∙ to_z-of_z w16 v fits) ∙ to_z-of_z w32 v (omega (arith, ints))
 
 -- an answer that begins with its margin
 pub from_margin : (answer : Answer) (margin : ℤ) (rest old : List ℕ) {text all : List ℕ} → SFits w32 margin
@@ -165,11 +154,8 @@ columns_before f m column old n_is low high before_is after_is =
 -- the answer line of an answer that isn't of steps is the place, and then the answer
 pub one_line_parts : (name : List ℕ) (line : ℕ) (a : Answer) → HasOneText a →
     answer_line name (record { line = line; answer = a }) ≡ place_text name line ++ joined_text a
-one_line_parts name line (Best margin house) one = refl
-one_line_parts name line (Over margin) one = refl
-one_line_parts name line (Values values) one = refl
 one_line_parts name line (Steps p) one = absurd one
-one_line_parts name line (Fault fault) one = refl
+one_line_parts name line a one = refl
 
 -- it is put together from its end, before what follows it
 pub line_before : (name : List ℕ) (taken : Taken) (after words text : List ℕ) → HasOneText taken.answer
@@ -180,25 +166,21 @@ line_before name taken after words text one words_are text_is =
 
 -- ==== Values below the houses of a picture
 
-small_mag : (z : ℤ) → IsMarginInRange z → mag z < 2 ^ 63
-small_mag (pos n) small = omega (arith, ints, small.high)
-small_mag (negsuc n) small = omega (arith, ints, small.low)
-
 value_length : (v : ℤ) → IsMarginInRange v → length (signed_decimal v) ≤ 4
-value_length (pos n) small = length_signed_le 3 (pos n) (omega (arith, ints, small.high)) (small_mag (pos n) small)
-value_length (negsuc n) small = length_signed_le 3 (negsuc n) (omega (arith, ints, small.low)) (small_mag (negsuc n) small)
+value_length (pos n) small = length_signed_le 3 (pos n) (omega (arith, ints, small.high)) (omega (arith, ints, small.high))
+value_length (negsuc n) small = length_signed_le 3 (negsuc n) (omega (arith, ints, small.low)) (omega (arith, ints, small.low))
 
 -- a value is put in front of a text, from its bits, and then blanks
 module _ {v z : ℤ} {end len : ℕ} (old : List ℕ) {text : List ℕ} (small : IsMarginInRange v) (z_is : z ≡ to_z w16 (of_z w16 v))
     (text_is : text ≡ signed_decimal (to_z w32 (of_z w32 z)) ++ old) (end_is : end ≡ length old) (len_is : len ≡ length text) where
-  -- the value is read back from its bits
+  -- the value is read back from its bits, and from those that it is widened to
   same_value : to_z w32 (of_z w32 z) ≡ v
-  same_value = read_back v z (omega (arith, ints, small.low, small.high)) z_is
+  same_value = ap (λ x. to_z w32 (of_z w32 x)) (z_is ∙ to_z-of_z w16 v (omega (arith, ints, small.low, small.high)))
+      ∙ to_z-of_z w32 v (omega (arith, ints, small.low, small.high))
 
   -- the text is longer by the value
   length_now : length text ≡ length (signed_decimal v) + length old
-  length_now = ap length text_is ∙ length-append (signed_decimal (to_z w32 (of_z w32 z))) old
-      ∙ ap (λ x. length (signed_decimal x) + length old) same_value
+  length_now = rw (text_is, same_value) (length-append (signed_decimal v) old)
 
   -- the value fits its column
   pub value_room : len ≤ end + column_width
@@ -265,5 +247,4 @@ have_columns p values values_are = rw values_are (ascend_later 0 1 (values_of p)
 -- they are small
 pub are_small : (p : Position) (values : List MoveValue) → values ≡ values_of p → IsWithinLimits p → AreMoveValues values
 are_small p values values_are limits = rw values_are (All-map IsMoveValue (move_value p) (legal_houses p)
-    (All-from_get_or (λ h. IsMoveValue (move_value p h)) (legal_houses p) 0
-    (λ i within. move_value_small limits (Contains-get_or (legal_houses p) i 0 within))))
+    (λ i d within. move_value_small limits (Contains-get_or (legal_houses p) i d within)))

@@ -1,7 +1,7 @@
 -- The output of a batch: what it is by its files and by its jobs, and in parts.
-use Rattle.std.proofs.{Common.{zero-add, ℕ, ◌<◌, length, arith, ◌≡◌, suc, List, ◌++◌, sym, refl, ◌+◌, [], ap, ◌∙◌, ◌∷◌, map, get_or, flat_map, cond, append-nil, length-append, ap₂, inl, inr, sum_by, count_by}, lemmas.{Bool.{cases_eq}, Grind.{flat_map-append}, List.Sums.{sum_by-cons, sum_by-append}}}
+use Rattle.std.proofs.{Common.{zero-add, ℕ, ◌<◌, length, arith, ◌≡◌, suc, List, ◌++◌, sym, refl, ◌+◌, [], ap, ◌∙◌, ◌∷◌, map, get_or, flat_map, cond, append-nil, length-append, inl, inr, sum_by, count_by}, lemmas.{Bool.{cases_eq}, Grind.{flat_map-append}, List.Sums.{sum_by-cons, sum_by-append}}}
 use Rattle.std.specs.List.{enumerate_from}
-use Rattle.kalah_jobs.specs.{entry_for, is_faulty, is_faulty_entry, entries_for, jobs_for, lines_in, line_feed, lines_of, EndsWithItsLine, NamedBytes, BestMove, Taken, Question, Tally, answer_of, answer_output, line_output, file_output, output_for, tally_of, text_of_line, text_of_file, taken_output, names_of, FilesAreTheirJobs, OutputSplitsByFiles, FilesSplitBetweenLines}
+use Rattle.kalah_jobs.specs.{entry_for, is_faulty, is_faulty_entry, entries_for, jobs_for, line_feed, lines_of, EndsWithItsLine, NamedBytes, BestMove, Taken, Question, answer_of, answer_output, line_output, file_output, output_for, tally_of, text_of_line, text_of_file, taken_output, names_of, FilesAreTheirJobs, OutputSplitsByFiles, FilesSplitBetweenLines}
 use Rattle.kalah_jobs.proofs.{FileLinesLemmas.{lines_of-feed, lines_of-byte, length-lines_of}, FilesLemmas.{all_entries, length-job_list, job_count-jobs_for, asked_fault, faulty_jobs}, ListLemmas.{count_map, onto_first-append, enumerate_from-append}}
 
 -- ==== What is stated of files and what is stated of their jobs is the same
@@ -16,8 +16,10 @@ lines_by_entries : (question : Question) (text : ℕ → Taken → List ℕ) (n 
     (enumerate_from k (map (entry_for question) lines))
 lines_by_entries question text n name k [] under = refl
 lines_by_entries question text n name k (line ∷ lines) under =
-    ap₂ (λ (l m : List ℕ). l ++ m) (sym (under (record { line = k; answer = answer_of (entry_for question line) })))
-    (lines_by_entries question text n name (k + 1) lines under)
+    cc (
+      under (record { line = k; answer = answer_of (entry_for question line) }),
+      lines_by_entries question text n name (k + 1) lines under,
+    )
 
 -- the files from number n on
 files_by_entries : (question : Question) (text : ℕ → Taken → List ℕ) (n : ℕ) (files : List NamedBytes)
@@ -26,9 +28,10 @@ files_by_entries : (question : Question) (text : ℕ → Taken → List ℕ) (n 
 unfolding entries_for
 files_by_entries question text n [] under = refl
 files_by_entries question text n (file ∷ files) under =
-    ap₂ (λ (l m : List ℕ). l ++ m)
-    (lines_by_entries question text n file.name 0 (lines_of file.bytes) (under n 0 (omega arith) (omega arith)))
-    (files_by_entries question text (n + 1) files (λ m i m_is low. under m (suc i) (omega arith) (omega arith)))
+    cc (
+      lines_by_entries question text n file.name 0 (lines_of file.bytes) (under n 0 (omega arith) (omega arith)),
+      files_by_entries question text (n + 1) files (λ m i m_is low. under m (suc i) (omega arith) (omega arith)),
+    )
 
 -- a line is answered by a fault for each question
 faults_of_lines : (question : Question) (lines : List (List ℕ))
@@ -64,17 +67,12 @@ files_are_their_jobs = record {
 
 -- ==== Files and parts of files in sequence
 
-abbrev counts : ℕ → ℕ → Tally
-counts lines faults = record { lines = lines; faults = faults }
-
 pub output_splits_by_files : OutputSplitsByFiles
 unfolding output_for tally_of
 output_splits_by_files = record {
   asked = λ question first others. flat_map-append (file_output question) first others;
   best_moves = λ first others. flat_map-append (file_output BestMove) first others;
-  counts = λ first others. ap₂ counts
-      (sum_by-append lines_in first others)
-      (sum_by-append (λ (file : NamedBytes). count_by is_faulty (lines_of file.bytes)) first others);
+  counts = λ first others. simp sum_by-append;
 }
 
 -- ---- lines

@@ -8,8 +8,7 @@ abbrev pub found_for : Answer → Found
 found_for (answer.Best margin house) = Verdict (Best margin house)
 found_for (answer.Over margin) = Verdict (Over margin)
 found_for (answer.Values values) = Values values
-found_for (answer.Steps p) = Nothing
-found_for (answer.Fault fault) = Nothing
+found_for _ = Nothing
 
 -- what it finds for an entry
 abbrev pub found_of : Entry → Found

@@ -22,7 +22,7 @@ loop-byte-preserved-then-byte-ne-LINE_FEED g c =
     let so_far = c.loop-byte.invariant in
     let next = c.in_ok-byte.ensures in
     record {
-      answered = byte_read so_far.answered _ c.in-Some.is c.if-byte-ne-LINE_FEED.true next.taken next.keeps c.push.ensures;
+      answered = byte_read so_far.answered _ _ next.taken next.keeps _ c.in-Some.is c.if-byte-ne-LINE_FEED.true c.push.ensures;
       not_failed = next.not_failed;
       start = next.start ∙ so_far.start;
       same_reference = next.same_reference ∙ so_far.same_reference;
@@ -35,7 +35,7 @@ loop-byte-preserved g c =
     let reply = c.write_reply-all_read.ensures in
     let not_failed = sym c.failed.ensures ∙ c.if-failed.false in
     record {
-      answered = line_read so_far.answered _ c.in-Some.is c.if-byte-ne-LINE_FEED.false next.taken next.keeps (reply.given.whole not_failed).1
+      answered = line_read so_far.answered _ _ next.taken next.keeps c.in-Some.is c.if-byte-ne-LINE_FEED.false (reply.given.whole not_failed).1
           reply.read c.new-line-in-Some.ensures;
       not_failed = not_failed;
       start = next.start ∙ so_far.start;
@@ -49,7 +49,7 @@ returns-then-failed g c =
     let failed = sym c.failed.ensures ∙ c.if-failed.true in
     record {
       same_reference = next.same_reference ∙ so_far.same_reference;
-      lines = write_failed failed (begun_line so_far.answered _ c.in-Some.is c.if-byte-ne-LINE_FEED.false next.taken next.keeps
+      lines = write_failed failed (begun_line so_far.answered _ _ next.taken next.keeps c.in-Some.is c.if-byte-ne-LINE_FEED.false
           c.write_reply-all_read.ensures.given.start);
       fault = failed;
     }
@@ -61,7 +61,7 @@ returns-then-failed-2 g c =
     let failed = sym c.failed-2.ensures ∙ c.if-failed-2.true in
     record {
       same_reference = next.same_reference ∙ so_far.same_reference;
-      lines = write_failed failed (begun_last so_far.answered _ c.in_default.is next.taken next.keeps
+      lines = write_failed failed (begun_last so_far.answered _ _ next.taken next.keeps c.in_default.is
           c.write_last_reply-all_read.ensures.given.start);
       fault = failed;
     }
