@@ -21,7 +21,7 @@ unfoldable pub use Files.Jobs.*
 unfoldable pub use Files.Lines.*
 pub use Files.NamedBytes.*
 pub use Limits.*
-unfoldable pub use Line.Line.*
+pub use Line.Line.*
 pub use Line.LineFault.*
 pub use Line.LineLaws.*
 unfoldable pub use Line.Reading.*
@@ -32,6 +32,7 @@ pub use Writing.Counts.*
 unfoldable pub use Writing.Output.*
 unfoldable pub use Writing.Picture.*
 pub use Writing.Player.*
+unfoldable pub use Writing.PositionText.*
 unfoldable pub use Writing.ValuesLine.*
 pub use Writing.Sink.*
 pub use Writing.Splitting.*

@@ -4,6 +4,7 @@ pub mod Output
 pub mod Sink
 pub mod Counts
 pub mod Picture
+pub mod PositionText
 pub mod ValuesLine
 pub mod Variation
 pub mod Splitting

@@ -1,7 +1,7 @@
 -- What `kalah moves` and `kalah play` print of a move.
 use Rattle.std.specs.Prelude.{ℕ, ℤ, List, [], ◌∷◌, ◌++◌, Bool, Option, None, flat_map, if◌then◌else◌}
 use Rattle.kalah_rules.specs.{Position.{Position}, Play.{legal_houses, position_after, step_of}, declared.step.Step.{Step}}
-use Rattle.kalah_jobs.specs.{Line.Line.{step_text_of}, Files.Lines.{line_feed}, Writing.{Picture.{picture_of}, Variation.{value_suffix}}}
+use Rattle.kalah_jobs.specs.{Files.Lines.{line_feed}, Writing.{Picture.{picture_of}, PositionText.{step_text_of}, Variation.{value_suffix}}}
 
 -- the picture of a position, if boards are drawn
 abbrev pub board_lines : Bool → Position → List ℕ

@@ -1,6 +1,6 @@
 -- How a position is written in a line, as `1,1/0 1,1/0`, and which lines are read.
-use Rattle.std.specs.{Char.{IsAsciiDigit}, List.{join_with_byte}, Prelude.{◌≡◌, ◌≢◌, ℕ, ◌+◌, ◌-◌, ◌*◌, ◌<◌, ◌≤◌, ◌==◌, if◌then◌else◌, List, [], ◌∷◌, ◌++◌, length, map, codes, decimal}}
-use Rattle.kalah_rules.specs.{Limits.{most_houses, most_seeds}, Play.{position_after}, Position.{Position, side_length, seeds_in_houses}, declared.step.Step.{Step, TheVariants.{Again, Turn, Over}}}
+use Rattle.std.specs.{Char.{IsAsciiDigit}, Prelude.{◌≡◌, ◌≢◌, ℕ, ◌+◌, ◌-◌, ◌*◌, ◌<◌, ◌≤◌, ◌==◌, if◌then◌else◌, List, [], ◌∷◌, ◌++◌, length, codes}}
+use Rattle.kalah_rules.specs.{Limits.{most_houses, most_seeds}, Position.{Position, side_length, seeds_in_houses}}
 use Rattle.kalah_jobs.specs.{Limits.{most_line_bytes}, Line.LineFault.{order_of}, Types.{LineFault, Rule, Classic, EmptyCapture, Long, Empty, Shape, Houses, Seeds}}
 
 -- the byte of `0`, after which come those of the other digits
@@ -103,29 +103,3 @@ Holds Seeds text = (p : Position) × (IsLineOf text p × (most_seeds < seeds_in_
 pub record HasFault (line : List ℕ) (fault : LineFault) : Type 0 where
   pub holds : Holds fault (without_cr line)
   pub first : (earlier : LineFault) → order_of earlier < order_of fault → ¬ Holds earlier (without_cr line)
-
--- ---- the text of a position
-
--- the houses, with a comma between any two
-abbrev pub listed : List ℕ → List ℕ
-listed houses = join_with_byte comma (map decimal houses)
-
--- a side: its houses, a slash and its store
-abbrev pub side_text : List ℕ → ℕ → List ℕ
-side_text houses store = listed houses ++ slash ∷ decimal store
-
--- the line that writes the position, with each number in full
-unfoldable pub line_text_of : Position → List ℕ
-line_text_of p = side_text p.own p.own_store ++ space ∷ side_text p.other p.other_store ++ suffix_of p.rule
-
--- ---- the text of a step
-
--- the word that is printed for a step
-abbrev pub word_of_step : Step → List ℕ
-word_of_step (Again _) = codes "again"
-word_of_step (Turn _) = codes "turn"
-word_of_step (Over _) = codes "over"
-
--- the house that is moved, the position after it and the word
-unfoldable pub step_text_of : ℕ → Step → List ℕ
-step_text_of house step = decimal house ++ space ∷ line_text_of (position_after step) ++ space ∷ word_of_step step

@@ -1,7 +1,7 @@
 -- Laws of lines.
 use Rattle.std.specs.Prelude.{◌≡◌, ℕ, ◌≤◌, ◌↔◌, List, ◌∷◌, ◌++◌, length, codes}
 use Rattle.kalah_rules.specs.{Limits.{most_in_store, most_seeds}, Position.{Position, IsWithinLimits, seeds_in_houses}}
-use Rattle.kalah_jobs.specs.{Limits.{most_line_bytes}, Line.Line.{space, without_cr, IsSide, HasSidesInLimits, Reads, line_text_of}, Types.{Classic, EmptyCapture}}
+use Rattle.kalah_jobs.specs.{Limits.{most_line_bytes}, Line.Line.{space, without_cr, IsSide, HasSidesInLimits, Reads}, Types.{Classic, EmptyCapture}, Writing.PositionText.{line_text_of}}
 
 -- no line is read as two positions
 abbrev pub NoLineReadsTwice : Type 0

@@ -2,7 +2,7 @@
 use Rattle.std.specs.{Fmt.{signed_decimal}, List.{join_with_byte}, Prelude.{ℕ, ◌+◌, List, [], ◌∷◌, ◌++◌, map, if◌then◌else◌, codes, decimal, ⊤}}
 use Rattle.kalah_rules.specs.{Play.{legal_houses, step_of}, Position.{Position, is_over, final_margin}}
 use Rattle.kalah_solve.specs.Solver.{MoveValues.{values_of}, Worth.{worth, best_house}}
-use Rattle.kalah_jobs.specs.{Files.Lines.{line_feed}, Line.{Line.{space, step_text_of}, LineFault.{fault_word}}, Types.{Entry, BestMoveOf, ValuesOf, StepsOf, Bad, Answer, Taken, MoveValue}, declared.writing.answer.Answer.TheVariants.{Best, Over, Values, Steps, Fault}}
+use Rattle.kalah_jobs.specs.{Files.Lines.{line_feed}, Line.{Line.{space}, LineFault.{fault_word}}, Types.{Entry, BestMoveOf, ValuesOf, StepsOf, Bad, Answer, Taken, MoveValue}, Writing.PositionText.{step_text_of}, declared.writing.answer.Answer.TheVariants.{Best, Over, Values, Steps, Fault}}
 
 -- the final margin of a game that is over, otherwise this answer
 abbrev pub unless_over : Position → Answer → Answer

@@ -1,7 +1,7 @@
 //! Position lines read.
 ghost use Rattle.std.specs.Prelude.{◌≡◌, ◌≤◌, length, IfOk, IfErr, IfSome, IfNone, Ok, Some, None};
 ghost use Rattle.kalah_rules.specs.{Limits.{most_in_store}, Position.{Position}};
-ghost use Rattle.kalah_jobs.specs.{Line.{Line.{without_cr, Reads, HasFault, line_text_of}, Reading.{admitted, reading_of_text, reading_of, rule_of_suffix, position_of_text}, Side.{AreSidesOf}}, Limits.{most_line_bytes}};
+ghost use Rattle.kalah_jobs.specs.{Line.{Line.{without_cr, Reads, HasFault}, Reading.{admitted, reading_of_text, reading_of, rule_of_suffix, position_of_text}, Side.{AreSidesOf}}, Limits.{most_line_bytes}, Writing.PositionText.{line_text_of}};
 
 #[cfg(test)]
 mod tests;

@@ -1,6 +1,7 @@
 //! Tests in which each request for memory is refused once. With ample memory these tests just pass. `tests/refuse` runs each of them
 //! repeatedly, with the first request refused, then the second, and so on: the test must pass each time, until the request that
 //! is refused is one of its own marks.
+use crate::tests::mark;
 use crate::{
     Answer, LineFault, Sink, Stream, Taken, answer_text, line_text, read_line, step_text,
     write_answer,
@@ -8,14 +9,6 @@ use crate::{
 use std::alloc::{AllocError, Global};
 use std::process::Abort;
 use std::test::Fail;
-
-/// Makes a request that is refused only if none before it was.
-pub(crate) fn mark(alloc: Global, place: &'static str) -> Result<(), Fail> {
-    match Box::new(alloc, 0u8) {
-        Ok(_) => Ok(()),
-        Err(_) => Err(Fail::new(place)),
-    }
-}
 
 // The texts of the position and of its move of house 2 are these.
 fn assert_texts(rt: &(impl Abort + AllocGlobal), line: &str, want: &str) -> Result<(), AllocError> {

@@ -1,6 +1,6 @@
 //! Positions and steps as text.
 ghost use Rattle.std.specs.Prelude.{◌≡◌, ◌<◌, ◌≤◌, ◌+◌, ◌*◌, ◌∷◌, [], ◌++◌, IfOk, drop, length, string_bytes};
-ghost use Rattle.kalah_jobs.specs.{Writing.{Sink.{WasGiven}, Player.{houses_of, store_of}, Variation.{value_suffix}}, Files.Lines.{line_feed}, Line.Line.{Reads, side_text, line_text_of, word_of_step, step_text_of}};
+ghost use Rattle.kalah_jobs.specs.{Writing.{Sink.{WasGiven}, Player.{houses_of, store_of}, PositionText.{side_text, line_text_of, word_of_step, step_text_of}, Variation.{value_suffix}}, Files.Lines.{line_feed}, Line.Line.{Reads}};
 ghost use Rattle.kalah_rules.specs.{Limits.{most_in_store}, Position.{IsWithinLimits, side_length}};
 
 use crate::writing::player::Player;
@@ -29,7 +29,7 @@ fn prepend_side(text: &mut StackText, board: &Board, player: Player, i: u8)
 }
 
 // Puts the line that writes a board in front of the text.
-#[tactic(auto, unfolding(crate::specs::Line::Line::line_text_of))]
+#[tactic(auto, unfolding(crate::specs::Writing::PositionText::line_text_of))]
 fn prepend_board(text: &mut StackText, board: &Board)
     requires { length text.old + 57 ≤ ROOM }
     ensures limits { IsWithinLimits board.now }
@@ -72,7 +72,7 @@ fn word_of_step(step: &Step) -> &'static str
 }
 
 // Puts the text of a move in front of the text.
-#[tactic(auto, unfolding(crate::specs::Line::Line::step_text_of))]
+#[tactic(auto, unfolding(crate::specs::Writing::PositionText::step_text_of))]
 fn prepend_step(text: &mut StackText, h: u8, step: &Step)
     requires { length text.old ≤ 13 }
     ensures step { text.new ≡ step_text_of h step.now ++ text.old }

@@ -3,11 +3,11 @@ ghost use Rattle.kalah_jobs.specs.Collecting.CollectorState.{HasLinesOf};
 
 mod out_of_memory;
 
-use crate::{Answer, Collector, Entry, FileText, Jobs, Outcome, Refusal, Taken};
+use crate::{Answer, Collector, Entry, FileText, Jobs, JobsFault, Outcome, Refusal, Taken};
 use Refusal::{Double, FileEnded, NoSuchFile, NoSuchLine, WrongPosition};
 use kalah_rules::Board;
 use kalah_rules::Rule::{self, Classic, EmptyCapture};
-use kalah_solve::Solver;
+use kalah_solve::{Solver, Table};
 use std::alloc::{AllocError, Global};
 use std::process::Abort;
 
@@ -26,7 +26,7 @@ struct Trial {
 impl Trial {
     // A collector for the jobs of two files, with no answer yet.
     fn new(rt: &(impl Abort + AllocGlobal)) -> Trial {
-        out_of_memory::trial_of(rt).expect(rt, "no memory")
+        trial_of(rt).expect(rt, "no memory")
     }
 
     // Offers a line with `seeds` seeds under a rule, and compares the answer.
@@ -95,6 +95,37 @@ fn two_texts(alloc: Global) -> Result<Vec<FileText>, AllocError> {
         bytes: Vec::new(alloc),
     })?;
     Ok(files)
+}
+
+fn jobs_of(rt: &(impl Abort + AllocGlobal)) -> Result<Jobs, JobsFault> {
+    let files = match two_texts(rt.alloc()) {
+        Ok(files) => files,
+        Err(_) => two_texts(rt.alloc())?,
+    };
+    let jobs = Jobs::of_files(rt.alloc(), files.as_slice());
+    if jobs.is_ok() {
+        return jobs;
+    }
+    assert!(rt; jobs.err() == Some(JobsFault::OutOfMemory));
+    Jobs::of_files(rt.alloc(), files.as_slice())
+}
+
+// A collector for the jobs of two files and a solver, each made at the second try if memory was refused.
+fn trial_of(rt: &(impl Abort + AllocGlobal)) -> Result<Trial, JobsFault> {
+    let jobs = jobs_of(rt)?;
+    let table = match Table::new(rt.alloc(), 16) {
+        Ok(table) => table,
+        Err(_) => Table::new(rt.alloc(), 16)?,
+    };
+    let collector = match Collector::new(rt.alloc(), &jobs) {
+        Ok(collector) => collector,
+        Err(_) => Collector::new(rt.alloc(), &jobs)?,
+    };
+    Ok(Trial {
+        jobs,
+        collector,
+        solver: Solver::new(table),
+    })
 }
 
 // Offers of each kind: the file and the line, the seeds of the entry and its rule, and the answer.
