@@ -195,8 +195,7 @@ times_elsewhere : (o : Job) (f k : ℕ) (entries : List Entry) → (o.file ≡ f
     → times_offered o (file_jobs f k entries) ≡ 0
 times_elsewhere o f k [] none = refl
 times_elsewhere o f k (e ∷ entries) none =
-    let one = count_by-cons (same_job o) (line_job f k e) (file_jobs f (suc k) entries) in
-    grind (arith, nat_tests, times_elsewhere o f (suc k) entries (λ file low. none file (omega arith)))
+    grind (arith, nat_tests, count_by-cons {X = Job}, times_elsewhere o f (suc k) entries (λ file low. none file (omega arith)))
 
 -- at its place among the lines of its file
 times_in_file : (o : Job) (f k i : ℕ) (entries : List Entry) → o.file ≡ f → o.line ≡ k + i

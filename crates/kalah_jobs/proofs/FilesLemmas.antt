@@ -120,12 +120,11 @@ starts_more {jobs} {starts} {start} entries so_far start_is = record {
   before = λ f low.
       grind (
         arith,
-        length-append starts (start ∷ []),
-        length-append jobs (entries ∷ []),
-        take-append-le f jobs (entries ∷ []),
+        length-append,
+        take-append-le,
         take_all f jobs,
-        get_or_append_left starts (start ∷ []) 0 f,
-        get_or-append_seam starts start [] 0,
+        get_or_append_left,
+        get_or-append_seam,
         so_far.as_many,
         so_far.before f,
       );

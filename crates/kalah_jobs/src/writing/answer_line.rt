@@ -1,7 +1,6 @@
 //! Answer lines, as text and written to a sink.
 ghost use Rattle.std.specs.{Prelude.{◌≡◌, ◌+◌, ◌*◌, ◌≤◌, ◌↔◌, ◌∷◌, [], ◌++◌, true, false, IfOk, IsErr, OnOk, drop, length, codes, decimal, string_bytes}, Io.KnownBytes.{Appends}};
 ghost use Rattle.kalah_jobs.specs.{Files.Lines.{line_feed}, Writing.{Answer.{answer_line, answer_output, joined_text, value_text, values_text, HasOneText}, Sink.{AppendsPrefix, WasGiven}}};
-ghost use Rattle.kalah_jobs.specs.declared.writing.answer_line.TheConstants.{MOST_ANSWER_BYTES, MOST_PLACE_BYTES, MOST_VALUE_BYTES};
 
 use crate::writing::answer::{Answer, Taken};
 use crate::writing::named_text::write_named;

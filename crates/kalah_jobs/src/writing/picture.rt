@@ -1,7 +1,7 @@
 //! Positions drawn as boards.
 ghost use Rattle.std.specs.Prelude.{◌≡◌, ◌≤◌, ◌+◌, ◌*◌, ◌++◌, length};
 ghost use Rattle.kalah_jobs.specs.Writing.{Sink.{WasGiven}, Picture.{column_text, house_in, houses_line, picture_of}};
-ghost use Rattle.kalah_rules.specs.Position.{side_length};
+ghost use Rattle.kalah_rules.specs.{Limits.{most_houses}, Position.{side_length}};
 
 use crate::writing::player::Player;
 use crate::writing::sink::Sink;
@@ -14,9 +14,9 @@ pub(crate) const COLUMN_WIDTH: usize = 4;
 // Puts a number, right-aligned in a column, in front of the text.
 #[tactic(auto, using(crate::proofs::TextLemmas::u8_length))]
 fn prepend_column(text: &mut StackText, number: u8)
-    requires { length text.old + 4 ≤ ROOM }
+    requires { length text.old + COLUMN_WIDTH ≤ ROOM }
     ensures column { text.new ≡ column_text number ++ text.old }
-    ensures longer { length text.new ≡ 4 + length text.old }
+    ensures longer { length text.new ≡ COLUMN_WIDTH + length text.old }
 {
     let end = text.len() + COLUMN_WIDTH;
     text.prepend_number(u64::from(number));
@@ -39,9 +39,9 @@ fn house_in(player: Player, board: &Board, column: u8) -> u8
 
 // Puts an empty column and a player's houses, a column each, in front of the text.
 fn prepend_houses(text: &mut StackText, board: &Board, player: Player)
-    requires { length text.old + 28 ≤ ROOM }
+    requires { length text.old + COLUMN_WIDTH * (1 + most_houses) ≤ ROOM }
     ensures houses { text.new ≡ houses_line player board.now ++ text.old }
-    ensures longer { length text.new ≡ 4 + 4 * side_length board.now + length text.old }
+    ensures longer { length text.new ≡ COLUMN_WIDTH + COLUMN_WIDTH * side_length board.now + length text.old }
 {
     let mut column = board.m();
     while column > 0 {

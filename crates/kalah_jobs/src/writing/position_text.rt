@@ -9,10 +9,19 @@ use crate::writing::stack_text::{ROOM, StackText};
 use kalah_rules::{Board, Rule, Step};
 use std::alloc::{AllocError, Global};
 
+// The most bytes of a side: 3 for each of six houses and for the store, and what stands between them.
+const MOST_SIDE_BYTES: usize = 27;
+
+// The most bytes of a board: two sides, a space between them, and a suffix of 2.
+const MOST_BOARD_BYTES: usize = 57;
+
+// The most bytes of a step: 3 for the house, a board, 5 for the word, and two spaces.
+const MOST_STEP_BYTES: usize = 67;
+
 // Puts a player's houses after the first `i`, a slash and the player's store in front of the text.
 fn prepend_side(text: &mut StackText, board: &Board, player: Player, i: u8)
     requires within { i < side_length board.now }
-    requires room { length text.old + 27 ≤ ROOM }
+    requires room { length text.old + MOST_SIDE_BYTES ≤ ROOM }
     ensures side { text.new ≡ side_text (drop i (houses_of player board.now)) (store_of player board.now) ++ text.old }
     ensures short { length text.new + 4 * i ≤ length text.old + 3 + 4 * side_length board.now }
 {
@@ -31,10 +40,10 @@ fn prepend_side(text: &mut StackText, board: &Board, player: Player, i: u8)
 // Puts the line that writes a board in front of the text.
 #[tactic(auto, unfolding(crate::specs::Writing::PositionText::line_text_of))]
 fn prepend_board(text: &mut StackText, board: &Board)
-    requires { length text.old + 57 ≤ ROOM }
+    requires { length text.old + MOST_BOARD_BYTES ≤ ROOM }
     ensures limits { IsWithinLimits board.now }
     ensures line { text.new ≡ line_text_of board.now ++ text.old }
-    ensures short { length text.new ≤ length text.old + 57 }
+    ensures short { length text.new ≤ length text.old + MOST_BOARD_BYTES }
 {
     if let Rule::EmptyCapture = board.rule() {
         text.prepend(" e");
@@ -74,9 +83,9 @@ fn word_of_step(step: &Step) -> &'static str
 // Puts the text of a move in front of the text.
 #[tactic(auto, unfolding(crate::specs::Writing::PositionText::step_text_of))]
 fn prepend_step(text: &mut StackText, h: u8, step: &Step)
-    requires { length text.old ≤ 13 }
+    requires { length text.old + MOST_STEP_BYTES ≤ ROOM }
     ensures step { text.new ≡ step_text_of h step.now ++ text.old }
-    ensures short { length text.new ≤ length text.old + 67 }
+    ensures short { length text.new ≤ length text.old + MOST_STEP_BYTES }
 {
     text.prepend(word_of_step(step));
     text.prepend(" ");
@@ -89,7 +98,7 @@ fn prepend_step(text: &mut StackText, h: u8, step: &Step)
 pub(crate) fn text_of_step(h: u8, step: &Step, end: &str) -> StackText
     requires { length end.now ≤ 1 }
     ensures text { result ≡ step_text_of h step.now ++ end.now }
-    ensures short { length result ≤ 68 }
+    ensures short { length result ≤ MOST_STEP_BYTES + 1 }
 {
     let mut text = StackText::of(end);
     prepend_step(&mut text, h, step);

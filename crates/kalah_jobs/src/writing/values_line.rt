@@ -15,7 +15,7 @@ fn prepend_value_column(text: &mut StackText, value: MoveValue)
     requires small { IsMarginInRange value.value }
     requires room { length text.old + 11 ≤ ROOM }
     ensures column { text.new ≡ value_column value.value ++ text.old }
-    ensures longer { length text.new ≡ 4 + length text.old }
+    ensures longer { length text.new ≡ COLUMN_WIDTH + length text.old }
 {
     let end = text.len() + COLUMN_WIDTH;
     text.prepend_margin(i32::from(value.value));
@@ -24,13 +24,13 @@ fn prepend_value_column(text: &mut StackText, value: MoveValue)
 
 // Puts the values from place `i` on in front of the text, each in the column of its house. `filled` columns come before them.
 fn prepend_value_columns(text: &mut StackText, values: &MoveValues, i: u8, filled: u8)
-    requires room { length text.old + 39 ≤ ROOM }
+    requires room { length text.old + COLUMN_WIDTH * (most_houses + 1) + 11 ≤ ROOM }
     requires within { i ≤ length values.now }
     requires filled { filled ≤ most_houses + 1 }
     requires ascend { AscendFrom filled (drop i values.now) }
     requires small { AreMoveValues (drop i values.now) }
     ensures columns { text.new ≡ value_columns filled (drop i values.now) ++ text.old }
-    ensures short { length text.new ≤ length text.old + 4 * (most_houses + 1 - filled) }
+    ensures short { length text.new ≤ length text.old + COLUMN_WIDTH * (most_houses + 1 - filled) }
 {
     if i == values.len() {
         return;
