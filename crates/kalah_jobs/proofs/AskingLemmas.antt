@@ -217,8 +217,8 @@ module _ {question : Question} {before now old new : Option (List ℕ)} {line : 
         rw append_assoc at (Consumes-trans before now next (lines ++ part) (option_to_list known) so_far.taken (rw found_is at taken))
 
     -- the byte ends no line
-    pub byte_read : {longer : List ℕ} (byte : ℕ) → found ≡ Some byte → byte ≢ line_feed → longer ≡ take kept_bytes (line ++ byte ∷ [])
-        → IsAnsweredSoFar question before next old kept longer all_read
+    pub byte_read : {longer : List ℕ} (byte : ℕ) → found ≡ Some byte → byte ≢ line_feed
+        → longer ≡ take kept_bytes (line ++ byte ∷ []) → IsAnsweredSoFar question before next old kept longer all_read
     byte_read byte found_is other longer_is = record {
       lines = lines;
       part = part ++ byte ∷ [];
@@ -231,8 +231,8 @@ module _ {question : Question} {before now old new : Option (List ℕ)} {line : 
     }
 
     -- it is a line feed, and the line that it ends was answered
-    pub line_read : {more : Option (List ℕ)} {byte : ℕ} {empty : List ℕ} {is_read : Bool} → found ≡ Some byte → byte ≡ line_feed
-        → Appends kept more (reply question line) → is_read ≡ not (is_faulty line) → empty ≡ []
+    pub line_read : {more : Option (List ℕ)} {byte : ℕ} {empty : List ℕ} {is_read : Bool} → found ≡ Some byte
+        → byte ≡ line_feed → Appends kept more (reply question line) → is_read ≡ not (is_faulty line) → empty ≡ []
         → IsAnsweredSoFar question before next old more empty (all_read && is_read)
     line_read found_is feed answered read empty_is =
         let whole : List ℕ = part ++ line_feed ∷ [] in
@@ -266,8 +266,8 @@ module _ {question : Question} {before now old new : Option (List ℕ)} {line : 
         (rw append-nil at (taken_now None none)) reply_part keeps
 
     -- it was written whole
-    all_answered : {more : Option (List ℕ)} {is_read : Bool} → found ≡ None → IsAtEnd now → Appends kept more (last_reply question line)
-        → is_read ≡ is_last_read line → IsAnswered question before next old more (all_read && is_read)
+    all_answered : {more : Option (List ℕ)} {is_read : Bool} → found ≡ None → IsAtEnd now
+        → Appends kept more (last_reply question line) → is_read ≡ is_last_read line → IsAnswered question before next old more (all_read && is_read)
     all_answered none at_end answered read = record {
       read = lines ++ part;
       taken = rw append-nil at (taken_now None none);

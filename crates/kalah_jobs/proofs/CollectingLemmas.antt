@@ -4,7 +4,7 @@ use Rattle.std.proofs.Common.{eq-eqb, ◌≢◌, inl, inr, cond, ◌++◌, map, 
 use Rattle.std.proofs.Common.{Option, Some, None, slice_get, ◌↔◌, is_some, IsSome, Contains, Result, Ok, Err}
 use Rattle.std.proofs.lemmas.Bool.{cases_eq, Decides.{nat_tests}}
 use Rattle.std.proofs.lemmas.List.{length-map, get_or_default, length-replicate, get_or-replicate, get_or_past, append-nil, append_assoc}
-use Rattle.std.proofs.lemmas.List.{take_all, take_more, get_or-map}
+use Rattle.std.proofs.lemmas.List.{take_all}
 use Rattle.std.proofs.lemmas.List.Elements.{Contains-append_left, Contains-push, Contains-push_cases}
 use Rattle.std.proofs.lemmas.List.{Sums.{sum_by-append}}
 use Rattle.std.proofs.lemmas.Option.{slice_get_within, slice_get-get_or}

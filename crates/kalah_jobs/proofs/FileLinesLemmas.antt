@@ -1,5 +1,5 @@
 -- The lines of a file: where the first ends, how many there are, and that no other list of lines fits the bytes.
-use Rattle.std.proofs.{Common.{◌≡◌, ◌≢◌, ℕ, ◌+◌, ◌<◌, ◌≤◌, List, [], ◌∷◌, ◌++◌, length, get_or, take, drop, take-append-drop, refl, ap, sym, ◌∙◌, arith, length-drop, inl, inr, append_assoc, length-append, ◌==◌, if◌then◌else◌, All, Some, count_by}, Math.Seq.{take-nil}, lemmas.{Bool.{cases_eq}, List.{take_all, drop_all, drop_more, append-nil, Elements.{All-head, All-tail, All-nil, All-cons, All-pop}, Sums.{sum_by-cons}}}}
+use Rattle.std.proofs.{Common.{◌≡◌, ◌≢◌, ℕ, ◌+◌, ◌<◌, ◌≤◌, List, [], ◌∷◌, ◌++◌, length, get_or, take, drop, take-append-drop, refl, ap, ◌∙◌, arith, length-drop, inl, inr, append_assoc, length-append, ◌==◌, if◌then◌else◌, All, Some, count_by}, Math.Seq.{take-nil}, lemmas.{Bool.{cases_eq}, List.{take_all, drop_all, drop_more, append-nil, Elements.{All-head, All-tail, All-nil, All-cons, All-pop}, Sums.{sum_by-cons}}}}
 use Rattle.std.specs.List.{onto_first}
 use Rattle.kalah_jobs.specs.{line_feed, lines_of, HasNoLineFeed, with_line_feeds, ArePieces, AreLines, LinesAreOne}
 

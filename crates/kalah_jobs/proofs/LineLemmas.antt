@@ -149,8 +149,8 @@ nothing_is_read line (byte ∷ text) text_is none unwritten = record {
 }
 
 -- a line of few bytes is read, or has its first fault
-few_are_read : (line : List ℕ) → length (without_cr line) ≤ most_line_bytes → NoneBefore (without_cr line) 2 → (r : Option Position)
-    → position_of_text (without_cr line) ≡ r → IsReading line (admitted_if_written r (without_cr line))
+few_are_read : (line : List ℕ) → length (without_cr line) ≤ most_line_bytes → NoneBefore (without_cr line) 2
+    → (r : Option Position) → position_of_text (without_cr line) ≡ r → IsReading line (admitted_if_written r (without_cr line))
 few_are_read line few none None read_as = nothing_is_read line (without_cr line) refl none read_as
 few_are_read line few none (Some p) read_as =
     let form = line_is_written (without_cr line) p read_as in

@@ -1,5 +1,5 @@
 //! The jobs of a batch: the lines of its files.
-ghost use Rattle.std.specs.Prelude.{◌≡◌, ◌<◌, ◌≤◌, ◌++◌, ◌+◌, length, count_by, IfOk, MatchBool, slice_get, Some};
+ghost use Rattle.std.specs.Prelude.{◌≡◌, ◌<◌, ◌≤◌, ◌+◌, length, count_by, IfOk, MatchBool, slice_get, Some};
 ghost use Rattle.kalah_jobs.specs.{Files.{Entry.{is_faulty_entry}, JobList.{entries_of, is_faulty_job, line_job, job_list}, Jobs.{MakesJobs, entries_for, job_count, lines_in_all}}, Limits.{most_files, most_lines}, declared.files.question.Question.TheVariants.{BestMove}};
 
 use crate::files::entry::Entry;

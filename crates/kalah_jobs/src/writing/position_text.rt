@@ -118,7 +118,7 @@ pub fn step_text(alloc: Global, h: u8, step: &Step) -> Result<String, AllocError
 // Returns a space and the value, if there is one, and a line feed.
 fn line_end(value: Option<i32>) -> StackText
     ensures end { result ≡ value_suffix value ++ line_feed ∷ [] }
-    ensures short { length result ≤ 13 }
+    ensures short { length result ≤ 1 + 11 + 1 }
 {
     let mut text = StackText::of("\n");
     if let Some(value) = value {

@@ -35,8 +35,8 @@ loop-byte-preserved g c =
     let reply = c.write_reply-all_read.ensures in
     let not_failed = sym c.failed.ensures ∙ c.if-failed.false in
     record {
-      answered = line_read so_far.answered _ _ next.taken next.keeps c.in-Some.is c.if-byte-ne-LINE_FEED.false (reply.given.whole not_failed).1
-          reply.read c.new-line-in-Some.ensures;
+      answered = line_read so_far.answered _ _ next.taken next.keeps c.in-Some.is c.if-byte-ne-LINE_FEED.false
+          (reply.given.whole not_failed).1 reply.read c.new-line-in-Some.ensures;
       not_failed = not_failed;
       start = next.start ∙ so_far.start;
       same_reference = next.same_reference ∙ so_far.same_reference;

@@ -1,6 +1,6 @@
 -- After each comma the houses so far are those that the text before it names; a slash leaves the store.
 use Rattle.std.proofs.{Common.{◌≡◌, ◌∷◌, ◌++◌, ◌-◌, [], arith, drop, length, take}, lemmas.Grind.{common_steps}}
-use Rattle.kalah_jobs.{specs.{comma, slash}, proofs.SideLemmas.{house_follows, no_store_follows, read_at_start, store_follows}}
+use Rattle.kalah_jobs.{specs.{slash}, proofs.SideLemmas.{house_follows, no_store_follows, read_at_start, store_follows}}
 use Rattle.kalah_jobs.proofs.line.side.Side.read.Goals as goal
 
 pub loop-seeds-init : goal.loop-seeds-init
@@ -20,9 +20,8 @@ returns-in-47-clause-read c =
 pub loop-seeds-preserved : goal.loop-seeds-preserved
 loop-seeds-preserved c =
     let so_far = c.loop-seeds.invariant in
-    let after = c.in_ok-seeds.after.now in
-    let comma_next : after ≡ comma ∷ take (length after - 1) (drop 1 after) = grind (arith, common_steps) in
-    house_follows so_far c.in_ok-seeds.ensures.read comma_next (c.push.ensures.houses so_far.houses so_far.are_kept) c.push.ensures.one
+    house_follows so_far c.in_ok-seeds.ensures.read (grind (arith, common_steps))
+    (c.push.ensures.houses so_far.houses so_far.are_kept) c.push.ensures.one
 
 pub returns-in_err-store-in-47-clause-none : goal.returns-in_err-store-in-47-clause-none
 returns-in_err-store-in-47-clause-none c =
