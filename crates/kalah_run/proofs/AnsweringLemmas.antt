@@ -1,6 +1,6 @@
 -- What a batch answers: the output of its files, each result, and a batch whose files have no line.
 use Rattle.std.proofs.{Common.{[], IfErr, ◌≡◌, ℕ, List, ◌++◌, arith, sym, ap, ◌∙◌, true, false, refl, length, take, inl, inr, Some, Option, None, Result, Ok, Err, OnOk, count_by, IfOk, flat_map}, lemmas.List.{nil_from_length, append-nil}, Math.Seq.{take-nil}, KnownBytes.{Keeps-refl}}
-use Rattle.kalah_run.specs.{Job, Tally, Question, text_of_job, whole_output, AnswersBatch, tally_of_jobs, AnswersNothing, declared.batch.{ordered_output.OrderedOutput.{OrderedOutput}, run_fault.RunFault.{RunFault, TheVariants.{TooManyFiles, TooManyLines, OutOfMemory, NoWorker, Write}}}}
+use Rattle.kalah_run.specs.{Tally, Question, text_of_job, whole_output, AnswersBatch, tally_of_jobs, AnswersNothing, declared.batch.{ordered_output.OrderedOutput.{OrderedOutput}, run_fault.RunFault.{RunFault, TheVariants.{TooManyFiles, TooManyLines, OutOfMemory, NoWorker, Write}}}}
 use Rattle.kalah_jobs.specs.{Files.{JobList.{JobsState, job_list, is_faulty_job}, NamedBytes.{NamedBytes}, Jobs.{MakesJobs, job_count, jobs_for, lines_in_all}}, Writing.{Sink.{SinkState, WasGiven}, Output.{taken_output, output_for, output_of_jobs, names_of, tally_of}}}
 use Rattle.std.specs.Io.KnownBytes.{Appends, Keeps}
 use Rattle.kalah_jobs.proofs.{WritingLemmas.{files_are_their_jobs}, FilesLemmas.{length-job_list, job_count-jobs_for}}
@@ -54,25 +54,22 @@ left_same : {W : Type 0} (state : W → SinkState) {old new : W} → new ≡ old
 left_same state {old} same = rw same (Keeps-refl (state old).written)
 
 module _ (question : Question) (files : List NamedBytes) (none : lines_in_all files ≡ 0) where
-  -- there is no job
   no_jobs : job_list (jobs_for question files) ≡ []
   no_jobs = nil_from_length (job_list (jobs_for question files))
       (length-job_list (jobs_for question files) ∙ job_count-jobs_for question files ∙ none)
 
-  -- so nothing is to be written
   pub no_output : output_for question files ≡ []
   no_output =
       files_are_their_jobs.output question files
       ∙ sym (texts_from (taken_output (names_of files)) (jobs_for question files) 0 (jobs_for question files))
       ∙ ap (flat_map (text_of_job (taken_output (names_of files)))) no_jobs
 
-  -- the result is one of a batch without a line
   pub nothing_answered : {W : Type 0} (state : W → SinkState) (old new : W) (result : Result Tally RunFault)
       → AnswersBatch state (output_for question files) files old new result → AnswersNothing (state old).written (state new).written result
   nothing_answered state old new (Ok tally) answers = record {
     unwritten = appends_none _ _ _ no_output answers.written;
     uncounted = answers.counted ∙ sym (counted_tally question files)
-        ∙ ap (λ (l : List Job). let c : Tally = record { lines = length l; faults = count_by is_faulty_job l } in c) no_jobs;
+        ∙ ap (λ l. let c : Tally = record { lines = length l; faults = count_by is_faulty_job l } in c) no_jobs;
     fault = tt;
   }
   nothing_answered state old new (Err TooManyFiles) answers = record { unwritten = left_same state answers.1.0; uncounted = tt; fault = inl refl }

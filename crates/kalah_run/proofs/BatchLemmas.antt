@@ -2,7 +2,7 @@
 use Rattle.std.proofs.Common.{[], ◌≡◌, ◌<◌, ◌≤◌, ◌+◌, ℕ, List, ◌∷◌, ◌++◌, arith, sym, ap, ◌∙◌, Bool, true, false, refl, ⊎_elim}
 use Rattle.std.proofs.Common.{length, ◌⊎◌, inl, inr, All, Some, Option, None, IfNone, MatchOption}
 use Rattle.std.proofs.lemmas.{List.{map-append, length-append, length-map, Elements.{All-push}}, Bool.{both_ways}}
-use Rattle.kalah_run.specs.{OutcomeState, WorkerOutcome, passes_of, puts_of, HaveRun, HasBeenOffered, HasWritten, whole_output, AwaitsLine, WritesOn}
+use Rattle.kalah_run.specs.{OutcomeState, passes_of, puts_of, HaveRun, HasBeenOffered, HasWritten, whole_output, AwaitsLine, WritesOn}
 use Rattle.kalah_run.specs.{IsAbandoned, IsLeft, DrawsOnlyTheRest, GetPassState, PutPassState, ArePassesFrom, outcomes_in, PassState, IsPassAt}
 use Rattle.kalah_run.specs.{HasCollected, IsAtStart, Receives, GetsNext}
 use Rattle.kalah_run.specs.declared.batch.{ordered_output.OrderedOutput.{OrderedOutput}, worker.Worker.{Worker}}
@@ -88,11 +88,10 @@ workers_counted kept now_is new_is = kept ∙ ap (λ p. p.get_pass.workers) now_
 module _ {G : Type 0} {knows : G → ℕ → Bool} {shared : SharedWork G} {before after : List Worker} (run : HaveRun knows shared before after) where
   -- with the pass p of the calling thread
   module _ {back : List PassState} (p : PassState) (back_is : back ≡ passes_of after ++ p ∷ []) where
-    -- all passes of the desk are back
     pub passes_are_back : {passes : ℕ} → passes ≡ length before + 1 → length back ≡ passes
     passes_are_back all =
         let many = ap length back_is ∙ length-append (passes_of after) (p ∷ []) in
-        omega (arith, length-map after (λ (w : Worker). w.draw_pass), run.as_many)
+        omega (arith, length-map after (λ w. w.draw_pass), run.as_many)
 
     -- each of them is of the desk
     pub own_back : IsPassAt shared.desk p → All (IsPassAt shared.desk) back
@@ -102,7 +101,7 @@ module _ {G : Type 0} {knows : G → ℕ → Bool} {shared : SharedWork G} {befo
   pub puts_back : {len count : ℕ} {puts : List PutPassState} → len ≡ length puts → puts ≡ puts_of after → count ≡ length before
       → ArePassesFrom shared.queue.id 0 (puts_of before) → (len ≡ count) × ArePassesFrom shared.queue.id 0 puts
   puts_back many puts_are count from = (
-    omega (arith, ap length puts_are, length-map after (λ (w : Worker). w.put_pass), run.as_many),
+    omega (arith, ap length puts_are, length-map after (λ w. w.put_pass), run.as_many),
     rw puts_are (puts_after shared before after 0 run from),
   )
 
@@ -141,11 +140,11 @@ module _ {W : Type 0} {state : W → SinkState} {output r : OrderedOutput} {begu
     one_collected {outcome} gets offer given writes waits =
         let got = gets.receives.got in
         let more_got : outcomes_in next.passes.get_pass.got ≡ outcomes_in now.passes.get_pass.got ++ outcome ∷ [] =
-        ap (λ (p : GetPassState). outcomes_in p.got) got.2
-        ∙ map-append (λ (p : WorkerOutcome). p.1) now.passes.get_pass.got ((got.0, outcome) ∷ []) in
+        ap (λ p. outcomes_in p.got) got.2
+        ∙ map-append (λ p. p.1) now.passes.get_pass.got ((got.0, outcome) ∷ []) in
         record {
-          queue = ap (λ (p : GetPassState). p.queue) got.2 ∙ so_far.queue;
-          workers = ap (λ (p : GetPassState). p.workers) got.2 ∙ so_far.workers;
+          queue = ap (λ p. p.queue) got.2 ∙ so_far.queue;
+          workers = ap (λ p. p.workers) got.2 ∙ so_far.workers;
           draws = draws_weaken (draws_trans (draws_weaken so_far.draws (failed_still gets.unwritten)) gets.receives.draws)
               (failed_still given);
           same = (writes.same_files ∙ offer.files ∙ so_far.same.0, writes.same_jobs ∙ offer.jobs ∙ so_far.same.1);
@@ -163,11 +162,11 @@ module _ {W : Type 0} {state : W → SinkState} {output r : OrderedOutput} {begu
         (failed_still unwritten) in
         let whole : whole_output r ≡ whole_output output = λ i. output_of_jobs (names_of (so_far.same.0 i)) (so_far.same.1 i) in
         rw after_is (record {
-          queue = ap (λ (p : GetPassState). p.queue) gets.receives.got ∙ so_far.queue;
-          workers = ap (λ (p : GetPassState). p.workers) gets.receives.got ∙ so_far.workers;
+          queue = ap (λ p. p.queue) gets.receives.got ∙ so_far.queue;
+          workers = ap (λ p. p.workers) gets.receives.got ∙ so_far.workers;
           own = rw (← draws.desk) next.draws;
           got_or_left = omega (arith, next.counts, gets.ended, ap (λ d. d.total) draws.desk, start.jobs);
-          left = ⊎_elim (λ same. inl (ap (λ (p : PassState). p.row) same ∙ start.undrawn)) inr draws.drawn;
+          left = ⊎_elim (λ same. inl (ap (λ p. p.row) same ∙ start.undrawn)) inr draws.drawn;
           given = λ each_or_left. rw (← whole) (⊎_elim
               (λ (each : IsPermutationOfJobs output.jobs.now (outcomes_in next.passes.get_pass.got)).
               sink_was_given_all written (rw so_far.same.1 each) so_far.waits)

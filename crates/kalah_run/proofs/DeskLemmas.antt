@@ -1,5 +1,5 @@
 -- The desk: each step keeps its protocol, and what the rows are at the end.
-use Rattle.std.proofs.Common.{◌≡◌, ⊎_elim, inl, inr, ℕ, zero, suc, ◌+◌, ◌≤◌, List, [], ◌∷◌, ◌++◌, length, set, refl, sym, ap, ◌∙◌, subst, arith}
+use Rattle.std.proofs.Common.{◌≡◌, inl, inr, ℕ, zero, suc, ◌+◌, ◌≤◌, List, [], ◌∷◌, ◌++◌, length, set, refl, sym, ap, ◌∙◌, subst, arith}
 use Rattle.std.proofs.Common.{length-append, append-nil, append_assoc, ◌%◌, ◌^◌, ◌<◌, get_or, true, false, cond, ◌-◌, ◌==◌, sum_by, count_by, All}
 use Rattle.std.proofs.Common.{nat_lt, AllPairs, if◌then◌else◌, slice_index, max, min, IsTrue, ◌↔◌, mod-eq_of_lt}
 use Rattle.std.proofs.lemmas.List.{set-set, FromFn.{length-range_with_len}, Sums.{sum_by-cons, sum_by_push, count_by-le-length, get_or-le-sum_by}}
@@ -11,7 +11,7 @@ use Rattle.atomic_table.proofs.Lists.{set_again, set_here}
 use Rattle.kalah_run.proofs.{ViewLemmas.{Each, each_more, each_set, in_views, was_there}, RowLemmas.{times_in_row, times_rows, sum_set, rows_set, rows_push, rows_at, all_at, all_from, rows_within_passes, has_all, Ascends, deals_alike, none_or_all}}
 use Rattle.kalah_run.specs.{DrawnRow, DeskPlan, DeskView, drawn_row, drawn_in, spent_in, DealsEachOnce, most_passes, as_pass_view, row_in, total_in}
 use Rattle.kalah_run.specs.{number_in, declared.desk.protocol.DeskView.TheVariants.{Opening, Drawing, Closing, Reclaimed}}
-use Rattle.kalah_run.specs.Desk.Protocol.{rows_in, all_rows, passes_in, HasTotal, IsLawful, opening_view, CountsWhatItDeals, DrawsFrom, Draws}
+use Rattle.kalah_run.specs.Desk.Protocol.{rows_in, all_rows, passes_in, HasTotal, IsLawful, opening_view, CountsWhatItDeals, Draws}
 use Rattle.kalah_run.specs.Desk.Protocol.{DrawsRest, StartsClosing, after_handing_out, pass_handed_out, after_reclaiming}
 use Rattle.atomic_table.specs.Table.{State, Me, step, keeps, Allows, opening, Splits, Joins, Enters, Seen, Final}
 use Rattle.kalah_jobs.specs.Limits.{most_lines}
@@ -21,13 +21,27 @@ use Rattle.std.specs.List.{range_with_len}
 abbrev FollowsPlan : DeskPlan → ℕ → DeskView → Type 0
 FollowsPlan plan seat view = HasTotal plan.total view × All Ascends (rows_in view)
 
--- the views of a lawful desk are so
-following : {S : Type 0} {plan : DeskPlan} {s : State S DeskView} → IsLawful plan s → Each (FollowsPlan plan) s.views
-following {s = s} kept seat view has_view = (kept.totals seat view has_view, all_at Ascends s.views seat has_view kept.deals.ascending)
+-- of a lawful desk
+module _ {S : Type 0} {plan : DeskPlan} {s : State S DeskView} (kept : IsLawful plan s) where
+  -- its views are so
+  following : Each (FollowsPlan plan) s.views
+  following seat view has_view = (kept.totals seat view has_view, all_at Ascends s.views seat has_view kept.deals.ascending)
+
+  -- no more passes are spent than there are
+  few_spent : spent_in (all_rows s.views) ≤ plan.passes
+  few_spent = omega (arith, kept.passes, count_by-le-length (λ r. r.spent) (all_rows s.views), rows_within_passes s.views)
+
+  -- its word, which a draw finds
+  abbrev word_of : ℕ
+  word_of = kept.drawn + spent_in (all_rows s.views)
+
+  -- the protocol in plain words
+  pub counts_what_it_deals : CountsWhatItDeals plan.total plan.passes s.words (all_rows s.views)
+  counts_what_it_deals =
+      record { drawn = kept.drawn; deals = kept.deals; word = kept.word; most = omega (arith, kept.deals.within, few_spent) }
 
 -- ==== A draw keeps the protocol, and returns what it must
 
--- the view of a pass that is not spent
 abbrev unspent_view : ℕ → ℕ → List ℕ → DeskView
 unspent_view total number numbers = Drawing total number (drawn_row numbers false)
 
@@ -47,22 +61,13 @@ after_step s words seat view = record { words = words; homes = s.homes; views = 
 once_more : (x drawn : ℕ) → (if nat_lt x drawn then 1 else 0) + cond (drawn == x) 1 0 ≡ (if nat_lt x (drawn + 1) then 1 else 0)
 once_more x drawn = grind (arith, nat_tests)
 
--- no more passes are spent than there are
-few_spent : {S : Type 0} {plan : DeskPlan} {s : State S DeskView} → IsLawful plan s → spent_in (all_rows s.views) ≤ plan.passes
-few_spent {s = s} kept =
-    omega (arith, kept.passes, count_by-le-length (λ (r : DrawnRow). r.spent) (all_rows s.views), rows_within_passes s.views)
-
--- the word of a lawful desk, which a draw finds
-abbrev word_of : {S : Type 0} {plan : DeskPlan} {s : State S DeskView} → IsLawful plan s → ℕ
-word_of {s = s} kept = kept.drawn + spent_in (all_rows s.views)
-
 -- a draw of a pass that is not spent
 module _ {S : Type 0} {plan : DeskPlan} {s : State S DeskView} (seat : ℕ) {total number : ℕ} {numbers : List ℕ} (kept : IsLawful plan s)
     (has_view : get_elem? s.views seat ≡ some (unspent_view total number numbers)) where
   -- all numbers of the pass's row are below the count of those drawn
   stands_below : All (λ x. x < kept.drawn) numbers
   stands_below k d within =
-      let x : ℕ = get_or numbers k d in
+      let x = get_or numbers k d in
       let here : cond (x == x) 1 0 ≤ count_by (λ y. y == x) numbers = get_or-le-sum_by (λ y. cond (y == x) 1 0) numbers k d within in
       let mine : sum_by (times_in_row x) (drawn_row numbers false ∷ []) ≤ sum_by (times_in_row x) (all_rows s.views) =
       rows_at (times_in_row x) s.views seat has_view in
@@ -103,9 +108,9 @@ module _ {S : Type 0} {plan : DeskPlan} {s : State S DeskView} (seat : ℕ) {tot
       → IsLawful plan (after_step s ((word_of kept + 1) ∷ []) seat (drawn_view total number numbers (word_of kept))) × All
       (λ x. x < word_of kept) numbers
   draws_some low =
-      let n : ℕ = kept.drawn in
-      let after : DeskView = drawn_view total number numbers n in
-      let rows : List DrawnRow = all_rows (set s.views seat after) in
+      let n = kept.drawn in
+      let after = drawn_view total number numbers n in
+      let rows = all_rows (set s.views seat after) in
       let same : total ≡ plan.total = kept.totals seat _ has_view in
       let none_spent : spent_in (all_rows s.views) ≡ 0 =
       elim (none_or_all kept.deals) [ inl unspent ↦ unspent | inr full ↦ omega arith ] in
@@ -134,7 +139,7 @@ module _ {S : Type 0} {plan : DeskPlan} {s : State S DeskView} (seat : ℕ) {tot
   -- it finds none: the protocol stays, and the pass is spent
   draws_none : total ≤ word_of kept → IsLawful plan (after_step s ((word_of kept + 1) ∷ []) seat (spent_view total number numbers))
   draws_none high =
-      let after : DeskView = spent_view total number numbers in
+      let after = spent_view total number numbers in
       let same : total ≡ plan.total = kept.totals seat _ has_view in
       let full : kept.drawn ≡ plan.total =
       elim (none_or_all kept.deals) [ inl unspent ↦ omega (arith, kept.deals.within) | inr full ↦ full ] in
@@ -155,49 +160,42 @@ module _ {S : Type 0} {plan : DeskPlan} {s : State S DeskView} (seat : ℕ) {tot
       let words = kept.word ∙ ap (◌∷ []) (sym word_is) in
       subst (IsLawful plan) (λ i. let t : State S DeskView = record { words = words i; homes = s.homes; views = sym same i } in t) kept
 
--- A step of a pass by f is allowed if from each lawful state it leaves a view that keeps the protocol, and for that view `tells` holds.
-allowed_step : {S : Type 0} {plan : DeskPlan} {slots seat : ℕ} {before : DeskView} (f : ℕ → ℕ) (tells : ℕ → Me S DeskView → Type 0)
-    → ((s : State S DeskView) (kept : IsLawful plan s) → get_elem? s.views seat ≡ some before → (after : DeskView)
-    × IsLawful plan (after_step s (f (word_of kept) ∷ []) seat after) × tells (word_of kept) (after, []))
-    → Allows {S = S} (IsLawful plan) slots seat (before, []) 0 f tells
-allowed_step f tells steps s kept homes has_view fits =
+-- A step by f of a pass that is not spent is allowed if from each lawful state it leaves a view that keeps the protocol, and for that view
+-- `tells` holds.
+allowed_step : {S : Type 0} {plan : DeskPlan} {slots seat : ℕ} (f : ℕ → ℕ) (tells : Me S DeskView → ℕ → Me S DeskView → Type 0)
+    → ((total number : ℕ) (numbers : List ℕ) (s : State S DeskView) (kept : IsLawful plan s)
+    → get_elem? s.views seat ≡ some (unspent_view total number numbers) → (after : DeskView)
+    × IsLawful plan (after_step s (f (word_of kept) ∷ []) seat after)
+    × tells (unspent_view total number numbers, []) (word_of kept) (after, []))
+    → (me : Me S DeskView) → me ≡ (as_pass_view me.0, []) → (row_in me.0).spent ≡ false
+    → Allows {S = S} (IsLawful plan) slots seat me 0 f (tells me)
+allowed_step f tells steps me is_pass unspent =
+    let total = total_in me.0 in
+    let number = number_in me.0 in
+    let numbers = (row_in me.0).numbers in
+    rw (is_pass ∙ ap (λ b. (Drawing total number (drawn_row numbers b), [])) unspent) (λ s kept homes has_view fits.
     let found : slice_index s.words 0 ≡ word_of kept = ap (λ words. slice_index words 0) kept.word in
     let words : set s.words 0 (f (slice_index s.words 0)) ≡ f (word_of kept) ∷ [] =
     ap (λ words. set words 0 (f (slice_index s.words 0))) kept.word ∙ ap (λ n. f n ∷ []) found in
-    let step = steps s kept has_view in
-    (step.0, keeps, tt, rw words step.1, rw found step.2)
-
--- a draw of a pass that is not spent
-draws_at : {S : Type 0} (plan : DeskPlan) (slots seat total number : ℕ) (numbers : List ℕ)
-    → Allows {S = S} (IsLawful plan) slots seat (unspent_view total number numbers, []) 0 (λ n. (n + 1) % 2 ^ 64)
-    (Draws (step slots 0 1 0 none) (unspent_view total number numbers, []))
-draws_at {S} plan slots seat total number numbers = allowed_step (λ n. (n + 1) % 2 ^ 64)
-    (Draws (step slots 0 1 0 none) (unspent_view total number numbers, [])) (λ s kept has_view.
-    let n : ℕ = word_of kept in
-    let next : (n + 1) % 2 ^ 64 ≡ n + 1 =
-    mod-eq_of_lt (omega (arith, kept.deals.within, kept.few.0, few_spent kept, kept.few.1)) in
-    let step : (after : DeskView) × IsLawful {S = S} plan (after_step s ((n + 1) ∷ []) seat after)
-    × DrawsFrom (unspent_view total number numbers) n after =
-    ⊎_elim
-    (λ (low : n < total).
-    let some = draws_some seat kept has_view low in (drawn_view total number numbers n, some.0, rw (lt-ltb n total low) (refl, some.1)))
-    (λ (high : total ≤ n). (spent_view total number numbers, draws_none seat kept has_view high, rw (le-ltb n total high) refl))
-    (cases_lt n total) in
-    (step.0, rw next step.1, (refl, step.2)))
-
--- the seat's view, if it is a pass that is not spent
-unspent_me : {S : Type 0} (me : Me S DeskView) → me ≡ (as_pass_view me.0, []) → (row_in me.0).spent ≡ false
-    → me ≡ (unspent_view (total_in me.0) (number_in me.0) (row_in me.0).numbers, [])
-unspent_me me is_pass unspent =
-    let view = me.0 in
-    is_pass ∙ ap (λ b. (Drawing (total_in view) (number_in view) (drawn_row (row_in view).numbers b), [])) unspent
+    let step = steps total number numbers s kept has_view in
+    (step.0, keeps, tt, rw words step.1, rw found step.2))
 
 -- a draw of a seat that is known to be a pass that is not spent
 pub draw_is_lawful : {S : Type 0} (plan : DeskPlan) (slots seat : ℕ) (me : Me S DeskView) → me ≡ (as_pass_view me.0, [])
     → (row_in me.0).spent ≡ false
     → Allows {S = S} (IsLawful plan) slots seat me 0 (λ n. (n + 1) % 2 ^ 64) (Draws (step slots 0 1 0 none) me)
-draw_is_lawful {S} plan slots seat me is_pass unspent =
-    let view = me.0 in rw (unspent_me me is_pass unspent) (draws_at plan slots seat (total_in view) (number_in view) (row_in view).numbers)
+draw_is_lawful plan slots seat =
+    allowed_step (λ n. (n + 1) % 2 ^ 64) (Draws (step slots 0 1 0 none)) (λ total number numbers s kept has_view.
+    let n = word_of kept in
+    let next : (n + 1) % 2 ^ 64 ≡ n + 1 =
+    mod-eq_of_lt (omega (arith, kept.deals.within, kept.few.0, few_spent kept, kept.few.1)) in
+    elim (cases_lt n total) [
+      | inl low ↦
+          let some = draws_some seat kept has_view low in
+          (drawn_view total number numbers n, rw next some.0, (refl, rw (lt-ltb n total low) (refl, some.1)))
+      | inr high ↦
+          (spent_view total number numbers, rw next (draws_none seat kept has_view high), (refl, rw (le-ltb n total high) refl))
+    ])
 
 -- ==== A pass draws all that is left: that keeps the protocol, as one draw after the other does
 
@@ -207,40 +205,33 @@ draws_all : {S : Type 0} {plan : DeskPlan} (left : ℕ) {s : State S DeskView} (
     → IsLawful plan (after_step s (total ∷ []) seat (unspent_view total number (numbers ++ range_with_len (word_of kept) left)))
 draws_all zero seat kept has_view all = draws_nothing seat kept has_view (omega arith)
 draws_all {S} {plan} (suc left) {s} seat {total} {number} {numbers} kept has_view all =
-    let n : ℕ = word_of kept in
-    let after : DeskView = drawn_view total number numbers n in
+    let n = word_of kept in
+    let after = drawn_view total number numbers n in
     let one = (draws_some seat kept has_view (omega arith)).0 in
     let has_after = set_here s.views seat after (in_views s.views seat has_view) in
     let next : word_of one ≡ n + 1 = ap (λ words. slice_index words 0) (sym one.word) in
     rw (set-set s.views seat after _, append_assoc numbers (n ∷ []) (range_with_len (n + 1) left)) at
     (rw next at (draws_all left seat one has_after (omega arith)))
 
--- a pass that is not spent draws the rest
-draws_rest_at : {S : Type 0} (plan : DeskPlan) (slots seat total number : ℕ) (numbers : List ℕ) (limit : ℕ) → limit ≡ plan.total
-    → Allows {S = S} (IsLawful plan) slots seat (unspent_view total number numbers, []) 0 (λ n. max n limit)
-    (DrawsRest (step slots 0 limit 0 none) (unspent_view total number numbers, []))
-draws_rest_at {S} plan slots seat total number numbers limit limit_is = allowed_step (λ n. max n limit)
-    (DrawsRest (step slots 0 limit 0 none) (unspent_view total number numbers, [])) (λ s kept has_view.
-    let n : ℕ = word_of kept in
-    let same : total ≡ plan.total = kept.totals seat (unspent_view total number numbers) has_view in
-    let after : DeskView = unspent_view total number (numbers ++ range_with_len n (total - n)) in
-    let lawful : IsLawful {S = S} plan (after_step s (max n limit ∷ []) seat after) =
-    ⊎_elim
-    (λ (low : n < total).
-    let most : total ≡ max n limit = omega arith in
-    rw (← most) (draws_all (total - n) seat kept has_view (omega arith)))
-    (λ (high : total ≤ n).
-    let none_left : total - n ≡ 0 = omega arith in rw none_left (draws_nothing seat kept has_view (omega arith)))
-    (cases_lt n total) in
-    (after, lawful, (refl, refl)))
-
 -- a seat that is known to be a pass that is not spent draws all that is left
-pub draw_rest_is_lawful : {S : Type 0} (plan : DeskPlan) (slots seat : ℕ) (me : Me S DeskView) (limit : ℕ) → limit ≡ plan.total
+pub draw_rest_is_lawful : {S : Type 0} (plan : DeskPlan) (slots seat limit : ℕ) → limit ≡ plan.total → (me : Me S DeskView)
     → me ≡ (as_pass_view me.0, []) → (row_in me.0).spent ≡ false
     → Allows {S = S} (IsLawful plan) slots seat me 0 (λ n. max n limit) (DrawsRest (step slots 0 limit 0 none) me)
-draw_rest_is_lawful {S} plan slots seat me limit limit_is is_pass unspent =
-    let view = me.0 in
-    rw (unspent_me me is_pass unspent) (draws_rest_at plan slots seat (total_in view) (number_in view) (row_in view).numbers limit limit_is)
+draw_rest_is_lawful plan slots seat limit limit_is =
+    allowed_step (λ n. max n limit) (DrawsRest (step slots 0 limit 0 none)) (λ total number numbers s kept has_view.
+    let n = word_of kept in
+    let same : total ≡ plan.total = kept.totals seat _ has_view in (
+      unspent_view total number (numbers ++ range_with_len n (total - n)),
+      elim (cases_lt n total) [
+        | inl low ↦
+            let most : total ≡ max n limit = omega arith in
+            rw (← most) (draws_all (total - n) seat kept has_view (omega arith))
+        | inr high ↦
+            let none_left : total - n ≡ 0 = omega arith in
+            rw none_left (draws_nothing seat kept has_view (omega arith))
+      ],
+      (refl, refl),
+    ))
 
 -- a row is longer by the count of the numbers from n on once these are drawn
 pub rest_counted : (before : DrawnRow) (n total : ℕ) {after : DrawnRow} {drawn : ℕ}
@@ -249,7 +240,7 @@ pub rest_counted : (before : DrawnRow) (n total : ℕ) {after : DrawnRow} {drawn
 rest_counted before n total after_is drawn_is =
     omega (
       arith,
-      ap (λ (r : DrawnRow). length r.numbers) after_is,
+      ap (λ r. length r.numbers) after_is,
       length-append before.numbers (range_with_len n (total - n)),
       length-range_with_len n (total - n),
     )
@@ -288,20 +279,15 @@ opening_is_lawful plan total passes = record {
     ascending = All-nil (λ r. AllPairs (λ x y. x < y) r.numbers);
     spent = λ some_spent. absurd (omega arith);
   };
-  totals = λ seat view has_view. only seat view has_view;
+  totals = each_more (λ seat view. HasTotal plan.total view) [] (opening_view plan) (λ j u e. absurd (some-ne-none u (sym e))) refl;
 }
-  where
-    only : (seat : ℕ) (view : DeskView) → get_elem? (opening_view plan ∷ []) seat ≡ some view → HasTotal plan.total view
-    only zero view has_view = subst (HasTotal plan.total) (some-injective _ _ has_view) refl
-    only (suc seat) view has_view = absurd (some-ne-none view (sym has_view))
 
--- the next pass is handed out
 pub hand_out_is_lawful : {S : Type 0} {plan : DeskPlan} (seat : ℕ) {v : DeskView} {total handed_out left : ℕ}
     → v ≡ Opening total handed_out left → 0 < left → Splits {S = S} (IsLawful plan) seat v (after_handing_out v) (pass_handed_out v)
 hand_out_is_lawful {S} {plan} seat {v} {total} {handed_out} {left} opening some_left = rw opening (λ s kept has_view.
-    let opener : DeskView = Opening total (handed_out + 1) (left - 1) in
-    let pass : DeskView = Drawing total handed_out (drawn_row [] false) in
-    let views : List DeskView = set s.views seat opener in
+    let opener = Opening total (handed_out + 1) (left - 1) in
+    let pass = Drawing total handed_out (drawn_row [] false) in
+    let views = set s.views seat opener in
     let mine : HasTotal plan.total pass = kept.totals seat _ has_view in
     let none : Ascends (drawn_row [] false) = λ i j d under within. absurd (omega arith) in
     kept_alike _ kept refl
@@ -322,42 +308,28 @@ start_closing_is_lawful {S} plan slots s kept homes fits = (
   refl,
 )
 
--- a pass is reclaimed
-reclaims_at : {S : Type 0} (plan : DeskPlan) (seat : ℕ) (rows : List DrawnRow) (other total number : ℕ) (r : DrawnRow)
-    → Joins {S = S} (IsLawful plan) seat (Closing rows) other (Drawing total number r)
-    (after_reclaiming (Closing rows) (Drawing total number r)) Reclaimed
-reclaims_at {S} plan seat rows other total number r s kept has_view apart has_pass =
-    let closing : DeskView = Closing (r ∷ rows) in
-    let pass : DeskView = Drawing total number r in
-    let between : List DeskView = set s.views seat closing in
+-- a seat that is known to be the closing one takes back the pass of a seat that is known to be a pass
+pub reclaim_is_lawful : {S : Type 0} (plan : DeskPlan) (seat : ℕ) (v : DeskView) (other : ℕ) (w : DeskView)
+    → v ≡ Closing (rows_in v) → w ≡ as_pass_view w → Joins {S = S} (IsLawful plan) seat v other w (after_reclaiming v w) Reclaimed
+reclaim_is_lawful plan seat v other w closing_is is_pass = rw closing_is (rw is_pass (λ s kept has_view apart has_pass.
+    let rows = rows_in v in
+    let row = row_in w in
+    let closing = Closing (row ∷ rows) in
+    let between = set s.views seat closing in
     let own : All Ascends rows = all_at Ascends s.views seat has_view kept.deals.ascending in
-    let theirs : All Ascends (r ∷ []) =
+    let theirs : All Ascends (row ∷ []) =
     all_at Ascends s.views other (was_there s.views seat other closing apart has_pass) kept.deals.ascending in
     kept_alike _ kept refl
     (λ f nothing. omega (
       arith,
       rows_set f s.views seat closing has_view,
       rows_set f between other Reclaimed has_pass,
-      sum_by-cons f r rows,
+      sum_by-cons f row rows,
     ))
     (omega (arith, sum_set passes_in s.views seat closing has_view, sum_set passes_in between other Reclaimed has_pass))
     (each_set (FollowsPlan plan) between other Reclaimed (tt, All-nil Ascends) (λ i view away has_view.
-    each_set (FollowsPlan plan) s.views seat closing (tt, All-append Ascends (r ∷ []) rows theirs own)
-    (λ j u apart has_view. following kept j u has_view) i view has_view))
-
--- a seat that is known to be the closing one takes back the pass of a seat that is known to be a pass
-pub reclaim_is_lawful : {S : Type 0} (plan : DeskPlan) (seat : ℕ) (v : DeskView) (other : ℕ) (w : DeskView)
-    → v ≡ Closing (rows_in v) → w ≡ as_pass_view w → Joins {S = S} (IsLawful plan) seat v other w (after_reclaiming v w) Reclaimed
-reclaim_is_lawful plan seat v other w closing is_pass =
-    rw closing (rw is_pass (reclaims_at plan seat (rows_in v) other (total_in w) (number_in w) (row_in w)))
-
--- ==== The protocol of the desk, in plain words
-
--- a lawful desk counts what it deals
-pub counts_what_it_deals : {S : Type 0} {plan : DeskPlan} {s : State S DeskView} → IsLawful plan s
-    → CountsWhatItDeals plan.total plan.passes s.words (all_rows s.views)
-counts_what_it_deals kept =
-    record { drawn = kept.drawn; deals = kept.deals; word = kept.word; most = omega (arith, kept.deals.within, few_spent kept) }
+    each_set (FollowsPlan plan) s.views seat closing (tt, All-append Ascends (row ∷ []) rows theirs own)
+    (λ j u apart has_view. following kept j u has_view) i view has_view))))
 
 -- ==== What the last word and the closing seat determine of the rows
 

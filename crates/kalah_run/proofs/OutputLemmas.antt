@@ -38,14 +38,16 @@ module _ (text : ℕ → Taken → List ℕ) (jobs : JobsState) where
       → written_up_to text jobs f n ++ text f (answered_line (n, e)) ≡ written_up_to text jobs f (n + 1)
   unfolding written_up_to
   written_with_next_line f n e entry_is =
-      let m : ℕ = job_count (take f jobs) + n in
-      let o : OutcomeState = line_job f n e in
-      let job_is : slice_get (job_list jobs) m ≡ Some o = slice_get-job_list jobs f n m e refl entry_is in
+      let all = job_list jobs in
+      let T = text_of_job text in
+      let m = job_count (take f jobs) + n in
+      let o = line_job f n e in
+      let job_is : slice_get all m ≡ Some o = slice_get-job_list jobs f n m e refl entry_is in
       let next : m + 1 ≡ job_count (take f jobs) + (n + 1) = omega arith in
-      flat_map_more (text_of_job text) [] (take m (job_list jobs)) o
-      ∙ ap (λ x. flat_map (text_of_job text) (take m (job_list jobs) ++ x ∷ [])) (sym (get_or_from_slice_get (job_list jobs) m o o job_is))
-      ∙ ap (flat_map (text_of_job text)) (sym (take_more (job_list jobs) m o (slice_get_within (job_list jobs) m o job_is)))
-      ∙ ap (λ k. flat_map (text_of_job text) (take k (job_list jobs))) next
+      flat_map_more T [] (take m all) o
+      ∙ ap (λ x. flat_map T (take m all ++ x ∷ [])) (sym (get_or_from_slice_get all m o o job_is))
+      ∙ ap (flat_map T) (sym (take_more all m o (slice_get_within all m o job_is)))
+      ∙ ap (λ k. flat_map T (take k all)) next
 
   -- all lines of the file are written
   written_with_whole_file : (f : ℕ) → f < length jobs
@@ -68,7 +70,7 @@ module _ (text : ℕ → Taken → List ℕ) (jobs : JobsState) where
   written_is_first_part : (f n : ℕ) → (rest : List ℕ) × (written_up_to text jobs f n ++ rest ≡ text_of_jobs text jobs)
   unfolding written_up_to
   written_is_first_part f n =
-      let m : ℕ = job_count (take f jobs) + n in
+      let m = job_count (take f jobs) + n in
       let T = text_of_job text in (
         flat_map T (drop m (job_list jobs)),
         sym (flat_map-append T (take m (job_list jobs)) (drop m (job_list jobs)))
@@ -96,16 +98,16 @@ module _ {W : Type 0} {state : W → SinkState} {text : ℕ → Taken → List �
   pub under_way_after_line : {after : List ArrivalsState} {t : Taken} {more : W} → Takes files current (Some t) after
       → WasGiven state out more (text current t) → IsUnderWay state text (record p { files = after }) begun more
   under_way_after_line {after} {t} {more} step given =
-      let n : ℕ = taken_of p current in
+      let n = taken_of p current in
       let one_more = with_one_taken (state_of files current) in
       let now : CollectingState = record p { files = after_take files current } in
       let same_taken : (g : ℕ) → (g ≡ current → ⊥) → taken_of now g ≡ taken_of p g =
-      λ g other. ap (λ (s : ArrivalsState). s.taken) (get_or-set_other files current g one_more no_file other) in
+      λ g other. ap (λ s. s.taken) (get_or-set_other files current g one_more no_file other) in
       let offer = under_way.kept.offered.only current t.line t.answer step.next_line.came in
       let line : t.line ≡ n = step.next_line.first in
       let entry_is : entry_at jobs current n ≡ Some offer.entry = ap (entry_at jobs current) (sym line) ∙ offer.entry_is in
       let taken : taken_of now current ≡ n + 1 =
-      ap (λ (s : ArrivalsState). s.taken) (get_or-set_same files current one_more no_file step.file_there) in
+      ap (λ s. s.taken) (get_or-set_same files current one_more no_file step.file_there) in
       let text_is : written_so_far text p ++ text current t ≡ written_so_far text now =
       ap (λ x. written_so_far text p ++ text current x) (taken_is t n offer.entry line offer.answer_is)
       ∙ written_with_next_line text jobs current n offer.entry entry_is
@@ -118,7 +120,6 @@ module _ {W : Type 0} {state : W → SinkState} {text : ℕ → Taken → List �
       } in
       rw step.kept new
 
-  -- no line is taken
   pub under_way_after_no_line : {after : List ArrivalsState} → Takes files current None after
       → IsUnderWay state text (record p { files = after }) begun out
   under_way_after_no_line step = rw step.unchanged under_way
@@ -194,7 +195,7 @@ pub text_of_taken : (files : List NamedBytes) (f : ℕ) (file : NamedBytes) (nam
     → file ≡ get_or files f file → name ≡ file.name → taken_output (names_of files) f taken ≡ answer_line name taken ++ line_feed ∷ []
 text_of_taken files f file name taken low file_is name_is =
     ap (λ n. answer_line n taken ++ line_feed ∷ [])
-    (get_or-map (λ (x : NamedBytes). x.name) files f file [] low ∙ sym (ap (λ (x : NamedBytes). x.name) file_is) ∙ sym name_is)
+    (get_or-map (λ x. x.name) files f file [] low ∙ sym (ap (λ x. x.name) file_is) ∙ sym name_is)
 
 -- with what is known of a sink
 module _ {W : Type 0} {state : W → SinkState} where

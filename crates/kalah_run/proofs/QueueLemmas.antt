@@ -1,9 +1,7 @@
 -- The results queue: its pairs, and each step keeps its protocol.
-use Rattle.std.proofs.Common.{◌≡◌, ◌≢◌, ℕ, suc, ◌+◌, ◌<◌, ◌≤◌, ◌==◌, if◌then◌else◌, Bool, List, [], ◌∷◌, ◌++◌, length, All, slice_index_or, refl, sym}
-use Rattle.std.proofs.Common.{ap, ◌∙◌, eq-eqb, ne_eqb, arith, set, append_assoc, inl, inr, length-append}
-use Rattle.std.proofs.lemmas.List.{append-nil, length-map, length-set, length_push, map-append, get_or_at, get_or_append_left, get_or_push}
-use Rattle.std.proofs.lemmas.List.Elements.{All-push}
-use Rattle.std.proofs.lemmas.Bool.{cases_lt}
+use Rattle.std.proofs.Common.{◌≡◌, ◌≢◌, ℕ, suc, ◌+◌, ◌<◌, ◌≤◌, List, [], ◌∷◌, ◌++◌, length, All, refl, sym, ap, ◌∙◌, arith, set, append_assoc, length-append}
+use Rattle.std.proofs.lemmas.List.{append-nil, length-map, length-set, length_push, map-append, get_or_at}
+use Rattle.std.proofs.lemmas.{List.Elements.{All-push}, Bool.Decides.{nat_tests}}
 use Rattle.kalah_run.specs.{OutcomeState, WorkerOutcome, QueueView, Accounts, outcomes_in}
 use Rattle.kalah_run.specs.declared.queue.protocol.QueueView.TheVariants.{Getting, Putting, Reclaimed}
 use Rattle.kalah_run.specs.Queue.Protocol.{FitsPairs, FitsPut, IsLawful, IsWholeAndInOrder, opening_view, after_handing_out, pass_handed_out}
@@ -12,7 +10,7 @@ use Rattle.kalah_jobs.specs.Collecting.Shares.{sent_by_worker}
 use mathlib.Core.Option.{some, some-injective, some-ne-none}
 use lib.ListN.{get_elem?}
 use Rattle.atomic_table.proofs.Lists.{at_longer, set_else, set_here}
-use Rattle.kalah_run.proofs.ViewLemmas.{each_more, each_set, in_views, was_there}
+use Rattle.kalah_run.proofs.{ViewLemmas.{each_more, each_set, in_views, was_there}, PassLemmas.{next_goes_last}}
 use Rattle.crossbeam_queue.specs.Fifo.{Pushes, Pops, Forks, Held, Merges, Learns}
 
 -- ==== What the pairs determine of one worker, and of all
@@ -22,48 +20,24 @@ sent_by_worker-append : (w : ℕ) (xs ys : List WorkerOutcome) → sent_by_worke
 sent_by_worker-append w [] ys = refl
 sent_by_worker-append w (t ∷ ts) ys = grind (arith, sent_by_worker-append w ts ys)
 
--- a first pair of another worker is left out
-other_pair : (w : ℕ) (t : WorkerOutcome) (l : List OutcomeState) → t.0 ≢ w → (if t.0 == w then t.1 ∷ l else l) ≡ l
-other_pair w t l apart = ap (λ (b : Bool). if b then t.1 ∷ l else l) (ne_eqb t.0 w apart)
-
 -- one pair more, of the worker itself
-own_pair_goes_last : (w : ℕ) (xs : List WorkerOutcome) (t : WorkerOutcome) → t.0 ≡ w
-    → sent_by_worker w (xs ++ t ∷ []) ≡ sent_by_worker w xs ++ t.1 ∷ []
-own_pair_goes_last w xs t own = sent_by_worker-append w xs (t ∷ [])
-    ∙ ap (λ (b : Bool). sent_by_worker w xs ++ (if b then t.1 ∷ [] else [])) (eq-eqb t.0 w own)
+own_pair_goes_last : (w : ℕ) (xs : List WorkerOutcome) (x : OutcomeState)
+    → sent_by_worker w (xs ++ (w, x) ∷ []) ≡ sent_by_worker w xs ++ x ∷ []
+own_pair_goes_last w xs x = grind (arith, nat_tests, sent_by_worker-append w xs ((w, x) ∷ []))
 
 -- one pair more, of another worker
 other_pair_changes_nothing : (w : ℕ) (xs : List WorkerOutcome) (t : WorkerOutcome) → t.0 ≢ w
     → sent_by_worker w (xs ++ t ∷ []) ≡ sent_by_worker w xs
-other_pair_changes_nothing w xs t apart =
-    sent_by_worker-append w xs (t ∷ [])
-    ∙ (ap (sent_by_worker w xs ++◌) (other_pair w t [] apart) ∙ append-nil (sent_by_worker w xs))
+other_pair_changes_nothing w xs t apart = grind (arith, nat_tests, sent_by_worker-append w xs (t ∷ []), append-nil (sent_by_worker w xs))
 
 -- there is nothing of a worker who isn't among them
-no_pair_beyond_workers : (workers w : ℕ) (xs : List WorkerOutcome) → All (λ (t : WorkerOutcome). t.0 < workers) xs → workers ≤ w
+no_pair_beyond_workers : (workers w : ℕ) (xs : List WorkerOutcome) → All (λ t. t.0 < workers) xs → workers ≤ w
     → sent_by_worker w xs ≡ []
 no_pair_beyond_workers workers w [] below le = refl
 no_pair_beyond_workers workers w (t ∷ ts) below le =
     let first : t.0 < workers = below 0 t (omega arith) in
-    other_pair w t (sent_by_worker w ts) (λ e. omega (arith, first))
-    ∙ no_pair_beyond_workers workers w ts (λ k d lt. below (suc k) d (omega arith)) le
-
--- of pairs that are all of workers, the one that comes next is
-next_below : (workers : ℕ) (got : List WorkerOutcome) (t : WorkerOutcome) (rest : List WorkerOutcome)
-    → All (λ (u : WorkerOutcome). u.0 < workers) (got ++ t ∷ rest) → t.0 < workers
-next_below workers got t rest below =
-    rw (get_or_at got t rest t _ refl) at (below (length got) t (omega (arith, length-append got (t ∷ rest))))
-
--- if the lists are those that are given, in order, so they are with the next one at the end
-next_goes_last : (ended : List (List OutcomeState)) (s : List OutcomeState) (given : ℕ → List OutcomeState)
-    → ((k : ℕ) → k < length ended → given k ≡ slice_index_or ended k []) → given (length ended) ≡ s → (k : ℕ)
-    → k < length (ended ++ s ∷ []) → given k ≡ slice_index_or (ended ++ s ∷ []) k []
-next_goes_last ended s given same next k lt = elim (cases_lt k (length ended)) [
-  | inl old ↦ same k old ∙ sym (get_or_append_left ended (s ∷ []) [] k old)
-  | inr new ↦
-      let k_is : k ≡ length ended = omega (arith, length-append ended (s ∷ [])) in
-      ap given k_is ∙ next ∙ sym (get_or_push ended s [] k (sym k_is))
-]
+    let others = no_pair_beyond_workers workers w ts (λ k d lt. below (suc k) d (omega arith)) le in
+    grind (arith, nat_tests)
 
 -- ==== What the pass to get knows
 
@@ -88,20 +62,13 @@ opening_is_lawful = record {
   fits = each_more (FitsPairs [] []) [] opening_view (λ j u e. absurd (some-ne-none u (sym e))) refl;
 }
 
--- the oldest outcome is that of the first pair inside
-record IsOldest (x : OutcomeState) (items : List OutcomeState) (inside : List WorkerOutcome) : Type 0 where
-  worker : ℕ
-  rest : List WorkerOutcome
-  first : inside ≡ (worker, x) ∷ rest
-  held : outcomes_in rest ≡ items
-
--- it is there if the pairs inside have the outcomes that the queue holds
+-- the oldest outcome is that of the first pair inside, if the pairs inside have the outcomes that the queue holds
 oldest : (x : OutcomeState) (items : List OutcomeState) (inside : List WorkerOutcome) → outcomes_in inside ≡ x ∷ items
-    → IsOldest x items inside
+    → record { worker : ℕ; rest : List WorkerOutcome; first : inside ≡ (worker, x) ∷ rest; held : outcomes_in rest ≡ items }
 oldest x items [] held = absurd (cc)
 oldest x items (p ∷ ps) held =
     let outcome_is : p.1 ≡ x = cc in
-    record { worker = p.0; rest = ps; first = ap (λ (o : OutcomeState). (p.0, o) ∷ ps) outcome_is; held = cc }
+    record { worker = p.0; rest = ps; first = ap (λ o. (p.0, o) ∷ ps) outcome_is; held = cc }
 
 module _ {items : List OutcomeState} {views : List QueueView} (kept : IsLawful items views) where
   open kept use {workers, got, ended, inside}
@@ -142,12 +109,12 @@ module _ {items : List OutcomeState} {views : List QueueView} (kept : IsLawful i
       → get_elem? views place ≡ some (Putting number sent) → IsLawful (items ++ x ∷ []) (set views place (Putting number (sent ++ x ∷ [])))
   lawful_with_put place x {number} {sent} has_view =
       let pair : WorkerOutcome = (number, x) in
-      let after : QueueView = Putting number (sent ++ x ∷ []) in
+      let after = Putting number (sent ++ x ∷ []) in
       let fit : FitsPut pairs ended place number sent = kept.fits place _ has_view in
       let fits : FitsPut (pairs ++ pair ∷ []) ended place number (sent ++ x ∷ []) = record {
         place_is = fit.place_is;
         running = fit.running;
-        all_sent = ap (◌++ (x ∷ [])) fit.all_sent ∙ sym (own_pair_goes_last number pairs pair refl);
+        all_sent = ap (◌++ (x ∷ [])) fit.all_sent ∙ sym (own_pair_goes_last number pairs x);
       } in
       record {
         workers = workers;
@@ -156,9 +123,9 @@ module _ {items : List OutcomeState} {views : List QueueView} (kept : IsLawful i
         inside = inside ++ pair ∷ [];
         getter = set_else views place 0 after (λ q. omega (arith, fit.place_is)) ∙ kept.getter;
         count = length-set views place after ∙ kept.count;
-        held = map-append (λ (p : WorkerOutcome). p.1) inside (pair ∷ []) ∙ ap (◌++ (x ∷ [])) kept.held;
+        held = map-append (λ p. p.1) inside (pair ∷ []) ∙ ap (◌++ (x ∷ [])) kept.held;
         accounts = rw (← append_assoc got inside (pair ∷ [])) (record {
-          below = All-push (λ (t : WorkerOutcome). t.0 < workers) pairs pair kept.accounts.below
+          below = All-push (λ t. t.0 < workers) pairs pair kept.accounts.below
               (omega (arith, fit.place_is, kept.count, in_views views place has_view));
           whole = λ w low. other_pair_changes_nothing w pairs pair (λ q. omega (arith, fit.running)) ∙ kept.accounts.whole w low;
         });
@@ -170,8 +137,8 @@ module _ {items : List OutcomeState} {views : List QueueView} (kept : IsLawful i
   lawful_with_pass : ended ≡ []
       → IsLawful items (set views 0 (Getting (workers + 1) got ended) ++ Putting workers [] ∷ [])
   lawful_with_pass none =
-      let getter : QueueView = Getting (workers + 1) got ended in
-      let after : List QueueView = set views 0 getter in
+      let getter = Getting (workers + 1) got ended in
+      let after = set views 0 getter in
       let same : length after ≡ length views = length-set views 0 getter in
       let fresh : FitsPut pairs ended (length after) workers [] = record {
         place_is = same ∙ kept.count;
@@ -195,8 +162,8 @@ module _ {items : List OutcomeState} {views : List QueueView} (kept : IsLawful i
   lawful_with_end : (other : ℕ) {sent : List OutcomeState} → other ≢ 0 → get_elem? views other ≡ some (Putting (length ended) sent)
       → IsLawful items (set (set views 0 (Getting workers got (ended ++ sent ∷ []))) other Reclaimed)
   lawful_with_end other {sent} apart has_view =
-      let getter : QueueView = Getting workers got (ended ++ sent ∷ []) in
-      let between : List QueueView = set views 0 getter in
+      let getter = Getting workers got (ended ++ sent ∷ []) in
+      let between = set views 0 getter in
       let fit : FitsPut pairs ended other (length ended) sent = kept.fits other _ has_view in
       let F : ℕ → QueueView → Type 0 = FitsPairs pairs (ended ++ sent ∷ []) in
       let others = each_set (λ j u. j ≢ other → F j u) views 0 getter (λ _. refl)
@@ -211,7 +178,7 @@ module _ {items : List OutcomeState} {views : List QueueView} (kept : IsLawful i
         held = kept.held;
         accounts = record {
           below = kept.accounts.below;
-          whole = next_goes_last ended sent (λ w. sent_by_worker w pairs) kept.accounts.whole (sym fit.all_sent);
+          whole = next_goes_last ended sent [] (λ w. sent_by_worker w pairs) kept.accounts.whole (sym fit.all_sent);
         };
         fits = each_set F between other Reclaimed tt (λ j u elsewhere has_view. others j u has_view elsewhere);
       }
@@ -222,11 +189,13 @@ lawful_with_get : {x : OutcomeState} {items : List OutcomeState} {views : List Q
 lawful_with_get {x} {items} {views} kept =
     let first = oldest x items kept.inside kept.held in
     let pair : WorkerOutcome = (first.worker, x) in
-    let getter : QueueView = Getting kept.workers (kept.got ++ pair ∷ []) kept.ended in
+    let below = rw first.first at kept.accounts.below in
+    let getter = Getting kept.workers (kept.got ++ pair ∷ []) kept.ended in
     let same : (kept.got ++ pair ∷ []) ++ first.rest ≡ pairs kept =
     append_assoc kept.got (pair ∷ []) first.rest ∙ ap (kept.got ++◌) (sym first.first) in (
       first.worker,
-      next_below kept.workers kept.got pair first.rest (rw first.first at kept.accounts.below),
+      rw (get_or_at kept.got pair first.rest pair _ refl) at
+          (below (length kept.got) pair (omega (arith, length-append kept.got (pair ∷ first.rest)))),
       record {
         workers = kept.workers;
         got = kept.got ++ pair ∷ [];
@@ -242,64 +211,57 @@ lawful_with_get {x} {items} {views} kept =
 
 -- ---- the same, as a queue asks for it
 
--- a pass to put puts
 pub put_is_lawful : (n place : ℕ) {v : QueueView} (x : OutcomeState) {number : ℕ} {sent : List OutcomeState} → v ≡ Putting number sent
     → Pushes IsLawful n place v x (λ w. w ≡ after_put v x)
 put_is_lawful n place x putting = rw putting (λ items views room kept has_view. (_, lawful_with_put kept place x has_view, refl))
 
--- the pass to get gets
-pub get_is_lawful : (place : ℕ) {v : QueueView} {workers : ℕ} {got : List WorkerOutcome} {ended : List (List OutcomeState)}
-    → v ≡ Getting workers got ended → Pops IsLawful place v (IsGot v)
-get_is_lawful place getting = λ x items views kept has_view.
-    let getter = getter_is_first kept place getting has_view in
-    let now = lawful_with_get kept in
-    rw (getter.0, getter.1) (_, now.2, (now.0, now.1, refl))
+-- the pass to get
+module _ {v : QueueView} {workers : ℕ} {got : List WorkerOutcome} {ended : List (List OutcomeState)} (getting : v ≡ Getting workers got ended)
+  where
+    pub get_is_lawful : (place : ℕ) → Pops IsLawful place v (IsGot v)
+    get_is_lawful place = λ x items views kept has_view.
+        let getter = getter_is_first kept place getting has_view in
+        let now = lawful_with_get kept in
+        rw (getter.0, getter.1) (_, now.2, (now.0, now.1, refl))
 
--- the pass to get hands out a pass to put
-pub hand_out_is_lawful : (place : ℕ) {v : QueueView} {workers : ℕ} {got : List WorkerOutcome} → v ≡ Getting workers got []
-    → Forks IsLawful place v (after_handing_out v) (pass_handed_out v)
-hand_out_is_lawful place getting = λ items views kept has_view.
-    let getter = getter_is_first kept place getting has_view in
-    rw (getter.0, getter.1) (lawful_with_pass kept (ap ended_in (sym getter.1 ∙ getting)))
+    -- it hands out a pass to put, before it has reclaimed any
+    pub hand_out_is_lawful : ended ≡ [] → (place : ℕ) → Forks IsLawful place v (after_handing_out v) (pass_handed_out v)
+    hand_out_is_lawful none place = λ items views kept has_view.
+        let getter = getter_is_first kept place getting has_view in
+        rw (getter.0, getter.1) (lawful_with_pass kept (ap ended_in (sym getter.1 ∙ getting) ∙ none))
 
--- the pass to get reclaims a pass to put
-pub reclaim_is_lawful : (place other : ℕ) {v u : QueueView} {workers : ℕ} {got : List WorkerOutcome} {ended : List (List OutcomeState)}
-    {number : ℕ} {sent : List OutcomeState} → v ≡ Getting workers got ended → u ≡ Putting number sent → number ≡ length ended
-    → Merges IsLawful place v other u (after_reclaiming v u) Reclaimed
-reclaim_is_lawful place other {sent = sent} getting putting next = λ items views kept has_view apart has_other.
-    let getter = getter_is_first kept place getting has_view in
-    let number = next ∙ ap (λ v. length (ended_in v)) (sym getting ∙ getter.1) in
-    let here = was_there views place other _ apart has_other ∙ ap some (putting ∙ ap (λ n. Putting n sent) number) in
-    rw (getter.0, getter.1, putting) (lawful_with_end kept other (λ q. apart (q ∙ sym getter.0)) here)
+    -- it reclaims a pass to put
+    pub reclaim_is_lawful : (place other : ℕ) {u : QueueView} {number : ℕ} {sent : List OutcomeState} → u ≡ Putting number sent
+        → number ≡ length ended → Merges IsLawful place v other u (after_reclaiming v u) Reclaimed
+    reclaim_is_lawful place other {sent = sent} putting next = λ items views kept has_view apart has_other.
+        let getter = getter_is_first kept place getting has_view in
+        let number = next ∙ ap (λ v. length (ended_in v)) (sym getting ∙ getter.1) in
+        let here = was_there views place other _ apart has_other ∙ ap some (putting ∙ ap (λ n. Putting n sent) number) in
+        rw (getter.0, getter.1, putting) (lawful_with_end kept other (λ q. apart (q ∙ sym getter.0)) here)
 
--- what the pass to get learns of the queue
-pub getter_knows_sent : (place : ℕ) {v : QueueView} {workers : ℕ} {got : List WorkerOutcome} {ended : List (List OutcomeState)}
-    → v ≡ Getting workers got ended → Learns IsLawful place v (KnowsSent v)
-getter_knows_sent place getting = λ items views kept has_view. rw (getter_is_first kept place getting has_view).1 (kept.inside, kept.held, kept.accounts)
+    -- what it learns of the queue
+    pub getter_knows_sent : (place : ℕ) → Learns IsLawful place v (KnowsSent v)
+    getter_knows_sent place = λ items views kept has_view. rw (getter_is_first kept place getting has_view).1 (kept.inside, kept.held, kept.accounts)
 
--- ==== What the pass to get knows once it has reclaimed the others
+    -- what it knows once it has reclaimed one pass more
+    pub reclaimed : {u after : QueueView} {number : ℕ} {sent : List OutcomeState} → u ≡ Putting number sent → after ≡ after_reclaiming v u
+        → after ≡ Getting workers got (ended ++ sent ∷ [])
+    reclaimed putting after_is = after_is ∙ λ i. after_reclaiming (getting i) (putting i)
 
--- the pass to get has reclaimed one pass more
-pub reclaimed : {v u after : QueueView} {workers : ℕ} {got : List WorkerOutcome} {ended : List (List OutcomeState)} {number : ℕ}
-    {sent : List OutcomeState} → v ≡ Getting workers got ended → u ≡ Putting number sent → after ≡ after_reclaiming v u
-    → after ≡ Getting workers got (ended ++ sent ∷ [])
-reclaimed getting putting after_is = after_is ∙ λ i. after_reclaiming (getting i) (putting i)
-
--- once it has reclaimed all, it learns what all workers have sent
-pub whole_when_reclaimed : {v : QueueView} {workers left : ℕ} {got : List WorkerOutcome} {ended all : List (List OutcomeState)}
-    (rest : List (List OutcomeState)) → v ≡ Getting workers got ended → length rest ≡ 0 → ended ++ rest ≡ all → Held left (KnowsSent v)
-    → (inside : List WorkerOutcome) × (length inside ≡ left) × Accounts workers all (got ++ inside)
-whole_when_reclaimed (x ∷ xs) getting none whole held = absurd (omega arith)
-whole_when_reclaimed {workers = workers} {got = got} {ended} [] getting none whole held =
-    let told : KnowsSent (Getting workers got ended) held.0 = rw getting at held.2 in (
-      told.0,
-      sym (length-map told.0 (λ (p : WorkerOutcome). p.1)) ∙ ap length told.1 ∙ held.1,
-      rw (sym (append-nil ended) ∙ whole) at told.2,
-    )
+    -- once it has reclaimed all, it learns what all workers have sent
+    pub whole_when_reclaimed : {left : ℕ} {all : List (List OutcomeState)} (rest : List (List OutcomeState)) → length rest ≡ 0
+        → ended ++ rest ≡ all → Held left (KnowsSent v)
+        → (inside : List WorkerOutcome) × (length inside ≡ left) × Accounts workers all (got ++ inside)
+    whole_when_reclaimed (x ∷ xs) none whole held = absurd (omega arith)
+    whole_when_reclaimed [] none whole held =
+        let told : KnowsSent (Getting workers got ended) held.0 = rw getting at held.2 in (
+          told.0,
+          sym (length-map told.0 (λ p. p.1)) ∙ ap length told.1 ∙ held.1,
+          rw (sym (append-nil ended) ∙ whole) at told.2,
+        )
 
 -- ==== The protocol of the results queue, in plain words
 
--- a lawful queue is whole and in order
 pub queue_is_lawful : (items : List OutcomeState) (views : List QueueView) → IsLawful items views → IsWholeAndInOrder items views
 queue_is_lawful items views kept = record {
   workers = kept.workers;

@@ -124,13 +124,13 @@ none_or_all {rows = rows} deals = elim (cases_lt 0 (spent_in rows)) [
 pub deals_to_others : {total drawn : ℕ} (passes : List PassState) (p : PassState) → p.row.numbers ≡ []
     → DealsEachOnce total drawn (drawn_rows (passes ++ p ∷ [])) → DealsEachOnce total drawn (drawn_rows passes)
 deals_to_others {total} {drawn} passes p empty deals =
-    let rows : List DrawnRow = drawn_rows passes in
-    let all : DealsEachOnce total drawn (rows ++ p.row ∷ []) = rw (map-append (λ (p : PassState). p.row) passes (p ∷ [])) at deals in
+    let rows = drawn_rows passes in
+    let all : DealsEachOnce total drawn (rows ++ p.row ∷ []) = rw (map-append (λ p. p.row) passes (p ∷ [])) at deals in
     deals_alike all
-    (omega (arith, sum_by_push (λ (x : DrawnRow). length x.numbers) rows p.row, ap length empty))
+    (omega (arith, sum_by_push (λ x. length x.numbers) rows p.row, ap length empty))
     (λ x. omega (arith, sum_by_push (times_in_row x) rows p.row, ap (λ (l : List ℕ). count_by (λ y. y == x) l) empty))
     (All-pop Ascends (rows ++ p.row ∷ []) rows (Some p.row) refl all.ascending).0
-    (λ some. all.spent (omega (arith, some, sum_by_push (λ (x : DrawnRow). if x.spent then 1 else 0) rows p.row)))
+    (λ some. all.spent (omega (arith, some, sum_by_push (λ x. if x.spent then 1 else 0) rows p.row)))
 
 -- ==== What all numbers of some rows have
 

@@ -4,7 +4,7 @@ use Rattle.std.proofs.Common.{zero, map, reverse, All, Some, fold, slice_get}
 use Rattle.std.proofs.lemmas.List.{map-append, reverse-append, get_or-map, length-append, length-map, Sums.{fold-append, sum_by-cons}}
 use Rattle.std.proofs.lemmas.List.Elements.{All-cons, All-map}
 use Rattle.std.proofs.lemmas.{Option.{get_or_from_slice_get}, Bool.{lt-ltb}}
-use Rattle.kalah_run.specs.{OutcomeState, WorkerOutcome, DrawnRow, drawn_jobs, passes_of, puts_of, AreAtWork, HasRun, HaveRun, PutPassState}
+use Rattle.kalah_run.specs.{OutcomeState, WorkerOutcome, drawn_jobs, passes_of, puts_of, AreAtWork, HaveRun, PutPassState}
 use Rattle.kalah_run.specs.{ArePassesFrom, sent_by, Accounts, outcomes_in, PassState, IsPassAt, AreNewPasses, new_pass, drawn_rows, HasOwnTable}
 use Rattle.kalah_run.specs.{HaveOwnTables, drawn_numbers, DealsEachOnce, spent_in}
 use Rattle.kalah_run.specs.declared.batch.{worker.Worker.{Worker}, shared_work.SharedWork.{SharedWork}}
@@ -51,13 +51,12 @@ pub one_given : {X : Type 0} (f : Worker → X) (workers : List Worker) {workers
     (rest : List X) {x : X} → workers' ≡ workers ++ w ∷ [] → f w ≡ x → waiting ≡ rest ++ x ∷ []
     → waiting ++ map f (reverse workers) ≡ all → rest ++ map f (reverse workers') ≡ all
 one_given {X} f workers {workers'} {w} rest {x} workers_are x_is took so_far =
-    ap (λ (l : List Worker). rest ++ map f l) (last_first workers workers' w workers_are)
-    ∙ ap (λ (y : X). rest ++ y ∷ map f (reverse workers)) x_is
+    ap (λ l. rest ++ map f l) (last_first workers workers' w workers_are)
+    ∙ ap (λ y. rest ++ y ∷ map f (reverse workers)) x_is
     ∙ sym (append_assoc rest (x ∷ []) (map f (reverse workers)))
     ∙ ap (◌++ map f (reverse workers)) (sym took)
     ∙ so_far
 
--- one worker more has its table
 pub tables_more : (workers : List Worker) {workers' : List Worker} (w : Worker) (entries : ℕ) → workers' ≡ workers ++ w ∷ []
     → HasOwnTable entries w → HaveOwnTables entries (reverse workers) → HaveOwnTables entries (reverse workers')
 tables_more workers {workers'} w entries workers_are own so_far =
@@ -73,7 +72,7 @@ one_taken f workers w given_is so_far = given_is ∙ ap (◌++ (f w ∷ [])) so_
 -- there are as many workers as passes
 pub as_many_workers : (workers : List Worker) {passes : List PassState} {count : ℕ} → passes_of workers ≡ passes
     → length passes ≡ count → length workers ≡ count
-as_many_workers workers are many = sym (length-map workers (λ (w : Worker). w.draw_pass)) ∙ ap length are ∙ many
+as_many_workers workers are many = sym (length-map workers (λ w. w.draw_pass)) ∙ ap length are ∙ many
 
 -- workers with new passes, that have sent nothing, are at work
 pub new_at_work : {G : Type 0} {knows : G → ℕ → Bool} (shared : SharedWork G) (workers : List Worker) (count : ℕ)
@@ -85,17 +84,17 @@ new_at_work {knows = knows} shared workers count passes_are puts_are all_new all
     let from = rw (← puts_are) at all_from in
     let unsent = rw (← puts_are) at all_unsent in
     let w = get_or workers k d in
-    let low : k < count = omega (arith, new.0, length-map workers (λ (x : Worker). x.draw_pass)) in
-    let put_low : k < length (puts_of workers) = omega (arith, length-map workers (λ (x : Worker). x.put_pass)) in
-    let pass : w.draw_pass ≡ new_pass shared.desk k = sym (get_or-map (λ (x : Worker). x.draw_pass) workers k d w.draw_pass within)
+    let low : k < count = omega (arith, new.0, length-map workers (λ x. x.draw_pass)) in
+    let put_low : k < length (puts_of workers) = omega (arith, length-map workers (λ x. x.put_pass)) in
+    let pass : w.draw_pass ≡ new_pass shared.desk k = sym (get_or-map (λ x. x.draw_pass) workers k d w.draw_pass within)
     ∙ new.1 k w.draw_pass low in
-    let put : get_or (puts_of workers) k w.put_pass ≡ w.put_pass = get_or-map (λ (x : Worker). x.put_pass) workers k d w.put_pass within in
+    let put : get_or (puts_of workers) k w.put_pass ≡ w.put_pass = get_or-map (λ x. x.put_pass) workers k d w.put_pass within in
     record {
-      draws = (ap (λ (p : PassState). p.desk) pass, ap (λ (p : PassState). p.total) pass);
+      draws = (ap (λ p. p.desk) pass, ap (λ p. p.total) pass);
       known = rw pass (λ j e low. absurd (omega arith));
-      sends = ap (λ (p : PutPassState). p.queue) (sym put) ∙ all_are_of shared.queue.id 0 (puts_of workers) from k w.put_pass put_low;
-      sent = ap (λ (p : PutPassState). p.sent) (sym put) ∙ unsent k w.put_pass put_low
-          ∙ sym (ap (λ (p : PassState). drawn_jobs shared.jobs.now p.row.numbers) pass);
+      sends = ap (λ p. p.queue) (sym put) ∙ all_are_of shared.queue.id 0 (puts_of workers) from k w.put_pass put_low;
+      sent = ap (λ p. p.sent) (sym put) ∙ unsent k w.put_pass put_low
+          ∙ sym (ap (λ p. drawn_jobs shared.jobs.now p.row.numbers) pass);
     }
 
 -- after the run each pass to put is still of the queue, and in its place
@@ -113,23 +112,6 @@ puts_after {knows = knows} shared (b ∷ bs) (a ∷ others) n run from =
     } in
     (first.at_work.sends, first.number ∙ from.1, puts_after shared bs others (suc n) rest from.2)
 
--- the workers have run if each element of their list has
-pub have_run : {G : Type 0} {knows : G → ℕ → Bool} {shared : SharedWork G} {before list after : List Worker} → list ≡ before
-    → length after ≡ length list → ((k : ℕ) (w : Worker) → k < length list → HasRun knows shared (get_or list k w) (get_or after k w))
-    → HaveRun knows shared before after
-have_run list_is as_many each = rw (← list_is) (record { as_many = as_many; each = each })
-
--- each worker that has run
-module _ {G : Type 0} {knows : G → ℕ → Bool} {shared : SharedWork G} {before after : List Worker}
-    (run : HaveRun knows shared before after) where
-  -- it is at work
-  run_at_work : AreAtWork knows shared after
-  run_at_work = λ k d within. (run.each k d (omega (arith, run.as_many))).at_work
-
-  -- its pass is of the desk
-  pub run_passes : All (IsPassAt shared.desk) (passes_of after)
-  run_passes = All-map (IsPassAt shared.desk) (λ (w : Worker). w.draw_pass) after (λ k d within. (run_at_work k d within).draws)
-
 -- what worker w sent are the outcomes of its row
 sent_in_order : {G : Type 0} {knows : G → ℕ → Bool} (shared : SharedWork G) (workers : List Worker) (w : ℕ)
     → AreAtWork knows shared workers → w < length workers →
@@ -139,67 +121,68 @@ sent_in_order shared (x ∷ xs) zero at_work within = (at_work 0 x (omega arith)
 sent_in_order shared (x ∷ xs) (suc w) at_work within = sent_in_order shared xs w (λ k d low. at_work (suc k) d (omega arith))
     (omega arith)
 
--- what the workers have sent was shared out by the rows of their passes
-shares_of_workers : {G : Type 0} {knows : G → ℕ → Bool} {shared : SharedWork G} {before after : List Worker} {count drawn : ℕ}
-    (run : HaveRun knows shared before after) (pairs : List WorkerOutcome) → count ≡ length before
-    → DealsEachOnce (job_count shared.jobs.now) drawn (drawn_rows (passes_of after)) → Accounts count (sent_by (puts_of after)) pairs
-    → AreShared drawn (job shared.jobs.now) (drawn_numbers (drawn_rows (passes_of after))) pairs
-shares_of_workers {shared = shared} {before} {after} run pairs count_is deals accounts =
-    let row_count = length-drawn_numbers (passes_of after) ∙ length-map after (λ (w : Worker). w.draw_pass) in
-    let sent_count = length-map (puts_of after) (λ (p : PutPassState). p.sent) ∙ length-map after (λ (w : Worker). w.put_pass) in
-    record {
-      each_once = deals.each_once;
-      workers = rw (count_is ∙ sym run.as_many ∙ sym row_count) at accounts.below;
-      whole = λ w within.
-          let low : w < length after = omega arith in
-          accounts.whole w (omega arith) ∙ sent_in_order shared after w (run_at_work run) low;
-    }
-
--- Each number below the count of those drawn stands in the rows once, the pairs that were got and those left inside account for what was
--- sent, and at least as many were got as there are jobs: so each job was got once.
-pub each_job_got : {G : Type 0} {knows : G → ℕ → Bool} {shared : SharedWork G} {before after : List Worker} {count drawn left : ℕ}
-    {puts : List PutPassState} {jobs : JobsState} (run : HaveRun knows shared before after) (got : List WorkerOutcome)
-    → count ≡ length before → DealsEachOnce (job_count shared.jobs.now) drawn (drawn_rows (passes_of after))
-    → puts ≡ puts_of after → (rest : List WorkerOutcome) × (length rest ≡ left) × Accounts count (sent_by puts) (got ++ rest)
-    → jobs ≡ shared.jobs.now → job_count jobs ≤ length got → IsPermutationOfJobs jobs (outcomes_in got)
-each_job_got {shared = shared} {after = after} {drawn = drawn} run got count_is deals puts_are inside jobs_are all =
-    let own : JobsState = shared.jobs.now in
-    let rows = drawn_numbers (drawn_rows (passes_of after)) in
-    let rest = inside.0 in
-    let are_shared = shares_of_workers run (got ++ rest) count_is deals (rw puts_are at inside.2) in
-    let parts = as_many_as_numbers are_shared in
-    let split = length-append got rest in
-    let jobs_many = ap job_count jobs_are in
-    let total = length-job_list own in
-    let whole : drawn ≡ length (job_list own) = omega (arith, deals.within) in
-    let many : length got ≡ length (job_list own) = omega (arith, deals.within) in
-    rw jobs_are (gets_each_job_once own rows got rest (rw whole at are_shared) many)
-
--- ==== The gate knows each job, if all are drawn
-
 -- some pass is spent, if each is
-some_spent : (workers : List Worker) → 0 < length workers → All (λ (w : Worker). w.draw_pass.row.spent ≡ true) workers
+some_spent : (workers : List Worker) → 0 < length workers → All (λ w. w.draw_pass.row.spent ≡ true) workers
     → 0 < spent_in (drawn_rows (passes_of workers))
 some_spent [] some spent = absurd (omega arith)
 some_spent (w ∷ ws) some spent =
     omega (
       arith,
       ap one_if (spent 0 w (omega arith)),
-      sum_by-cons (λ (r : DrawnRow). one_if r.spent) w.draw_pass.row (drawn_rows (passes_of ws)),
+      sum_by-cons (λ r. one_if r.spent) w.draw_pass.row (drawn_rows (passes_of ws)),
     )
 
--- Each worker has run: all jobs were drawn, and if they were drawn by workers the gate knows them.
-pub each_job_known : {G : Type 0} {knows : G → ℕ → Bool} {shared : SharedWork G} {before after : List Worker} {drawn : ℕ}
-    → HaveRun knows shared before after → 0 < length before
-    → DealsEachOnce (job_count shared.jobs.now) drawn (drawn_rows (passes_of after)) → (job : ℕ) → job < job_count shared.jobs.now
-    → knows shared.gate.now job ≡ true
-each_job_known {knows = knows} {shared} {before} {after} {drawn} run some deals job low =
-    let Known : ℕ → Type 0 = λ n. knows shared.gate.now n ≡ true in
-    let spent = λ (k : ℕ) (w : Worker) (within : k < length after).
-    (run.each k w (omega (arith, run.as_many))).spent in
-    let all : drawn ≡ job_count shared.jobs.now = deals.spent (some_spent after (omega (arith, run.as_many)) spent) in
-    let once = rw (lt-ltb job drawn (omega arith)) at (deals.each_once job) in
-    All-at_dealt Known job (drawn_rows (passes_of after)) (omega arith)
-    (All-map (λ (r : DrawnRow). All Known r.numbers) (λ (p : PassState). p.row) (passes_of after)
-    (All-map (λ (p : PassState). All Known p.row.numbers) (λ (w : Worker). w.draw_pass) after
-    (λ k w within. (run_at_work run k w within).known)))
+-- once each worker has run
+module _ {G : Type 0} {knows : G → ℕ → Bool} {shared : SharedWork G} {before after : List Worker}
+    (run : HaveRun knows shared before after) where
+  run_at_work : AreAtWork knows shared after
+  run_at_work = λ k d within. (run.each k d (omega (arith, run.as_many))).at_work
+
+  -- its pass is of the desk
+  pub run_passes : All (IsPassAt shared.desk) (passes_of after)
+  run_passes = All-map (IsPassAt shared.desk) (λ w. w.draw_pass) after (λ k d within. (run_at_work k d within).draws)
+
+  -- what the workers have sent was shared out by the rows of their passes
+  shares_of_workers : {count drawn : ℕ} (pairs : List WorkerOutcome) → count ≡ length before
+      → DealsEachOnce (job_count shared.jobs.now) drawn (drawn_rows (passes_of after)) → Accounts count (sent_by (puts_of after)) pairs
+      → AreShared drawn (job shared.jobs.now) (drawn_numbers (drawn_rows (passes_of after))) pairs
+  shares_of_workers pairs count_is deals accounts =
+      let row_count = length-drawn_numbers (passes_of after) ∙ length-map after (λ (w : Worker). w.draw_pass) in
+      let sent_count = length-map (puts_of after) (λ (p : PutPassState). p.sent) ∙ length-map after (λ (w : Worker). w.put_pass) in
+      record {
+        each_once = deals.each_once;
+        workers = rw (count_is ∙ sym run.as_many ∙ sym row_count) at accounts.below;
+        whole = λ w within. accounts.whole w (omega arith) ∙ sent_in_order shared after w run_at_work (omega arith);
+      }
+
+  -- Each number below the count of those drawn stands in the rows once, the pairs that were got and those left inside account for what
+  -- was sent, and at least as many were got as there are jobs: so each job was got once.
+  pub each_job_got : {count drawn left : ℕ} {puts : List PutPassState} {jobs : JobsState} (got : List WorkerOutcome)
+      → count ≡ length before → DealsEachOnce (job_count shared.jobs.now) drawn (drawn_rows (passes_of after))
+      → puts ≡ puts_of after → (rest : List WorkerOutcome) × (length rest ≡ left) × Accounts count (sent_by puts) (got ++ rest)
+      → jobs ≡ shared.jobs.now → job_count jobs ≤ length got → IsPermutationOfJobs jobs (outcomes_in got)
+  each_job_got {drawn = drawn} got count_is deals puts_are inside jobs_are all =
+      let own = shared.jobs.now in
+      let rows = drawn_numbers (drawn_rows (passes_of after)) in
+      let rest = inside.0 in
+      let are_shared = shares_of_workers (got ++ rest) count_is deals (rw puts_are at inside.2) in
+      let parts = as_many_as_numbers are_shared in
+      let split = length-append got rest in
+      let jobs_many = ap job_count jobs_are in
+      let total = length-job_list own in
+      let whole : drawn ≡ length (job_list own) = omega (arith, deals.within) in
+      let many : length got ≡ length (job_list own) = omega (arith, deals.within) in
+      rw jobs_are (gets_each_job_once own rows got rest (rw whole at are_shared) many)
+
+  -- all jobs were drawn, and if they were drawn by workers the gate knows them
+  pub each_job_known : {drawn : ℕ} → 0 < length before
+      → DealsEachOnce (job_count shared.jobs.now) drawn (drawn_rows (passes_of after)) → (job : ℕ) → job < job_count shared.jobs.now
+      → knows shared.gate.now job ≡ true
+  each_job_known {drawn} some deals job low =
+      let Known : ℕ → Type 0 = λ n. knows shared.gate.now n ≡ true in
+      let spent = λ (k : ℕ) (w : Worker) (within : k < length after). (run.each k w (omega (arith, run.as_many))).spent in
+      let all : drawn ≡ job_count shared.jobs.now = deals.spent (some_spent after (omega (arith, run.as_many)) spent) in
+      let once = rw (lt-ltb job drawn (omega arith)) at (deals.each_once job) in
+      All-at_dealt Known job (drawn_rows (passes_of after)) (omega arith)
+      (All-map (λ r. All Known r.numbers) (λ p. p.row) (passes_of after)
+      (All-map (λ p. All Known p.row.numbers) (λ w. w.draw_pass) after (λ k w within. (run_at_work k w within).known)))

@@ -9,7 +9,7 @@ closed : (c : goal.After-drop-rest) → c.loop-pass.closer.me.0 ≡ Closing (dra
 closed c =
     let none : c.loop-pass.rest.items ≡ [] = search rules in
     c.loop-pass.invariant.closing
-    ∙ ap Closing (ap (λ (l : List PassState). drawn_rows l ++ rows_in c.loop-pass.closer.me.0) (sym none) ∙ c.loop-pass.invariant.rows)
+    ∙ ap Closing (ap (λ l. drawn_rows l ++ rows_in c.loop-pass.closer.me.0) (sym none) ∙ c.loop-pass.invariant.rows)
 
 -- the last word, and the rows
 last : (c : goal.After-drop-rest) → Determines c.word-word.result c.self.inside.table.shared.key.total (drawn_rows c.args.passes.items)
@@ -30,12 +30,12 @@ loop-pass-preserved c =
     let row : rows_in c.join_seat.new.seat.me.0 ≡ c.in-Some.pass.row ∷ past = search rules in
     record {
       table = search rules;
-      passes = (All-pop (λ (p : PassState). p.desk ≡ c.self.inside.table.shared.table_id) _ left (Some c.in-Some.pass) parts
+      passes = (All-pop (λ p. p.desk ≡ c.self.inside.table.shared.table_id) _ left (Some c.in-Some.pass) parts
           c.loop-pass.invariant.passes).0;
       closing = search rules;
       rows = ap (drawn_rows left ++◌) row
           ∙ sym (append_assoc (drawn_rows left) (c.in-Some.pass.row ∷ []) past)
-          ∙ ap (◌++ past) (sym (map-append (λ (p : PassState). p.row) left (c.in-Some.pass ∷ []))
+          ∙ ap (◌++ past) (sym (map-append (λ p. p.row) left (c.in-Some.pass ∷ []))
           ∙ ap drawn_rows (sym parts))
           ∙ c.loop-pass.invariant.rows;
     }

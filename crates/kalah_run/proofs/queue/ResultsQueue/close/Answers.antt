@@ -3,7 +3,7 @@
 use Rattle.std.proofs.{lemmas.List.{length-map, length_push}, Common.{◌≡◌, ◌∷◌, ◌++◌, [], ◌∙◌, ap, append_assoc, arith, length, subst, sym}}
 use Rattle.std.specs.Vec.Iter.{into_iter_deque, into_iter_items}
 use Rattle.crossbeam_queue.specs.Passes.{view}
-use Rattle.kalah_run.specs.{ArePassesFrom, PutPassState, sent_by, declared.queue.protocol.QueueView.TheVariants.{Getting, Putting}}
+use Rattle.kalah_run.specs.{ArePassesFrom, sent_by, declared.queue.protocol.QueueView.TheVariants.{Getting, Putting}}
 use Rattle.kalah_run.proofs.QueueLemmas.{reclaim_is_lawful, getter_knows_sent, reclaimed, whole_when_reclaimed, ended_in}
 use Rattle.kalah_run.proofs.queue.ResultsQueue.close.Goals as goal
 
@@ -11,17 +11,17 @@ pub absorb-requires-clause-rule : goal.absorb-requires-clause-rule
 absorb-requires-clause-rule g c =
     let step : into_iter_items c.loop-put.put-iterator ≡ c.in-Some.put ∷ into_iter_items c.next.new.self = c.in-Some.ensures.steps.0 in
     let passes = rw step at c.loop-put.invariant.passes in
-    reclaim_is_lawful _ _ c.loop-put.invariant.getting c.put.invariant.1 (ap (λ p. p.number) c.put.view_is ∙ passes.1)
+    reclaim_is_lawful c.loop-put.invariant.getting _ _ c.put.invariant.1 (ap (λ p. p.number) c.put.view_is ∙ passes.1)
 
 pub len_as-left-requires-clause-rule : goal.len_as-left-requires-clause-rule
-len_as-left-requires-clause-rule g c = getter_knows_sent _ c.loop-put.invariant.getting
+len_as-left-requires-clause-rule g c = getter_knows_sent c.loop-put.invariant.getting _
 
 pub returns-clause-whole : goal.returns-clause-whole
 returns-clause-whole g c =
     let so_far = c.loop-put.invariant in
     let rest = c.loop-put.put-iterator in
-    whole_when_reclaimed (sent_by (into_iter_items rest)) so_far.getting
-    (omega (arith, c.in-None.ensures.steps.0, (into_iter_deque rest).ok.0, length-map (into_iter_items rest) (λ (p : PutPassState). p.sent)))
+    whole_when_reclaimed so_far.getting (sent_by (into_iter_items rest))
+    (omega (arith, c.in-None.ensures.steps.0, (into_iter_deque rest).ok.0, length-map (into_iter_items rest) (λ p. p.sent)))
     so_far.ended c.len_as-left.ensures.rule.1
 
 pub loop-put-preserved : goal.loop-put-preserved

@@ -1,5 +1,5 @@
 -- Each round hands out a pass to put, with the next number, and the rule of the shared word holds with one pass more.
-use Rattle.std.proofs.{lemmas.{Grind.{common_steps}, List.Elements.{All-push}}, Common.{rules, arith, ◌≡◌, ◌+◌, [], ap, ◌∙◌}}
+use Rattle.std.proofs.{lemmas.{Grind.{common_steps}, List.Elements.{All-push}}, Common.{rules, arith, ◌≡◌, ◌+◌, [], ap, refl, ◌∙◌}}
 use Rattle.kalah_run.specs.Queue.Protocol.{sent_in, after_handing_out, pass_handed_out}
 use Rattle.kalah_run.proofs.{QueueLemmas.{opening_is_lawful, hand_out_is_lawful}, PassLemmas.{put_pass_more}}
 use Rattle.kalah_run.proofs.queue.ResultsQueue.open.Goals as goal
@@ -8,7 +8,7 @@ pub ruled-requires-clause-rule : goal.ruled-requires-clause-rule
 ruled-requires-clause-rule c = opening_is_lawful
 
 pub another-theirs-requires-clause-rule : goal.another-theirs-requires-clause-rule
-another-theirs-requires-clause-rule c = hand_out_is_lawful _ c.loop.invariant.made
+another-theirs-requires-clause-rule c = hand_out_is_lawful c.loop.invariant.made refl _
 
 pub loop-preserved : goal.loop-preserved
 loop-preserved c =

@@ -2,22 +2,21 @@
 -- of all jobs, or the rest is left after a failed write; in either case the collection says what the sink was given.
 use Rattle.std.proofs.Common.{⊎_elim, inl, inr, ap, arith, length, sym, ◌∙◌}
 use Rattle.kalah_jobs.specs.{Collecting.AnyOrder.{IsPermutationOfJobs}, Files.Jobs.{job_count}}
-use Rattle.kalah_run.specs.{DealsEachOnce, drawn_rows, DrawnRow, GetPassState, PassState, outcomes_in, passes_of, HasDrawnNothing}
+use Rattle.kalah_run.specs.{DealsEachOnce, drawn_rows, GetPassState, PassState, outcomes_in, passes_of, HasDrawnNothing}
 use Rattle.kalah_run.proofs.{WorkerLemmas.{each_job_known, each_job_got}, BatchLemmas.{passes_are_back, own_back, puts_back, unless_left, workers_counted}, RowLemmas.{deals_to_others}, batch.open_batch.OpenBatch.run.Given.{Over}}
 use Rattle.kalah_run.proofs.batch.open_batch.OpenBatch.run.Goals as goal
 
 pub new-receiver-requires-clause-draws : goal.new-receiver-requires-clause-draws
-new-receiver-requires-clause-draws g c =
-    let pass = c.requires.rest_pass in (ap (λ (p : PassState). p.desk) pass, ap (λ (p : PassState). p.total) pass)
+new-receiver-requires-clause-draws g c = let pass = c.requires.rest_pass in (ap (λ p. p.desk) pass, ap (λ p. p.total) pass)
 
 pub new-receiver-requires-clause-undrawn : goal.new-receiver-requires-clause-undrawn
-new-receiver-requires-clause-undrawn g c = ap (λ (p : PassState). p.row) c.requires.rest_pass
+new-receiver-requires-clause-undrawn g c = ap (λ p. p.row) c.requires.rest_pass
 
 pub new-receiver-requires-clause-gets : goal.new-receiver-requires-clause-gets
-new-receiver-requires-clause-gets g c = ap (λ (p : GetPassState). p.queue) c.requires.get_pass
+new-receiver-requires-clause-gets g c = ap (λ p. p.queue) c.requires.get_pass
 
 pub new-receiver-requires-clause-ungot : goal.new-receiver-requires-clause-ungot
-new-receiver-requires-clause-ungot g c = ap (λ (p : GetPassState). p.got) c.requires.get_pass
+new-receiver-requires-clause-ungot g c = ap (λ p. p.got) c.requires.get_pass
 
 pub collect_from_crew-requires-after_bounds : goal.collect_from_crew-requires-after_bounds
 collect_from_crew-requires-after_bounds g c κs within =
@@ -55,7 +54,7 @@ close-requires-2-clause-puts g c =
 -- each job was drawn once, by a worker if the calling thread has drawn nothing
 dealt : (g : Over) (c : goal.After-close-2 g) → HasDrawnNothing c.in-Some.caller.rest_pass
     → DealsEachOnce (job_count c.args.self.shared.jobs.now) c.close.result.drawn (drawn_rows (passes_of c.in-Some.workers.items))
-dealt g c nothing = deals_to_others (passes_of c.in-Some.workers.items) c.in-Some.caller.rest_pass (ap (λ (r : DrawnRow). r.numbers) nothing)
+dealt g c nothing = deals_to_others (passes_of c.in-Some.workers.items) c.in-Some.caller.rest_pass (ap (λ r. r.numbers) nothing)
     (rw c.args.self.shared.each_job at (rw c.take_back.ensures.passes at c.close.ensures.deals))
 
 -- each job's outcome was got once, if the calling thread has drawn nothing
@@ -66,7 +65,7 @@ each_got g c nothing =
     let workers = workers_counted collected.workers c.new-receiver.ensures.passes c.requires.get_pass in
     each_job_got c.in-Some.ensures.0 c.in-Some.caller.get_pass.got workers (dealt g c nothing)
     c.take_back.ensures.puts c.close-2.ensures.whole c.requires.jobs
-    (omega (arith, collected.got_or_left, ap (λ (r : DrawnRow). length r.numbers) nothing))
+    (omega (arith, collected.got_or_left, ap (λ r. length r.numbers) nothing))
 
 pub returns-clause-given : goal.returns-clause-given
 returns-clause-given g c =

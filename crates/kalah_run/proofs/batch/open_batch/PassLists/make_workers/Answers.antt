@@ -1,6 +1,6 @@
 -- A new worker takes the last pass of each list, so the passes left and then those of the workers, the newest first, stay all passes.
 use Rattle.std.proofs.{lemmas.Grind.{common_steps}, Common.{arith, ◌∙◌}}
-use Rattle.kalah_run.{specs.declared.batch.worker.Worker.{Worker}, proofs.WorkerLemmas.{one_given, tables_more}}
+use Rattle.kalah_run.proofs.WorkerLemmas.{one_given, tables_more}
 use Rattle.kalah_run.proofs.batch.open_batch.PassLists.make_workers.Goals as goal
 
 pub loop-preserved : goal.loop-preserved
@@ -15,8 +15,8 @@ loop-preserved c =
     record {
       left = omega (arith, draws_len);
       as_many = omega (arith, draws_len, puts_len);
-      passes = one_given (λ (w : Worker). w.draw_pass) _ _ is of.passes.0 draws so_far.passes;
-      puts = one_given (λ (w : Worker). w.put_pass) _ _ is of.passes.1 puts so_far.puts;
+      passes = one_given (λ w. w.draw_pass) _ _ is of.passes.0 draws so_far.passes;
+      puts = one_given (λ w. w.put_pass) _ _ is of.passes.1 puts so_far.puts;
       tables = tables_more _ _ _ is (rw of.solver c.in_ok-solver.ensures) so_far.tables;
       passes_room = c.pop.ensures.capacity ∙ so_far.passes_room;
       puts_room = c.pop-in-loop.ensures.capacity ∙ so_far.puts_room;
