@@ -93,11 +93,7 @@ module _ {S : Type 0} {plan : DeskPlan} {s : State S DeskView} (seat : ℕ) {tot
     few = kept.few;
     drawn = drawn;
     word = ap (◌∷ []) counts;
-    passes = omega (
-      arith,
-      sum_set passes_in s.views seat (Drawing total number row) has_view,
-      kept.passes,
-    );
+    passes = omega (arith, sum_set passes_in s.views seat (Drawing total number row) has_view, kept.passes);
     deals = deals;
     totals = each_set (λ k view. HasTotal plan.total view) s.views seat (Drawing total number row)
         (kept.totals seat _ has_view) (λ j u apart has_view. kept.totals j u has_view);
@@ -238,12 +234,8 @@ pub rest_counted : (before : DrawnRow) (n total : ℕ) {after : DrawnRow} {drawn
     → after ≡ drawn_row (before.numbers ++ range_with_len n (total - n)) before.spent → drawn ≡ total - n
     → length after.numbers ≡ length before.numbers + drawn
 rest_counted before n total after_is drawn_is =
-    omega (
-      arith,
-      ap (λ r. length r.numbers) after_is,
-      length-append before.numbers (range_with_len n (total - n)),
-      length-range_with_len n (total - n),
-    )
+    let more = range_with_len n (total - n) in
+    omega (arith, ap (λ r. length r.numbers) after_is, length-append before.numbers more, length-range_with_len n (total - n))
 
 -- ==== The seats that come and go keep the protocol: the first one, that of a pass handed out, the closing one, that of a pass that ends
 

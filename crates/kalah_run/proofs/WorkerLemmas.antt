@@ -126,11 +126,8 @@ some_spent : (workers : List Worker) → 0 < length workers → All (λ w. w.dra
     → 0 < spent_in (drawn_rows (passes_of workers))
 some_spent [] some spent = absurd (omega arith)
 some_spent (w ∷ ws) some spent =
-    omega (
-      arith,
-      ap one_if (spent 0 w (omega arith)),
-      sum_by-cons (λ r. one_if r.spent) w.draw_pass.row (drawn_rows (passes_of ws)),
-    )
+    let first = ap one_if (spent 0 w (omega arith)) in
+    omega (arith, sum_by-cons (λ r. one_if r.spent) w.draw_pass.row (drawn_rows (passes_of ws)))
 
 -- once each worker has run
 module _ {G : Type 0} {knows : G → ℕ → Bool} {shared : SharedWork G} {before after : List Worker}

@@ -6,9 +6,12 @@ mod in_parallel;
 mod out_of_memory;
 mod writers;
 
-use crate::{BatchRequest, Gate, OnFailedWrite, OpenGate, RunFault, Tally, solve_batch};
-use kalah_jobs::{FileText, Question, Sink, Stream};
+use crate::{
+    BatchRequest, Gate, OnFailedWrite, OpenGate, RunFault, Tally, Watch, answer_batch, solve_batch,
+};
+use kalah_jobs::{FileText, Question, Stream};
 use std::alloc::{AllocError, Global};
+use std::io::Write;
 use std::process::Abort;
 use std::sync::Wait;
 use std::sync::atomic::AtomicU32;
@@ -59,7 +62,8 @@ fn four_files(alloc: Global) -> Result<Vec<FileText>, AllocError> {
 }
 
 // One file of `count` lines `1/0 1/0`.
-fn same_lines(rt: &impl Abort, alloc: Global, count: u32) -> [FileText; 1] {
+fn same_lines<R: Abort + AllocGlobal>(rt: &R, count: u32) -> [FileText; 1] {
+    let alloc = rt.alloc();
     let text = "1/0 1/0\n".repeat(alloc, count as usize);
     let text = text.expect(rt, "no memory");
     [file_of(alloc, "n", text.as_str()).expect(rt, "no memory")]
@@ -129,72 +133,108 @@ fn request_of(
     }
 }
 
-// Returns the tally of the batch and what it writes, or nothing if it fails.
-fn answers<R: Threads + Wait + Sync, G: Gate>(
+// Answers the request into this writer. Returns the result and the writer.
+fn answer_into<R: AllocGlobal + Threads + Wait + Sync, G: Gate, V: Watch, W: Write>(
     rt: &R,
-    alloc: Global,
-    files: &[FileText],
-    workers: u32,
-    table: u32,
+    request: &BatchRequest<'_>,
     gate: &G,
-) -> Option<(Tally, Vec<u8>)>
-    requires workers { IsWorkerCount workers }
-    requires table { IsTableSize table }
-{
-    let mut out = Stream::new(Vec::<u8>::new(alloc));
-    let tally = solve_batch(rt, alloc, files, workers, table, gate, &mut out).ok()?;
-    Some((tally, out.into_inner()))
+    watch: &mut V,
+    writer: W,
+) -> (Result<Tally, RunFault>, W) {
+    let mut out = Stream::new(writer);
+    let tally = answer_batch(rt, rt.alloc(), request, gate, watch, &mut out);
+    (tally, out.into_inner())
 }
 
-// The batch wrote this text, and this is its tally.
-fn assert_wrote(rt: &impl Abort, answers: Option<(Tally, Vec<u8>)>, text: &str, tally: Tally) {
-    let (of_batch, bytes) = answers.expect(rt, "the batch has failed");
-    let written = str::from_utf8(bytes.as_slice()).unwrap_or("no text");
-    assert!(rt;
-        of_batch == tally && written == text,
-        "{of_batch:?} {written}"
+// Solves the files into this writer. Returns the result and the writer.
+fn solve_into<R: AllocGlobal + Threads + Wait + Sync, G: Gate, W: Write>(
+    rt: &R,
+    files: &[FileText],
+    workers: u32,
+    table_entries: u32,
+    gate: &G,
+    writer: W,
+) -> (Result<Tally, RunFault>, W)
+    requires workers { IsWorkerCount workers }
+    requires table { IsTableSize table_entries }
+{
+    let mut out = Stream::new(writer);
+    let tally = solve_batch(
+        rt,
+        rt.alloc(),
+        files,
+        workers,
+        table_entries,
+        gate,
+        &mut out,
     );
+    (tally, out.into_inner())
+}
+
+// Solving the files writes this text, and this is the tally.
+fn assert_solved<R: Abort + AllocGlobal + Threads + Wait + Sync, G: Gate>(
+    rt: &R,
+    files: &[FileText],
+    workers: u32,
+    table_entries: u32,
+    gate: &G,
+    text: &str,
+    tally: Tally,
+)
+    requires workers { IsWorkerCount workers }
+    requires table { IsTableSize table_entries }
+{
+    let bytes = Vec::<u8>::new(rt.alloc());
+    let (came, bytes) = solve_into(rt, files, workers, table_entries, gate, bytes);
+    let written = str::from_utf8(bytes.as_slice()).unwrap_or("no text");
+    assert!(rt; came == Ok(tally) && written == text, "{came:?} {written}");
 }
 
 // The batch of `lines` lines `1/0 1/0` writes their answers.
-fn assert_lines_answered<R: Abort + Threads + Wait + Sync, G: Gate>(
+fn assert_lines_answered<R: Abort + AllocGlobal + Threads + Wait + Sync, G: Gate>(
     rt: &R,
-    alloc: Global,
     lines: u32,
     workers: u32,
     gate: &G,
 )
     requires { IsWorkerCount workers }
 {
-    let files = same_lines(rt, alloc, lines);
+    let alloc = rt.alloc();
+    let files = same_lines(rt, lines);
     let mut text = String::new(alloc);
     for line in 0..lines {
         let answer = format!(in alloc; "n:{} 0 house 1\n", line as u64 + 1);
         let answer = answer.expect(rt, "no memory");
         text.push_str(answer.as_str()).expect(rt, "no memory");
     }
-    let got = answers(rt, alloc, &files, workers, 16, gate);
-    assert_wrote(rt, got, text.as_str(), tally_of(lines));
+    let tally = tally_of(lines);
+    assert_solved(rt, &files, workers, 16, gate, text.as_str(), tally);
 }
 
 #[test]
 fn lines_are_answered_in_order_by_any_number_of_workers(rt: HostRuntime) {
-    let alloc = rt.alloc();
-    let files = four_files(alloc).expect(&rt, "no memory");
+    let files = four_files(rt.alloc()).expect(&rt, "no memory");
+    let files = files.as_slice();
     for workers in [1, 2, 64] {
-        for table in [1, 65_536] {
-            let got = answers(&rt, alloc, files.as_slice(), workers, table, &OpenGate);
-            assert_wrote(&rt, got, ANSWERS, SEVEN_LINES);
+        for entries in [1, 65_536] {
+            assert_solved(
+                &rt,
+                files,
+                workers,
+                entries,
+                &OpenGate,
+                ANSWERS,
+                SEVEN_LINES,
+            );
         }
     }
-    let got = answers(&rt, alloc, &[], 3, 1, &OpenGate);
-    assert_wrote(&rt, got, "", tally_of(0));
+    assert_solved(&rt, &[], 3, 1, &OpenGate, "", tally_of(0));
 }
 
 // More lines than there are workers, and more than the queue has places.
 #[test]
 fn many_lines_are_answered(rt: HostRuntime) {
     for lines in [200, 1000] {
-        assert_lines_answered(&rt, rt.alloc(), lines, 64, &OpenGate);
+        assert_lines_answered(&rt, lines, 64, &OpenGate);
     }
 }

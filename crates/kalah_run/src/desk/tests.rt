@@ -3,6 +3,7 @@ ghost use Rattle.std.specs.Prelude.{◌≡◌, length, All};
 ghost use Rattle.kalah_run.specs.Desk.States.{IsPassAt};
 
 use super::*;
+use crate::tests::{assert_each, counters};
 use std::sync::atomic::AtomicU32;
 use std::sync::atomic::Ordering::SeqCst;
 use std::thread;
@@ -47,16 +48,11 @@ fn draw_in_threads<R: Threads + Sync>(
 
 #[test]
 fn threads_draw_each_number_once(rt: HostRuntime) {
-    let mut counts = Vec::new(rt.alloc());
-    for _ in 0..1000 {
-        counts.push(AtomicU32::new(0)).expect(&rt, "no memory");
-    }
+    let counts = counters(&rt, 1000);
     let opened = Desk::open(rt.alloc(), 1000, 64);
     let (desk, mut passes) = opened.expect(&rt, "no memory");
     draw_in_threads(&rt, &desk, &mut passes, counts.as_slice());
     let closed = desk.close(passes);
     assert!(rt; (closed.drawn(), closed.spent()) == (1000, true));
-    for (number, count) in counts.as_slice().iter().enumerate() {
-        assert!(rt; count.load(SeqCst) == 1, "{number}");
-    }
+    assert_each(&rt, counts.as_slice(), 1);
 }

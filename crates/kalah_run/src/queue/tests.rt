@@ -3,7 +3,7 @@
 ghost use Rattle.std.specs.Prelude.{◌≡◌, ◌≤◌, ◌*◌, All};
 ghost use Rattle.kalah_run.specs.Limits.{IsQueueCapacity, IsWorkerCount};
 
-use crate::tests::out_of_memory::two_outcomes;
+use crate::tests::two_outcomes;
 use crate::{GetPass, PutPass, ResultsQueue};
 use kalah_jobs::Outcome;
 use std::alloc::{AllocError, Global};

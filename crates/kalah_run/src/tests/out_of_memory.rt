@@ -1,24 +1,16 @@
 //! Tests in which each request for memory is refused once. With ample memory these tests just pass. `tests/refuse` runs each of them
 //! repeatedly, with the first request refused, then the second, and so on: the test must pass each time, until the request that
 //! is refused is one of its own marks.
-ghost use Rattle.std.specs.Prelude.{◌≡◌, ◌<◌, ◌≤◌, All, length, vec_len};
+ghost use Rattle.std.specs.Prelude.{◌≡◌, ◌<◌, ◌≤◌, All, IfOk, length, vec_len};
 ghost use Rattle.kalah_run.specs.{Desk.States.{IsPassAt}, Queue.States.{ArePassesFrom}};
 
+use crate::tests::{mark, two_outcomes};
 use crate::{Desk, Gate, GetPass, OpenGate, Pass, PutPass, ResultsQueue};
-use kalah_jobs::{Entry, LineFault, Outcome};
-use kalah_solve::{Solver, Table};
-use std::alloc::{AllocError, Global};
+use kalah_jobs::Outcome;
+use std::alloc::Global;
 use std::process::Abort;
 use std::sync::Wait;
 use std::test::Fail;
-
-/// Makes a request that is refused only if none before it was.
-pub(crate) fn mark(alloc: Global, place: &'static str) -> Result<(), Fail> {
-    match Box::new(alloc, 0u8) {
-        Ok(_) => Ok(()),
-        Err(_) => Err(Fail::new(place)),
-    }
-}
 
 // What one of the passes draws.
 fn draw_by(desk: &Desk, passes: &mut Vec<Pass>, k: usize) -> Option<u32>
@@ -58,12 +50,22 @@ fn drawn_first(opened: (Desk, Vec<Pass>)) -> (Option<u32>, (u32, bool))
     (drawn, (closed.drawn(), closed.spent()))
 }
 
+// Opens a desk, after which no memory is needed.
+fn open_desk(alloc: Global, total: u32, passes: u32) -> Result<(Desk, Vec<Pass>), Fail>
+    requires total { total ≤ 1000000 }
+    requires passes { passes ≤ 65 }
+    ensures many { IfOk result (λ r. (r.0.passes ≡ passes) × (length r.1.items ≡ passes)) }
+    ensures own { IfOk result (λ r. All (IsPassAt r.0) r.1.items) }
+{
+    let opened = Desk::open(alloc, total, passes).or_else(|_| Desk::open(alloc, total, passes))?;
+    mark(alloc, "before the calls without memory")?;
+    Ok(opened)
+}
+
 #[test]
 fn a_desk(rt: HostRuntime) -> Result<(), Fail> {
     let alloc = rt.alloc();
-    let opened = Desk::open(alloc, 3, 2).or_else(|_| Desk::open(alloc, 3, 2))?;
-    mark(alloc, "before the calls without memory")?;
-    let (drawn, closed) = drawn_in_turn(opened);
+    let (drawn, closed) = drawn_in_turn(open_desk(alloc, 3, 2)?);
     assert!(rt; drawn == [Some(0), Some(1), Some(2), None, None]);
     assert!(rt; closed == (3, true));
     mark(alloc, "after all")
@@ -78,9 +80,7 @@ fn draw_first<R: Abort>(
 ) -> Result<(), Fail>
     requires { total ≤ 1000000 }
 {
-    let opened = Desk::open(alloc, total, 1).or_else(|_| Desk::open(alloc, total, 1))?;
-    mark(alloc, "before the calls without memory")?;
-    assert!(rt; drawn_first(opened) == drawn);
+    assert!(rt; drawn_first(open_desk(alloc, total, 1)?) == drawn);
     mark(alloc, "after all")
 }
 
@@ -92,15 +92,6 @@ fn a_desk_with_no_number(rt: HostRuntime) -> Result<(), Fail> {
 #[test]
 fn a_desk_closed_before_all_is_drawn(rt: HostRuntime) -> Result<(), Fail> {
     draw_first(&rt, rt.alloc(), 5, (Some(0), (1, false)))
-}
-
-/// The outcomes of two lines of two files.
-pub(crate) fn two_outcomes(alloc: Global) -> Result<(Outcome, Outcome), AllocError> {
-    let table = Table::new(alloc, 16).or_else(|_| Table::new(alloc, 16))?;
-    let mut solver = Solver::new(table);
-    let first = Outcome::of(0, 3, Entry::Bad(LineFault::Long), &mut solver);
-    let second = Outcome::of(1, 4, Entry::Bad(LineFault::Seeds), &mut solver);
-    Ok((first, second))
 }
 
 // Whether of two outcomes that two workers put the first is got, and then the other one, if it is to be got, and how many are left.
@@ -121,25 +112,24 @@ fn got_of<R: Wait>(
     (first, second, queue.close(rt, puts, pass).left())
 }
 
-// Two outcomes are sent through a queue that is opened for them. One or both are got.
-fn send_two<R: Abort + Wait>(rt: &R, alloc: Global, gets_both: bool) -> Result<(), Fail> {
+// The same of two outcomes and a queue that is opened for them.
+fn got_of_two<R: Wait>(rt: &R, alloc: Global, gets_both: bool) -> Result<(bool, bool, u32), Fail> {
     let sent = two_outcomes(alloc)?;
     let opened = ResultsQueue::open(alloc, 2, 2).or_else(|_| ResultsQueue::open(alloc, 2, 2))?;
     mark(alloc, "before the calls without memory")?;
-    let (first, second, left) = got_of(rt, opened, &sent, gets_both);
-    assert!(rt; first && second == gets_both);
-    assert!(rt; left == if gets_both { 0 } else { 1 });
-    mark(alloc, "after all")
+    Ok(got_of(rt, opened, &sent, gets_both))
 }
 
 #[test]
 fn a_results_queue_with_one_left(rt: HostRuntime) -> Result<(), Fail> {
-    send_two(&rt, rt.alloc(), false)
+    assert!(rt; got_of_two(&rt, rt.alloc(), false)? == (true, false, 1));
+    mark(rt.alloc(), "after all")
 }
 
 #[test]
 fn a_results_queue_with_none_left(rt: HostRuntime) -> Result<(), Fail> {
-    send_two(&rt, rt.alloc(), true)
+    assert!(rt; got_of_two(&rt, rt.alloc(), true)? == (true, true, 0));
+    mark(rt.alloc(), "after all")
 }
 
 #[test]

@@ -1,8 +1,8 @@
 //! What the gate observes: each job once, before and after it, and that an outcome is sent only once there is room for it.
-use super::{Counting, assert_lines_answered, comes_to, same_lines};
+use super::{Counting, assert_lines_answered, comes_to, same_lines, solve_into};
+use crate::Gate;
 use crate::limits::QUEUE_CAPACITY;
-use crate::{Gate, solve_batch};
-use kalah_jobs::Stream;
+use crate::tests::{assert_each, counters};
 use std::io::Write;
 use std::sync::atomic::Ordering::SeqCst;
 use std::sync::atomic::{AtomicBool, AtomicU32};
@@ -43,17 +43,13 @@ const MANY: u32 = 65_600;
 
 #[test]
 fn the_gate_observes_each_job_once(rt: HostRuntime) {
-    let mut calls = Vec::new(rt.alloc());
-    for _ in 0..MANY {
-        calls.push(AtomicU32::new(0)).expect(&rt, "no memory");
-    }
-    let out_of_turn = AtomicBool::new(false);
-    let gate = EachJob { calls, out_of_turn };
-    assert_lines_answered(&rt, rt.alloc(), MANY, 2, &gate);
+    let gate = EachJob {
+        calls: counters(&rt, MANY),
+        out_of_turn: AtomicBool::new(false),
+    };
+    assert_lines_answered(&rt, MANY, 2, &gate);
     assert!(rt; !gate.out_of_turn.load(SeqCst));
-    for (job, calls) in gate.calls.iter().enumerate() {
-        assert!(rt; calls.load(SeqCst) == 2, "job {job}");
-    }
+    assert_each(&rt, gate.calls.as_slice(), 2);
 }
 
 /// The number of outcomes that are got, or wait in the queue, while the first line is written.
@@ -94,13 +90,13 @@ impl Write for Slow<'_> {
 
 #[test]
 fn an_outcome_without_room_is_not_sent(rt: HostRuntime) {
-    let files = same_lines(&rt, rt.alloc(), 300);
+    let files = same_lines(&rt, 300);
     let gate = Counting::new();
-    let mut out = Stream::new(Slow {
+    let slow = Slow {
         gate: &gate,
         sent: None,
-    });
-    assert!(rt; solve_batch(&rt, rt.alloc(), &files, 1, 16, &gate, &mut out).is_ok());
-    assert!(rt; out.into_inner().sent == Some(ROOM));
+    };
+    let (tally, slow) = solve_into(&rt, &files, 1, 16, &gate, slow);
+    assert!(rt; tally.is_ok() && slow.sent == Some(ROOM));
     assert!(rt; gate.sent.load(SeqCst) == 300);
 }

@@ -1,12 +1,11 @@
 //! Batches in which workers wait for one another: jobs are solved in parallel, drawn by any free worker, and written
 //! while later ones are under way. The watch learns of an answer once it is written.
 use super::{
-    ONE_AND_TWO, answers, assert_lines_answered, assert_wrote, comes_to, file_of, request_of,
+    ONE_AND_TWO, answer_into, assert_lines_answered, assert_solved, comes_to, file_of, request_of,
     tally_of,
 };
-use crate::{Gate, OnFailedWrite, Watch, answer_batch};
-use kalah_jobs::{FileText, Question, Stream};
-use std::alloc::Global;
+use crate::{Gate, OnFailedWrite, Watch};
+use kalah_jobs::{FileText, Question};
 use std::io;
 use std::io::Write;
 use std::process::Abort;
@@ -69,8 +68,8 @@ impl Gate for OneLast {
 const TWO: &str = "n:1 0 house 1\nn:2 -2 house 1\n";
 
 // A file of two lines whose answers are `TWO`.
-fn two_lines(rt: &impl Abort, alloc: Global) -> [FileText; 1] {
-    [file_of(alloc, "n", ONE_AND_TWO).expect(rt, "no memory")]
+fn two_lines<R: Abort + AllocGlobal>(rt: &R) -> [FileText; 1] {
+    [file_of(rt.alloc(), "n", ONE_AND_TWO).expect(rt, "no memory")]
 }
 
 #[test]
@@ -80,9 +79,8 @@ fn a_later_job_is_done_while_an_earlier_one_waits(rt: HostRuntime) {
         others: 1,
         done: Events::none(),
     };
-    let files = two_lines(&rt, rt.alloc());
-    let got = answers(&rt, rt.alloc(), &files, 2, 16, &gate);
-    assert_wrote(&rt, got, TWO, tally_of(2));
+    let files = two_lines(&rt);
+    assert_solved(&rt, &files, 2, 16, &gate, TWO, tally_of(2));
     assert!(rt; gate.done.nobody_gave_up());
 }
 
@@ -94,7 +92,7 @@ fn a_free_worker_takes_whatever_is_left(rt: HostRuntime) {
             others: 3,
             done: Events::none(),
         };
-        assert_lines_answered(&rt, rt.alloc(), 4, 2, &gate);
+        assert_lines_answered(&rt, 4, 2, &gate);
         assert!(rt; gate.done.nobody_gave_up(), "{last}");
     }
 }
@@ -120,7 +118,7 @@ fn as_many_jobs_are_under_way_at_once_as_there_are_workers(rt: HostRuntime) {
     for jobs in [2, 64] {
         let drawn = Events::none();
         let gate = AllDrawn { jobs, drawn };
-        assert_lines_answered(&rt, rt.alloc(), jobs, jobs, &gate);
+        assert_lines_answered(&rt, jobs, jobs, &gate);
         assert!(rt; gate.drawn.nobody_gave_up(), "{jobs}");
     }
 }
@@ -181,20 +179,20 @@ impl Watch for Following<'_> {
 
 #[test]
 fn a_line_is_written_before_the_next_job_begins(rt: HostRuntime) {
-    let files = two_lines(&rt, rt.alloc());
+    let files = two_lines(&rt);
     let written = Events::none();
     let gate = WrittenFirst { written: &written };
-    let mut out = Stream::new(Telling {
+    let telling = Telling {
         bytes: Vec::new(rt.alloc()),
         written: &written,
-    });
+    };
     let request = request_of(Question::BestMove, &files, 1, OnFailedWrite::Solve);
     let mut watch = Following {
         written: &written,
         accepted: 0,
     };
-    let answered = answer_batch(&rt, rt.alloc(), &request, &gate, &mut watch, &mut out);
-    assert!(rt; answered == Ok(tally_of(2)) && watch.accepted == 2);
-    assert!(rt; out.into_inner().bytes.as_slice() == TWO.as_bytes());
+    let (tally, out) = answer_into(&rt, &request, &gate, &mut watch, telling);
+    assert!(rt; tally == Ok(tally_of(2)) && watch.accepted == 2);
+    assert!(rt; out.bytes.as_slice() == TWO.as_bytes());
     assert!(rt; written.nobody_gave_up());
 }

@@ -1,9 +1,8 @@
 //! A batch with each request for memory refused once.
-use super::{ANSWERS, SEVEN_LINES, four_files};
-use crate::tests::out_of_memory::mark;
-use crate::{OpenGate, RunFault, Tally, solve_batch};
-use kalah_jobs::{FileText, Stream};
-use std::alloc::Global;
+use super::{ANSWERS, SEVEN_LINES, four_files, solve_into};
+use crate::tests::mark;
+use crate::{OpenGate, RunFault, Tally};
+use kalah_jobs::FileText;
 use std::process::Abort;
 use std::sync::Wait;
 use std::test::Fail;
@@ -11,16 +10,15 @@ use std::thread::Threads;
 
 // The result of the batch of the files, with a writer that has all its room. If memory is refused, nothing was written,
 // otherwise all answers.
-fn answer_of<R: Abort + Threads + Wait + Sync>(
+fn answer_of<R: Abort + AllocGlobal + Threads + Wait + Sync>(
     rt: &R,
-    alloc: Global,
     files: &[FileText],
 ) -> Result<Result<Tally, RunFault>, Fail> {
+    let alloc = rt.alloc();
     let room = Vec::<u8>::with_capacity(alloc, 1024).or_else(|_| Vec::with_capacity(alloc, 1024))?;
-    let mut out = Stream::new(room);
-    let answer = solve_batch(rt, alloc, files, 2, 16, &OpenGate, &mut out);
+    let (answer, written) = solve_into(rt, files, 2, 16, &OpenGate, room);
     let text = if answer.is_ok() { ANSWERS } else { "" };
-    assert!(rt; out.into_inner().as_slice() == text.as_bytes());
+    assert!(rt; written.as_slice() == text.as_bytes());
     Ok(answer)
 }
 
@@ -29,10 +27,10 @@ fn answer_of<R: Abort + Threads + Wait + Sync>(
 fn a_batch_of_two_workers(rt: HostRuntime) -> Result<(), Fail> {
     let alloc = rt.alloc();
     let files = four_files(alloc).or_else(|_| four_files(alloc))?;
-    let mut answer = answer_of(&rt, alloc, files.as_slice())?;
+    let mut answer = answer_of(&rt, files.as_slice())?;
     if let Err(fault) = answer {
         assert!(rt; fault == RunFault::OutOfMemory || fault == RunFault::NoWorker);
-        answer = answer_of(&rt, alloc, files.as_slice())?;
+        answer = answer_of(&rt, files.as_slice())?;
     }
     assert!(rt; answer? == SEVEN_LINES);
     mark(alloc, "after all")

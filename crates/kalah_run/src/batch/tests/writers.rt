@@ -2,13 +2,16 @@
 ghost use Rattle.kalah_run.specs.Limits.{IsWorkerCount};
 
 use super::gate::{ROOM, wait_for_begun};
-use super::{ANSWERS, Counting, SEVEN_LINES, four_files, request_of, same_lines};
+use super::{
+    ANSWERS, Counting, SEVEN_LINES, answer_into, four_files, request_of, same_lines, solve_into,
+};
 use crate::limits::QUEUE_CAPACITY;
-use crate::{NoWatch, OnFailedWrite, RunFault, Tally, answer_batch, solve_batch};
-use kalah_jobs::{FileText, Question, Stream};
+use crate::{NoWatch, OnFailedWrite, RunFault, Tally};
+use kalah_jobs::{FileText, Question};
 use std::alloc::Global;
 use std::io;
 use std::io::{ErrorKind, Write};
+use std::process::Abort;
 use std::sync::Wait;
 use std::sync::atomic::Ordering::SeqCst;
 use std::thread::Threads;
@@ -46,12 +49,23 @@ impl Failing {
     }
 }
 
-/// The result of a batch with a writer that fails.
+/// What came of a batch with a writer that fails.
 #[derive(Drop)]
 struct Run {
-    tally: Result<Tally, RunFault>,
-    writer: Failing,
-    gate: Counting,
+    // The result, how often the writer was called, and how many outcomes were sent.
+    came: (Result<Tally, RunFault>, u32, u32),
+    begun: u32,
+    written: Vec<u8>,
+}
+
+impl Run {
+    fn of((tally, writer): (Result<Tally, RunFault>, Failing), gate: &Counting) -> Run {
+        Run {
+            came: (tally, writer.calls, gate.sent.load(SeqCst)),
+            begun: gate.begun.load(SeqCst),
+            written: writer.bytes,
+        }
+    }
 }
 
 fn run_with<R: AllocGlobal + Threads + Wait + Sync>(
@@ -62,14 +76,10 @@ fn run_with<R: AllocGlobal + Threads + Wait + Sync>(
     most: u32,
 ) -> Run {
     let gate = Counting::new();
-    let mut out = Stream::new(Failing::after(rt.alloc(), most));
+    let failing = Failing::after(rt.alloc(), most);
     let request = request_of(question, files, 2, on_failed_write);
-    let tally = answer_batch(rt, rt.alloc(), &request, &gate, &mut NoWatch, &mut out);
-    Run {
-        tally,
-        writer: out.into_inner(),
-        gate,
-    }
+    let ended = answer_into(rt, &request, &gate, &mut NoWatch, failing);
+    Run::of(ended, &gate)
 }
 
 // What `solve_batch` does with such a writer.
@@ -82,23 +92,27 @@ fn solve_with<R: AllocGlobal + Threads + Wait + Sync>(
     requires { IsWorkerCount workers }
 {
     let gate = Counting::new();
-    let mut out = Stream::new(Failing::after(rt.alloc(), most));
-    let tally = solve_batch(rt, rt.alloc(), files, workers, 16, &gate, &mut out);
-    Run {
-        tally,
-        writer: out.into_inner(),
-        gate,
-    }
+    let failing = Failing::after(rt.alloc(), most);
+    Run::of(solve_into(rt, files, workers, 16, &gate, failing), &gate)
 }
 
-// Of the seven lines each is solved, and the writer is called once more than it succeeds, unless it succeeds with all and their flush.
-fn ends_the_writing_alone(run: &Run, most: u32) -> bool {
-    let (tally, calls) = if most < 8 {
-        (Err(RunFault::Write), most.saturating_add(1))
+// Of the seven lines each is solved, and the writer is called once more than it succeeds, unless it succeeds with all and their flush. The
+// case is the question, if one was given, and the workers.
+fn assert_ends_alone<R: Abort>(rt: &R, run: &Run, case: (Option<Question>, u32), most: u32) {
+    let wanted = if most < 8 {
+        (Err(RunFault::Write), most.saturating_add(1), 7)
     } else {
-        (Ok(SEVEN_LINES), 8)
+        (Ok(SEVEN_LINES), 8, 7)
     };
-    (run.tally, run.writer.calls) == (tally, calls) && run.gate.sent.load(SeqCst) == 7
+    assert!(rt; run.came == wanted, "{case:?} {most}: {:?}", run.came);
+}
+
+// The writer failed at its last call and had taken this text, and so many outcomes were sent.
+fn assert_failed<R: Abort>(rt: &R, run: &Run, calls: u32, text: &str, sent: u32) {
+    let wanted = (Err(RunFault::Write), calls, sent);
+    assert!(rt; run.came == wanted, "{wanted:?}: {:?}", run.came);
+    let written = run.written.as_slice();
+    assert!(rt; written == text.as_bytes(), "{wanted:?}: {written:?}");
 }
 
 // There is a call for each line, and one to flush them. One that fails ends the writing and nothing else.
@@ -108,13 +122,13 @@ fn every_failing_call_ends_the_writing_and_nothing_else(rt: HostRuntime) {
     for question in [Question::BestMove, Question::Values, Question::Steps] {
         for most in 0..9u32 {
             let run = run_with(&rt, question, files.as_slice(), OnFailedWrite::Solve, most);
-            assert!(rt; ends_the_writing_alone(&run, most), "{question:?} {most}");
+            assert_ends_alone(&rt, &run, (Some(question), 2), most);
         }
     }
     for most in 0..9u32 {
         for workers in [1, 2, 64] {
             let run = solve_with(&rt, files.as_slice(), workers, most);
-            assert!(rt; ends_the_writing_alone(&run, most), "{workers} {most}");
+            assert_ends_alone(&rt, &run, (None, workers), most);
         }
     }
 }
@@ -122,10 +136,9 @@ fn every_failing_call_ends_the_writing_and_nothing_else(rt: HostRuntime) {
 #[test]
 fn a_flush_that_fails_is_a_failed_write(rt: HostRuntime) {
     let files = four_files(rt.alloc()).expect(&rt, "no memory");
-    for (files, text, most) in [(files.as_slice(), ANSWERS, 7), (&[], "", 0)] {
-        let run = run_with(&rt, Question::BestMove, files, OnFailedWrite::Solve, most);
-        assert!(rt; run.tally == Err(RunFault::Write), "{most}");
-        assert!(rt; run.writer.bytes.as_slice() == text.as_bytes(), "{most}");
+    for (files, text, lines) in [(files.as_slice(), ANSWERS, 7), (&[], "", 0)] {
+        let run = run_with(&rt, Question::BestMove, files, OnFailedWrite::Solve, lines);
+        assert_failed(&rt, &run, lines + 1, text, lines);
     }
 }
 
@@ -133,16 +146,11 @@ fn a_flush_that_fails_is_a_failed_write(rt: HostRuntime) {
 #[test]
 fn all_jobs_are_done_though_the_writer_takes_one_line(rt: HostRuntime) {
     for lines in [200, ROOM + 200] {
-        let files = same_lines(&rt, rt.alloc(), lines);
+        let files = same_lines(&rt, lines);
         let asked = run_with(&rt, Question::BestMove, &files, OnFailedWrite::Solve, 1);
+        assert_failed(&rt, &asked, 2, "n:1 0 house 1\n", lines);
         let solved = solve_with(&rt, &files, 64, 1);
-        for run in [&asked, &solved] {
-            let ended = (run.tally, run.writer.calls);
-            assert!(rt; ended == (Err(RunFault::Write), 2), "{lines}");
-            let written = run.writer.bytes.as_slice();
-            assert!(rt; written == b"n:1 0 house 1\n".as_slice(), "{lines}");
-            assert!(rt; run.gate.sent.load(SeqCst) == lines, "{lines}");
-        }
+        assert_failed(&rt, &solved, 2, "n:1 0 house 1\n", lines);
     }
 }
 
@@ -152,11 +160,10 @@ const MOST_BEGUN: u32 = 1 + QUEUE_CAPACITY + 2;
 
 #[test]
 fn no_job_begins_once_the_rest_is_left(rt: HostRuntime) {
-    let files = same_lines(&rt, rt.alloc(), 3000);
+    let files = same_lines(&rt, 3000);
     let run = run_with(&rt, Question::BestMove, &files, OnFailedWrite::Leave, 0);
-    assert!(rt; (run.tally, run.writer.calls) == (Err(RunFault::Write), 1));
-    let begun = run.gate.begun.load(SeqCst);
-    assert!(rt; begun <= MOST_BEGUN && run.gate.sent.load(SeqCst) == begun);
+    assert!(rt; run.begun <= MOST_BEGUN, "{}", run.begun);
+    assert_failed(&rt, &run, 1, "", run.begun);
 }
 
 /// Fails at its first call, once each of `workers` workers has an outcome without room.
@@ -177,21 +184,33 @@ impl Write for FailingFull<'_> {
     }
 }
 
+// The result of a batch with such a writer that leaves the rest, and how many jobs began and outcomes were sent.
+fn comes_of_full<R: AllocGlobal + Threads + Wait + Sync>(
+    rt: &R,
+    files: &[FileText],
+    workers: u32,
+) -> (Result<Tally, RunFault>, u32, u32)
+    requires { IsWorkerCount workers }
+{
+    let gate = Counting::new();
+    let failing = FailingFull {
+        gate: &gate,
+        workers,
+    };
+    let request = request_of(Question::BestMove, files, workers, OnFailedWrite::Leave);
+    let (tally, _) = answer_into(rt, &request, &gate, &mut NoWatch, failing);
+    (tally, gate.begun.load(SeqCst), gate.sent.load(SeqCst))
+}
+
 // The rest is left while all workers wait for room. They are woken, and each sends the outcome that it has.
 #[test]
 fn a_batch_ends_though_its_workers_wait_for_room(rt: HostRuntime) {
     for workers in [1, 8] {
-        let files = same_lines(&rt, rt.alloc(), 3000);
-        let gate = Counting::new();
-        let mut out = Stream::new(FailingFull {
-            gate: &gate,
-            workers,
-        });
-        let request = request_of(Question::BestMove, &files, workers, OnFailedWrite::Leave);
-        let tally = answer_batch(&rt, rt.alloc(), &request, &gate, &mut NoWatch, &mut out);
-        assert!(rt; tally == Err(RunFault::Write), "{workers}");
-        let (begun, sent) = (gate.begun.load(SeqCst), gate.sent.load(SeqCst));
+        let came = comes_of_full(&rt, &same_lines(&rt, 3000), workers);
         let all = ROOM + workers;
-        assert!(rt; (begun, sent) == (all, all), "{workers}");
+        assert!(rt;
+            came == (Err(RunFault::Write), all, all),
+            "{workers}: {came:?}"
+        );
     }
 }
