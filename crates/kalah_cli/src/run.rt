@@ -59,7 +59,6 @@ fn end_without_request<'a, O: Sink, E: Write>(
     status_of_sink(out)
 }
 
-// Carries out the request.
 fn run_request<'a, R: Sources + Clock + Terminal + Threads + Wait + Sync, O: Sink, E: Write>(
     rt: &R,
     alloc: Global,

@@ -4,15 +4,15 @@ use Rattle.clap.specs.{Words.{IsAmong, IsUnsignedIn, Row, Text, all_of, fault_of
 pub use Rattle.kalah_jobs.specs.declared.files.question.Question.{Question}
 pub use Rattle.kalah_jobs.specs.declared.files.question.Question.TheVariants.{BestMove, Values, Steps}
 use Rattle.kalah_rules.specs.Limits.{most_depth}
-use Rattle.kalah_run.specs.Limits.{IsWorkerCount, IsTableSize}
+use Rattle.kalah_solve.specs.Table.Entries.{IsTableSize}
+use Rattle.kalah_run.specs.Limits.{IsWorkerCount}
 use Rattle.kalah_cli.specs.{Arguments.Command.{kalah_app}, declared.arguments.request.{Request.{Request, TheVariants.{Line, Files, Ask, Conflict}}, FilesRequest.{FilesRequest}}}
 pub use Rattle.kalah_cli.specs.declared.arguments.request.LineCommand.{LineCommand}
 pub use Rattle.kalah_cli.specs.declared.arguments.request.LineCommand.TheVariants.{Moves, Play, Show, Count}
 
-module _ {A : Type 0} where
-  -- the text of each argument
-  abbrev pub texts_of : List (String A) → List Text
-  texts_of arguments = map string_bytes arguments
+-- the text of each argument
+abbrev pub texts_of : {A : Type 0} → List (String A) → List Text
+texts_of arguments = map string_bytes arguments
 
 -- What the arguments can ask for, where a table has the given size:
 -- - what a command prints of the position that a line writes
@@ -128,7 +128,7 @@ DoesNotAskFor arguments kind = IsAmong kind (fault_of kalah_app arguments) → �
 -- the task of a request: it is parsed from arguments that ask for the same
 abbrev pub task_of : Request → Task
 task_of (Line line command) = about_line command line.now
-task_of (Files r) = about_files r.question r.workers r.table_entries r.progress (map (λ f. f.now) r.files.items)
+task_of (Files r) = about_files r.question r.workers r.table_entries r.progress (map (λ f. f.now) r.names.items)
 task_of (Ask r) = about_input r.question r.table_entries
 task_of Conflict = conflict
 
@@ -136,7 +136,7 @@ task_of Conflict = conflict
 
 -- workers and table are in their ranges, and there is a file
 abbrev pub AreFilesInRange : FilesRequest → Type 0
-AreFilesInRange r = IsWorkerCount r.workers × IsTableSize r.table_entries × (0 < length r.files.items)
+AreFilesInRange r = IsWorkerCount r.workers × IsTableSize r.table_entries × (0 < length r.names.items)
 
 -- numbers are in their ranges
 abbrev pub IsCommandInRange : LineCommand → Type 0

@@ -36,7 +36,6 @@ fn clap_arg<'a>(alloc: Global, argument: &Argument) -> Arg<'a>
     }
 }
 
-// Returns a subcommand with its arguments.
 fn clap_subcommand<'a>(alloc: Global, subcommand: &Subcommand) -> Result<Command<'a>, AllocError>
     ensures { IfOk result (λ c. app_of c ≡ subcommand_app subcommand.now) }
 {

@@ -107,10 +107,8 @@ output failed, and standard error says which.
 More: `man kalah`, and README.md, which lists the pages (in share/doc/kalah).
 `python3 -m kalah` lists the tools in Python, for engines, games and puzzles.";
 
-/// What follows the long help of `moves`.
 pub(crate) const LONG_OF_MOVES: &str = of_a_move!("");
 
-/// What follows the long help of `play`.
 pub(crate) const LONG_OF_PLAY: &str = of_a_move!(
     "\
 With --first H the first line is the move of house H. It fails if that house
@@ -120,7 +118,6 @@ its move was made in: the margin of best play, seen by the player who moves:
 "
 );
 
-/// What follows the long help of `show`.
 pub(crate) const LONG_OF_SHOW: &str = of_a_position!(
     "\
 The player to move sits at the bottom, with houses from left to right, and below
@@ -140,7 +137,6 @@ of the game, if best play follows:
 `kalah --help` has the rules and the form of positions."
 );
 
-/// What follows the long help of `count`.
 pub(crate) const LONG_OF_COUNT: &str = "\
 A way is a sequence of exactly DEPTH moves that the rules allow, one after the
 other, from the position on. A game that is over has no further move. Each house
@@ -153,7 +149,6 @@ With DEPTH 0 there is one way, which has no move: total 1.
 A position is one argument, so it needs quotes.
 `kalah --help` has the rules and the form of positions.";
 
-/// What follows the long help of `solve`.
 pub(crate) const LONG_OF_SOLVE: &str = of_files!(
     "solve",
     "ask",
@@ -167,7 +162,6 @@ An early hard line holds back all later answers.
 "
 );
 
-/// What follows the long help of `values`.
 pub(crate) const LONG_OF_VALUES: &str = of_files!(
     "values",
     "ask --values",
@@ -179,7 +173,6 @@ an answer line, in order:
 "
 );
 
-/// What follows the long help of `ask`.
 pub(crate) const LONG_OF_ASK: &str = "\
 Each line of standard input is a position, such as 1,1/0 1,1/0, and gets an
 answer line before the next line is read. So a program can ask for positions one
@@ -194,7 +187,6 @@ by one:
     fault shape    not a position
 `kalah --help` has the form of positions, the rules, and the words of faults.";
 
-/// What follows the long help of `steps`.
 pub(crate) const LONG_OF_STEPS: &str = of_files!(
     "steps",
     "ask --steps",

@@ -1,8 +1,8 @@
 //! The requests that a command line can make.
 ghost use Rattle.std.specs.Prelude.{◌≡◌, IfErr, IfOk, IfSome, Some, codes, is_some, map, true};
 ghost use Rattle.clap.specs.{Words.{FailsBy, fault_of, first_of, kind_of}, declared.error.kind.ErrorKind.TheVariants.{OutOfMemory}};
-ghost use Rattle.kalah_solve.specs.Table.Entries.{most_entries};
-ghost use Rattle.kalah_run.specs.Limits.{IsWorkerCount, IsTableSize, most_workers};
+ghost use Rattle.kalah_solve.specs.Table.Entries.{IsTableSize, most_entries};
+ghost use Rattle.kalah_run.specs.Limits.{IsWorkerCount, most_workers};
 ghost use Rattle.kalah_cli.specs.Arguments.Command.{kalah_app};
 ghost use Rattle.kalah_cli.specs.Arguments.Request.{AreMatches, IsAcceptedAs, IsInRange, MayHaveNumber, name_of_question, is_set, number_given};
 ghost use Rattle.kalah_cli.specs.Arguments.Request.{rows_in, table_entries, task_of, task_of_ask, task_of_files, task_of_matches, worker_count};
@@ -71,7 +71,6 @@ pub struct AskRequest {
 /// What is asked of the positions of files, and how they are answered.
 #[derive(Drop)]
 pub struct FilesRequest<'a> {
-    /// What is asked of each position.
     pub question: Question,
     /// The number of workers, 1 to 64.
     pub workers: u32,
@@ -80,7 +79,7 @@ pub struct FilesRequest<'a> {
     /// Whether standard error shows how many lines are answered.
     pub progress: bool,
     /// The names of the files, at least one.
-    pub files: Vec<&'a str>,
+    pub names: Vec<&'a str>,
 }
 
 // Returns the number of workers that `--workers` gives, or the default.
@@ -118,7 +117,6 @@ fn byte_given(matches: &ArgMatches<'_>, id: &str) -> Option<u8>
     matches.get_one::<u8>(id)
 }
 
-// Returns whether a flag is given.
 fn is_set(matches: &ArgMatches<'_>, id: &str) -> bool
     ensures { result ≡ is_set id.now (rows_in matches.now) }
 {
@@ -153,7 +151,7 @@ fn files_request<'a>(
             Question::Steps => 1,
         },
         progress: is_set(matches, "progress"),
-        files: matches.get_strs("file").unwrap().to_vec(alloc)?,
+        names: matches.get_strs("file").unwrap().to_vec(alloc)?,
     }))
 }
 

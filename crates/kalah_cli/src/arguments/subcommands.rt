@@ -5,7 +5,6 @@ use kalah_rules::{MOST_DEPTH, MOST_HOUSES};
 use kalah_run::MOST_WORKERS;
 use kalah_solve::MOST_ENTRIES;
 
-/// A subcommand of the program.
 pub(crate) struct Subcommand {
     pub(crate) name: &'static str,
     /// What it does, in one line.
@@ -16,7 +15,6 @@ pub(crate) struct Subcommand {
     pub(crate) arguments: &'static [Argument],
 }
 
-/// An argument of a subcommand.
 pub(crate) struct Argument {
     pub(crate) name: &'static str,
     pub(crate) help: &'static str,
@@ -61,55 +59,32 @@ macro_rules! flag {
     };
 }
 
-macro_rules! number_option {
-    ($name:literal, $value_name:literal, $most:expr, $help:expr, $long_help:expr) => {
-        Argument {
-            name: $name,
-            help: $help,
-            kind: ArgumentKind::NumberOption {
-                value_name: $value_name,
-                most: $most as u64,
-                long_help: $long_help,
-            },
-        }
-    };
-}
-
-macro_rules! positional_text {
-    ($name:literal, $value_name:literal, $action:expr, $help:literal) => {
-        Argument {
-            name: $name,
-            help: $help,
-            kind: ArgumentKind::PositionalText {
-                value_name: $value_name,
-                action: $action,
-            },
-        }
-    };
-}
-
 macro_rules! table_option {
     ($end:literal) => {
-        number_option!(
-            "table",
-            "N",
-            MOST_ENTRIES,
-            "Use tables of N entries, 1 to 1048576 [default: 65536]",
-            concat!(
-                "Use tables of N entries, 1 to 1048576.\nLeave it at the default, 65536, unless memory is short",
-                $end
-            )
-        )
+        Argument {
+            name: "table",
+            help: "Use tables of N entries, 1 to 1048576 [default: 65536]",
+            kind: ArgumentKind::NumberOption {
+                value_name: "N",
+                most: MOST_ENTRIES as u64,
+                long_help: concat!(
+                    "Use tables of N entries, 1 to 1048576.\nLeave it at the default, 65536, unless memory is short",
+                    $end
+                ),
+            },
+        }
     };
 }
 
-const WORKERS: Argument = number_option!(
-    "workers",
-    "N",
-    MOST_WORKERS,
-    "Answer up to N lines in parallel, 1 to 64 [default: 4]",
-    "Answer up to N lines in parallel, 1 to 64\n\n[default: 4]"
-);
+const WORKERS: Argument = Argument {
+    name: "workers",
+    help: "Answer up to N lines in parallel, 1 to 64 [default: 4]",
+    kind: ArgumentKind::NumberOption {
+        value_name: "N",
+        most: MOST_WORKERS as u64,
+        long_help: "Answer up to N lines in parallel, 1 to 64\n\n[default: 4]",
+    },
+};
 
 const TABLE: Argument = table_option!("\n\n[default: 65536]");
 
@@ -118,21 +93,25 @@ const PROGRESS: Argument = flag!(
     "Show on standard error how many lines are answered"
 );
 
-const FILES: Argument = positional_text!(
-    "file",
-    "FILE",
-    ArgAction::Append,
-    "Files of positions, one a line; /dev/stdin for standard input"
-);
+const FILES: Argument = Argument {
+    name: "file",
+    help: "Files of positions, one a line; /dev/stdin for standard input",
+    kind: ArgumentKind::PositionalText {
+        value_name: "FILE",
+        action: ArgAction::Append,
+    },
+};
 
 const BOARDS: Argument = flag!("boards", "Draw each position below its line");
 
-const LINE: Argument = positional_text!(
-    "line",
-    "LINE",
-    ArgAction::Set,
-    "Position in quotes, such as '1,1/0 1,1/0'"
-);
+const LINE: Argument = Argument {
+    name: "line",
+    help: "Position in quotes, such as '1,1/0 1,1/0'",
+    kind: ArgumentKind::PositionalText {
+        value_name: "LINE",
+        action: ArgAction::Set,
+    },
+};
 
 const HELP_OF_FIRST: &str = "Begin with house H, 1 to 6, and go on with best play";
 
@@ -175,7 +154,15 @@ pub(crate) const SUBCOMMANDS: &[Subcommand] = &[
                 "values",
                 "Print with each move the value of the position it was made in"
             ),
-            number_option!("first", "H", MOST_HOUSES, HELP_OF_FIRST, HELP_OF_FIRST),
+            Argument {
+                name: "first",
+                help: HELP_OF_FIRST,
+                kind: ArgumentKind::NumberOption {
+                    value_name: "H",
+                    most: MOST_HOUSES as u64,
+                    long_help: HELP_OF_FIRST,
+                },
+            },
             LINE,
         ],
     },

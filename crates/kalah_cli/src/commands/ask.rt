@@ -1,10 +1,10 @@
 //! `kalah ask`.
 ghost use Rattle.std.specs.Prelude.{◌≡◌, ◌↔◌, IfOk, IsErr, false, true};
-ghost use Rattle.kalah_run.specs.Limits.{IsTableSize};
-ghost use Rattle.kalah_solve.specs.Solver.EmptyTable.{HasEmptyTable};
+ghost use Rattle.kalah_solve.specs.Table.Entries.{IsTableSize};
 ghost use Rattle.kalah_cli.specs.{Commands.Ask.{AnswersStandardInput}, Exit.Ends.{exit_status_of}};
 
 use crate::arguments::request::AskRequest;
+use crate::commands::game_solver::new_solver;
 use crate::exit::failure::Failure;
 use crate::exit::status::ExitStatus;
 use crate::system::messages::Messages;
@@ -12,20 +12,11 @@ use crate::system::sources::Sources;
 use crate::system::terminal::Terminal;
 use kalah_jobs::{AskFault, Sink, answer_lines};
 use kalah_run::RunFault;
-use kalah_solve::{Solver, Table};
-use std::alloc::{AllocError, Global};
+use std::alloc::Global;
 use std::io::{BufReader, Write};
 
 // What is written to a terminal before lines are typed.
 const HINT: &str = "kalah: waits for positions, one a line, as 1,1/0 1,1/0; Ctrl-D ends\n";
-
-// Returns a solver with an empty table of this many entries.
-fn new_solver(alloc: Global, table_entries: u32) -> Result<Solver, AllocError>
-    requires { IsTableSize table_entries }
-    ensures { IfOk result (HasEmptyTable table_entries) }
-{
-    Ok(Solver::new(Table::new(alloc, table_entries)?))
-}
 
 // Returns how the program ends after such an answer to all lines.
 fn status_of_answers(answered: Result<bool, AskFault>) -> Result<ExitStatus, Failure<'static>>

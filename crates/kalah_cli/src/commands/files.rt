@@ -64,10 +64,10 @@ pub(crate) fn run_files<
     requires limits { AreFilesInRange request.now }
     requires not_failed { (O.state out.old).has_failed ≡ false }
     ensures { AnswersFiles O.state out.old out.new (exit_status_of result) (R.may_give rt.now) request.now.question
-        (map (λ name. name.now) request.now.files.items) }
+        (map (λ name. name.now) request.now.names.items) }
 {
     // This is `?`, written out: a `?` on a result of a large struct is expensive to check.
-    let files = match read_named(rt, alloc, request.files.as_slice()) {
+    let files = match read_named(rt, alloc, request.names.as_slice()) {
         Ok(files) => files,
         Err(failure) => return Err(failure),
     };

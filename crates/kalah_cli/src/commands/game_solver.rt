@@ -1,8 +1,7 @@
-//! The solver of `play` and `show`.
+//! The solvers of `ask`, `play` and `show`.
 ghost use Rattle.std.specs.Prelude.{◌≡◌, IfOk, true};
-ghost use Rattle.kalah_solve.specs.Solver.{EmptyTable.{HasEmptyTable}, MoveValues.{values_of}, Verdict.{IsVerdictInRange, StatesBestPlay, verdict_of}};
+ghost use Rattle.kalah_solve.specs.{Solver.{EmptyTable.{HasEmptyTable}, MoveValues.{values_of}, Verdict.{IsVerdictInRange, StatesBestPlay, verdict_of}}, Table.Entries.{IsTableSize}};
 ghost use Rattle.kalah_jobs.specs.Writing.{Sink.{WasGiven}, Picture.{picture_of}};
-ghost use Rattle.kalah_run.specs.Limits.{IsTableSize};
 ghost use Rattle.kalah_cli.specs.Commands.GameSolver.{IsReached, begun};
 
 use crate::commands::game::MoveForm;
@@ -11,6 +10,14 @@ use kalah_rules::Board;
 use kalah_solve::{MoveValues, Solver, Table, Verdict};
 use std::alloc::{AllocError, Global};
 use std::snapshot::Snapshot;
+
+/// Returns a solver with an empty table of this many entries. Fails with `AllocError` only if memory was refused.
+pub(crate) fn new_solver(alloc: Global, table_entries: u32) -> Result<Solver, AllocError>
+    requires { IsTableSize table_entries }
+    ensures { IfOk result (HasEmptyTable table_entries) }
+{
+    Ok(Solver::new(Table::new(alloc, table_entries)?))
+}
 
 /// The solver of a game that is written move by move. It solves a position only once what comes before it is written and flushed. There
 /// is no other way to it.
@@ -25,8 +32,7 @@ pub(crate) struct GameSolver<O> {
 }
 
 impl<O: Sink> GameSolver<O> {
-    /// Returns a solver with an empty table of this many entries, for a game that begins with this board and is written in this form.
-    /// Nothing of it is written yet. Fails with `AllocError` only if memory was refused.
+    /// Returns a `new_solver` for a game that begins with this board and is written in this form. Nothing of it is written yet.
     pub(crate) fn new(
         alloc: Global,
         table_entries: u32,
@@ -39,7 +45,7 @@ impl<O: Sink> GameSolver<O> {
         ensures begun { IfOk result (λ s. begun s ≡ record { form = form; first = board.now; sink = out.now }) }
     {
         Ok(GameSolver {
-            solver: Solver::new(Table::new(alloc, table_entries)?),
+            solver: new_solver(alloc, table_entries)?,
             form,
             first: Snapshot::of(board),
             sink: Snapshot::of(out),

@@ -1,6 +1,6 @@
 //! `kalah play LINE`.
 ghost use Rattle.std.specs.Prelude.{◌≡◌, IfErr, MatchResult, OnOk};
-ghost use Rattle.kalah_run.specs.Limits.{IsTableSize};
+ghost use Rattle.kalah_solve.specs.Table.Entries.{IsTableSize};
 ghost use Rattle.kalah_cli.specs.Commands.{Play.{FailsToBegin, MayBegin, play_output}, Printing.{IsPrinted}};
 
 use crate::arguments::request::PlayCommand;

@@ -1,8 +1,7 @@
 //! `kalah show LINE`.
 ghost use Rattle.std.specs.Prelude.{◌≡◌, IsErr, MatchResult, false, true};
-ghost use Rattle.kalah_solve.specs.Solver.MoveValues.{values_of};
+ghost use Rattle.kalah_solve.specs.{Solver.MoveValues.{values_of}, Table.Entries.{IsTableSize}};
 ghost use Rattle.kalah_jobs.specs.Writing.{Sink.{WasGiven}, Picture.{picture_of}};
-ghost use Rattle.kalah_run.specs.Limits.{IsTableSize};
 ghost use Rattle.kalah_cli.specs.Commands.{Show.{is_better, move_of_rank, rank_in, ranked_line, show_output, variation_lines}, Printing.{IsPrinted}, GameSolver.{ShowsValues, begun}};
 
 use crate::arguments::request::ShowCommand;
@@ -17,7 +16,6 @@ use kalah_rules::Board;
 use kalah_solve::{MoveValue, MoveValues};
 use std::alloc::Global;
 
-// Draws a board, and flushes.
 fn draw_and_flush<O: Sink>(board: &Board, out: &mut O)
     ensures { IsPrinted O.state out.old out.new (picture_of board.now) }
 {
@@ -46,7 +44,6 @@ fn rank_in(values: &MoveValues, value: MoveValue) -> u8
     rank
 }
 
-// Returns the move of this rank.
 fn move_of_rank(values: &MoveValues, rank: u8) -> Option<MoveValue>
     ensures { result ≡ move_of_rank values.now rank }
 {

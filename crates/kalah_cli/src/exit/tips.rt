@@ -28,7 +28,6 @@ const MARKS: &[(&[u8], &str)] = &[
     ),
 ];
 
-// Returns whether a text is a position.
 fn is_position(text: &str) -> bool {
     read_line(text.as_bytes()).is_ok()
 }

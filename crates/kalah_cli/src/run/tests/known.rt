@@ -9,13 +9,13 @@ use crate::system::sources::Sources;
 use crate::system::terminal::Terminal;
 use kalah_jobs::{FileText, Stream};
 use std::alloc::Global;
-use std::io;
 use std::io::ErrorKind;
 use std::process::Abort;
 use std::rt::Clock;
 use std::sync::Wait;
 use std::thread::Threads;
 use std::time::Duration;
+use std::{io, str};
 
 /// A runtime with this disk and this standard input.
 #[derive(Drop)]
@@ -123,7 +123,10 @@ fn what_is_known_is_answered(rt: HostRuntime) {
     for (arguments, status, want) in RUNS {
         let taken = arguments_of(&rt, *arguments);
         let (ended, out) = run_over(&rt, rt.alloc(), &disk, b"3/0 3/0\n\n", taken);
-        assert!(rt; ended == *status, "{arguments:?}");
-        assert!(rt; out.as_slice() == want.as_bytes(), "{arguments:?}");
+        let written = str::from_utf8(out.as_slice()).unwrap_or("no text");
+        assert!(rt;
+            (ended, written) == (*status, *want),
+            "{arguments:?}: {written:?}"
+        );
     }
 }

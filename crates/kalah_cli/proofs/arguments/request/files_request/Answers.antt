@@ -1,7 +1,7 @@
 -- All three subcommands have `--workers` and FILE, two of them `--table`: so their rows have a file, and numbers that are in range.
 use Rattle.std.proofs.{Common.{[], ◌∙◌, ◌≡◌, ◌∷◌, ap, arith, codes, inl, inr, is_some, length, map, refl, sym, unwrap_or}, lemmas.List.{length-map}}
 use Rattle.clap.{specs.Words.{found_of}, proofs.{CallerLemmas.{some_of_text}, WalkLemmas.{raw_values-rows}}}
-use Rattle.kalah_run.specs.Limits.{IsTableSize}
+use Rattle.kalah_solve.specs.Table.Entries.{IsTableSize}
 use Rattle.kalah_cli.specs.{table_entries_asked, rows_in}
 use Rattle.kalah_cli.proofs.{RequestLemmas.{may_have_number, takes_files, takes_table, value_given, values_are}, arguments.request.files_request.Goals.{in-BestMove, in-Steps}}
 use Rattle.kalah_cli.proofs.arguments.request.files_request.Goals as goal

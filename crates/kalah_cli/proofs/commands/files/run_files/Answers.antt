@@ -15,7 +15,7 @@ returns-in-Err-answered g c =
 
 pub returns : goal.returns
 returns g c =
-    let read : AreFilesOf (g.R.Sources.may_give c.args.rt.now) (map (λ name. name.now) c.args.request.now.files.items) c.as_slice-files.result.now =
+    let read : AreFilesOf (g.R.Sources.may_give c.args.rt.now) (map (λ name. name.now) c.args.request.now.names.items) c.as_slice-files.result.now =
     rw c.as_slice-files.ensures.value (rw c.as_slice.ensures.value at c.in-Ok.ensures.files) in
     let no_line_feed = false_from_ne_true _ (λ found. cc ((rw c.as_slice.ensures.value at c.in-Ok.ensures.line_feed).1 found)) in
     let answers = c.in-Ok-answered.ensures.answers in
