@@ -19,7 +19,6 @@ abbrev pub Satisfies : Rule → Option Row → Type 0
 Satisfies a None = a.required ≡ false
 Satisfies a (Some r) = Fits a r
 
--- the row of the id
 abbrev pub row_by_id : Text → List Row → Option Row
 row_by_id id rows = find (λ r. bytes_eq r.id id) rows
 
@@ -60,7 +59,6 @@ pub record Given (a : Rule) (o : Option Row) : Type 0 where
   pub all : option_map (λ r. r.values) o ≡ Some (value ∷ more)
   pub text : reading_by a ≡ AsWritten → option_and_then row_text o ≡ Some value
 
--- an argument that is required has one
 pub required_is_given : (a : Rule) (o : Option Row) → Satisfies a o → a.required ≡ true → Given a o
 required_is_given a None optional required = cc
 required_is_given a (Some r) fit required = record {
@@ -91,11 +89,6 @@ arg_in subs name id = option_and_then (λ s. arg_by_id s.rules id) (find (λ s. 
 abbrev pub SatisfyAll : List Shape → Text → List Row → Type 0
 SatisfyAll subs name rows = (id : Text) (a : Rule) → arg_in subs name id ≡ Some a → Satisfies a (row_by_id id rows)
 
--- a subcommand was entered, and its rows satisfy its arguments
-abbrev pub Enters : App → Option (Text × List Row) → Type 0
-Enters a o = (is_some o ≡ true) × IfSome o (λ e. SatisfyAll a.subs e.0 e.1)
-
--- if a subcommand is entered, its rows satisfy its arguments
 entered_satisfies : (a : App) (stop : Option (Text × List Text)) → AllOf (IsUsableIn a.subs) a.subs → entered_fault a stop ≡ []
     → IfSome (entered a stop) (λ e. SatisfyAll a.subs e.0 e.1)
 entered_satisfies a None usable no_fault = tt
@@ -108,9 +101,10 @@ entered_satisfies a (Some p) usable no_fault =
     go None usable no_fault = tt
     go (Some s) usable no_fault = λ id b found. level_satisfies s p.1 usable.1 no_fault id b (rw usable.0 at found)
 
--- arguments that fail by no kind enter one, if one is required
+-- arguments that fail by no kind enter one, if one is required, and its rows satisfy its arguments
 pub accepted_satisfies : (a : App) (words : List Text) → AllOf (IsUsableIn (built a).subs) (built a).subs
-    → (built a).top.subcommand_required ≡ true → fault_of a words ≡ [] → Enters (built a) (subcommand_of a words)
+    → (built a).top.subcommand_required ≡ true → fault_of a words ≡ []
+    → (is_some (subcommand_of a words) ≡ true) × IfSome (subcommand_of a words) (λ e. SatisfyAll (built a).subs e.0 e.1)
 accepted_satisfies a words usable required no_fault =
     let top = (built a).top in
     let end = walk top.rules (names_of (built a)) nothing_held (argument_words a words) in

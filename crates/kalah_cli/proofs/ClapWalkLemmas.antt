@@ -26,7 +26,6 @@ pub found_all : {X : Type 0} (Q : X → Type 0) (t : X → Bool) (xs : List X) �
 found_all Q t [] all = tt
 found_all Q t (x ∷ xs) all = cond_both (t x) (Some x) (find t xs) (λ o. IfSome o Q) (λ _. all.0) (λ _. found_all Q t xs all.1)
 
--- an item that is found passes
 pub found_passes : {X : Type 0} (t : X → Bool) (xs : List X) → IfSome (find t xs) (λ x. t x ≡ true)
 found_passes t [] = tt
 found_passes t (x ∷ xs) =
@@ -72,14 +71,12 @@ is_usable _ a = false
 abbrev pub IsUsable : List Rule → Rule → Type 0
 IsUsable rules a = (arg_by_id rules a.id ≡ Some a) × (is_usable (action_of a) a ≡ true)
 
--- the first of values of no fault is accepted
 first_accepted : (a : Rule) (v : Text) (vs : List Text) → values_fault a (v ∷ vs) ≡ []
     → Accepts a.ignore_case (parser_of_value a.parser) v
 first_accepted a v vs no_fault = accepts-Accepts a.ignore_case (parser_of_value a.parser) v (true_from_ne_false _ (λ refused.
     let fault : refused_kind (parser_of_value a.parser) ∷ [] ≡ [] = rw refused at no_fault in
     cc))
 
--- a use that needs a value has one
 use_has_value : (a : Rule) (values : List Text) → has_value a ≡ true
     → range_kinds (unwrap_or_range a.range).start_inclusive (most_values a) (length values) ≡ []
     → 0 < length (values_or_missing a values)
@@ -114,7 +111,6 @@ module _ (s : Shape) (all_usable : AllOf (IsUsable s.rules) s.rules) where
   at_test true x y z if_true if_false = if_true
   at_test false x y z if_true if_false = if_false
 
-  -- an argument that is looked up
   of_rules : (t : Rule → Bool) → IfSome (find t rules) (IsUsable rules)
   of_rules t = found_all (IsUsable rules) t rules all_usable
 
@@ -150,21 +146,23 @@ module _ (s : Shape) (all_usable : AllOf (IsUsable s.rules) s.rules) where
   kept_used None usable values rows = λ _ fit. fit
   kept_used (Some a) usable values rows = λ no_fault fit.
       let no_faults = both_none no_fault in
-      let others : Fit (without a.id rows) = kept_at a.id (λ _. []) [] (λ r rs own rest. rest) tt rows fit in
-      go (action_of a) usable.1 (λ valued. use_has_value a values valued no_faults.0) no_faults.1 others fit
+      go (action_of a) usable.1 (λ valued. use_has_value a values valued no_faults.0) no_faults.1 fit
     where
       vs : List Text
       vs = values_or_missing a values
 
-      go : (x : ArgAction) → is_usable x a ≡ true → (has_value a ≡ true → 0 < length vs) → action_fault x again a vs rows ≡ []
-          → Fit (without a.id rows) → Fit rows → Fit (used_as x a.id (reading_by a) vs rows)
-      go Set by_action nonempty no_fault others fit =
-          kept_values a usable CommandLine vs (nonempty by_action) _ (both_none no_fault).1 others
-      go Append by_action nonempty no_fault others fit = kept_values a usable CommandLine vs (nonempty by_action) rows no_fault fit
-      go SetTrue by_action nonempty no_fault others fit =
-          kept_values a usable CommandLine vs (nonempty by_action) _ (both_none no_fault).1 others
-      go Help by_action nonempty no_fault others fit = fit
-      go x by_action nonempty no_fault others fit = cc
+      others : Fit rows → Fit (without a.id rows)
+      others = kept_at a.id (λ _. []) [] (λ r rs own rest. rest) tt rows
+
+      go : (x : ArgAction) → is_usable x a ≡ true → (has_value a ≡ true → 0 < length vs)
+          → Keeps (action_fault x again a vs rows) rows (used_as x a.id (reading_by a) vs rows)
+      go Set by_action nonempty no_fault fit =
+          kept_values a usable CommandLine vs (nonempty by_action) _ (both_none no_fault).1 (others fit)
+      go Append by_action nonempty no_fault fit = kept_values a usable CommandLine vs (nonempty by_action) rows no_fault fit
+      go SetTrue by_action nonempty no_fault fit =
+          kept_values a usable CommandLine vs (nonempty by_action) _ (both_none no_fault).1 (others fit)
+      go Help by_action nonempty no_fault fit = fit
+      go x by_action nonempty no_fault fit = cc
 
   -- settling the argument that still takes values, if there is one
   pub kept_settled : (o : Option (Text × List Text)) (h : Held)

@@ -4,7 +4,6 @@ use Rattle.clap.specs.{Words.{AddsArg, AddsSubcommand, App, app_of, new_app, wit
 use Rattle.clap.proofs.SimpleLemmas.{plain_fields}
 use Rattle.kalah_cli.specs.{IsReadBy, argument_rule, subcommand_app, with_argument, with_listed, declared.arguments.subcommands.{Argument.{Argument}, Subcommand.{Subcommand}}}
 
--- one argument more
 pub argument_added : (start : App) (arguments : List Argument) {i : ℕ} (argument : Argument) {arg : Arg} {old new : Command}
     → i < length arguments → IsReadBy (argument_rule (get_or arguments i argument)) arg
     → app_of old ≡ fold with_argument start (take i arguments) → AddsArg old arg new
@@ -19,7 +18,6 @@ stays_plain : (app : App) (arguments : List Argument) → app.top.is_plain ≡ t
 stays_plain app [] plain = plain
 stays_plain app (a ∷ rest) plain = stays_plain (with_argument app a) rest plain
 
--- one subcommand more
 pub subcommand_added : (start : App) (subs : List Subcommand) {i : ℕ} (s : Subcommand) {made old new : Command} → i < length subs
     → app_of made ≡ subcommand_app (get_or subs i s) → app_of old ≡ fold with_listed start (take i subs) → AddsSubcommand old made new
     → app_of new ≡ fold with_listed start (take (i + 1) subs)

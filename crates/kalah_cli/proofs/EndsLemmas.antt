@@ -17,7 +17,6 @@ use Rattle.kalah_run.specs.declared.batch.run_fault.RunFault.TheVariants as faul
 
 -- ==== how any run ends
 
--- no two statuses are the same
 pub statuses_differ : (Clean ≢ Failed) × (LineFaults ≢ Failed) × (LineFaults ≢ Clean)
 statuses_differ = ((λ same. cc), (λ same. cc), (λ same. cc))
 
@@ -53,11 +52,11 @@ module _ {O : Type 0} {state : O → SinkState} {status : ExitStatus} where
           λ not_failed. false_from_ne_true (state new).has_failed (λ failed. not_failed (fails.0 failed)) in
           let prints : PrintsByStatus state old new status (command_output command p) =
           record { start = printed.given.start; whole = λ not_failed. (printed.given.whole (sound not_failed)).1 } in
-          let same : (q : Position) → Reads line q → p ≡ q = λ q. no_line_reads_twice line p q reads in (
+          let same = no_line_reads_twice line p in (
             record {
               read = λ q other_reads. (
                 no_fault,
-                rw (same q other_reads) at prints,
+                rw (same q reads other_reads) at prints,
               );
               unread = λ none. absurd (none p reads);
               ends = record {
@@ -66,7 +65,7 @@ module _ {O : Type 0} {state : O → SinkState} {status : ExitStatus} where
                 all_flushed = λ not_failed _. printed.all_flushed (sound not_failed);
               };
             },
-            λ q other_reads never. absurd (never (rw (same q other_reads) at printable)),
+            λ q other_reads never. absurd (never (rw (same q reads other_reads) at printable)),
           )
 
       -- the command failed before anything was written
@@ -108,7 +107,6 @@ read_whole may_give (Some all) (Some left) bytes possible consumed at_end =
 empty_files : List (List ℕ) → List NamedBytes
 empty_files names = map (λ name. let file : NamedBytes = record { name = name; bytes = [] } in file) names
 
--- they have these names
 their_names : (names : List (List ℕ)) → map (λ (file : NamedBytes). file.name) (empty_files names) ≡ names
 unfolding empty_files
 their_names [] = refl

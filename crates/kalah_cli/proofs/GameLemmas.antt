@@ -1,5 +1,5 @@
 -- The game of best play, move by move.
-use Rattle.std.proofs.Common.{◌<◌, ◌≤◌, ◌-◌, ◌≡◌, ℕ, zero, suc, List, [], ◌∷◌, ◌++◌, Bool, true, false, inl, inr, of_z, refl, sym, subst}
+use Rattle.std.proofs.Common.{◌<◌, ◌≤◌, ◌-◌, ◌≡◌, ℕ, zero, suc, List, [], ◌∷◌, ◌++◌, Bool, true, false, inl, inr, of_z, refl, sym}
 use Rattle.std.proofs.Common.{to_z, w32, ap, ◌∙◌, arith, Contains, ℤ, None, Option, Some, if◌then◌else◌, unwrap_or}
 use Rattle.std.proofs.lemmas.{Bool.{both_ways, cases_Bool}, Int.{ints, to_z-of_z}}
 use Rattle.kalah_rules.specs.{Position.{Position, HasEqualSides, is_over, swapped, swept}, Sowing.{after, moves_again}}
@@ -14,12 +14,6 @@ use Rattle.kalah_solve.proofs.WorthLemmas.{final_swapped, value_moving_again, va
 use Rattle.kalah_solve.proofs.WorthLemmas.{turn_fewer}
 use Rattle.kalah_cli.specs.{IsPlayedBest, IsNextMove, PlaysBestGames, VariationsEndWithTheirValue, best_game, best_moves, game_played}
 use Rattle.kalah_cli.specs.{game_text, move_text, printed_value, MoveForm, MayBegin}
-
--- the solver's verdict has the worth and the best house, if the game goes on
-best_of_verdict : (p : Position) (margin : ℤ) (house : ℕ) → is_over p ≡ false → Best margin house ≡ verdict_of p
-    → (margin ≡ worth p) × (house ≡ best_house p)
-best_of_verdict p margin house going verdict =
-    let both : Best margin house ≡ Best (worth p) (best_house p) = verdict ∙ (rw going) in (cc both, cc both)
 
 -- the position after any move has as many houses on each side
 equal_after : (p : Position) (h : ℕ) → HasEqualSides (position_after (step_of p h))
@@ -37,11 +31,9 @@ equal_after p h = go (is_over (after p h)) (moves_again p h)
 none_after : (p : Position) (h : ℕ) (e : Position) → step.Over e ≡ step_of p h → moves_left e ≡ 0
 none_after p h e step_is = grind (arith, sum-zeros, row_distance_le)
 
--- if the game goes on, one is left
 some_left : (p : Position) → is_over p ≡ false → 0 < moves_left p
 some_left p going = grind (arith, over_at_end)
 
--- after a move fewer are left
 pub fewer_left : {p : Position} {h : ℕ} (s : Step) → HasEqualSides p → Contains (legal_houses p) h → s ≡ step_of p h
     → moves_left (position_after s) < moves_left p
 fewer_left {p} {h} (step.Again q) equal legal step_is = again_fewer p h q equal legal step_is
@@ -50,7 +42,6 @@ fewer_left {p} {h} (step.Over q) equal legal step_is = omega (arith, none_after 
 
 -- ==== the moves of the game
 
--- a game that is over has none
 no_best_moves : (n : ℕ) (p : Position) → is_over p ≡ true → best_moves n p ≡ []
 unfolding best_moves
 no_best_moves zero p over = refl
@@ -62,7 +53,6 @@ best_move_first : (n : ℕ) (p : Position) → is_over p ≡ false
 unfolding best_moves
 best_move_first n p going = rw going
 
--- fewer are left after its best move
 fewer_next : (p : Position) → HasEqualSides p → is_over p ≡ false → moves_left (position_after (step_of p (best_house p))) < moves_left p
 fewer_next p equal going = fewer_left _ equal (best_is_strategy.moves p equal going) refl
 
@@ -73,11 +63,11 @@ same_moves (suc n) (suc m) p equal low high = elim (cases_Bool (is_over p)) [
   | inl over ↦ no_best_moves (suc n) p over ∙ sym (no_best_moves (suc m) p over)
   | inr going ↦
       let fewer = fewer_next p equal going in
-      let next = same_moves n m _ (equal_after p (best_house p)) (omega (arith, low, fewer)) (omega (arith, high, fewer)) in
+      let next = same_moves n m _ (equal_after p (best_house p)) (omega arith) (omega arith) in
       best_move_first n p going ∙ ap (λ moves. best_house p ∷ moves) next ∙ sym (best_move_first m p going)
 ]
 same_moves n m p equal low high =
-    let over = over_at_end p (omega (arith, low, high)) in
+    let over = over_at_end p (omega arith) in
     no_best_moves n p over ∙ sym (no_best_moves m p over)
 
 -- the moves of a game are its first one, and those from the position after it
@@ -123,9 +113,10 @@ pub next_of_verdict : (form : MoveForm) (first : Option ℕ) (p : Position) {mar
     → IsBestInRange margin house → StatesBestMove p margin house → Best margin house ≡ verdict_of p
     → IsNextMove form first p (printed_value form (to_z w32 (of_z w32 margin))) (unwrap_or first house)
 next_of_verdict form first p {margin} {house} may_begin small states verdict =
-    let best = best_of_verdict p margin house states.going verdict in
-    let unwrapped = to_z-of_z w32 margin (omega (arith, ints, small.small.low, small.small.high)) in
-    record { legal = legal first may_begin; house = ap (unwrap_or first) best.1; shown = ap (printed_value form) (unwrapped ∙ best.0) }
+    let best : Best margin house ≡ Best (worth p) (best_house p) = verdict ∙ rw states.going in
+    let margin_is : to_z w32 (of_z w32 margin) ≡ worth p = cc (to_z-of_z w32 margin (omega (arith, ints)), best) in
+    let house_is : house ≡ best_house p = cc best in
+    record { legal = legal first may_begin; house = ap (unwrap_or first) house_is; shown = ap (printed_value form) margin_is }
   where
     legal : (f : Option ℕ) → MayBegin f p → Contains (legal_houses p) (unwrap_or f house)
     legal None may_begin = states.best.legal
@@ -171,7 +162,7 @@ plays_best_games p equal =
     let keeps = strategy_within best_is_strategy in
     let bounded = game_is_bounded keeps keeps equal game.2 in (
       game.1,
-      subst (λ houses. IsPlayedBest p houses game.1) (game_is_best equal game.2) game.2,
+      rw (game_is_best equal game.2) at game.2,
       omega (ints, arith, bounded.low best_plays, bounded.high best_plays),
     )
 
@@ -180,8 +171,8 @@ plays_best_games p equal =
 -- a game of the best houses is one by the rules
 by_rules : {p : Position} {houses : List ℕ} {final : Position} → HasEqualSides p → best_game p ≡ houses → IsPlayedBest p (best_game p) final
     → Game legal_houses legal_houses p houses final
-by_rules {p} {final = final} equal same game = subst (λ houses. Game legal_houses legal_houses p houses final) same
-    (widened (strategy_within best_is_strategy) (strategy_within best_is_strategy) equal game)
+by_rules equal same game =
+    rw (← same) (widened (strategy_within best_is_strategy) (strategy_within best_is_strategy) equal game)
 
 -- with a move in front it ends with the value of that move
 pub variations_end_with_their_value : VariationsEndWithTheirValue

@@ -1,10 +1,10 @@
 -- What stands in the output before a position of a game is solved.
 use Rattle.std.proofs.Common.{◌≡◌, ℕ, ℤ, List, Option, [], ◌∷◌, ◌++◌, Bool, refl, sym, subst, ap, append_assoc, ◌∙◌, append-nil}
 use Rattle.kalah_rules.specs.{Position.{Position}, Play.{position_after, step_of}, declared.step.Step.{Step}}
-use Rattle.kalah_solve.specs.{Solver.Worth.{worth}, declared.solver.move_values.MoveValue.{MoveValue}}
+use Rattle.kalah_solve.specs.{declared.solver.move_values.MoveValue.{MoveValue}}
 use Rattle.kalah_jobs.specs.{Writing.{Sink.{SinkState, WasGiven}, ValuesLine.{shown_of, values_line}, Variation.{variation_start}, Picture.{picture_of}}, Files.Lines.{line_feed}}
 use Rattle.kalah_jobs.proofs.SinkLemmas.{given_then_flush, given_then}
-use Rattle.kalah_cli.specs.{IsNextMove, move_text, printed_value, MoveForm, Houses, Lines, board_lines, BeginsGame, GameStart, ShowsValues, IsReached, Commands.GameSolver.IsReached.{reached_by_move, reached_at_start}}
+use Rattle.kalah_cli.specs.{IsNextMove, move_text, MoveForm, Houses, Lines, board_lines, BeginsGame, GameStart, ShowsValues, IsReached, Commands.GameSolver.IsReached.{reached_by_move, reached_at_start}}
 use Rattle.kalah_cli.proofs.GameLemmas.{next_text}
 
 module _ {O : Type 0} {state : O → SinkState} where
@@ -15,17 +15,16 @@ module _ {O : Type 0} {state : O → SinkState} where
   first_is_reached begun given = rw begun (reached_at_start (refl, given))
 
   -- the position after the first move of a variation is reached, once the line of that move began
-  pub variation_is_reached : {game now : GameStart O} {p q : Position} {between new : O} (v : MoveValue) → ShowsValues state game p between
-      → WasGiven state between new (variation_start v) → q ≡ position_after (step_of p v.house) → now ≡ game
-      → IsReached state now new q
-  variation_is_reached {game} {q = q} {between = between} {new = new} v below given after_move same_game =
-      rw same_game (reached_at_start (subst (λ f. BeginsGame state game f new q) (sym below.form) (record {
+  pub variation_is_reached : {game : GameStart O} {p q : Position} {between new : O} (v : MoveValue) → ShowsValues state game p between
+      → WasGiven state between new (variation_start v) → q ≡ position_after (step_of p v.house) → IsReached state game new q
+  variation_is_reached {game} {q = q} {between = between} {new = new} v below given after_move =
+      reached_at_start (subst (λ f. BeginsGame state game f new q) (sym below.form) (record {
         between = between;
         move = v;
         below = subst (λ r. ShowsValues state game r between) (sym below.first) below;
         line = given;
         after = rw below.first after_move;
-      })))
+      }))
 
   -- the picture and the line below it were given, and variations may follow
   pub variations_begin : {game now : GameStart O} {p : Position} {old between new : O}
@@ -65,7 +64,6 @@ module _ {O : Type 0} {state : O → SinkState} where
   -- ==== a position that was reached
 
   module _ {game : GameStart O} {p : Position} {between new : O} (reached : IsReached state game between p) where
-    -- it is still reached after a flush
     pub reached_after_flush : WasGiven state between new [] → IsReached state game new p
     reached_after_flush flushed = go reached flushed where
       go : {q : Position} {o : O} → IsReached state game o q → WasGiven state o new [] → IsReached state game new q
@@ -77,6 +75,5 @@ module _ {O : Type 0} {state : O → SinkState} where
         → IsNextMove game.form first p value h → s ≡ step_of p h → q ≡ position_after s
         → WasGiven state between new (move_text now.form value h s) → IsReached state now new q
     next_is_reached {now} {first} {value} {h} {s} same_game next step_is after_move given =
-        let text : move_text now.form value h s ≡ move_text game.form (printed_value game.form (worth p)) h (step_of p h) =
-        ap (λ begun. move_text begun.form value h s) same_game ∙ next_text next step_is in
+        let text = ap (λ begun. move_text begun.form value h s) same_game ∙ next_text next step_is in
         rw (same_game, after_move, step_is) (reached_by_move between p h reached (subst (WasGiven state between new) text given))

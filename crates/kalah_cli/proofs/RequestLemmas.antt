@@ -29,7 +29,6 @@ pub usable : AllOf (IsUsableIn subs) subs
 unfolding clap_on_literals
 usable = assumption
 
--- the matches of a subcommand satisfy its arguments
 rows_satisfy : (name : Text) (rows : List Row) → AreMatches name rows → SatisfyAll subs name rows
 rows_satisfy name rows matches =
     subst (λ o. IfSome o (λ e. SatisfyAll subs e.0 e.1)) matches.2 (accepted_satisfies kalah_app matches.0 usable refl matches.1).1
@@ -50,7 +49,7 @@ may_have_number {name} {rows} id {a} matches takes parser =
 pub byte_ranged : {name : Text} {rows : List Row} (id : Text) {a : Rule} {least most : ℕ} → AreMatches name rows → Takes name id a
     → a.parser ≡ Some (Unsigned least most) → most ≤ 255 → MayHaveNumber id 0 255 rows
 byte_ranged {rows = rows} id matches takes parser small = IfSome_then (one_of id rows) (may_have_number id matches takes parser)
-    (λ t range. (range.0, range.1, omega arith, omega (arith, range.3, small)))
+    (λ t range. (range.0, range.1, omega arith, omega arith))
 
 -- an argument that is required has a value
 pub value_given : {name : Text} {rows : List Row} (id : Text) {a : Rule} → AreMatches name rows → Takes name id a
@@ -77,7 +76,6 @@ takes_table Steps searches = elim searches [ inl best ↦ cc | inr values ↦ cc
 
 -- ==== what the getters of matches return, by the rows of the matches
 
--- an option has no value, or this one
 cases_Option : {X : Type 0} (o : Option X) → (o ≡ None) ⊎ ((x : X) × (o ≡ Some x))
 cases_Option None = inl refl
 cases_Option (Some x) = inr (x, refl)
@@ -115,9 +113,8 @@ number_read width least most f id {r} absent value ranged fits = elim (cases_Opt
         → ReadsOne (λ t x. ParsesUnsigned width 10 t x × ExplainsUnsignedError 10 t x × HasUnsignedDigitsIfOk t x) t r
         → r ≡ Some (number_written t)
     go (Some n) t range read = ap (λ n. Some n) read.0.1
-    go None t range read = absurd (read.1.0 (range.0, omega (arith, range.3, fits)))
+    go None t range read = absurd (read.1.0 (range.0, omega arith))
 
--- a number that is there is in the range
 pub in_range : (least most : ℕ) (o : Option Text) → IfSome o (IsUnsignedIn least most)
     → IfSome (option_map number_written o) (λ n. (least ≤ n) × (n ≤ most))
 in_range least most None ranged = tt
@@ -143,11 +140,9 @@ flag_read E f id {r} absent value = elim (cases_Option (one_of id (rows_of f))) 
 
 -- ==== how the command line reads arguments, as laws over the definitions
 
--- equal arguments ask for the same
 pub accepted_at : {arguments given : List Text} {a : Task} → arguments ≡ given → IsAcceptedAs given a → IsAcceptedAs arguments a
 accepted_at same accepted = rw same accepted
 
--- arguments are accepted as one request
 pub accepted_once : (arguments : List Text) (a b : Task) → IsAcceptedAs arguments a → IsAcceptedAs arguments b → a ≡ b
 accepted_once arguments a b one other = same_Some a b (sym one.1 ∙ other.1)
 
@@ -173,7 +168,6 @@ pub record IsParsed (arguments : List Text) (o : Option (Text × List Row)) : Ty
   pub matches : o ≡ subcommand_of kalah_app arguments
   pub entered : is_some o ≡ true
 
--- a parse that succeeds is one
 pub parsed : {X : Type 0} {a : App} {arguments : List Text} {o : Option (Text × List Row)} → a ≡ kalah_app
     → (is_simple_and_free a ≡ true → fault_of a arguments ≡ []) → (is_simple a ≡ true → X × (o ≡ subcommand_of a arguments))
     → IsParsed arguments o

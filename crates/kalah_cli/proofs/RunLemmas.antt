@@ -16,7 +16,6 @@ module _ {O : Type 0} (state : O → SinkState) {old new : O} {status : ExitStat
   run_ends (about_input question table_entries) no_input does = absurd no_input
   run_ends conflict _ does = rw does.1 (ends_unchanged sound)
 
-  -- if a write failed, it failed
   run_fails : (task : Task) → Does state old new status may_give task → (state new).has_failed ≡ true → status ≡ Failed
   run_fails (about_input question table_entries) does = does.answered.failed
   run_fails a does = (run_ends a tt does).failed

@@ -59,13 +59,9 @@ abbrev pub program_app : App
 program_app = on_top (λ s. record s { has_version = true; subcommand_required = true; disable_help_subcommand = true })
     (new_app (codes "kalah"))
 
--- an app with these subcommands
-abbrev pub with_all : App → List App → App
-with_all app subs = fold (λ a sub. with_subcommand a sub.top) app subs
-
 -- the program, which is always given one of its subcommands
 abbrev pub kalah_app : App
-kalah_app = with_all program_app (app_with (codes "solve") batch_rules
+kalah_app = fold (λ app sub. with_subcommand app sub.top) program_app (app_with (codes "solve") batch_rules
     ∷ app_with (codes "values") batch_rules
     ∷ app_with (codes "show") (flag_rule (codes "plain") ∷ flag_rule (codes "lines") ∷ table_rule ∷ line_rule ∷ [])
     ∷ app_with (codes "play") (table_rule ∷ flag_rule (codes "boards") ∷ flag_rule (codes "values")

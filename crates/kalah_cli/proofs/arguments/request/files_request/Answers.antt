@@ -1,5 +1,5 @@
 -- All three subcommands have `--workers` and FILE, two of them `--table`: so their rows have a file, and numbers that are in range.
-use Rattle.std.proofs.{Common.{[], ◌∙◌, ◌≡◌, ◌∷◌, ap, arith, codes, inl, inr, is_some, length, map, refl, sym, unwrap_or}, lemmas.List.{length-map}}
+use Rattle.std.proofs.{Common.{[], ◌∙◌, ◌≡◌, ap, arith, codes, inl, inr, is_some, length, map, refl, suc, sym, unwrap_or}, lemmas.List.{length-map}}
 use Rattle.clap.{specs.Words.{found_of}, proofs.{CallerLemmas.{some_of_text}, WalkLemmas.{raw_values-rows}}}
 use Rattle.kalah_solve.specs.Table.Entries.{IsTableSize}
 use Rattle.kalah_cli.specs.{table_entries_asked, rows_in}
@@ -36,10 +36,10 @@ returns-clause-range c =
     let names = values_are (found_of c.args.matches.now) (codes "file") c.get_strs.ensures c.unwrap.ensures
     (c.in_ok-to_vec.ensures.items_if_clones_equal (λ x y h. h)) in
     let file = value_given (codes "file") c.requires (takes_files c.args.question).1 refl in
-    let same : map (λ f. f.now) c.in_ok-to_vec.field-0.items ≡ file.value ∷ file.more = ap (λ o. unwrap_or o []) (sym names ∙ file.all) in
-    let count : length (map (λ f. f.now) c.in_ok-to_vec.field-0.items) ≡ length c.in_ok-to_vec.field-0.items = simp length-map in
+    let count : length (map (λ f. f.now) c.in_ok-to_vec.field-0.items) ≡ suc (length file.more) =
+    ap (λ o. length (unwrap_or o [])) (sym names ∙ file.all) in
     let table : IsTableSize c.match-question.result = elim c.match-question.branch [
       | in-BestMove w ↦ rw w.result-is w.table_entries.ensures.range
       | in-Steps w ↦ rw w.result-is (omega arith, omega arith)
     ] in
-    (c.worker_count.ensures.range, table, omega (arith, ap length same, count))
+    (c.worker_count.ensures.range, table, omega (arith, simp length-map at count))

@@ -1,5 +1,5 @@
 -- All lines are answered, from what the standard input had, or nothing is read.
-use Rattle.std.proofs.Common.{◌≡◌, ◌==◌, ◌∙◌, ℕ, List, [], Option, None, Some, ap, if◌then◌else◌, refl, sym}
+use Rattle.std.proofs.Common.{◌≡◌, ℕ, List, [], Option, None, Some, refl, sym}
 use Rattle.std.specs.{Io.Buffered.{reader_buffer, reader_capacity, reader_inner, reader_remaining}, declared.io.buffered.BufReader.{BufReader}}
 use Rattle.std.specs.Io.KnownBytes.{prepend_known}
 use Rattle.kalah_cli.proofs.EndsLemmas.{input_answered, input_refused}
@@ -8,11 +8,7 @@ use Rattle.kalah_cli.proofs.commands.ask.run_ask.Goals as goal
 -- a reader that reads ahead has at first all that the other has
 all_unread : {T A : Type 0} (remaining : T → Option (List ℕ)) (r : BufReader T A) (inner : T) → reader_inner r ≡ inner
     → reader_buffer r ≡ [] → reader_capacity r ≡ 8192 → remaining inner ≡ reader_remaining remaining r
-all_unread {T} {A} remaining r inner same_reader empty capacity =
-    sym (ap (λ n. if n == 0 then None else prepend_known (reader_buffer r) (remaining r.inner)) capacity
-    ∙ ap (λ l. prepend_known l (remaining r.inner)) empty
-    ∙ none_before (remaining r.inner)
-    ∙ ap remaining same_reader)
+all_unread remaining r inner same_reader empty capacity = rw (capacity, empty, same_reader) (sym (none_before (remaining inner)))
   where
     none_before : (known : Option (List ℕ)) → prepend_known [] known ≡ known
     none_before None = refl

@@ -15,44 +15,32 @@ all_counted {moves = moves} p n more same i complete sum =
 
 -- at most 6 ^ 19 ways begin with a house, so the sum of six fits sixty-four bits
 few_ways : (n depth : ℕ) → n ≤ most_houses ^ (depth - 1) → depth ≤ most_depth → n ≤ 6 ^ 19
-few_ways n depth few high = le_trans few (pow-le-pow_right {n = 6} (omega arith) {i = depth - 1} {j = 19} (omega (arith, high)))
+few_ways n depth few high = le_trans few (pow-le-pow_right {n = 6} (omega arith) {i = depth - 1} {j = 19} (omega arith))
 
 pub loop-i-preserved : goal.loop-i-preserved
 loop-i-preserved g c =
-    let line_of : ℕ → List ℕ = house_line (c.args.depth - 1) c.args.board.now in
-    let ways_with : ℕ → ℕ = ways_by (c.args.depth - 1) c.args.board.now in
-    let moves = c.legal-moves.result in
-    let i = c.loop-i.i in
-    let house = c.get-house.result in
-    let within : i < length moves = omega (arith, c.loop-i-test.true, c.len-i-end.ensures) in
+    let within : c.loop-i.i < length c.legal-moves.result = omega arith in
     let line = rw c.ways_by-ways.ensures.ways at (given_then_flush _ c.write_ways.ensures c.flush_unless_failed.ensures.given) in
     let few = few_ways c.ways_by-ways.result c.args.depth c.ways_by-ways.ensures.small c.requires in
     record {
       same = c.loop-i.invariant.same;
-      sum = rw (c.ways_by-ways.ensures.ways, c.get-house.ensures, c.loop-i.invariant.sum) (sym (sum_by_more ways_with moves i 0 within));
-      few = omega (arith, c.loop-i.invariant.few, few);
-      given = given_more _ line_of c.loop-i.invariant.same i _ _ c.loop-i.invariant.given _ house within c.get-house.ensures line;
+      sum = rw (c.ways_by-ways.ensures.ways, c.get-house.ensures, c.loop-i.invariant.sum)
+          (sym (sum_by_more (ways_by (c.args.depth - 1) c.args.board.now) c.legal-moves.result c.loop-i.i 0 within));
+      few = omega arith;
+      given = given_more _ (house_line (c.args.depth - 1) c.args.board.now) c.loop-i.invariant.same c.loop-i.i _ _
+          c.loop-i.invariant.given _ c.get-house.result within c.get-house.ensures line;
     }
 
 pub write_ways-requires : goal.write_ways-requires
 write_ways-requires g c =
     house_small c.legal-moves.ensures.limits
     (rw (← c.loop-i.invariant.same, c.get-house.ensures)
-    (Contains-get_or c.legal-moves.result c.loop-i.i 0 (omega (arith, c.loop-i-test.true, c.len-i-end.ensures))))
+    (Contains-get_or c.legal-moves.result c.loop-i.i 0 (omega arith)))
 
 pub overflow_add-total : goal.overflow_add-total
 overflow_add-total g c =
     let few = few_ways c.ways_by-ways.result c.args.depth c.ways_by-ways.ensures.small c.requires in
-    omega (
-      arith,
-      c.loop-i.invariant.few,
-      few,
-      c.loop-i-test.true,
-      c.len-i-end.ensures,
-      ap length c.loop-i.invariant.same,
-      legal_few c.args.board.now,
-      c.legal-moves.ensures.limits.at_most_six,
-    )
+    omega (arith, ap length c.loop-i.invariant.same, legal_few c.args.board.now)
 
 pub returns-then-failed-clause-given : goal.returns-then-failed-clause-given
 returns-then-failed-clause-given g c =
@@ -63,10 +51,10 @@ returns-then-failed-clause-given g c =
 pub returns-clause-total : goal.returns-clause-total
 returns-clause-total g c sound =
     all_counted c.args.board.now (c.args.depth - 1) (omega arith) c.loop-i.invariant.same c.loop-i.i
-    (omega (arith, c.loop-i-test.false, c.len-i-end.ensures)) c.loop-i.invariant.sum
+    (omega arith) c.loop-i.invariant.sum
 
 pub returns-clause-given : goal.returns-clause-given
 returns-clause-given g c =
     let positive : c.args.depth ≡ suc (c.args.depth - 1) = omega arith in
     rw positive (given_all _ (house_line (c.args.depth - 1) c.args.board.now) c.loop-i.invariant.same c.loop-i.i _ _
-    c.loop-i.invariant.given (omega (arith, c.loop-i-test.false, c.len-i-end.ensures)))
+    c.loop-i.invariant.given (omega arith))

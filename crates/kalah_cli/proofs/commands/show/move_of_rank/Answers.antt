@@ -6,18 +6,16 @@ use Rattle.kalah_cli.specs.{rank_in}
 use Rattle.kalah_cli.proofs.commands.show.move_of_rank.Goals as goal
 
 -- the first of the moves from place i on is the one there, or is after it
-sought : (t : MoveValue → Bool) (values : List MoveValue) (i : ℕ) (v : MoveValue) → slice_get values i ≡ Some v
-    → find t (drop i values) ≡ (if t v then Some v else find t (drop (i + 1) values))
-sought t values i v is = rw (items_from values i v is) refl
+sought : (t : MoveValue → Bool) (values : List MoveValue) (i : ℕ) (v : MoveValue) (found : Bool) → slice_get values i ≡ Some v
+    → t v ≡ found → find t (drop i values) ≡ (if found then Some v else find t (drop (i + 1) values))
+sought t values i v found is passes = rw (items_from values i v is, passes) refl
 
 pub returns-then-rank_in-rank : goal.returns-then-rank_in-rank
 returns-then-rank_in-rank c =
-    let values = c.args.values.now in
-    let of_this_rank : (rank_in values c.get-value.result == c.args.rank) ≡ true = rw (← c.rank_in.ensures) (grind arith) in
-    sym (c.loop-i.invariant ∙ sought (λ v. rank_in values v == c.args.rank) values c.loop-i.i _ c.get-value.ensures ∙ rw of_this_rank refl)
+    sym (c.loop-i.invariant ∙ sought (λ v. rank_in c.args.values.now v == c.args.rank) c.args.values.now c.loop-i.i _ true c.get-value.ensures
+    (rw (← c.rank_in.ensures) (grind arith)))
 
 pub loop-i-preserved : goal.loop-i-preserved
 loop-i-preserved c =
-    let values = c.args.values.now in
-    let of_this_rank : (rank_in values c.get-value.result == c.args.rank) ≡ false = rw (← c.rank_in.ensures) (grind arith) in
-    c.loop-i.invariant ∙ sought (λ v. rank_in values v == c.args.rank) values c.loop-i.i _ c.get-value.ensures ∙ rw of_this_rank refl
+    c.loop-i.invariant ∙ sought (λ v. rank_in c.args.values.now v == c.args.rank) c.args.values.now c.loop-i.i _ false c.get-value.ensures
+    (rw (← c.rank_in.ensures) (grind arith))

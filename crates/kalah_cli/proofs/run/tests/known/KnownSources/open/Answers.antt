@@ -8,5 +8,4 @@ returns-in-Some g c =
     let found = find_from_yields_List (λ (file : NamedBytes). bytes_eq file.name c.args.name.now) _ _ c.find.result c.find.ensures.ran
     (YieldsList-from_slice disk cc) (λ x b q k. search (rules, tests)) in
     let bytes : c.in-Some.file.now.bytes ≡ c.as_slice.result.now = cc in
-    ap (option_map (λ (file : NamedBytes). file.bytes)) (sym found)
-    ∙ ap (λ r. option_map (λ (file : NamedBytes). file.bytes) (option_map (λ f. f.now) r)) c.in-Some.is ∙ ap (λ l. Some l) bytes
+    rw (← found, c.in-Some.is) (ap (λ l. Some l) bytes)
