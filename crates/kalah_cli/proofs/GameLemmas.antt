@@ -47,7 +47,7 @@ unfolding best_moves
 no_best_moves zero p over = refl
 no_best_moves (suc n) p over = rw over
 
--- one that goes on has one, and those after it
+-- a game that goes on has one, and those after it
 best_move_first : (n : ℕ) (p : Position) → is_over p ≡ false
     → best_moves (suc n) p ≡ best_house p ∷ best_moves n (position_after (step_of p (best_house p)))
 unfolding best_moves

@@ -181,7 +181,7 @@ parsed {a} {arguments} same faultless rows =
       entered = ap is_some matches ∙ (accepted_satisfies kalah_app arguments usable refl no_fault).0;
     }
 
--- if it fails, the error has a kind of the arguments' fault
+-- if a parse fails, the error has a kind of the arguments' fault
 pub faulty : (a : App) (arguments : List Text) (e : Error) → a ≡ kalah_app
     → (is_simple_and_free a ≡ true → HasKind (fault_of a arguments) e) → HasKind (fault_of kalah_app arguments) e
 faulty a arguments e same has_kind =

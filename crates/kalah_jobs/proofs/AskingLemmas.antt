@@ -267,7 +267,8 @@ module _ {question : Question} {before now old new : Option (List ℕ)} {line : 
 
     -- it was written whole
     all_answered : {more : Option (List ℕ)} {is_read : Bool} → found ≡ None → IsAtEnd now
-        → Appends kept more (last_reply question line) → is_read ≡ is_last_read line → IsAnswered question before next old more (all_read && is_read)
+        → Appends kept more (last_reply question line) → is_read ≡ is_last_read line
+        → IsAnswered question before next old more (all_read && is_read)
     all_answered none at_end answered read = record {
       read = lines ++ part;
       taken = rw append-nil at (taken_now None none);

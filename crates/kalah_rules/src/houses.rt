@@ -33,7 +33,7 @@ pub struct Houses {
     variant: u32,
 }
 
-// Callers see the value and not the invariant, so readers promise the limits again (`limits`).
+// Callers of `Houses` and `Board` see the value and not the invariant, so readers promise the limits again (`limits`).
 impl Model for Houses {
     ghost use Rattle.kalah_rules.specs.Position.{HousesState};
 

@@ -93,7 +93,7 @@ module _ {G : Type 0} {knows : G → ℕ → Bool} {shared : SharedWork G} {befo
         let many = ap length back_is ∙ length-append (passes_of after) (p ∷ []) in
         omega (arith, length-map after (λ w. w.draw_pass), run.as_many)
 
-    -- each of them is of the desk
+    -- each pass that comes back is of the desk
     pub own_back : IsPassAt shared.desk p → All (IsPassAt shared.desk) back
     own_back own = rw back_is (All-push (IsPassAt shared.desk) (passes_of after) p (run_passes run) own)
 

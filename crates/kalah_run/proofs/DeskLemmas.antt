@@ -23,7 +23,7 @@ FollowsPlan plan seat view = HasTotal plan.total view × All Ascends (rows_in vi
 
 -- of a lawful desk
 module _ {S : Type 0} {plan : DeskPlan} {s : State S DeskView} (kept : IsLawful plan s) where
-  -- its views are so
+  -- its views follow the plan
   following : Each (FollowsPlan plan) s.views
   following seat view has_view = (kept.totals seat view has_view, all_at Ascends s.views seat has_view kept.deals.ascending)
 
@@ -42,6 +42,7 @@ module _ {S : Type 0} {plan : DeskPlan} {s : State S DeskView} (kept : IsLawful 
 
 -- ==== A draw keeps the protocol, and returns what it must
 
+-- the view of a pass that is not spent
 abbrev unspent_view : ℕ → ℕ → List ℕ → DeskView
 unspent_view total number numbers = Drawing total number (drawn_row numbers false)
 

@@ -3,7 +3,7 @@ use Rattle.std.proofs.{Common.{◌≡◌, ℕ, zero, get_or, inl, inr, suc, ◌+
 use Rattle.kalah_run.specs.{drawn_numbers, PassState, DeskState, new_pass, AreNewPasses, drawn_rows, PutPassState, ArePassesFrom}
 use Rattle.atomic_table.specs.Seated.{TableId}
 
--- if the elements are those that are given, in order, so they are with the next one at the end
+-- if the elements are those that are given, in order, so are they with the next one at the end
 pub next_goes_last : {X : Type 0} (xs : List X) (x d : X) (given : ℕ → X) → ((k : ℕ) → k < length xs → given k ≡ get_or xs k d)
     → given (length xs) ≡ x → (k : ℕ) → k < length (xs ++ x ∷ []) → given k ≡ get_or (xs ++ x ∷ []) k d
 next_goes_last xs x d given same next k low = elim (cases_lt k (length xs)) [

@@ -216,49 +216,50 @@ pub put_is_lawful : (n place : ℕ) {v : QueueView} (x : OutcomeState) {number :
 put_is_lawful n place x putting = rw putting (λ items views room kept has_view. (_, lawful_with_put kept place x has_view, refl))
 
 -- the pass to get
-module _ {v : QueueView} {workers : ℕ} {got : List WorkerOutcome} {ended : List (List OutcomeState)} (getting : v ≡ Getting workers got ended)
-  where
-    pub get_is_lawful : (place : ℕ) → Pops IsLawful place v (IsGot v)
-    get_is_lawful place = λ x items views kept has_view.
-        let getter = getter_is_first kept place getting has_view in
-        let now = lawful_with_get kept in
-        rw (getter.0, getter.1) (_, now.2, (now.0, now.1, refl))
+module _ {v : QueueView} {workers : ℕ} {got : List WorkerOutcome} {ended : List (List OutcomeState)}
+    (getting : v ≡ Getting workers got ended) where
+  pub get_is_lawful : (place : ℕ) → Pops IsLawful place v (IsGot v)
+  get_is_lawful place = λ x items views kept has_view.
+      let getter = getter_is_first kept place getting has_view in
+      let now = lawful_with_get kept in
+      rw (getter.0, getter.1) (_, now.2, (now.0, now.1, refl))
 
-    -- it hands out a pass to put, before it has reclaimed any
-    pub hand_out_is_lawful : ended ≡ [] → (place : ℕ) → Forks IsLawful place v (after_handing_out v) (pass_handed_out v)
-    hand_out_is_lawful none place = λ items views kept has_view.
-        let getter = getter_is_first kept place getting has_view in
-        rw (getter.0, getter.1) (lawful_with_pass kept (ap ended_in (sym getter.1 ∙ getting) ∙ none))
+  -- it hands out a pass to put, before it has reclaimed any
+  pub hand_out_is_lawful : ended ≡ [] → (place : ℕ) → Forks IsLawful place v (after_handing_out v) (pass_handed_out v)
+  hand_out_is_lawful none place = λ items views kept has_view.
+      let getter = getter_is_first kept place getting has_view in
+      rw (getter.0, getter.1) (lawful_with_pass kept (ap ended_in (sym getter.1 ∙ getting) ∙ none))
 
-    -- it reclaims a pass to put
-    pub reclaim_is_lawful : (place other : ℕ) {u : QueueView} {number : ℕ} {sent : List OutcomeState} → u ≡ Putting number sent
-        → number ≡ length ended → Merges IsLawful place v other u (after_reclaiming v u) Reclaimed
-    reclaim_is_lawful place other {sent = sent} putting next = λ items views kept has_view apart has_other.
-        let getter = getter_is_first kept place getting has_view in
-        let number = next ∙ ap (λ v. length (ended_in v)) (sym getting ∙ getter.1) in
-        let here = was_there views place other _ apart has_other ∙ ap some (putting ∙ ap (λ n. Putting n sent) number) in
-        rw (getter.0, getter.1, putting) (lawful_with_end kept other (λ q. apart (q ∙ sym getter.0)) here)
+  -- it reclaims a pass to put
+  pub reclaim_is_lawful : (place other : ℕ) {u : QueueView} {number : ℕ} {sent : List OutcomeState} → u ≡ Putting number sent
+      → number ≡ length ended → Merges IsLawful place v other u (after_reclaiming v u) Reclaimed
+  reclaim_is_lawful place other {sent = sent} putting next = λ items views kept has_view apart has_other.
+      let getter = getter_is_first kept place getting has_view in
+      let number = next ∙ ap (λ v. length (ended_in v)) (sym getting ∙ getter.1) in
+      let here = was_there views place other _ apart has_other ∙ ap some (putting ∙ ap (λ n. Putting n sent) number) in
+      rw (getter.0, getter.1, putting) (lawful_with_end kept other (λ q. apart (q ∙ sym getter.0)) here)
 
-    -- what it learns of the queue
-    pub getter_knows_sent : (place : ℕ) → Learns IsLawful place v (KnowsSent v)
-    getter_knows_sent place = λ items views kept has_view. rw (getter_is_first kept place getting has_view).1 (kept.inside, kept.held, kept.accounts)
+  -- what it learns of the queue
+  pub getter_knows_sent : (place : ℕ) → Learns IsLawful place v (KnowsSent v)
+  getter_knows_sent place = λ items views kept has_view.
+      rw (getter_is_first kept place getting has_view).1 (kept.inside, kept.held, kept.accounts)
 
-    -- what it knows once it has reclaimed one pass more
-    pub reclaimed : {u after : QueueView} {number : ℕ} {sent : List OutcomeState} → u ≡ Putting number sent → after ≡ after_reclaiming v u
-        → after ≡ Getting workers got (ended ++ sent ∷ [])
-    reclaimed putting after_is = after_is ∙ λ i. after_reclaiming (getting i) (putting i)
+  -- what it knows once it has reclaimed one pass more
+  pub reclaimed : {u after : QueueView} {number : ℕ} {sent : List OutcomeState} → u ≡ Putting number sent
+      → after ≡ after_reclaiming v u → after ≡ Getting workers got (ended ++ sent ∷ [])
+  reclaimed putting after_is = after_is ∙ λ i. after_reclaiming (getting i) (putting i)
 
-    -- once it has reclaimed all, it learns what all workers have sent
-    pub whole_when_reclaimed : {left : ℕ} {all : List (List OutcomeState)} (rest : List (List OutcomeState)) → length rest ≡ 0
-        → ended ++ rest ≡ all → Held left (KnowsSent v)
-        → (inside : List WorkerOutcome) × (length inside ≡ left) × Accounts workers all (got ++ inside)
-    whole_when_reclaimed (x ∷ xs) none whole held = absurd (omega arith)
-    whole_when_reclaimed [] none whole held =
-        let told : KnowsSent (Getting workers got ended) held.0 = rw getting at held.2 in (
-          told.0,
-          sym (length-map told.0 (λ p. p.1)) ∙ ap length told.1 ∙ held.1,
-          rw (sym (append-nil ended) ∙ whole) at told.2,
-        )
+  -- once it has reclaimed all, it learns what all workers have sent
+  pub whole_when_reclaimed : {left : ℕ} {all : List (List OutcomeState)} (rest : List (List OutcomeState)) → length rest ≡ 0
+      → ended ++ rest ≡ all → Held left (KnowsSent v)
+      → (inside : List WorkerOutcome) × (length inside ≡ left) × Accounts workers all (got ++ inside)
+  whole_when_reclaimed (x ∷ xs) none whole held = absurd (omega arith)
+  whole_when_reclaimed [] none whole held =
+      let told : KnowsSent (Getting workers got ended) held.0 = rw getting at held.2 in (
+        told.0,
+        sym (length-map told.0 (λ p. p.1)) ∙ ap length told.1 ∙ held.1,
+        rw (sym (append-nil ended) ∙ whole) at told.2,
+      )
 
 -- ==== The protocol of the results queue, in plain words
 

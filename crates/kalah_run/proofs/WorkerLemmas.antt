@@ -135,7 +135,7 @@ module _ {G : Type 0} {knows : G → ℕ → Bool} {shared : SharedWork G} {befo
   run_at_work : AreAtWork knows shared after
   run_at_work = λ k d within. (run.each k d (omega (arith, run.as_many))).at_work
 
-  -- its pass is of the desk
+  -- the pass of each is of the desk
   pub run_passes : All (IsPassAt shared.desk) (passes_of after)
   run_passes = All-map (IsPassAt shared.desk) (λ w. w.draw_pass) after (λ k d within. (run_at_work k d within).draws)
 

@@ -1,5 +1,4 @@
-//! The transposition table: what is known of houses. What it forgets costs time only, so of slots and endings no clause says that they are
-//! kept.
+//! The transposition table: what is known of houses. What it forgets costs time only, so no clause says that slots and endings are kept.
 ghost use Rattle.std.specs.{Prelude.{◌≡◌, ◌⊎◌, nat_eq, IfOk, IfSome, IsSome, Some}, Map.{lookup}};
 ghost use Rattle.kalah_rules.specs.Key.{key_of};
 ghost use Rattle.kalah_solve.specs.{Table.{Entries.{most_entries, IsTableSize, empty_table}, EndingTable.{IsEnding}}, Search.{IsOngoing}, Solver.Worth.{houses_worth}};

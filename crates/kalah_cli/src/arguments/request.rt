@@ -71,6 +71,7 @@ pub struct AskRequest {
 /// What is asked of the positions of files, and how they are answered.
 #[derive(Drop)]
 pub struct FilesRequest<'a> {
+    /// What is asked of each position.
     pub question: Question,
     /// The number of workers, 1 to 64.
     pub workers: u32,

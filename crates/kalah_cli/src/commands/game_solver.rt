@@ -32,7 +32,7 @@ pub(crate) struct GameSolver<O> {
 }
 
 impl<O: Sink> GameSolver<O> {
-    /// Returns a `new_solver` for a game that begins with this board and is written in this form. Nothing of it is written yet.
+    /// Returns a solver as `new_solver` makes it, for a game that begins with this board and is written in this form. Nothing of it is written yet.
     pub(crate) fn new(
         alloc: Global,
         table_entries: u32,

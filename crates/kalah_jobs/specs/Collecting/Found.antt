@@ -8,7 +8,8 @@ abbrev pub found_for : Answer → Found
 found_for (answer.Best margin house) = Verdict (Best margin house)
 found_for (answer.Over margin) = Verdict (Over margin)
 found_for (answer.Values values) = Values values
-found_for _ = Nothing
+found_for (answer.Steps p) = Nothing
+found_for (answer.Fault fault) = Nothing
 
 -- what it finds for an entry
 abbrev pub found_of : Entry → Found

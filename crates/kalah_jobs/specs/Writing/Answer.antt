@@ -43,8 +43,11 @@ answer_texts (Fault fault) = (codes "fault " ++ fault_word fault) ∷ []
 
 -- the answer isn't of steps, so that it has one text
 abbrev pub HasOneText : Answer → Type 0
+HasOneText (Best margin house) = ⊤
+HasOneText (Over margin) = ⊤
+HasOneText (Values values) = ⊤
 HasOneText (Steps p) = ⊥
-HasOneText _ = ⊤
+HasOneText (Fault fault) = ⊤
 
 -- texts in one line, with `; ` between any two
 abbrev pub in_one_line : List (List ℕ) → List ℕ

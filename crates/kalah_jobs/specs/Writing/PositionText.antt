@@ -1,4 +1,4 @@
--- How positions and steps are written.
+-- The texts of positions and steps, as they are printed.
 use Rattle.std.specs.{List.{join_with_byte}, Prelude.{ℕ, List, ◌∷◌, ◌++◌, map, codes, decimal}}
 use Rattle.kalah_rules.specs.{Play.{position_after}, Position.{Position}, declared.step.Step.{Step, TheVariants.{Again, Turn, Over}}}
 use Rattle.kalah_jobs.specs.Line.Line.{comma, slash, space, suffix_of}

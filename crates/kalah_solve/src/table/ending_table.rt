@@ -166,7 +166,7 @@ impl<A: Allocator + Clone> EndingTable<A> {
         Some(stored as u8 - 1)
     }
 
-    // Stores how many seeds the mover wins.
+    // Stores how many seeds the mover wins. No clause says that it is kept: see `table.rt`.
     fn keep(&self, houses: &Houses, rank: u32, known: u8)
         requires rank { rank ≡ rank_of_houses houses.now }
         requires known { known ≡ won houses.now }

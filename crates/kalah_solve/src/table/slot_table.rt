@@ -89,7 +89,7 @@ fn mixed_key(houses: &Houses) -> u64
     houses.key().wrapping_mul(MIX)
 }
 
-// Returns the slot of a mixed key.
+// Returns the slot of a mixed key: its bits from `shift` on.
 #[tactic(auto, using(crate::proofs::SlotLemmas::slot_inside))]
 fn slot_index(mixed: u64, shift: u32) -> usize
     requires { shift < 64 }
@@ -99,7 +99,7 @@ fn slot_index(mixed: u64, shift: u32) -> usize
     (mixed >> shift) as usize
 }
 
-// Returns the tag of a mixed key.
+// Returns the tag of a mixed key: its lowest 54 bits, which are all that any slot leaves open.
 fn tag_of(mixed: u64) -> u64
     ensures tag { result ≡ tag_of mixed }
     ensures small { result < 2 ^ 54 }
@@ -145,7 +145,7 @@ impl<A: Allocator> SlotTable<A> {
         }
     }
 
-    /// Stores in the slot of the houses that what the mover wins is within these bounds.
+    /// Stores in the slot of the houses that what the mover wins is within these bounds. No clause says that it is kept: see `table.rt`.
     pub(crate) fn keep(&mut self, houses: &Houses, bounds: SeedBounds)
         requires { IsWithinBounds bounds (won houses.now) }
         ensures { length self.new ≡ length self.old }

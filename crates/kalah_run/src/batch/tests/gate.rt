@@ -97,6 +97,10 @@ fn an_outcome_without_room_is_not_sent(rt: HostRuntime) {
         sent: None,
     };
     let (tally, slow) = solve_into(&rt, &files, 1, 16, &gate, slow);
-    assert!(rt; tally.is_ok() && slow.sent == Some(ROOM));
+    assert!(rt;
+        tally.is_ok() && slow.sent == Some(ROOM),
+        "{tally:?} {:?}",
+        slow.sent
+    );
     assert!(rt; gate.sent.load(SeqCst) == 300);
 }

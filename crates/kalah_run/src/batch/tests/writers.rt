@@ -185,7 +185,7 @@ impl Write for FailingFull<'_> {
 }
 
 // The result of a batch with such a writer that leaves the rest, and how many jobs began and outcomes were sent.
-fn comes_of_full<R: AllocGlobal + Threads + Wait + Sync>(
+fn run_full<R: AllocGlobal + Threads + Wait + Sync>(
     rt: &R,
     files: &[FileText],
     workers: u32,
@@ -206,7 +206,7 @@ fn comes_of_full<R: AllocGlobal + Threads + Wait + Sync>(
 #[test]
 fn a_batch_ends_though_its_workers_wait_for_room(rt: HostRuntime) {
     for workers in [1, 8] {
-        let came = comes_of_full(&rt, &same_lines(&rt, 3000), workers);
+        let came = run_full(&rt, &same_lines(&rt, 3000), workers);
         let all = ROOM + workers;
         assert!(rt;
             came == (Err(RunFault::Write), all, all),

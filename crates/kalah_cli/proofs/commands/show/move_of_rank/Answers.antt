@@ -12,10 +12,12 @@ sought t values i v found is passes = rw (items_from values i v is, passes) refl
 
 pub returns-then-rank_in-rank : goal.returns-then-rank_in-rank
 returns-then-rank_in-rank c =
-    sym (c.loop-i.invariant ∙ sought (λ v. rank_in c.args.values.now v == c.args.rank) c.args.values.now c.loop-i.i _ true c.get-value.ensures
+    sym (c.loop-i.invariant
+    ∙ sought (λ v. rank_in c.args.values.now v == c.args.rank) c.args.values.now c.loop-i.i _ true c.get-value.ensures
     (rw (← c.rank_in.ensures) (grind arith)))
 
 pub loop-i-preserved : goal.loop-i-preserved
 loop-i-preserved c =
-    c.loop-i.invariant ∙ sought (λ v. rank_in c.args.values.now v == c.args.rank) c.args.values.now c.loop-i.i _ false c.get-value.ensures
+    c.loop-i.invariant
+    ∙ sought (λ v. rank_in c.args.values.now v == c.args.rank) c.args.values.now c.loop-i.i _ false c.get-value.ensures
     (rw (← c.rank_in.ensures) (grind arith))
