@@ -32,7 +32,8 @@ pub(crate) struct GameSolver<O> {
 }
 
 impl<O: Sink> GameSolver<O> {
-    /// Returns a solver as `new_solver` makes it, for a game that begins with this board and is written in this form. Nothing of it is written yet.
+    /// Returns a solver as `new_solver` makes it, for a game that begins with this board and is written in this form. Nothing of it is written
+    /// yet. Fails with `AllocError` only if memory was refused.
     pub(crate) fn new(
         alloc: Global,
         table_entries: u32,

@@ -49,7 +49,7 @@ impl Failing {
     }
 }
 
-/// What came of a batch with a writer that fails.
+/// The result of a batch with a writer that fails, and what its gate and its writer saw.
 #[derive(Drop)]
 struct Run {
     // The result, how often the writer was called, and how many outcomes were sent.
@@ -107,7 +107,7 @@ fn assert_ends_alone<R: Abort>(rt: &R, run: &Run, case: (Option<Question>, u32),
     assert!(rt; run.came == wanted, "{case:?} {most}: {:?}", run.came);
 }
 
-// The writer failed at its last call and had taken this text, and so many outcomes were sent.
+// The writer failed at its last call and had taken this text, and `sent` outcomes were sent.
 fn assert_failed<R: Abort>(rt: &R, run: &Run, calls: u32, text: &str, sent: u32) {
     let wanted = (Err(RunFault::Write), calls, sent);
     assert!(rt; run.came == wanted, "{wanted:?}: {:?}", run.came);
